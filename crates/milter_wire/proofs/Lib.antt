@@ -1,0 +1,10 @@
+pub mod Numbers
+pub mod Frames
+pub mod Division
+pub mod Layouts
+pub mod Grammar
+pub mod CommandGrammar
+pub mod ReplyGrammar
+pub mod Fronts
+pub mod Handing
+pub mod Pieces

@@ -1,0 +1,19 @@
+-- The packets of a stream that comes in pieces.
+use Rattle.std.specs.Prelude.{◌≡◌, List, ℕ, ◌++◌, None, Some, Result, Ok, Err}
+use Rattle.milter_wire.specs.declared.fault.WireFault.{WireFault}
+use Rattle.milter_wire.specs.declared.fault.WireFault.TheVariants.{ZeroLength, TooLong, UnknownCode, Malformed, Truncated, NoMemory}
+use Rattle.milter_wire.specs.Stream.{Frame, divide, length_fault}
+
+-- a fault of length comes after all packets of the stream, and where its rest begins with one
+abbrev pub StopsBy : List ℕ → List Frame → List Frame → WireFault → Type 0
+StopsBy stream old new fault = (new ≡ old ++ (divide stream).frames) × (length_fault (divide stream).rest ≡ Some fault)
+
+-- The packets of the stream were added: all of them and no others, but for a beginning where memory was refused.
+abbrev pub Collects : List ℕ → List Frame → List Frame → Result Unit WireFault → Type 0
+Collects stream old new (Ok u) = (new ≡ old ++ (divide stream).frames) × (length_fault (divide stream).rest ≡ None)
+Collects stream old new (Err ZeroLength) = StopsBy stream old new ZeroLength
+Collects stream old new (Err (TooLong n)) = StopsBy stream old new (TooLong n)
+Collects stream old new (Err (UnknownCode n)) = ⊥
+Collects stream old new (Err (Malformed n)) = ⊥
+Collects stream old new (Err (Truncated n)) = ⊥
+Collects stream old new (Err NoMemory) = (more : List Frame) × (new ++ more ≡ old ++ (divide stream).frames)

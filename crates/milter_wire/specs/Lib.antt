@@ -1,0 +1,10 @@
+pub mod WireFault
+pub mod Field
+pub mod Packet
+pub mod Reading
+pub mod Command
+pub mod Reply
+pub mod Stream
+pub mod Front
+pub mod Splitter
+pub mod Collected

@@ -1,0 +1,58 @@
+//! Laws of the definitions, each the contract of a function that does nothing: it holds of every value and every
+//! stream.
+
+ghost use Rattle.std.specs.Prelude.{◌≡◌, ◌<◌, ◌^◌, ◌++◌, List, ℕ, [], All};
+ghost use Rattle.milter_wire.specs.declared.command.Command.{Command};
+ghost use Rattle.milter_wire.specs.declared.reply.Reply.{Reply};
+ghost use Rattle.milter_wire.specs.Command as commands;
+ghost use Rattle.milter_wire.specs.Reply as replies;
+ghost use Rattle.milter_wire.specs.Stream.{Frame, Divides, divide};
+
+/// A command that fits has exactly one spelling, and another has none. Source: own.
+pub fn command_spellings()
+    ensures one { (c : Command) → commands.Fits c → commands.Spells c (commands.spelling c) }
+    ensures no_other { (c : Command) (bytes : List ℕ) → commands.Spells c bytes → bytes ≡ commands.spelling c }
+    ensures none { (c : Command) (bytes : List ℕ) → ¬ commands.Fits c → ¬ commands.Spells c bytes }
+{}
+
+/// Bytes spell at most one command, and no spelling is a proper beginning of another. Source: own.
+pub fn commands_apart()
+    ensures one { (c d : Command) (bytes : List ℕ) → commands.Spells c bytes → commands.Spells d bytes → c ≡ d }
+    ensures whole { (c d : Command) (bytes more : List ℕ) →
+        commands.Spells c bytes → commands.Spells d (bytes ++ more) → more ≡ [] }
+{}
+
+/// A reply that fits has exactly one spelling, and another has none. Source: own.
+pub fn reply_spellings()
+    ensures one { (r : Reply) → replies.Fits r → replies.Spells r (replies.spelling r) }
+    ensures no_other { (r : Reply) (bytes : List ℕ) → replies.Spells r bytes → bytes ≡ replies.spelling r }
+    ensures none { (r : Reply) (bytes : List ℕ) → ¬ replies.Fits r → ¬ replies.Spells r bytes }
+{}
+
+/// Bytes spell at most one reply, and no spelling is a proper beginning of another. Source: own.
+pub fn replies_apart()
+    ensures one { (r s : Reply) (bytes : List ℕ) → replies.Spells r bytes → replies.Spells s bytes → r ≡ s }
+    ensures whole { (r s : Reply) (bytes more : List ℕ) →
+        replies.Spells r bytes → replies.Spells s (bytes ++ more) → more ≡ [] }
+{}
+
+/// Every stream of bytes divides into packets and a rest, and `divide` computes them. Source: own.
+pub fn stream_divides()
+    ensures { (bytes : List ℕ) → All (λ byte. byte < 2 ^ 8) bytes →
+        Divides bytes (divide bytes).frames (divide bytes).rest }
+{}
+
+/// A stream divides in one way only. Source: own.
+pub fn one_division()
+    ensures frames { (bytes rest other : List ℕ) (frames others : List Frame) →
+        Divides bytes frames rest → Divides bytes others other → frames ≡ others }
+    ensures rest { (bytes rest other : List ℕ) (frames others : List Frame) →
+        Divides bytes frames rest → Divides bytes others other → rest ≡ other }
+{}
+
+/// A stream that goes on has the packets that it had, and then those of what was left and what came. Source: own.
+pub fn stream_goes_on()
+    ensures frames { (bytes more : List ℕ) → (divide (bytes ++ more)).frames
+        ≡ (divide bytes).frames ++ (divide ((divide bytes).rest ++ more)).frames }
+    ensures rest { (bytes more : List ℕ) → (divide (bytes ++ more)).rest ≡ (divide ((divide bytes).rest ++ more)).rest }
+{}

@@ -1,0 +1,30 @@
+//! The packets of the Sendmail milter protocol, version 6: what each one says, how it is spelled in bytes, and how a
+//! stream of bytes is divided into packets, wherever it is cut.
+//!
+//! A mail server (MTA) sends [`Command`]s to a filter, and the filter answers with [`Reply`]s. Both go over a stream
+//! as packets. A [`Splitter`] takes a stream in any pieces and hands out its packets, and `decode` tells what a packet
+//! says. Nothing here reads, writes or waits.
+#![tactic(auto)]
+
+mod command;
+mod fault;
+mod field;
+mod front;
+mod laws;
+mod options;
+mod reply;
+mod splitter;
+mod stream;
+mod text;
+
+pub use command::Command;
+pub use fault::{NoMemory, WireFault};
+pub use laws::{
+    command_spellings, commands_apart, one_division, replies_apart, reply_spellings,
+    stream_divides, stream_goes_on,
+};
+pub use options::{Actions, Options, Protocol};
+pub use reply::Reply;
+pub use splitter::{Packet, Splitter};
+pub use stream::packets;
+pub use text::Text;
