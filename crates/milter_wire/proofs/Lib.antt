@@ -8,3 +8,4 @@ pub mod ReplyGrammar
 pub mod Fronts
 pub mod Handing
 pub mod Pieces
+pub mod StreamLaws

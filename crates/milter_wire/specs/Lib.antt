@@ -1,4 +1,5 @@
 pub mod WireFault
+pub mod Code
 pub mod Field
 pub mod Packet
 pub mod Reading

@@ -1,12 +1,13 @@
 //! Laws of the definitions, each the contract of a function that does nothing: it holds of every value and every
 //! stream.
 
-ghost use Rattle.std.specs.Prelude.{◌≡◌, ◌<◌, ◌^◌, ◌++◌, List, ℕ, [], All};
+ghost use Rattle.std.specs.Prelude.{◌≡◌, ◌<◌, ◌^◌, ◌++◌, List, ℕ, [], None, Some, All, take, drop};
 ghost use Rattle.milter_wire.specs.declared.command.Command.{Command};
+ghost use Rattle.milter_wire.specs.declared.fault.WireFault.{WireFault};
 ghost use Rattle.milter_wire.specs.declared.reply.Reply.{Reply};
 ghost use Rattle.milter_wire.specs.Command as commands;
 ghost use Rattle.milter_wire.specs.Reply as replies;
-ghost use Rattle.milter_wire.specs.Stream.{Frame, Divides, divide};
+ghost use Rattle.milter_wire.specs.Stream.{Frame, Divides, IsFrame, IsUnfinished, divide, frame_bytes, length_fault, with_frame};
 
 /// A command that fits has exactly one spelling, and another has none. Source: own.
 pub fn command_spellings()
@@ -52,7 +53,26 @@ pub fn one_division()
 
 /// A stream that goes on has the packets that it had, and then those of what was left and what came. Source: own.
 pub fn stream_goes_on()
-    ensures frames { (bytes more : List ℕ) → (divide (bytes ++ more)).frames
-        ≡ (divide bytes).frames ++ (divide ((divide bytes).rest ++ more)).frames }
-    ensures rest { (bytes more : List ℕ) → (divide (bytes ++ more)).rest ≡ (divide ((divide bytes).rest ++ more)).rest }
+    ensures { (bytes more : List ℕ) → divide (bytes ++ more) ≡ record {
+      frames = (divide bytes).frames ++ (divide ((divide bytes).rest ++ more)).frames;
+      rest = (divide ((divide bytes).rest ++ more)).rest;
+    } }
+{}
+
+/// What a splitter that took `n` bytes of a piece tells of the stream that it holds. Source: own.
+pub fn stream_fed()
+    // What it holds and what is left of the piece are what it held and the piece.
+    ensures kept { (unread piece new : List ℕ) (n : ℕ) → new ≡ unread ++ take n piece →
+        new ++ drop n piece ≡ unread ++ piece }
+    // A packet that it hands out is the first of the stream.
+    ensures packet { (unread piece new : List ℕ) (n : ℕ) (f : Frame) → new ≡ unread ++ take n piece →
+        new ≡ frame_bytes f → IsFrame f → divide (unread ++ piece) ≡ with_frame f (divide (drop n piece)) }
+    // A fault that it tells is what the stream begins with, and no packet comes before it.
+    ensures fault { (unread piece new : List ℕ) (n : ℕ) (f : WireFault) → new ≡ unread ++ take n piece →
+        length_fault new ≡ Some f → length_fault (unread ++ piece) ≡ Some f }
+    ensures no_packet { (unread piece new : List ℕ) (n : ℕ) (f : WireFault) → new ≡ unread ++ take n piece →
+        length_fault new ≡ Some f → divide (unread ++ piece) ≡ record { frames = []; rest = unread ++ piece } }
+    // Where it tells neither, there is neither.
+    ensures unfinished { (bytes : List ℕ) → IsUnfinished bytes → divide bytes ≡ record { frames = []; rest = bytes } }
+    ensures sound { (bytes : List ℕ) → IsUnfinished bytes → length_fault bytes ≡ None }
 {}

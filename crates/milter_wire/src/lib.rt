@@ -21,7 +21,7 @@ pub use command::Command;
 pub use fault::{NoMemory, WireFault};
 pub use laws::{
     command_spellings, commands_apart, one_division, replies_apart, reply_spellings,
-    stream_divides, stream_goes_on,
+    stream_divides, stream_fed, stream_goes_on,
 };
 pub use options::{Actions, Options, Protocol};
 pub use reply::Reply;
