@@ -1,12 +1,11 @@
 //! What can be wrong with packets and with memory.
 
-ghost use Rattle.std.specs.Prelude.{◌≡◌, ◌<◌, Some};
+ghost use Rattle.std.specs.Prelude.{◌≡◌};
 ghost use Rattle.milter_wire.specs.declared.fault.WireFault.TheVariants as faults;
 ghost use Rattle.milter_wire.specs.WireFault.{number_of};
-ghost use Rattle.milter_wire.specs.Code.{code_text, hex_digit};
 
+use crate::code_name::CodeName;
 use std::alloc::{AllocError, AllocFailed};
-use std::fmt;
 use thiserror::Error;
 
 /// The memory that a call asked for was refused. The value that it was called on is then as it was before, unless the
@@ -64,36 +63,6 @@ impl WireFault {
             WireFault::Truncated(_) => 5,
             WireFault::NoMemory => 6,
         }
-    }
-}
-
-/// A code as it is printed: a visible ASCII character as itself, and any other byte as `\xhh`.
-#[derive(Drop)]
-struct CodeName(u8);
-
-impl fmt::Display for CodeName {
-    ghost output = { λ name. Some (code_text name.0) };
-
-    fn fmt<W: fmt::Write>(&self, f: &mut fmt::Formatter<W>) -> fmt::Result {
-        let code = self.0;
-        if code.is_ascii_graphic() {
-            return write!(f, "{}", char::from(code));
-        }
-        let high = char::from(hex_digit(code / 16));
-        let low = char::from(hex_digit(code % 16));
-        write!(f, "\\x{high}{low}")
-    }
-}
-
-/// The hexadecimal digit of a number below 16, a letter in lower case.
-fn hex_digit(value: u8) -> u8
-    requires { value < 16 }
-    ensures { result ≡ hex_digit value }
-{
-    if value < 10 {
-        b'0' + value
-    } else {
-        b'a' + (value - 10)
     }
 }
 

@@ -6,6 +6,7 @@
 //! says. Nothing here reads, writes or waits.
 #![tactic(auto)]
 
+mod code_name;
 mod command;
 mod fault;
 mod field;
@@ -17,6 +18,7 @@ mod splitter;
 mod stream;
 mod text;
 
+pub use code_name::CodeName;
 pub use command::Command;
 pub use fault::{NoMemory, WireFault};
 pub use laws::{

@@ -1,0 +1,12 @@
+pub mod Lines
+pub mod Entry
+pub mod PacketText
+pub mod Trace
+pub mod Tracing
+pub mod Shape
+pub mod Printing
+pub mod Digits
+pub mod TracerValue
+pub mod Writing
+pub mod TraceRun
+pub mod CommandLine

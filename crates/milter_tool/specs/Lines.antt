@@ -1,0 +1,25 @@
+-- The lines of a text, by cases on its bytes.
+use Rattle.std.specs.Prelude.{ℕ, Bool, true, false, ◌==◌, nat_lt, List, [], ◌∷◌, length, if◌then◌else◌}
+use Rattle.std.specs.Io.BufRead.{strip_last}
+
+-- the bytes of a line before its LF, and whether it has one: the last line of a text may have none
+pub record Line : Type 0 where
+  pub bytes : List ℕ
+  pub ended : Bool
+
+-- one more byte at the front of the first line
+abbrev pub onto : ℕ → List Line → List Line
+onto byte [] = record { bytes = byte ∷ []; ended = false } ∷ []
+onto byte (line ∷ lines) = record { bytes = byte ∷ line.bytes; ended = line.ended } ∷ lines
+
+abbrev pub lines_of : List ℕ → List Line
+lines_of [] = []
+lines_of (byte ∷ bytes) = if byte == 10 then record { bytes = []; ended = true } ∷ lines_of bytes else onto byte (lines_of bytes)
+
+-- what a line says: one CR before the LF doesn't count
+abbrev pub content : Line → List ℕ
+content line = if line.ended then strip_last 13 line.bytes else line.bytes
+
+-- a line has at most 262,144 bytes before its LF
+abbrev pub is_too_long : Line → Bool
+is_too_long line = nat_lt 262144 (length line.bytes)

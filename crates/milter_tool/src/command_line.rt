@@ -1,0 +1,78 @@
+//! The command line: what the program is asked to do.
+
+ghost use Rattle.std.specs.Prelude.{◌≡◌, IfOk, map, false};
+ghost use Rattle.std.specs.Process.{exit_status};
+ghost use Rattle.clap.specs.Words.{app_of, kind_of};
+ghost use Rattle.clap.specs.declared.builder.command.Command.TheViews.{out-Command};
+ghost use Rattle.milter_tool.specs.CommandLine.{ParsesAs, status_of, tool_app, top_app, trace_app};
+
+use clap::error::ErrorKind;
+use clap::{ArgMatches, Command, Error};
+use std::alloc::{AllocError, Global};
+use std::convert::AsStr;
+use std::process::ExitCode;
+
+/// What the program is asked to do.
+#[derive(Clone, Copy, Debug, PartialEq, Eq)]
+pub(crate) enum Request {
+    /// To print the packets of the trace on standard input.
+    Trace,
+}
+
+/// Parses the words of a command line, the program's name first. An error has a text and a kind: a wrong use, what was
+/// asked for (help, the version), or want of memory.
+pub(crate) fn parse<'a, S: AsStr>(
+    alloc: Global,
+    words: &'a [S],
+) -> Result<ArgMatches<'a>, Error>
+    ensures { ParsesAs (map S.text words.entry.now) result }
+{
+    command(alloc)?.try_get_matches_from(words)
+}
+
+/// What a parsed command line asks for.
+pub(crate) fn request_of(matches: &ArgMatches<'_>) -> Option<Request> {
+    match matches.subcommand() {
+        Some(("trace", _)) => Some(Request::Trace),
+        _ => None,
+    }
+}
+
+/// The status that the program ends with after this error: 0 where help was asked for, 1 for want of memory, 2 for a
+/// wrong use.
+pub(crate) fn status_of(error: &Error) -> ExitCode
+    ensures { exit_status result ≡ status_of (kind_of error.now) }
+{
+    ExitCode::from(match error.kind() {
+        ErrorKind::DisplayHelp | ErrorKind::DisplayVersion => 0,
+        ErrorKind::OutOfMemory => 1,
+        _ => 2,
+    })
+}
+
+/// The whole command line.
+fn command<'a>(alloc: Global) -> Result<Command<'a>, AllocError>
+    ensures { IfOk result (λ c. app_of c ≡ tool_app) }
+{
+    top(alloc)?.subcommand(trace(alloc))
+}
+
+fn top<'a>(alloc: Global) -> Result<Command<'a>, AllocError>
+    ensures { IfOk result (λ c. app_of c ≡ top_app) }
+{
+    let named = Command::new(alloc, "milter_tool").bin_name("milter_tool")?;
+    Ok(
+        named
+            .about("Looks at conversations between mail servers and their filters (the milter protocol, version 6)")
+            .version("0.1.0")
+            .subcommand_required(true),
+    )
+}
+
+fn trace<'a>(alloc: Global) -> Command<'a>
+    ensures shape { app_of result ≡ trace_app }
+    ensures local { (out-Command result).has_globals ≡ false }
+{
+    Command::new(alloc, "trace")
+        .about("Prints the packets of a captured conversation, a line each, from the `> HEX` and `< HEX` lines of standard input")
+}

@@ -1,0 +1,96 @@
+//! How a trace can end before its input does.
+
+ghost use Rattle.milter_tool.specs.declared.fault.TraceFault.TheVariants as faults;
+ghost use Rattle.std.specs.Prelude.{◌≡◌};
+
+use crate::direction::Direction;
+use milter_wire::{NoMemory, WireFault};
+use std::alloc::{AllocError, AllocFailed};
+use std::fmt;
+use thiserror::Error;
+
+/// Why a trace ended. After the first three, the text up to the fault was written; after the others, a beginning of
+/// it. Lines are numbered from 1. The text of each but `Truncated` is its fault line. Source: own.
+#[derive(Clone, Copy, Debug, PartialEq, Eq, Error)]
+pub enum TraceFault {
+    /// The line with this number is none of a trace.
+    #[error("line {0}: bad line")]
+    BadLine(u64),
+    /// A packet that becomes whole in this line is at fault, or the length of one.
+    #[error("line {line}: {direction} {fault}")]
+    Packet {
+        /// The number of the line.
+        line: u64,
+        /// The direction of the packet.
+        direction: Direction,
+        /// The fault: of a length, or a malformed payload.
+        fault: WireFault,
+    },
+    /// The input ended with so many bytes of packets that aren't whole, in one direction at least.
+    #[error("{}", Ends { to_filter: *.to_filter, to_mta: *.to_mta })]
+    Truncated {
+        /// The bytes to the filter.
+        to_filter: usize,
+        /// The bytes to the mail server.
+        to_mta: usize,
+    },
+    /// A read of the input failed.
+    #[error("read fault")]
+    ReadFault,
+    /// A write of the text failed, or took nothing.
+    #[error("write fault")]
+    WriteFault,
+    /// The input had not ended after 1,073,741,824 reads.
+    #[error("turn limit")]
+    TurnLimit,
+    /// Memory was refused.
+    #[error("out of memory")]
+    NoMemory,
+}
+
+/// The fault lines of an input that ended too early: one for each direction in which it did.
+#[derive(Drop)]
+struct Ends {
+    to_filter: usize,
+    to_mta: usize,
+}
+
+impl fmt::Display for Ends {
+    fn fmt<W: fmt::Write>(&self, f: &mut fmt::Formatter<W>) -> fmt::Result {
+        let Ends { to_filter, to_mta } = *self;
+        if to_filter > 0 {
+            write!(f, "end: {} {}", Direction::ToFilter, WireFault::Truncated(to_filter))?;
+        }
+        if to_filter > 0 && to_mta > 0 {
+            writeln!(f)?;
+        }
+        if to_mta > 0 {
+            write!(f, "end: {} {}", Direction::ToMta, WireFault::Truncated(to_mta))?;
+        }
+        Ok(())
+    }
+}
+
+impl From<NoMemory> for TraceFault {
+    ghost from_gives = { λ _ e. e ≡ faults.NoMemory };
+
+    fn from(_error: NoMemory) -> TraceFault {
+        TraceFault::NoMemory
+    }
+}
+
+impl From<AllocError> for TraceFault {
+    ghost from_gives = { λ _ e. e ≡ faults.NoMemory };
+
+    fn from(_error: AllocError) -> TraceFault {
+        TraceFault::NoMemory
+    }
+}
+
+impl<T: Drop> From<AllocFailed<T>> for TraceFault {
+    ghost from_gives = { λ _ e. e ≡ faults.NoMemory };
+
+    fn from(_error: AllocFailed<T>) -> TraceFault {
+        TraceFault::NoMemory
+    }
+}

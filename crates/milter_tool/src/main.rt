@@ -1,0 +1,61 @@
+//! `milter_tool`: looks at conversations between mail servers and their filters, in the milter protocol.
+//!
+//! Results go to standard output and fault lines to standard error. The program ends with status 0 where it did what
+//! it was asked, 1 after a fault, and 2 after a wrong use of the command line.
+#![tactic(auto)]
+
+mod command_line;
+mod direction;
+mod fault;
+mod line;
+mod packet_line;
+mod packets;
+mod printer;
+mod trace;
+mod tracer;
+
+#[cfg(test)]
+mod tests;
+
+use command_line::Request;
+use std::env::{self, Env};
+use std::io;
+use std::process::ExitCode;
+
+/// Prints the packets of the trace on standard input.
+fn print_trace<R: Input + Print + Eprint + AllocGlobal>(rt: &R) -> ExitCode {
+    let mut reader = rt.reader();
+    let mut writer = io::writer(rt);
+    match trace::trace_run(rt.alloc(), &mut reader, &mut writer) {
+        Ok(()) => ExitCode::SUCCESS,
+        Err(fault) => {
+            let _ = eprintln!(rt; "{fault}");
+            ExitCode::FAILURE
+        }
+    }
+}
+
+fn run<R: Input + Print + Eprint + Env + AllocGlobal>(rt: &R) -> io::Result<ExitCode> {
+    let words: Vec<String> = env::args(rt)?.collect(rt.alloc())?;
+    let matches = match command_line::parse(rt.alloc(), words.as_slice()) {
+        Ok(matches) => matches,
+        Err(error) => {
+            error.print(rt)?;
+            return Ok(command_line::status_of(&error));
+        }
+    };
+    match command_line::request_of(&matches) {
+        Some(Request::Trace) => Ok(print_trace(rt)),
+        None => Ok(ExitCode::FAILURE),
+    }
+}
+
+fn main(rt: HostRuntime) -> ExitCode {
+    match run(&rt) {
+        Ok(code) => code,
+        Err(error) => {
+            let _ = eprintln!(&rt; "milter_tool: {error}");
+            ExitCode::FAILURE
+        }
+    }
+}

@@ -1,0 +1,56 @@
+//! The packets that become whole in a line.
+
+ghost use Rattle.std.specs.Prelude.{◌≡◌, ◌++◌, OnOk};
+ghost use Rattle.milter_wire.specs.Stream.{IsUnfinished, divide};
+ghost use Rattle.milter_tool.specs.Tracing.{Prints, print_division, told_of};
+
+use crate::direction::Direction;
+use crate::fault::TraceFault;
+use crate::packet_line::put_packet;
+use milter_wire::{Splitter, WireFault};
+use std::alloc::Global;
+
+/// Appends the lines of the packets that become whole with these bytes, up to the first fault.
+pub(crate) fn print_packets(
+    alloc: Global,
+    line: u64,
+    direction: Direction,
+    splitter: &mut Splitter,
+    bytes: &[u8],
+    text: &mut Vec<u8>,
+) -> Result<(), TraceFault>
+    requires { IsUnfinished splitter.old }
+    ensures prints { Prints (print_division line direction (divide (splitter.old ++ bytes.now))) text.old.items text.new.items result }
+    ensures rest { OnOk result (splitter.new ≡ (divide (splitter.old ++ bytes.now)).rest) }
+    ensures unfinished { OnOk result (IsUnfinished splitter.new) }
+{
+    let mut rest = bytes;
+    while !rest.is_empty() {
+        let taken = splitter.feed(rest)?;
+        rest = &rest[taken..];
+        match splitter.next() {
+            Ok(None) => {}
+            Ok(Some(packet)) => {
+                if let Err(fault) = put_packet(alloc, direction, &packet, text) {
+                    return Err(told(line, direction, fault));
+                }
+            }
+            Err(fault) => return Err(told(line, direction, fault)),
+        }
+    }
+    Ok(())
+}
+
+/// The fault of a packet in this line.
+fn told(line: u64, direction: Direction, fault: WireFault) -> TraceFault
+    ensures { result ≡ told_of line direction fault }
+{
+    match fault {
+        WireFault::NoMemory => TraceFault::NoMemory,
+        _ => TraceFault::Packet {
+            line,
+            direction,
+            fault,
+        },
+    }
+}
