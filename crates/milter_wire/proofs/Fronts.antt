@@ -27,6 +27,19 @@ first_end-le (a ∷ []) = omega arith
 first_end-le (a ∷ b ∷ []) = omega arith
 first_end-le (a ∷ b ∷ c ∷ []) = omega arith
 
+end_by : (fault : Option WireFault) (n : ℕ) → (fault ≡ None → n ≤ 65536) → (if is_some fault then 4 else n + 4) ≤ 65540
+end_by None n h = let le = h refl in omega (arith, le)
+end_by (Some f) n h = omega arith
+
+-- no packet is longer
+pub first_end-most : (bytes : List ℕ) → first_end bytes ≤ 65540
+unfolding first_end
+first_end-most (a ∷ b ∷ c ∷ d ∷ body) = end_by (fault_of (number_of a b c d)) (number_of a b c d) (λ sound. (fault_of-none (number_of a b c d) sound).fits)
+first_end-most [] = omega arith
+first_end-most (a ∷ []) = omega arith
+first_end-most (a ∷ b ∷ []) = omega arith
+first_end-most (a ∷ b ∷ c ∷ []) = omega arith
+
 pub first_end-short : (bytes : List ℕ) → length bytes < 4 → first_end bytes ≡ 4
 unfolding first_end
 first_end-short (a ∷ b ∷ c ∷ d ∷ body) lt = absurd (omega arith)

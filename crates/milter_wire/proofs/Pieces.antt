@@ -8,7 +8,7 @@ use Rattle.milter_wire.specs.declared.fault.WireFault.{WireFault}
 use Rattle.milter_wire.specs.declared.fault.WireFault.TheVariants.{ZeroLength, TooLong, UnknownCode, Malformed, Truncated, NoMemory}
 use Rattle.milter_wire.specs.Reading.{number_of}
 use Rattle.milter_wire.specs.Stream.{Frame, Division, IsFrame, IsUnfinished, IsRest, divide, fault_of, first_frame, frame_bytes, length_fault, with_frame}
-use Rattle.milter_wire.specs.Collected.{Collects, StopsBy}
+use Rattle.milter_wire.specs.Collected.{AddsFront, Collects, StopsBy}
 use Rattle.milter_wire.proofs.Frames.{first_frame-packet, first_frame-rest}
 use Rattle.milter_wire.proofs.Division.{divide-none, divide-first, divide-append}
 
@@ -79,28 +79,38 @@ divide-at_fault unread piece new n f fed h =
 
 -- the packets handed out so far and those of what is left are the packets of the whole stream
 pub record Going (start : List Frame) (whole : List ℕ) (handed : List Frame) (left : List ℕ) : Type 0 where
-  pub packets : handed ++ (divide left).frames ≡ start ++ (divide whole).frames
+  pub added : List Frame
+  pub handed_are : handed ≡ start ++ added
+  pub packets : added ++ (divide left).frames ≡ (divide whole).frames
   pub rest : (divide left).rest ≡ (divide whole).rest
+
+pub Going-none : (start : List Frame) (whole : List ℕ) → Going start whole start whole
+Going-none start whole = record { added = []; handed_are = sym (append-nil start); packets = refl; rest = refl }
+
+pub AddsFront-going : (start handed : List Frame) (whole left : List ℕ) → Going start whole handed left → AddsFront whole start handed
+AddsFront-going start handed whole left g = record { added = g.added; missing = (divide left).frames; new_are = g.handed_are; all_are = g.packets }
 
 pub Going-handed : (start handed : List Frame) (whole unread piece new : List ℕ) (n : ℕ) (f : Frame) → Going start whole handed (unread ++ piece)
     → new ≡ unread ++ take n piece → new ≡ frame_bytes f → IsFrame f → Going start whole (handed ++ f ∷ []) (drop n piece)
 Going-handed start handed whole unread piece new n f g fed is fits =
     let d = divide-handed unread piece new n f fed is fits in
     record {
-      packets = append_assoc handed (f ∷ []) (divide (drop n piece)).frames ∙ ap (λ (x : Division). handed ++ x.frames) (sym d) ∙ g.packets;
+      added = g.added ++ f ∷ [];
+      handed_are = ap (λ (x : List Frame). x ++ f ∷ []) g.handed_are ∙ append_assoc start g.added (f ∷ []);
+      packets = append_assoc g.added (f ∷ []) (divide (drop n piece)).frames ∙ ap (λ (x : Division). g.added ++ x.frames) (sym d) ∙ g.packets;
       rest = ap (λ (x : Division). x.rest) (sym d) ∙ g.rest;
     }
 
-pub Going-held : (start handed : List Frame) (whole unread piece new : List ℕ) (n : ℕ) → Going start whole handed (unread ++ piece) → new ≡ unread ++ take n piece → Going start whole handed (new ++ drop n piece)
-Going-held start handed whole unread piece new n g fed = subst (Going start whole handed) (sym (fed_on unread piece new n fed)) g
+-- with no packet in what is left, all were handed out
+all_handed : (start handed : List Frame) (whole left : List ℕ) (g : Going start whole handed left) → divide left ≡ record { frames = []; rest = left } → handed ≡ start ++ (divide whole).frames
+all_handed start handed whole left g none =
+    g.handed_are ∙ ap (λ (x : List Frame). start ++ x) (sym (append-nil g.added) ∙ ap (λ (x : Division). g.added ++ x.frames) (sym none) ∙ g.packets)
 
 pub Going-fault : (start handed : List Frame) (whole unread piece new : List ℕ) (n : ℕ) (f : WireFault) → Going start whole handed (unread ++ piece) → new ≡ unread ++ take n piece → length_fault new ≡ Some f
     → StopsBy whole start handed f
 Going-fault start handed whole unread piece new n f g fed h =
-    let a = divide-at_fault unread piece new n f fed h in (
-      sym (append-nil handed) ∙ ap (λ (x : Division). handed ++ x.frames) (sym a.division) ∙ g.packets,
-      ap length_fault (sym g.rest ∙ ap (λ (x : Division). x.rest) a.division) ∙ a.fault,
-    )
+    let a = divide-at_fault unread piece new n f fed h in
+    (all_handed start handed whole (unread ++ piece) g a.division, ap length_fault (sym g.rest ∙ ap (λ (x : Division). x.rest) a.division) ∙ a.fault)
 
 pub record Done (start : List Frame) (whole : List ℕ) (handed : List Frame) (unread : List ℕ) : Type 0 where
   pub packets : handed ≡ start ++ (divide whole).frames
@@ -109,10 +119,11 @@ pub record Done (start : List Frame) (whole : List ℕ) (handed : List Frame) (u
 
 pub Going-end : (start handed : List Frame) (whole unread piece : List ℕ) → Going start whole handed (unread ++ piece) → length piece ≡ 0 → IsUnfinished unread → Done start whole handed unread
 Going-end start handed whole unread [] g empty u =
-    let d = ap divide (append-nil unread) ∙ divide-unfinished unread u in
-    let rest = sym (ap (λ (x : Division). x.rest) d) ∙ g.rest in
+    let same = append-nil unread in
+    let d = divide-unfinished (unread ++ []) (subst IsUnfinished (sym same) u) in
+    let rest = sym same ∙ sym (ap (λ (x : Division). x.rest) d) ∙ g.rest in
     record {
-      packets = sym (append-nil handed) ∙ ap (λ (x : Division). handed ++ x.frames) (sym d) ∙ g.packets;
+      packets = all_handed start handed whole (unread ++ []) g d;
       rest = rest;
       no_fault = ap length_fault (sym rest) ∙ no_fault-unfinished unread u;
     }
@@ -139,10 +150,7 @@ no_other : {A : Type 0} (bytes : List ℕ) (f : WireFault) → f ≢ ZeroLength 
 no_other bytes f zero_length too_long h =
     elim (fault_is_length bytes f h) [ inl e ↦ absurd (zero_length e) | inr e ↦ absurd (too_long e.0 e.1) ]
 
-abbrev pub IsBeginning : List ℕ → List Frame → List Frame → Type 0
-IsBeginning stream old new = (more : List Frame) × (new ++ more ≡ old ++ (divide stream).frames)
-
-pub Collects-err : (stream : List ℕ) (old new : List Frame) (y : WireFault) → IsBeginning stream old new → (y ≢ NoMemory → StopsBy stream old new y) → Collects stream old new (Err y)
+pub Collects-err : (stream : List ℕ) (old new : List Frame) (y : WireFault) → AddsFront stream old new → (y ≢ NoMemory → StopsBy stream old new y) → Collects stream old new (Err y)
 Collects-err stream old new ZeroLength b s = s (λ e. cc)
 Collects-err stream old new (TooLong n) b s = s (λ e. cc)
 Collects-err stream old new (UnknownCode n) b s = no_other (divide stream).rest (UnknownCode n) (λ e. cc) (λ k e. cc) (s (λ e. cc)).1
@@ -175,9 +183,6 @@ rest_of-all so_far unread piece later u =
     ∙ ap rest_of (regrouped so_far unread piece later u)
     ∙ ap (λ (d : Division). d.rest) (divide-append (unread ++ piece) later)
 
-added : (start handed so_far piece new more : List Frame) → handed ≡ start ++ so_far → new ++ more ≡ handed ++ piece → new ++ more ≡ start ++ (so_far ++ piece)
-added start handed so_far piece new more h e = e ∙ ap (λ (x : List Frame). x ++ piece) h ∙ append_assoc start so_far piece
-
 pub StopsBy-before : (start handed new : List Frame) (so_far unread piece later : List ℕ) (f : WireFault) → handed ≡ start ++ frames_of so_far → unread ≡ rest_of so_far
     → StopsBy (unread ++ piece) handed new f → StopsBy (so_far ++ (piece ++ later)) start new f
 StopsBy-before start handed new so_far unread piece later f h u s =
@@ -185,22 +190,23 @@ StopsBy-before start handed new so_far unread piece later f h u s =
     let last = divide-fault (rest_of (unread ++ piece) ++ later) f fault in
     let frames : frames_of (so_far ++ (piece ++ later)) ≡ frames_of so_far ++ frames_of (unread ++ piece) =
     frames_of-all so_far unread piece later u ∙ ap (λ (d : Division). frames_of so_far ++ (frames_of (unread ++ piece) ++ d.frames)) last
-    ∙ ap (λ (x : List Frame). frames_of so_far ++ x) (append-nil (frames_of (unread ++ piece))) in
-    let all = added start handed (frames_of so_far) (frames_of (unread ++ piece)) new [] h (append-nil new ∙ s.0) in (
-      sym (append-nil new) ∙ all ∙ ap (λ (x : List Frame). start ++ x) (sym frames),
+    ∙ ap (λ (x : List Frame). frames_of so_far ++ x) (append-nil (frames_of (unread ++ piece))) in (
+      s.0 ∙ ap (λ (x : List Frame). x ++ frames_of (unread ++ piece)) h ∙ append_assoc start (frames_of so_far) (frames_of (unread ++ piece)) ∙ ap (λ (x : List Frame). start ++ x) (sym frames),
       ap length_fault (rest_of-all so_far unread piece later u ∙ ap (λ (d : Division). d.rest) last) ∙ fault,
     )
 
-pub IsBeginning-before : (start handed new : List Frame) (so_far unread piece later : List ℕ) → handed ≡ start ++ frames_of so_far → unread ≡ rest_of so_far
-    → IsBeginning (unread ++ piece) handed new → IsBeginning (so_far ++ (piece ++ later)) start new
-IsBeginning-before start handed new so_far unread piece later h u b =
+pub AddsFront-before : (start handed new : List Frame) (so_far unread piece later : List ℕ) → handed ≡ start ++ frames_of so_far → unread ≡ rest_of so_far
+    → AddsFront (unread ++ piece) handed new → AddsFront (so_far ++ (piece ++ later)) start new
+AddsFront-before start handed new so_far unread piece later h u b =
     let after = frames_of (rest_of (unread ++ piece) ++ later) in
-    let all = added start handed (frames_of so_far) (frames_of (unread ++ piece)) new b.0 h b.1 in (
-      b.0 ++ after,
-      sym (append_assoc new b.0 after) ∙ ap (λ (x : List Frame). x ++ after) all
-          ∙ append_assoc start (frames_of so_far ++ frames_of (unread ++ piece)) after
-          ∙ ap (λ (x : List Frame). start ++ x) (append_assoc (frames_of so_far) (frames_of (unread ++ piece)) after ∙ sym (frames_of-all so_far unread piece later u)),
-    )
+    record {
+      added = frames_of so_far ++ b.added;
+      missing = b.missing ++ after;
+      new_are = b.new_are ∙ ap (λ (x : List Frame). x ++ b.added) h ∙ append_assoc start (frames_of so_far) b.added;
+      all_are = append_assoc (frames_of so_far) b.added (b.missing ++ after)
+          ∙ ap (λ (x : List Frame). frames_of so_far ++ x) (sym (append_assoc b.added b.missing after) ∙ ap (λ (x : List Frame). x ++ after) b.all_are)
+          ∙ sym (frames_of-all so_far unread piece later u);
+    }
 
 pub Collects-before : (start handed new : List Frame) (so_far unread piece later : List ℕ) (y : WireFault) → handed ≡ start ++ frames_of so_far → unread ≡ rest_of so_far
     → Collects (unread ++ piece) handed new (Err y) → Collects (so_far ++ (piece ++ later)) start new (Err y)
@@ -209,7 +215,7 @@ Collects-before start handed new so_far unread piece later (TooLong n) h u s = S
 Collects-before start handed new so_far unread piece later (UnknownCode n) h u s = absurd s
 Collects-before start handed new so_far unread piece later (Malformed n) h u s = absurd s
 Collects-before start handed new so_far unread piece later (Truncated n) h u s = absurd s
-Collects-before start handed new so_far unread piece later NoMemory h u s = IsBeginning-before start handed new so_far unread piece later h u s
+Collects-before start handed new so_far unread piece later NoMemory h u s = AddsFront-before start handed new so_far unread piece later h u s
 
 pub divide-nil : divide [] ≡ record { frames = []; rest = [] }
 divide-nil = divide-none [] (first_frame-rest [] tt)

@@ -92,11 +92,13 @@ impl Splitter {
         Ok(Some(Packet { code, payload }))
     }
 
-    /// How many bytes were taken and not handed out. No memory is taken. Source: own.
+    /// How many bytes were taken and not handed out: at most 65,540, those of the longest packet. No memory is taken.
+    /// Source: own.
     pub fn unread(&self) -> usize
-        ensures { result ≡ length self.now }
+        ensures unread { result ≡ length self.now }
+        ensures bound { result ≤ 65540 }
     {
-        self.unread.len()
+        self.unread.as_slice().len()
     }
 
     /// What it means that the stream ends here: nothing where no byte is unread, else the fault of the length that the

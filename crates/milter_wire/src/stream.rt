@@ -11,7 +11,8 @@ use crate::splitter::{Packet, Splitter};
 use std::alloc::Global;
 
 /// Adds the packets of a stream that comes in these pieces to `out`. The fault is the first length that no packet has;
-/// the packets before it are added. After `NoMemory` a beginning of them is. Source: own.
+/// the packets before it are added. After `NoMemory` a beginning of them is. A packet that isn't whole where the last
+/// piece ends is no fault, and isn't added. Source: own.
 pub fn packets(alloc: Global, pieces: &[Vec<u8>], out: &mut Vec<Packet>) -> Result<(), WireFault>
     ensures { Collects (flat_map (λ piece. piece.items) pieces.now) (map frame_of out.old.items) (map frame_of out.new.items) result }
 {

@@ -5,13 +5,13 @@ use Rattle.milter_wire.specs.declared.fault.WireFault.TheVariants.{NoMemory}
 use Rattle.milter_wire.specs.Stream.{divide}
 use Rattle.milter_wire.specs.Collected.{Collects}
 use Rattle.milter_wire.specs.Splitter.{frame_of}
-use Rattle.milter_wire.proofs.Pieces.{Added-more, Added-none, Collects-before, piece_more, piece_split}
+use Rattle.milter_wire.proofs.Pieces.{AddsFront-going, Going-none, Added-more, Added-none, Collects-before, piece_more, piece_split}
 use Rattle.milter_wire.proofs.stream.packets.Goals as goal
 
 pub returns-in_err-splitter : goal.returns-in_err-splitter
 returns-in_err-splitter c =
     let p = err_from_is_err_and c.from_residual.result c.from_residual.ensures.1 in
-    rw (p.1, p.2) ((divide (flat_map (λ piece. piece.items) c.args.pieces.now)).frames, refl)
+    rw (p.1, p.2) (AddsFront-going _ _ _ _ (Going-none (map frame_of c.args.out.now.items) (flat_map (λ piece. piece.items) c.args.pieces.now)))
 
 pub loop-piece-init : goal.loop-piece-init
 loop-piece-init c = record {

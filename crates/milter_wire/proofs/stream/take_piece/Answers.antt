@@ -4,9 +4,9 @@ use Rattle.std.proofs.lemmas.List.{map-append, take_rest}
 use Rattle.std.proofs.lemmas.Result.{err_from_is_err_and}
 use Rattle.std.proofs.lemmas.Bool.{eqb-true}
 use Rattle.milter_wire.specs.declared.fault.WireFault.TheVariants.{NoMemory}
-use Rattle.milter_wire.specs.Stream.{divide, length_fault}
+use Rattle.milter_wire.specs.Stream.{length_fault}
 use Rattle.milter_wire.specs.Splitter.{frame_of}
-use Rattle.milter_wire.proofs.Pieces.{Collects-err, Going-end, Going-fault, Going-handed}
+use Rattle.milter_wire.proofs.Pieces.{AddsFront-going, Collects-err, Going-end, Going-fault, Going-handed}
 use Rattle.milter_wire.proofs.stream.take_piece.Goals as goal
 
 pub returns-in_err-packet-clause-packets : goal.returns-in_err-packet-clause-packets
@@ -15,7 +15,7 @@ returns-in_err-packet-clause-packets c =
     let p = err_from_is_err_and c.from_residual-in_err-packet.result c.from_residual-in_err-packet.ensures.1 in
     let was : c.next.result ≡ Err p.0 = c.in_err-packet.was ∙ ap (λ e. Err e) (sym p.2) in
     let stops = λ (other : p.0 ≢ NoMemory). Going-fault _ _ _ c.loop-rest.splitter c.loop-rest.rest.now _ c.in_ok-taken.taken p.0 going c.in_ok-taken.ensures.taken ((c.next.ensures.fault p.0 other).0 was) in
-    rw p.1 (Collects-err _ _ _ p.0 ((divide (c.loop-rest.splitter ++ c.loop-rest.rest.now)).frames, going.packets) stops)
+    rw p.1 (Collects-err _ _ _ p.0 (AddsFront-going _ _ _ _ going) stops)
 
 pub loop-rest-preserved-in-Continue-branch-4 : goal.loop-rest-preserved-in-Continue-branch-4
 loop-rest-preserved-in-Continue-branch-4 c =
