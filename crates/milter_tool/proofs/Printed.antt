@@ -93,8 +93,7 @@ pub Printing-end : (line : ℕ) (direction : Direction) (start whole text unread
     → Prints (print_division line direction (divide whole)) start text (Ok tt) × (unread ≡ (divide whole).rest)
 Printing-end line direction start whole text unread [] p empty u =
     let d = ap divide (append-nil unread) ∙ divide-unfinished unread u in
-    let last : print_division line direction (divide (unread ++ [])) ≡ nothing = ap (print_division line direction) d ∙ ap (in_line line direction) (length_fault-unfinished unread u) in
-    (
+    let last : print_division line direction (divide (unread ++ [])) ≡ nothing = ap (print_division line direction) d ∙ ap (in_line line direction) (length_fault-unfinished unread u) in (
       nothing_is text start (print_division line direction (divide whole)) (ap (after_text text) (sym last) ∙ p.prints),
       sym (ap (λ (x : Division). x.rest) d) ∙ p.rest,
     )

@@ -95,15 +95,13 @@ last_of a b w v h begun t = ap (λ (x : List ℕ). after_text t.sent (trace_on h
 pub Traced-end : (a b c w v u : Option (List ℕ)) (h : Held) (begun : List ℕ) (r : Result Unit TraceFault) → Traced a b w v h begun → Consumes b c [] → IsAtEnd c
     → Ends (trace_on h (lines_of begun)) v u r → OnOk r (IsTraced None a w u) × IfErr r (λ e. Stopped a w u e)
 Traced-end a b c w v u h begun (Ok x) t p end ends =
-    let read = subst (Consumes a c) (append-nil t.input) (Consumes-trans a b c t.input [] t.was_read p) in
-    (
+    let read = subst (Consumes a c) (append-nil t.input) (Consumes-trans a b c t.input [] t.was_read p) in (
       known_end (λ y. WritesAll y None w u) a c t.input read end (subst (λ (y : Trace). WritesAll y None w u) (last_of a b w v h begun t) (all_after t.sent (trace_on h (lines_of begun)) None w v u t.was_written ends)),
       tt,
     )
 Traced-end a b c w v u h begun (Err e) t p end ends =
     let read = subst (Consumes a c) (append-nil t.input) (Consumes-trans a b c t.input [] t.was_read p) in
-    let last = last_of a b w v h begun t in
-    (
+    let last = last_of a b w v h begun t in (
       tt,
       record {
         begun = known_end (λ y. WritesFront y.text w u) a c t.input read end (subst (λ (y : Trace). WritesFront y.text w u) last (front_after t.sent (trace_on h (lines_of begun)).text w v u t.was_written ends.front));

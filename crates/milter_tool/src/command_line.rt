@@ -21,10 +21,7 @@ pub(crate) enum Request {
 
 /// Parses the words of a command line, the program's name first. An error has a text and a kind: a wrong use, what was
 /// asked for (help, the version), or want of memory.
-pub(crate) fn parse<'a, S: AsStr>(
-    alloc: Global,
-    words: &'a [S],
-) -> Result<ArgMatches<'a>, Error>
+pub(crate) fn parse<'a, S: AsStr>(alloc: Global, words: &'a [S]) -> Result<ArgMatches<'a>, Error>
     ensures { ParsesAs (map S.text words.entry.now) result }
 {
     command(alloc)?.try_get_matches_from(words)
@@ -63,7 +60,9 @@ fn top<'a>(alloc: Global) -> Result<Command<'a>, AllocError>
     let named = Command::new(alloc, "milter_tool").bin_name("milter_tool")?;
     Ok(
         named
-            .about("Looks at conversations between mail servers and their filters (the milter protocol, version 6)")
+            .about(
+                "Looks at conversations between mail servers and their filters, in the milter protocol",
+            )
             .version("0.1.0")
             .subcommand_required(true),
     )
@@ -73,6 +72,7 @@ fn trace<'a>(alloc: Global) -> Command<'a>
     ensures shape { app_of result ≡ trace_app }
     ensures local { (out-Command result).has_globals ≡ false }
 {
-    Command::new(alloc, "trace")
-        .about("Prints the packets of a captured conversation, a line each, from the `> HEX` and `< HEX` lines of standard input")
+    Command::new(alloc, "trace").about(
+        "Prints a line for each packet of a captured conversation, read from standard input",
+    )
 }

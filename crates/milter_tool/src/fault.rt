@@ -27,7 +27,7 @@ pub enum TraceFault {
         fault: WireFault,
     },
     /// The input ended with so many bytes of packets that aren't whole, in one direction at least.
-    #[error("{}", Ends { to_filter: *.to_filter, to_mta: *.to_mta })]
+    #[error("{}", Ends {to_filter: *.to_filter, to_mta: *.to_mta})]
     Truncated {
         /// The bytes to the filter.
         to_filter: usize,
@@ -59,13 +59,23 @@ impl fmt::Display for Ends {
     fn fmt<W: fmt::Write>(&self, f: &mut fmt::Formatter<W>) -> fmt::Result {
         let Ends { to_filter, to_mta } = *self;
         if to_filter > 0 {
-            write!(f, "end: {} {}", Direction::ToFilter, WireFault::Truncated(to_filter))?;
+            write!(
+                f,
+                "end: {} {}",
+                Direction::ToFilter,
+                WireFault::Truncated(to_filter)
+            )?;
         }
         if to_filter > 0 && to_mta > 0 {
             writeln!(f)?;
         }
         if to_mta > 0 {
-            write!(f, "end: {} {}", Direction::ToMta, WireFault::Truncated(to_mta))?;
+            write!(
+                f,
+                "end: {} {}",
+                Direction::ToMta,
+                WireFault::Truncated(to_mta)
+            )?;
         }
         Ok(())
     }

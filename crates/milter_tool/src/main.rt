@@ -11,11 +11,10 @@ mod line;
 mod packet_line;
 mod packets;
 mod printer;
-mod trace;
-mod tracer;
-
 #[cfg(test)]
 mod tests;
+mod trace;
+mod tracer;
 
 use command_line::Request;
 use std::env::{self, Env};

@@ -81,10 +81,24 @@ impl Printer {
         let alloc = self.alloc;
         match direction {
             Direction::ToFilter => {
-                print_packets(alloc, number, direction, &mut self.to_filter, bytes, &mut self.text)
+                print_packets(
+                    alloc,
+                    number,
+                    direction,
+                    &mut self.to_filter,
+                    bytes,
+                    &mut self.text,
+                )
             }
             Direction::ToMta => {
-                print_packets(alloc, number, direction, &mut self.to_mta, bytes, &mut self.text)
+                print_packets(
+                    alloc,
+                    number,
+                    direction,
+                    &mut self.to_mta,
+                    bytes,
+                    &mut self.text,
+                )
             }
         }
     }

@@ -94,7 +94,7 @@ fn print_piece<W: Write>(
     requires few { tracer.old.printer.lines + length piece.now + 1 < 2 ^ 64 }
     ensures goes_on { OnOk result ((text : List ℕ) × Appends (W.contents writer.old) (W.contents writer.new) text
         × ((more : List ℕ) → to_come text (held_in tracer.new.printer) tracer.new.begun.items more
-            ≡ to_come [] (held_in tracer.old.printer) tracer.old.begun.items (piece.now ++ more))) }
+        ≡ to_come [] (held_in tracer.old.printer) tracer.old.begun.items (piece.now ++ more))) }
     ensures ready { OnOk result (IsReady tracer.new) }
     ensures written { OnOk result (tracer.new.printer.text.items ≡ []) }
     ensures few { OnOk result (tracer.new.printer.lines ≤ tracer.old.printer.lines + length piece.now) }

@@ -14,9 +14,9 @@ returns-in-Err-put_packet-clause-prints c =
     let handed = rw c.in-Ok-Some.field-0-is at c.in-Ok-Some.ensures.packet in
     let whole = c.args.splitter.now ++ c.args.bytes.now in
     rw c.told.ensures (Prints-told c.args.line c.args.direction c.args.text.now.items c.put_packet.new.text.items c.in-Err-put_packet.fault (print_division c.args.line c.args.direction (divide whole)) (λ (other : c.in-Err-put_packet.fault ≢ NoMemory).
-        let shown = Shows-fault (packet_text c.args.direction (frame_of c.in-Ok-Some.packet)) c.loop-rest.text.items c.put_packet.new.text.items c.in-Err-put_packet.fault c.in-Err-put_packet.ensures other in
-        rw shown.1 (Printing-stopped c.args.line c.args.direction _ _ _ c.loop-rest.splitter c.loop-rest.rest.now _ c.in_ok-taken.taken (frame_of c.in-Ok-Some.packet) c.in-Err-put_packet.fault
-            c.loop-rest.invariant.printing c.in_ok-taken.ensures.taken handed.1 handed.0 shown.0)))
+    let shown = Shows-fault (packet_text c.args.direction (frame_of c.in-Ok-Some.packet)) c.loop-rest.text.items c.put_packet.new.text.items c.in-Err-put_packet.fault c.in-Err-put_packet.ensures other in
+    rw shown.1 (Printing-stopped c.args.line c.args.direction _ _ _ c.loop-rest.splitter c.loop-rest.rest.now _ c.in_ok-taken.taken (frame_of c.in-Ok-Some.packet) c.in-Err-put_packet.fault
+    c.loop-rest.invariant.printing c.in_ok-taken.ensures.taken handed.1 handed.0 shown.0)))
 
 pub loop-rest-preserved : goal.loop-rest-preserved
 loop-rest-preserved c =
@@ -32,8 +32,8 @@ pub returns-in-Err-clause-prints : goal.returns-in-Err-clause-prints
 returns-in-Err-clause-prints c =
     let whole = c.args.splitter.now ++ c.args.bytes.now in
     rw c.told-in-Err.ensures (Prints-told c.args.line c.args.direction c.args.text.now.items c.loop-rest.text.items c.in-Err.fault (print_division c.args.line c.args.direction (divide whole)) (λ (other : c.in-Err.fault ≢ NoMemory).
-        Printing-fault c.args.line c.args.direction _ _ _ c.loop-rest.splitter c.loop-rest.rest.now _ c.in_ok-taken.taken c.in-Err.fault
-        c.loop-rest.invariant.printing c.in_ok-taken.ensures.taken ((c.next.ensures.fault c.in-Err.fault other).0 c.in-Err.is)))
+    Printing-fault c.args.line c.args.direction _ _ _ c.loop-rest.splitter c.loop-rest.rest.now _ c.in_ok-taken.taken c.in-Err.fault
+    c.loop-rest.invariant.printing c.in_ok-taken.ensures.taken ((c.next.ensures.fault c.in-Err.fault other).0 c.in-Err.is)))
 
 pub returns-clause-prints : goal.returns-clause-prints
 returns-clause-prints c =

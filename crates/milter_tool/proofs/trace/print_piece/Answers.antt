@@ -20,8 +20,8 @@ returns-in_err-write_text-clause-stops g c =
     let other = λ (more : List ℕ). trace_on (held_in tracer.printer) (lines_of (tracer.begun.items ++ more)) in
     let written = rw c.text.ensures at c.in_err-write_text.ensures.err in
     rw (p.1, p.2) (λ more.
-        let fed = rw c.requires.written at (c.feed-told.ensures.feeds more) in
-        Stops-write (before more) _ _ c.in_err-write_text.field-0.0 written.0 (Feeds-front (before more) (other more) tracer.printer.text.items c.feed-told.result _ _ fed some written.1))
+    let fed = rw c.requires.written at (c.feed-told.ensures.feeds more) in
+    Stops-write (before more) _ _ c.in_err-write_text.field-0.0 written.0 (Feeds-front (before more) (other more) tracer.printer.text.items c.feed-told.result _ _ fed some written.1))
 
 pub returns-clause-goes_on : goal.returns-clause-goes_on
 returns-clause-goes_on g c =

@@ -30,7 +30,7 @@ pub returns-in_err-print_piece-clause-begun : goal.returns-in_err-print_piece-cl
 returns-in_err-print_piece-clause-begun g c =
     let p = err_from_is_err_and c.from_residual.result c.from_residual.ensures.1 in
     rw p.1 (Traced-stops _ _ _ _ _ _ (held_in c.loop-turn.tracer.printer) c.loop-turn.tracer.begun.items (take c.in-Ok.count c.read.new.buf) c.in_err-print_piece.field-0.0
-        c.loop-turn.invariant.traced c.in-Ok.ensures.bytes.0 c.in_err-print_piece.ensures.stops).begun
+    c.loop-turn.invariant.traced c.in-Ok.ensures.bytes.0 c.in_err-print_piece.ensures.stops).begun
 
 pub loop-turn-preserved : goal.loop-turn-preserved
 loop-turn-preserved g c =
@@ -40,7 +40,7 @@ loop-turn-preserved g c =
     record {
       traced = Traced-more _ _ _ _ _ _ (held_in c.loop-turn.tracer.printer) _ c.loop-turn.tracer.begun.items _ (take c.in-Ok.count c.read.new.buf) goes.0 c.loop-turn.invariant.traced c.in-Ok.ensures.bytes.0 goes.1 goes.2;
       counted = Counted-more _ _ _ c.loop-turn._turn c.loop-turn.tracer.printer.lines c.print_piece.new.tracer.printer.lines (take c.in-Ok.count c.read.new.buf) c.loop-turn.invariant.counted c.in-Ok.ensures.bytes.0
-        (omega (arith, len)) (omega (arith, len, c.read.auto.buf, c.loop-turn.invariant.room)) went.few;
+          (omega (arith, len)) (omega (arith, len, c.read.auto.buf, c.loop-turn.invariant.room)) went.few;
       ready = went.ready;
       written = went.written;
       room = omega (arith, c.read.auto.buf, c.loop-turn.invariant.room);

@@ -8,7 +8,7 @@ use Rattle.milter_tool.proofs.trace.run.Given as goal
 abbrev pub invariant-loop-turn : goal.invariant-loop-turn
 invariant-loop-turn g l = record {
   traced : Traced (g.R.Read.remaining l.initial.reader) (g.R.Read.remaining l.reader) (g.W.Write.contents l.initial.writer) (g.W.Write.contents l.writer)
-    (held_in l.tracer.printer) l.tracer.begun.items;
+      (held_in l.tracer.printer) l.tracer.begun.items;
   counted : Counted (g.R.Read.remaining l.initial.reader) (g.R.Read.remaining l.reader) l._turn l.tracer.printer.lines;
   ready : IsReady l.tracer;
   written : l.tracer.printer.text.items ≡ [];

@@ -24,7 +24,7 @@ returns-in_err-end_line-clause-feeds c = λ more.
     let fault = c.in_err-end_line.field-0.0 in
     let whole = to_come c.args.self.now.printer.text.items (held_in c.args.self.now.printer) c.args.self.now.begun.items (c.args.piece.now ++ more) in
     rw (p.1, p.2) (Feeds-same (to_come text held begun (take c.in-Some.end rest ++ 10 ∷ (drop (c.in-Some.end + 1) rest ++ more))) whole after new (Err fault) before
-        (Feeds-fault text new begun (take c.in-Some.end rest) (drop (c.in-Some.end + 1) rest ++ more) held after fault none c.in_err-end_line.ensures.prints))
+    (Feeds-fault text new begun (take c.in-Some.end rest) (drop (c.in-Some.end + 1) rest ++ more) held after fault none c.in_err-end_line.ensures.prints))
 
 pub loop-end-preserved : goal.loop-end-preserved
 loop-end-preserved c =
@@ -48,7 +48,7 @@ returns-clause-feeds c = λ more.
     let none = no_end c.loop-end.rest.now (sym c.first_end.ensures ∙ c.in_default.is) in
     let whole = All-append (λ (b : ℕ). b ≢ 10) c.loop-end.self.begun.items c.loop-end.rest.now c.loop-end.invariant.ready.begun none in
     rw c.begin_line.ensures.printer (Feeds-same _ _ _ _ _ (c.loop-end.invariant.going more)
-        (Feeds-rest c.loop-end.self.printer.text.items c.loop-end.self.begun.items c.loop-end.rest.now c.begin_line.new.self.begun.items more (held_in c.loop-end.self.printer) c.begin_line.result whole c.begin_line.ensures.ok c.begin_line.ensures.err))
+    (Feeds-rest c.loop-end.self.printer.text.items c.loop-end.self.begun.items c.loop-end.rest.now c.begin_line.new.self.begun.items more (held_in c.loop-end.self.printer) c.begin_line.result whole c.begin_line.ensures.ok c.begin_line.ensures.err))
 
 pub returns-clause-ready : goal.returns-clause-ready
 returns-clause-ready c =

@@ -1,0 +1,74 @@
+#!/usr/bin/env bash
+# Times `milter_tool trace` over 64 MiB of packets in hexadecimal, cut into lines of 64 KiB and again of 32 bytes, and
+# over 1 MiB of the same, beside what `xxd -r -p` takes for the same digits in the same run. It prints a line for each:
+# what ran, bytes of packets, seconds (the best of three), and MB of packets a second; then the two figures that the
+# program is held to: 64 MiB takes at most 70 times 1 MiB, and no longer than `xxd`. Status 1 where one is missed.
+# The program is built first where it has to be. It takes about 150 MB of a temporary folder.
+set -eu
+cd "$(dirname "${BASH_SOURCE[0]}")/.."
+./milter_tool --version >/dev/null
+program=crates/milter_tool/out/milter_tool
+work=$(mktemp -d)
+trap 'rm -rf "$work"' EXIT
+
+# packets MEBIBYTES: packets of a body chunk and of a short answer in turn, 64 KiB of packets at a time
+packets() {
+    python3 - "$1" <<'PYTHON'
+import struct, sys
+def packet(code, payload): return struct.pack(">I", 1 + len(payload)) + code + payload
+block = b""
+number = 0
+while len(block) < 65536 - 600:
+    block += packet(b"B", bytes((number + at) % 256 for at in range(40 + number % 17)))
+    number += 1
+block += packet(b"B", bytes(65536 - len(block) - 5))
+sys.stdout.buffer.write(block * (int(sys.argv[1]) * 16))
+PYTHON
+}
+
+# lines WIDTH: the bytes of its input as lines of `> ` and WIDTH digits
+lines() { xxd -p -c 0 | tr -d '\n' | fold -w "$1" | sed 's/^/> /'; }
+
+best() { # best COMMAND: the least of three runs, in nanoseconds
+    local least=0 from took
+    for _ in 1 2 3; do
+        from=$(date +%s%N)
+        bash -c "$1"
+        took=$(($(date +%s%N) - from))
+        if [ "$least" = 0 ] || [ "$took" -lt "$least" ]; then least=$took; fi
+    done
+    echo "$least"
+}
+
+row() { # row NAME MEBIBYTES NANOSECONDS
+    awk -v name="$1" -v mebibytes="$2" -v took="$3" 'BEGIN {
+        printf "%-33s %9d bytes %8.3f s %8.1f MB/s\n", name, mebibytes * 1048576, took / 1e9, mebibytes * 1048.576e6 / took }'
+}
+
+status=0
+held() { # held NAME FIGURE BOUND
+    if awk -v figure="$2" -v bound="$3" 'BEGIN { exit !(figure <= bound) }'; then
+        echo "$1: $2, at most $3: held"
+    else
+        echo "$1: $2, at most $3: MISSED"
+        status=1
+    fi
+}
+
+for width in 65536 32; do
+    for mebibytes in 64 1; do
+        packets "$mebibytes" | lines "$width" >"$work/input"
+        sed 's/^> //' "$work/input" >"$work/digits"
+        took=$(best "'$program' trace <'$work/input' >/dev/null")
+        row "trace, lines of $width digits" "$mebibytes" "$took"
+        plain=$(best "xxd -r -p <'$work/digits' >/dev/null")
+        row "xxd -r -p, lines of $width digits" "$mebibytes" "$plain"
+        if [ "$mebibytes" = 64 ]; then
+            long=$took
+            beside=$plain
+        fi
+    done
+    held "64 MiB over 1 MiB, lines of $width" "$(awk -v a="$long" -v b="$took" 'BEGIN { printf "%.1f", a / b }')" 70
+    held "trace over xxd, lines of $width" "$(awk -v a="$long" -v b="$beside" 'BEGIN { printf "%.2f", a / b }')" 1
+done
+exit "$status"
