@@ -1,14 +1,14 @@
 -- The packets of a line, printed one after the other.
-use Rattle.std.proofs.Common.{◌≡◌, ◌≢◌, ℕ, List, [], ◌∷◌, ◌++◌, length, take, drop, Option, Some, None, Result, Ok, Err, refl, sym, ap, subst, ◌∙◌, append_assoc, append-nil, arith}
+use Rattle.std.proofs.Common.{◌≡◌, ◌≢◌, ℕ, List, [], ◌∷◌, ◌++◌, length, take, drop, Some, None, Result, Ok, Err, refl, sym, ap, subst, ◌∙◌, append_assoc, append-nil, arith}
 use Rattle.milter_wire.specs.declared.fault.WireFault.{WireFault}
 use Rattle.milter_wire.specs.declared.fault.WireFault.TheVariants.{ZeroLength, TooLong, UnknownCode, Malformed, Truncated, NoMemory}
-use Rattle.milter_wire.specs.Stream.{Frame, Division, IsFrame, IsUnfinished, divide, frame_bytes, length_fault, with_frame}
+use Rattle.milter_wire.specs.Stream.{Frame, Division, IsFrame, IsUnfinished, divide, frame_bytes, length_fault}
 use Rattle.milter_wire.proofs.StreamLaws.{divide-fault, divide-handed, divide-unfinished, fed_on, length_fault-fed, length_fault-unfinished}
 use Rattle.milter_tool.specs.declared.direction.Direction.{Direction}
 use Rattle.milter_tool.specs.declared.fault.TraceFault.{TraceFault}
 use Rattle.milter_tool.specs.declared.fault.TraceFault.TheVariants.{Packet}
 use Rattle.milter_tool.specs.PacketText.{Shows, packet_text}
-use Rattle.milter_tool.specs.Trace.{Trace, after_text, in_line, nothing, print, print_one, stopped}
+use Rattle.milter_tool.specs.Trace.{Trace, after_text, in_line, nothing, print_one, stopped}
 use Rattle.milter_tool.specs.Tracing.{Prints, print_division, told_of}
 
 pub after_text-nil : (t : Trace) → after_text [] t ≡ t

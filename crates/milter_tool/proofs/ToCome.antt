@@ -1,6 +1,6 @@
 -- What the bytes to come print, as lines end one after the other.
-use Rattle.std.proofs.Common.{◌≡◌, ◌≢◌, ℕ, ◌+◌, ◌<◌, ◌≤◌, true, false, List, [], ◌∷◌, ◌++◌, length, take, drop, All, Option, Some, None, Result, Ok, Err, refl, sym, ap, subst, ◌∙◌, arith, append_assoc, append-nil, length-append, ◌⊎◌, inl, inr}
-use Rattle.std.specs.Prelude.{◌==◌, nat_lt, if◌then◌else◌, OnOk, OnErr}
+use Rattle.std.proofs.Common.{◌≡◌, ◌≢◌, ℕ, ◌+◌, ◌<◌, true, false, List, [], ◌∷◌, ◌++◌, length, take, drop, Option, Some, None, Result, Ok, Err, refl, sym, ap, subst, ◌∙◌, arith, append_assoc, append-nil, ◌⊎◌, inl, inr}
+use Rattle.std.specs.Prelude.{◌==◌, OnOk, OnErr}
 use Rattle.std.proofs.lemmas.Bool.{eqb-false, eqb-true, lt-ltb}
 use Rattle.std.proofs.lemmas.List.Elements.{All-append}
 use Rattle.milter_wire.specs.Stream.{divide}
@@ -8,11 +8,11 @@ use Rattle.milter_tool.specs.declared.direction.Direction.{Direction}
 use Rattle.milter_tool.specs.declared.direction.Direction.TheVariants.{ToFilter, ToMta}
 use Rattle.milter_tool.specs.declared.fault.TraceFault.{TraceFault}
 use Rattle.milter_tool.specs.declared.fault.TraceFault.TheVariants.{BadLine, Packet, Truncated, ReadFault, WriteFault, TurnLimit, NoMemory}
-use Rattle.milter_tool.specs.Lines.{Line, lines_of, is_too_long}
+use Rattle.milter_tool.specs.Lines.{Line, lines_of}
 use Rattle.milter_tool.specs.Entry.{Entry, Skipped, Bad, Carries, entry_of}
 use Rattle.milter_tool.specs.Trace.{Trace, after_text, at_end, followed_by, go_on, nothing, stopped}
 use Rattle.milter_tool.specs.Tracing.{Feeds, HasNoEnd, Held, Prints, held_after, print_on, to_come, took, trace_on, unread_in}
-use Rattle.milter_tool.proofs.LineLaws.{Begins, Ends, begins, lines_of-ended, lines_of-last}
+use Rattle.milter_tool.proofs.LineLaws.{Ends, begins, lines_of-ended, lines_of-last}
 use Rattle.milter_tool.proofs.Printed.{after_text-append}
 
 -- a line ended, and what it prints has no fault

@@ -1,6 +1,6 @@
 -- A run of the tracer: what was read so far, and what of its text was written.
-use Rattle.std.proofs.Common.{◌≡◌, ℕ, List, [], ◌∷◌, ◌++◌, length, Option, None, Some, IfSome, Result, Ok, Err, refl, sym, ap, subst, ◌∙◌, append_assoc, append-nil, zero, ◌+◌, ◌*◌, ◌<◌, ◌≤◌, arith, length-append}
-use Rattle.std.specs.Prelude.{IfErr, OnErr, OnOk}
+use Rattle.std.proofs.Common.{◌≡◌, ℕ, List, [], ◌++◌, length, Option, None, Some, IfSome, Result, Ok, Err, sym, ap, subst, ◌∙◌, append_assoc, append-nil, ◌+◌, ◌*◌, ◌<◌, ◌≤◌, arith, length-append}
+use Rattle.std.specs.Prelude.{IfErr, OnOk}
 use Rattle.std.specs.Io.KnownBytes.{Appends, Consumes, IsAtEnd}
 use Rattle.std.proofs.KnownBytes.{Appends-nil, Appends-trans, Consumes-nil, Consumes-trans}
 use Rattle.milter_tool.specs.declared.fault.TraceFault.{TraceFault}

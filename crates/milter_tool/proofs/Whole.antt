@@ -1,6 +1,5 @@
 -- What is kept between two lines is enough: the trace of whole streams and the trace under way are one.
 use Rattle.std.proofs.Common.{◌≡◌, ℕ, ◌+◌, List, [], ◌∷◌, ◌++◌, length, drop, Option, refl, sym, ap, ◌∙◌, append-nil, length-append}
-use Rattle.std.specs.List.{flat_map}
 use Rattle.std.proofs.lemmas.List.{drop_at}
 use Rattle.std.proofs.lemmas.List.Concat.{flat_map-append}
 use Rattle.milter_wire.specs.declared.fault.WireFault.{WireFault}
@@ -10,8 +9,8 @@ use Rattle.milter_tool.specs.declared.direction.Direction.{Direction}
 use Rattle.milter_tool.specs.declared.direction.Direction.TheVariants.{ToFilter, ToMta}
 use Rattle.milter_tool.specs.Lines.{Line, lines_of}
 use Rattle.milter_tool.specs.Entry.{Entry, Skipped, Bad, Carries, entry_of}
-use Rattle.milter_tool.specs.Trace.{Trace, at_end, bytes_if, entry_bytes, followed_by, left_of, new_fault, new_packets, print, print_entry, stream, trace_after, trace_of}
-use Rattle.milter_tool.specs.Tracing.{Held, counted, held_after, print_division, print_on, start, took, trace_on, unread_in}
+use Rattle.milter_tool.specs.Trace.{Trace, entry_bytes, followed_by, left_of, new_fault, new_packets, print, print_entry, stream, trace_after, trace_of}
+use Rattle.milter_tool.specs.Tracing.{Held, held_after, print_division, print_on, start, trace_on, unread_in}
 
 -- what is held after these lines
 held_of : List Line → Held

@@ -1,10 +1,8 @@
 -- What was written so far.
-use Rattle.std.proofs.Common.{◌≡◌, ℕ, List, [], ◌∷◌, ◌++◌, length, take, drop, Option, None, Some, Result, Ok, Err, refl, sym, ap, subst, ◌∙◌, arith, append_assoc, append-nil, take-append-drop}
+use Rattle.std.proofs.Common.{◌≡◌, ℕ, List, [], ◌∷◌, ◌++◌, length, take, drop, Option, None, Some, refl, sym, ap, subst, ◌∙◌, arith, append_assoc, append-nil, take-append-drop}
 use Rattle.std.specs.Io.KnownBytes.{Appends, Keeps}
 use Rattle.std.proofs.KnownBytes.{Appends-nil, Appends-trans}
-use Rattle.milter_tool.specs.declared.fault.TraceFault.{TraceFault}
-use Rattle.milter_tool.specs.Trace.{Trace, after_text}
-use Rattle.milter_tool.specs.Writing.{Ends, Stops, WritesAll, WritesFront}
+use Rattle.milter_tool.specs.Writing.{WritesFront}
 
 -- of a text, this rest isn't written yet
 pub record Sending (text rest : List ℕ) (before after : Option (List ℕ)) : Type 0 where

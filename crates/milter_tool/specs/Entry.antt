@@ -1,5 +1,5 @@
 -- What a line of a trace is.
-use Rattle.std.specs.Prelude.{ℕ, Bool, true, not, ◌==◌, List, [], ◌∷◌, find, Option, None, Some, Result, Ok, Err, if◌then◌else◌}
+use Rattle.std.specs.Prelude.{ℕ, Bool, true, not, ◌==◌, List, ◌∷◌, find, Option, None, Some, Result, Ok, Err, if◌then◌else◌}
 use Rattle.hex.specs.Hex.{decode_of}
 use Rattle.hex.specs.declared.error.FromHexError.{FromHexError}
 use Rattle.milter_tool.specs.declared.direction.Direction.{Direction}

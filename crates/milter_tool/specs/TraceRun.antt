@@ -1,5 +1,5 @@
 -- What a whole run of the tracer leaves, where its reader and its writer tell their bytes.
-use Rattle.std.specs.Prelude.{ℕ, ◌≤◌, List, length, Option, None, Some, IfSome}
+use Rattle.std.specs.Prelude.{ℕ, ◌≤◌, List, length, Option, IfSome}
 use Rattle.milter_tool.specs.declared.fault.TraceFault.{TraceFault}
 use Rattle.milter_tool.specs.Trace.{trace_of}
 use Rattle.milter_tool.specs.Writing.{WritesAll, WritesFront}

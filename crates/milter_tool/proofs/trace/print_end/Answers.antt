@@ -1,4 +1,4 @@
-use Rattle.std.proofs.Common.{◌≡◌, [], Err, sym}
+use Rattle.std.proofs.Common.{◌≡◌, Err}
 use Rattle.milter_tool.specs.declared.fault.TraceFault.TheVariants.{NoMemory}
 use Rattle.milter_tool.proofs.Steps.{Prints-ends}
 use Rattle.milter_tool.proofs.trace.print_end.Goals as goal

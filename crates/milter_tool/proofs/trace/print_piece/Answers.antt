@@ -1,11 +1,9 @@
-use Rattle.std.proofs.Common.{◌≡◌, ℕ, List, [], ◌++◌, Err, sym, ap, ◌∙◌}
-use Rattle.std.proofs.lemmas.Result.{err_from_is_err_and, IfErr-weaker}
-use Rattle.std.specs.Prelude.{Result}
+use Rattle.std.proofs.Common.{◌≡◌, ℕ, List, [], ◌++◌, Err}
+use Rattle.std.proofs.lemmas.Result.{err_from_is_err_and}
 use Rattle.milter_tool.specs.declared.fault.TraceFault.{TraceFault}
 use Rattle.milter_tool.specs.declared.fault.TraceFault.TheVariants.{NoMemory}
 use Rattle.milter_tool.specs.Printing.{held_in}
-use Rattle.milter_tool.specs.Trace.{Trace}
-use Rattle.milter_tool.specs.Tracing.{Feeds, to_come, trace_on}
+use Rattle.milter_tool.specs.Tracing.{to_come, trace_on}
 use Rattle.milter_tool.specs.Lines.{lines_of}
 use Rattle.milter_tool.specs.Writing.{Stops}
 use Rattle.milter_tool.proofs.Steps.{Feeds-front, Feeds-going, Feeds-stops, Feeds-turns, Stops-write, each_more}

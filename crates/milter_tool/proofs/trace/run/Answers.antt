@@ -1,4 +1,4 @@
-use Rattle.std.proofs.Common.{◌≡◌, ◌<◌, [], ℕ, length, take, sym, ap, subst, arith}
+use Rattle.std.proofs.Common.{◌<◌, ℕ, length, take, sym, ap, subst, arith}
 use Rattle.std.proofs.lemmas.List.{length-take}
 use Rattle.std.proofs.lemmas.Result.{IfErr-weaker, err_from_is_err_and}
 use Rattle.milter_tool.specs.declared.fault.TraceFault.{TraceFault}

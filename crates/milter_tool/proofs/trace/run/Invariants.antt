@@ -1,4 +1,4 @@
-use Rattle.std.proofs.Common.{◌≡◌, ◌*◌, ◌≤◌, [], length}
+use Rattle.std.proofs.Common.{◌≡◌, [], length}
 use Rattle.milter_tool.specs.Printing.{held_in}
 use Rattle.milter_tool.specs.TracerValue.{IsReady}
 use Rattle.milter_tool.proofs.Traced.{Counted, Traced}

@@ -1,4 +1,4 @@
-use Rattle.std.proofs.Common.{◌≡◌, ◌≢◌, ℕ, ◌+◌, true, ◌∷◌, ◌++◌, take, drop, Err, sym, ap, ◌∙◌, arith, length-drop}
+use Rattle.std.proofs.Common.{◌≢◌, ℕ, ◌+◌, true, ◌∷◌, ◌++◌, take, drop, Err, sym, ap, ◌∙◌, arith, length-drop}
 use Rattle.std.proofs.lemmas.List.{take_rest}
 use Rattle.std.proofs.lemmas.List.Elements.{All-append, All-nil}
 use Rattle.std.proofs.lemmas.Result.{err_from_is_err_and, on_ok_weaker}
