@@ -10,3 +10,4 @@ pub mod TracerValue
 pub mod Writing
 pub mod TraceRun
 pub mod CommandLine
+pub mod FaultText

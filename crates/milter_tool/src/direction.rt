@@ -1,6 +1,6 @@
 //! The two directions of a conversation.
 
-ghost use Rattle.std.specs.Prelude.{◌≡◌};
+ghost use Rattle.std.specs.Prelude.{◌≡◌, Some, ◌∷◌, []};
 ghost use Rattle.milter_tool.specs.PacketText.{mark_of};
 
 use std::fmt;
@@ -27,6 +27,8 @@ impl Direction {
 }
 
 impl fmt::Display for Direction {
+    ghost output = { λ direction. Some (mark_of direction ∷ []) };
+
     fn fmt<W: fmt::Write>(&self, f: &mut fmt::Formatter<W>) -> fmt::Result {
         write!(f, "{}", char::from(self.mark()))
     }

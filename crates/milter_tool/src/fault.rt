@@ -1,7 +1,9 @@
 //! How a trace can end before its input does.
 
 ghost use Rattle.milter_tool.specs.declared.fault.TraceFault.TheVariants as faults;
-ghost use Rattle.std.specs.Prelude.{◌≡◌};
+ghost use Rattle.milter_tool.specs.declared.direction.Direction.TheVariants.{ToFilter, ToMta};
+ghost use Rattle.milter_tool.specs.FaultText.{end_text, ends_text};
+ghost use Rattle.std.specs.Prelude.{◌≡◌, Some};
 
 use crate::direction::Direction;
 use milter_wire::{NoMemory, WireFault};
@@ -48,36 +50,60 @@ pub enum TraceFault {
     NoMemory,
 }
 
-/// The fault lines of an input that ended too early: one for each direction in which it did.
+/// The fault line of an input that ended in a packet of this direction, with so many bytes of it.
+#[derive(Drop)]
+struct End {
+    direction: Direction,
+    bytes: usize,
+}
+
+impl fmt::Display for End {
+    ghost output = { λ end. Some (end_text end.direction end.bytes) };
+
+    fn fmt<W: fmt::Write>(&self, f: &mut fmt::Formatter<W>) -> fmt::Result {
+        let End { direction, bytes } = *self;
+        write!(f, "end: {direction} truncated {bytes} bytes")
+    }
+}
+
+/// The fault lines of an input that ended too early: one for each direction in which it did, and it did in one.
 #[derive(Drop)]
 struct Ends {
     to_filter: usize,
     to_mta: usize,
 }
 
+impl Ends {
+    fn to_filter(&self) -> End
+        ensures { (result.direction ≡ ToFilter) × (result.bytes ≡ self.now.to_filter) }
+    {
+        End {
+            direction: Direction::ToFilter,
+            bytes: self.to_filter,
+        }
+    }
+
+    fn to_mta(&self) -> End
+        ensures { (result.direction ≡ ToMta) × (result.bytes ≡ self.now.to_mta) }
+    {
+        End {
+            direction: Direction::ToMta,
+            bytes: self.to_mta,
+        }
+    }
+}
+
 impl fmt::Display for Ends {
+    ghost output = { λ ends. Some (ends_text ends.to_filter ends.to_mta) };
+
     fn fmt<W: fmt::Write>(&self, f: &mut fmt::Formatter<W>) -> fmt::Result {
-        let Ends { to_filter, to_mta } = *self;
-        if to_filter > 0 {
-            write!(
-                f,
-                "end: {} {}",
-                Direction::ToFilter,
-                WireFault::Truncated(to_filter)
-            )?;
+        if self.to_mta == 0 {
+            write!(f, "{}", self.to_filter())
+        } else if self.to_filter == 0 {
+            write!(f, "{}", self.to_mta())
+        } else {
+            write!(f, "{}\n{}", self.to_filter(), self.to_mta())
         }
-        if to_filter > 0 && to_mta > 0 {
-            writeln!(f)?;
-        }
-        if to_mta > 0 {
-            write!(
-                f,
-                "end: {} {}",
-                Direction::ToMta,
-                WireFault::Truncated(to_mta)
-            )?;
-        }
-        Ok(())
     }
 }
 
