@@ -4,6 +4,8 @@ use Rattle.std.specs.Prelude.{IfErr, OnOk}
 use Rattle.std.specs.Io.KnownBytes.{Appends}
 use Rattle.milter_tool.specs.declared.fault.TraceFault.{TraceFault}
 use Rattle.milter_tool.specs.declared.fault.TraceFault.TheVariants.{BadLine, Packet, Truncated, ReadFault, WriteFault, TurnLimit, NoMemory}
+use Rattle.milter_tool.specs.declared.trace.Failed.{Failed}
+use Rattle.milter_tool.specs.Calls.{FollowsNoRead}
 use Rattle.milter_tool.specs.Trace.{Trace, after_text}
 use Rattle.milter_tool.specs.Tracing.{Feeds, Held, Prints, to_come}
 use Rattle.milter_tool.specs.Writing.{Ends, IsOfInput, Stops, WritesAll, WritesFront}
@@ -58,15 +60,15 @@ Feeds-stops before after text (Err WriteFault) w v h some a = absurd h
 Feeds-stops before after text (Err TurnLimit) w v h some a = absurd h
 Feeds-stops before after text (Err NoMemory) w v h some a = absurd (some refl)
 
-pub Feeds-turns : (before after : Trace) (text : List ℕ) (r : Result Unit TraceFault) → Feeds before after text r → IfErr r (λ e. e ≢ TurnLimit)
-Feeds-turns before after text (Ok u) h = tt
-Feeds-turns before after text (Err (BadLine n)) h = λ e. cc
-Feeds-turns before after text (Err (Packet n d f)) h = λ e. cc
-Feeds-turns before after text (Err (Truncated n m)) h = λ e. cc
-Feeds-turns before after text (Err ReadFault) h = λ e. cc
-Feeds-turns before after text (Err WriteFault) h = λ e. cc
-Feeds-turns before after text (Err TurnLimit) h = absurd h
-Feeds-turns before after text (Err NoMemory) h = λ e. cc
+pub Feeds-calls : (before after : Trace) (text : List ℕ) (r : Result Unit TraceFault) (f : Failed) → Feeds before after text r → IfErr r (λ e. FollowsNoRead f e)
+Feeds-calls before after text (Ok u) f h = tt
+Feeds-calls before after text (Err (BadLine n)) f h = tt
+Feeds-calls before after text (Err (Packet n d g)) f h = tt
+Feeds-calls before after text (Err (Truncated n m)) f h = tt
+Feeds-calls before after text (Err ReadFault) f h = absurd h
+Feeds-calls before after text (Err WriteFault) f h = absurd h
+Feeds-calls before after text (Err TurnLimit) f h = absurd h
+Feeds-calls before after text (Err NoMemory) f h = tt
 
 -- a fact of each trace to come, for the fault that a call told
 pub each_more : {T : Type 0} (r : Result T TraceFault) (P : List ℕ → TraceFault → Type 0) → ((more : List ℕ) → IfErr r (P more)) → IfErr r (λ e. (more : List ℕ) → P more e)

@@ -11,3 +11,4 @@ pub mod Writing
 pub mod TraceRun
 pub mod CommandLine
 pub mod FaultText
+pub mod Calls

@@ -2,6 +2,7 @@
 
 ghost use Rattle.std.specs.Prelude.{◌≡◌, ◌≢◌, ◌≤◌, ◌<◌, ◌+◌, ◌++◌, ◌^◌, List, ℕ, [], None, Some, length, IfOk, IfErr, OnOk, OnErr, IsErrOf, IsTrue, ◌↔◌};
 ghost use Rattle.std.specs.Io.KnownBytes.{Appends, IsAtEnd};
+ghost use Rattle.milter_tool.specs.Calls.{Follows, FollowsNoRead};
 ghost use Rattle.milter_tool.specs.Lines.{lines_of};
 ghost use Rattle.milter_tool.specs.Printing.{held_in};
 ghost use Rattle.milter_tool.specs.TraceRun.{HasBytes, IsBegun, IsTraced};
@@ -19,6 +20,14 @@ const ROOM: usize = 65_536;
 
 /// The reads after which a trace gives up.
 const MOST_READS: u64 = 1_073_741_824;
+
+/// Whether a call of a run to its reader or its writer failed. A contract can't ask them, so it is noted where it
+/// happens, and no `ReadFault` or `WriteFault` comes without it.
+#[derive(Clone, Copy)]
+struct Failed {
+    read: bool,
+    write: bool,
+}
 
 /// Reads a trace to its end, and writes a line for each packet as it becomes whole.
 ///
@@ -46,7 +55,17 @@ pub fn trace_run<R: Read, W: Write>(
 {
     let mut room = make_room(alloc)?;
     let mut tracer = Tracer::new(alloc)?;
-    run(&mut tracer, room.as_mut_slice(), reader, writer)
+    let mut failed = Failed {
+        read: false,
+        write: false,
+    };
+    run(
+        &mut tracer,
+        room.as_mut_slice(),
+        reader,
+        writer,
+        &mut failed,
+    )
 }
 
 fn run<R: Read, W: Write>(
@@ -54,6 +73,7 @@ fn run<R: Read, W: Write>(
     room: &mut [u8],
     reader: &mut R,
     writer: &mut W,
+    failed: &mut Failed,
 ) -> Result<(), TraceFault>
     requires fresh { IsFresh tracer.old }
     requires room { length room.old ≡ ROOM }
@@ -63,15 +83,17 @@ fn run<R: Read, W: Write>(
         IsTraced (Some e) (R.remaining reader.old) (W.contents writer.old) (W.contents writer.new)) }
     ensures begun { OnErr result (IsBegun (R.remaining reader.old) (W.contents writer.old) (W.contents writer.new)) }
     ensures turns { IsErrOf result TraceFault.TurnLimit → HasBytes MOST_READS (R.remaining reader.old) }
+    ensures calls { IfErr result (λ e. Follows failed.new e) }
 {
     for _turn in 0..MOST_READS {
         let Ok(count) = reader.read(room) else {
+            failed.read = true;
             return Err(TraceFault::ReadFault);
         };
         if count == 0 {
-            return print_end(tracer, writer);
+            return print_end(tracer, writer, failed);
         }
-        print_piece(tracer, &room[..count], writer)?;
+        print_piece(tracer, &room[..count], writer, failed)?;
     }
     Err(TraceFault::TurnLimit)
 }
@@ -88,6 +110,7 @@ fn print_piece<W: Write>(
     tracer: &mut Tracer,
     piece: &[u8],
     writer: &mut W,
+    failed: &mut Failed,
 ) -> Result<(), TraceFault>
     requires ready { IsReady tracer.old }
     requires written { tracer.old.printer.text.items ≡ [] }
@@ -100,31 +123,35 @@ fn print_piece<W: Write>(
     ensures few { OnOk result (tracer.new.printer.lines ≤ tracer.old.printer.lines + length piece.now) }
     ensures stops { IfErr result (λ e. (more : List ℕ) →
         Stops (to_come [] (held_in tracer.old.printer) tracer.old.begun.items (piece.now ++ more)) (W.contents writer.old) (W.contents writer.new) e) }
-    ensures turns { IfErr result (λ e. e ≢ TraceFault.TurnLimit) }
+    ensures calls { IfErr result (λ e. FollowsNoRead failed.new e) }
 {
     let told = tracer.feed(piece);
     if is_memory(&told) {
         return told;
     }
-    write_text(writer, tracer.text())?;
+    write_text(writer, tracer.text(), failed)?;
     tracer.clear_text();
     told
 }
 
 /// Writes what the end of the input prints.
-fn print_end<W: Write>(tracer: &mut Tracer, writer: &mut W) -> Result<(), TraceFault>
+fn print_end<W: Write>(
+    tracer: &mut Tracer,
+    writer: &mut W,
+    failed: &mut Failed,
+) -> Result<(), TraceFault>
     requires ready { IsReady tracer.old }
     requires written { tracer.old.printer.text.items ≡ [] }
     requires few { tracer.old.printer.lines + 1 < 2 ^ 64 }
     ensures ends { Ends (trace_on (held_in tracer.old.printer) (lines_of tracer.old.begun.items))
         (W.contents writer.old) (W.contents writer.new) result }
-    ensures turns { IfErr result (λ e. e ≢ TraceFault.TurnLimit) }
+    ensures calls { IfErr result (λ e. FollowsNoRead failed.new e) }
 {
     let told = tracer.finish();
     if is_memory(&told) {
         return told;
     }
-    write_text(writer, tracer.text())?;
+    write_text(writer, tracer.text(), failed)?;
     told
 }
 
@@ -139,15 +166,19 @@ fn is_memory(told: &Result<(), TraceFault>) -> bool
 }
 
 /// Writes a text, in as many writes as it takes.
-fn write_text<W: Write>(writer: &mut W, text: &[u8]) -> Result<(), TraceFault>
+fn write_text<W: Write>(writer: &mut W, text: &[u8], failed: &mut Failed) -> Result<(), TraceFault>
     ensures ok { OnOk result (Appends (W.contents writer.old) (W.contents writer.new) text.now) }
     ensures err { IfErr result (λ e. (e ≡ TraceFault.WriteFault)
         × WritesFront text.now (W.contents writer.old) (W.contents writer.new)) }
+    ensures calls { IfErr result (λ e. FollowsNoRead failed.new e) }
 {
     let mut rest = text;
     while !rest.is_empty() {
         match writer.write(rest) {
-            Ok(0) | Err(_) => return Err(TraceFault::WriteFault),
+            Ok(0) | Err(_) => {
+                failed.write = true;
+                return Err(TraceFault::WriteFault);
+            }
             Ok(count) => rest = &rest[count..],
         }
     }

@@ -6,7 +6,7 @@ use Rattle.milter_tool.specs.Printing.{held_in}
 use Rattle.milter_tool.specs.Tracing.{to_come, trace_on}
 use Rattle.milter_tool.specs.Lines.{lines_of}
 use Rattle.milter_tool.specs.Writing.{Stops}
-use Rattle.milter_tool.proofs.Steps.{Feeds-front, Feeds-going, Feeds-stops, Feeds-turns, Stops-write, each_more}
+use Rattle.milter_tool.proofs.Steps.{Feeds-front, Feeds-going, Feeds-stops, Feeds-calls, Stops-write, each_more}
 use Rattle.milter_tool.proofs.trace.print_piece.Goals as goal
 
 pub returns-in_err-write_text-clause-stops : goal.returns-in_err-write_text-clause-stops
@@ -38,5 +38,5 @@ returns-clause-stops g c =
     each_more c.feed-told.result (λ (more : List ℕ) (e : TraceFault). Stops (before more) _ _ e)
     (λ more. Feeds-stops (before more) _ tracer.printer.text.items c.feed-told.result _ _ (rw c.requires.written at (c.feed-told.ensures.feeds more)) some written)
 
-pub returns-clause-turns : goal.returns-clause-turns
-returns-clause-turns g c = Feeds-turns _ _ _ c.feed-told.result (c.feed-told.ensures.feeds [])
+pub returns-clause-calls : goal.returns-clause-calls
+returns-clause-calls g c = Feeds-calls _ _ _ c.feed-told.result c.write_text.new.failed (c.feed-told.ensures.feeds [])
