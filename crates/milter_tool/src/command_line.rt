@@ -1,7 +1,8 @@
 //! The command line: what the program is asked to do.
 
-ghost use Rattle.std.specs.Prelude.{◌≡◌, IfOk, map, false};
+ghost use Rattle.std.specs.Prelude.{◌≡◌, ◌↔◌, IfOk, Some, codes, map, false};
 ghost use Rattle.std.specs.Process.{exit_status};
+ghost use Rattle.clap.specs.Matches.{subcommand_name_of};
 ghost use Rattle.clap.specs.Words.{app_of, kind_of};
 ghost use Rattle.clap.specs.declared.builder.command.Command.TheViews.{out-Command};
 ghost use Rattle.milter_tool.specs.CommandLine.{ParsesAs, status_of, tool_app, top_app, trace_app};
@@ -28,7 +29,9 @@ pub(crate) fn parse<'a, S: AsStr>(alloc: Global, words: &'a [S]) -> Result<ArgMa
 }
 
 /// What a parsed command line asks for.
-pub(crate) fn request_of(matches: &ArgMatches<'_>) -> Option<Request> {
+pub(crate) fn request_of(matches: &ArgMatches<'_>) -> Option<Request>
+    ensures { (result ≡ Some Request.Trace) ↔ (subcommand_name_of matches.now ≡ Some (codes "trace")) }
+{
     match matches.subcommand() {
         Some(("trace", _)) => Some(Request::Trace),
         _ => None,
