@@ -1,1 +1,57 @@
-use super::*;
+//! Tests of the trace and of the command line, by texts that were written out by hand.
+
+mod arguments;
+mod fakes;
+mod fault_lines;
+mod faulty_packets;
+mod limits;
+mod lines;
+mod printed;
+mod reads_and_writes;
+mod refused;
+
+use crate::direction::Direction;
+use crate::fault::TraceFault;
+use crate::trace::trace_run;
+use fakes::FakeReader;
+use milter_wire::WireFault;
+use std::alloc::AllocError;
+use std::process::Abort;
+
+/// How a trace ends.
+type Ending = Result<(), TraceFault>;
+
+/// How a trace ends at a packet at fault.
+const fn at_fault(line: u64, direction: Direction, fault: WireFault) -> Ending {
+    Err(TraceFault::Packet {
+        line,
+        direction,
+        fault,
+    })
+}
+
+/// Asserts what a trace prints and how it ends, with the input in one read, and with a byte a read.
+fn assert_trace<R: Abort + AllocGlobal>(
+    rt: &R,
+    input: &[u8],
+    text: &str,
+    ending: Ending,
+    name: &str,
+) -> Result<(), AllocError> {
+    for piece in [input.len(), 1] {
+        let mut reader = FakeReader::new(input, piece);
+        let mut written = Vec::new(rt.alloc());
+        let found = trace_run(rt.alloc(), &mut reader, &mut written);
+        assert_eq!(rt;
+            found,
+            ending,
+            "the ending of {name:?}, {piece} bytes a read"
+        );
+        assert_eq!(rt;
+            written.as_slice(),
+            text.as_bytes(),
+            "the text of {name:?}, {piece} bytes a read"
+        );
+    }
+    Ok(())
+}

@@ -1,0 +1,75 @@
+//! The longest lines and the greatest packets.
+
+use super::{Ending, assert_trace};
+use crate::fault::TraceFault;
+use std::alloc::{AllocError, Global};
+use std::test::Fail;
+
+/// A comment of so many bytes.
+fn comment(alloc: Global, count: usize) -> Result<Vec<u8>, AllocError> {
+    vec![in alloc; b'#'; count]
+}
+
+#[test]
+fn lines_have_a_limit(rt: HostRuntime) -> Result<(), Fail> {
+    let good: Ending = Ok(());
+    let bad: Ending = Err(TraceFault::BadLine(1));
+    let cases = [
+        (262_144, "\n", good),
+        (262_145, "\n", bad),
+        (262_143, "\r\n", good),
+        (262_144, "\r\n", bad),
+        (262_144, "", good),
+        (262_145, "", bad),
+        (262_143, "\r", good),
+        (262_144, "\r", bad),
+    ];
+    for (count, end, ending) in cases {
+        let mut input = comment(rt.alloc(), count)?;
+        input.extend_from_slice(end.as_bytes())?;
+        let name = format!(in rt.alloc(); "{count} and {end:?}")?;
+        assert_trace(&rt, input.as_slice(), "", ending, name.as_str())?;
+    }
+    Ok(())
+}
+
+#[test]
+fn a_line_that_is_too_long_is_told_with_its_number(rt: HostRuntime) -> Result<(), Fail> {
+    let mut input = "> 0000000163\n\n".as_bytes().to_vec(rt.alloc())?;
+    input.extend_from_slice(comment(rt.alloc(), 300_000)?.as_slice())?;
+    input.extend_from_slice("\n> 0000000164\n".as_bytes())?;
+    let bad = Err(TraceFault::BadLine(3));
+    assert_trace(
+        &rt,
+        input.as_slice(),
+        "> c data 0\n",
+        bad,
+        "a long third line",
+    )?;
+    Ok(())
+}
+
+#[test]
+fn the_greatest_packet_is_printed(rt: HostRuntime) -> Result<(), Fail> {
+    let mut input = "< 0001000042".as_bytes().to_vec(rt.alloc())?;
+    for _ in 0..65_535 {
+        input.extend_from_slice("7a".as_bytes())?;
+    }
+    assert_trace(
+        &rt,
+        input.as_slice(),
+        "< B data 65535\n",
+        Ok(()),
+        "a packet in a line",
+    )?;
+    input.extend_from_slice("00000001".as_bytes())?;
+    input.extend_from_slice("51\n".as_bytes())?;
+    assert_trace(
+        &rt,
+        input.as_slice(),
+        "< B data 65535\n< Q data 0\n",
+        Ok(()),
+        "and one after it",
+    )?;
+    Ok(())
+}

@@ -1,0 +1,68 @@
+//! Traces whose memory is refused. `tests/refused_growth.sh` runs them with each allocation refused in turn: each then
+//! answers as ever, or by want of memory. The writer takes no memory.
+
+use super::{Ending, at_fault};
+use crate::direction::Direction;
+use crate::fault::TraceFault;
+use crate::trace::trace_run;
+use milter_wire::WireFault;
+use std::alloc::Global;
+use std::process::Abort;
+
+/// Asserts that a trace prints this text and ends so, or that it wants memory after a beginning of the text.
+fn assert_answers_or_wants_memory(
+    rt: &impl Abort,
+    alloc: Global,
+    input: &str,
+    text: &str,
+    ending: Ending,
+) {
+    let mut room = [0u8; 128];
+    let mut reader = input.as_bytes();
+    let mut writer = room.as_mut_slice();
+    let found = trace_run(alloc, &mut reader, &mut writer);
+    let written = 128usize.saturating_sub(writer.len());
+    let written = room.get(..written).unwrap_or(&[]);
+    if found == Err(TraceFault::NoMemory) {
+        assert!(rt;
+            text.as_bytes().starts_with(written),
+            "a beginning of the text"
+        );
+    } else {
+        assert_eq!(rt; found, ending);
+        assert_eq!(rt; written, text.as_bytes());
+    }
+}
+
+#[test]
+fn refused_trace_of_three_lines(rt: HostRuntime) {
+    assert_answers_or_wants_memory(
+        &rt,
+        rt.alloc(),
+        "> 0000000d4f00000006000000ff000ff7ff\n< 00\n< 00000163",
+        "> O version 6 actions 000000ff protocol 000ff7ff\n< c data 0\n",
+        Ok(()),
+    );
+}
+
+#[test]
+fn refused_trace_of_malformed_options(rt: HostRuntime) {
+    assert_answers_or_wants_memory(
+        &rt,
+        rt.alloc(),
+        "< 0000000163\n> 000000024f00\n",
+        "< c data 0\n",
+        at_fault(2, Direction::ToFilter, WireFault::Malformed(0x4f)),
+    );
+}
+
+#[test]
+fn refused_trace_of_a_bad_line(rt: HostRuntime) {
+    assert_answers_or_wants_memory(
+        &rt,
+        rt.alloc(),
+        "< 0000000163\n> 0g\n",
+        "< c data 0\n",
+        Err(TraceFault::BadLine(2)),
+    );
+}
