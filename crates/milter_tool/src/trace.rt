@@ -59,13 +59,7 @@ pub fn trace_run<R: Read, W: Write>(
         read: false,
         write: false,
     };
-    run(
-        &mut tracer,
-        room.as_mut_slice(),
-        reader,
-        writer,
-        &mut failed,
-    )
+    run(&mut tracer, &mut room, reader, writer, &mut failed)
 }
 
 fn run<R: Read, W: Write>(
