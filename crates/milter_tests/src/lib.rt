@@ -4,6 +4,8 @@
 #[cfg(test)]
 mod faults;
 #[cfg(test)]
+mod names;
+#[cfg(test)]
 mod refused;
 #[cfg(test)]
 mod splitter;

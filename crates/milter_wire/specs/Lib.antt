@@ -1,4 +1,5 @@
 pub mod WireFault
+pub mod Bits
 pub mod Code
 pub mod Field
 pub mod Packet

@@ -6,6 +6,7 @@
 //! says. Nothing here reads, writes or waits.
 #![tactic(auto)]
 
+mod bits;
 mod code_name;
 mod command;
 mod fault;
