@@ -29,8 +29,8 @@ export top
 
 said=$(
     {
-        seq 16 | sed 's/^/milter_tool /'
-        seq 11 | sed 's/^/milter_tests /'
+        seq 15 | sed 's/^/milter_tool /'
+        seq 10 | sed 's/^/milter_tests /'
     } | xargs -P "${JOBS:-3}" -L 1 bash -c 'set -u; refuse "$@"' refuse
 )
 grep -v ' \.\.\. ok$' <<<"$said"

@@ -182,3 +182,9 @@ pub finish-none : (begun last text : List ℕ) (h : Held) (r : Result Unit Trace
     → Prints (at_end (length h.to_filter) (length h.to_mta)) [] [] r → Prints (trace_on h (lines_of begun)) text text r
 finish-none begun [] text h r same none q = subst (λ (x : List ℕ). Prints (trace_on h (lines_of x)) text text r) same (Prints-at_once (trace_on h []) text r q)
 finish-none begun (b ∷ last) text h r same none q = absurd (let zero = eqb-true (length (b ∷ last)) 0 none in omega arith)
+
+-- ---- two facts of a call that answered
+
+pub on_ok_both : (P Q : Type 0) (r : Result Unit TraceFault) → OnOk r P → OnOk r Q → OnOk r (P × Q)
+on_ok_both P Q (Ok u) p q = (p, q)
+on_ok_both P Q (Err e) p q = tt

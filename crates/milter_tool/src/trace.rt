@@ -51,7 +51,7 @@ pub fn trace_run<R: Read, W: Write>(
         IsTraced (Some e) (R.remaining reader.old) (W.contents writer.old) (W.contents writer.new)) }
     ensures begun { OnErr result (IsBegun (R.remaining reader.old) (W.contents writer.old) (W.contents writer.new)) }
     // Each of the reads gave a byte at least.
-    ensures turns { IsErrOf result TraceFault.TurnLimit → HasBytes MOST_READS (R.remaining reader.old) }
+    ensures turns { IsErrOf result TraceFault.TurnLimit → HasBytes 1073741824 (R.remaining reader.old) }
 {
     let mut room = make_room(alloc)?;
     let mut tracer = Tracer::new(alloc)?;
@@ -76,7 +76,7 @@ fn run<R: Read, W: Write>(
     ensures fault { IfErr result (λ e. IsOfInput e →
         IsTraced (Some e) (R.remaining reader.old) (W.contents writer.old) (W.contents writer.new)) }
     ensures begun { OnErr result (IsBegun (R.remaining reader.old) (W.contents writer.old) (W.contents writer.new)) }
-    ensures turns { IsErrOf result TraceFault.TurnLimit → HasBytes MOST_READS (R.remaining reader.old) }
+    ensures turns { IsErrOf result TraceFault.TurnLimit → HasBytes 1073741824 (R.remaining reader.old) }
     ensures calls { IfErr result (λ e. Follows failed.new e) }
 {
     for _turn in 0..MOST_READS {

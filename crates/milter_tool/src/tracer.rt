@@ -106,6 +106,7 @@ impl Tracer {
     fn begin_line(&mut self, bytes: &[u8]) -> Result<(), TraceFault>
         requires { self.old.printer.lines + 1 < 2 ^ 64 }
         ensures ok { OnOk result (self.new.begun.items ≡ self.old.begun.items ++ bytes.now) }
+        ensures short { OnOk result (length self.new.begun.items ≤ 262144) }
         ensures err { OnErr result ((result ≡ Err TraceFault.NoMemory)
             ⊎ ((result ≡ Err (TraceFault.BadLine (self.old.printer.lines + 1))) × (LINE_MAX < length (self.old.begun.items ++ bytes.now)))) }
         ensures printer { self.new.printer ≡ self.old.printer }

@@ -1,4 +1,4 @@
-use Rattle.std.proofs.Common.{◌≢◌, ℕ, ◌+◌, true, ◌∷◌, ◌++◌, take, drop, Err, sym, ap, ◌∙◌, arith, length-drop}
+use Rattle.std.proofs.Common.{◌≢◌, ℕ, ◌+◌, true, ◌∷◌, ◌++◌, length, take, drop, Err, sym, ap, ◌∙◌, arith, length-drop}
 use Rattle.std.proofs.lemmas.List.{take_rest}
 use Rattle.std.proofs.lemmas.List.Elements.{All-append, All-nil}
 use Rattle.std.proofs.lemmas.Result.{err_from_is_err_and, on_ok_weaker}
@@ -6,7 +6,7 @@ use Rattle.milter_tool.specs.Entry.{entry_of}
 use Rattle.milter_tool.specs.Printing.{held_in}
 use Rattle.milter_tool.specs.Tracing.{Held, to_come}
 use Rattle.milter_tool.proofs.LineLaws.{ends_at, no_end}
-use Rattle.milter_tool.proofs.ToCome.{Feeds-fault, Feeds-rest, Feeds-same, held_after-lines, ready_rest, split_more, to_come-ended}
+use Rattle.milter_tool.proofs.ToCome.{Feeds-fault, Feeds-rest, Feeds-same, held_after-lines, on_ok_both, ready_rest, split_more, to_come-ended}
 use Rattle.milter_tool.proofs.tracer.Tracer.feed.Goals as goal
 
 pub returns-in_err-end_line-clause-feeds : goal.returns-in_err-end_line-clause-feeds
@@ -39,7 +39,7 @@ loop-end-preserved c =
       going = λ more. rw (took.held, took.begun)
           (to_come-ended text c.end_line.new.self.printer.text.items begun (take c.in-Some.end rest) (drop (c.in-Some.end + 1) rest ++ more) held none took.prints
           ∙ ap (to_come text held begun) (sym (split_more rest more c.in-Some.end ends)) ∙ c.loop-end.invariant.going more);
-      ready = record { begun = rw took.begun (All-nil (λ (b : ℕ). b ≢ 10)); sound = took.sound };
+      ready = record { begun = rw took.begun (All-nil (λ (b : ℕ). b ≢ 10)); short = omega (arith, ap length took.begun); sound = took.sound };
       few = omega (arith, ap (λ (h : Held). h.lines) took.held, held_after-lines held (entry_of (record { bytes = begun ++ take c.in-Some.end rest; ended = true })), ends.within, c.loop-end.invariant.few, length-drop (c.in-Some.end + 1) rest);
     }
 
@@ -53,7 +53,8 @@ returns-clause-feeds c = λ more.
 pub returns-clause-ready : goal.returns-clause-ready
 returns-clause-ready c =
     let none = no_end c.loop-end.rest.now (sym c.first_end.ensures ∙ c.in_default.is) in
-    on_ok_weaker c.begin_line.result (λ is. record {
-      begun = ready_rest c.loop-end.self.begun.items c.loop-end.rest.now c.begin_line.new.self.begun.items c.loop-end.invariant.ready.begun none is;
+    on_ok_weaker c.begin_line.result (λ p. record {
+      begun = ready_rest c.loop-end.self.begun.items c.loop-end.rest.now c.begin_line.new.self.begun.items c.loop-end.invariant.ready.begun none p.0;
+      short = p.1;
       sound = rw c.begin_line.ensures.printer c.loop-end.invariant.ready.sound;
-    }) c.begin_line.ensures.ok
+    }) (on_ok_both _ _ c.begin_line.result c.begin_line.ensures.ok c.begin_line.ensures.short)
