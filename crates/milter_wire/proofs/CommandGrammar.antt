@@ -1,5 +1,5 @@
 -- The reading of commands is the inverse of their spelling.
-use Rattle.std.proofs.Common.{◌≡◌, ℕ, ◌<◌, ◌≤◌, ◌^◌, Bool, true, List, [], ◌++◌, length, get_or, Option, Some, None, refl, sym, ap, subst, ◌∙◌, inl, inr}
+use Rattle.std.proofs.Common.{◌≡◌, ℕ, ◌<◌, ◌^◌, true, List, [], ◌++◌, get_or, Option, Some, None, refl, sym, ap, subst, ◌∙◌, inl, inr}
 use Rattle.std.specs.Prelude.{◌==◌}
 use Rattle.std.specs.Option.{option_map}
 use Rattle.std.proofs.lemmas.Bool.{eqb-true}
@@ -10,7 +10,7 @@ use Rattle.milter_wire.specs.declared.command.Command.{Command}
 use Rattle.milter_wire.specs.declared.command.Command.TheVariants.{Options}
 use Rattle.milter_wire.specs.Packet.{packet, IsPayload}
 use Rattle.milter_wire.specs.Reading.{options_in}
-use Rattle.milter_wire.specs.Command.{code_of, payload_of, is_code, FieldsFit, Fits, Spells, spelling, command_in}
+use Rattle.milter_wire.specs.Command.{code_of, payload_of, is_code, FieldsFit, Spells, command_in}
 use Rattle.milter_wire.proofs.Division.{IsBytes}
 use Rattle.milter_wire.proofs.Layouts.{options_in-options, options_take}
 use Rattle.milter_wire.proofs.Grammar.{Reads, chosen, packet-same, packet-whole}

@@ -1,13 +1,11 @@
 -- The division of a stream: it exists, there is one only, and it goes on as the stream does.
-use Rattle.std.proofs.Common.{◌≡◌, ℕ, zero, suc, ◌+◌, ◌-◌, ◌<◌, ◌≤◌, ◌^◌, List, [], ◌∷◌, ◌++◌, length, get_or, take, drop, All, Option, Some, None, refl, sym, ap, subst, ◌∙◌, arith, append_assoc, length-append, take-append-drop, length-drop}
+use Rattle.std.proofs.Common.{◌≡◌, ℕ, zero, suc, ◌+◌, ◌-◌, ◌<◌, ◌≤◌, ◌^◌, List, [], ◌∷◌, ◌++◌, length, take, All, Option, Some, None, refl, sym, ap, subst, ◌∙◌, arith, append_assoc, take-append-drop}
 use Rattle.std.specs.List.{flat_map}
-use Rattle.std.proofs.lemmas.Option.{none-some}
 use Rattle.std.proofs.lemmas.List.{length-take}
 use Rattle.std.proofs.lemmas.List.Elements.{All-nil, All-cons, All-head, All-tail, All-drop}
 use Rattle.milter_wire.specs.Field.{number}
-use Rattle.milter_wire.specs.Packet.{packet}
 use Rattle.milter_wire.specs.Reading.{number_of}
-use Rattle.milter_wire.specs.Stream.{Frame, Division, Divides, with_frame, from_first, frame_bytes, IsFrame, IsRest, first_frame, divide_in, divide}
+use Rattle.milter_wire.specs.Stream.{Frame, Division, Divides, with_frame, frame_bytes, IsFrame, IsRest, first_frame, divide_in, divide}
 use Rattle.milter_wire.proofs.Numbers.{number-number_of}
 use Rattle.milter_wire.proofs.Frames.{begins, first_frame-append, first_frame-packet, first_frame-rest, first_frame-shorter, rest_from_none}
 

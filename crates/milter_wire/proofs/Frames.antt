@@ -1,17 +1,14 @@
 -- The packet that bytes begin with.
-use Rattle.std.proofs.Common.{◌≡◌, ℕ, zero, suc, ◌+◌, ◌-◌, ◌<◌, ◌≤◌, ◌^◌, Bool, true, false, cond, List, [], ◌∷◌, ◌++◌, length, take, drop, All, Option, Some, None, refl, sym, ap, subst, ◌∙◌, inl, inr, ◌⊎◌, arith, append_assoc, length-append, take-append-drop, length-drop}
+use Rattle.std.proofs.Common.{◌≡◌, ℕ, ◌+◌, ◌-◌, ◌<◌, ◌≤◌, Bool, true, false, List, [], ◌∷◌, ◌++◌, length, take, drop, Option, Some, None, refl, sym, ap, ◌∙◌, inl, inr, arith, length-append, length-drop}
 use Rattle.std.specs.Prelude.{nat_le, nat_lt, is_none, ◌&&◌, ◌==◌, if◌then◌else◌}
 use Rattle.std.proofs.lemmas.Bool.{and_parts, cases_lt, ltb-false, leb-true, le-leb, lt-leb, eqb-false, ne_eqb, le-ltb}
-use Rattle.std.proofs.lemmas.Option.{cond_some, none-some, same_Some}
+use Rattle.std.proofs.lemmas.Option.{cond_some, none-some}
 use Rattle.std.proofs.lemmas.List.{take_at, drop_at, take-append-le, drop-append-le}
-use Rattle.std.proofs.lemmas.List.Elements.{All-head, All-tail}
 use Rattle.milter_wire.specs.declared.fault.WireFault.{WireFault}
 use Rattle.milter_wire.specs.declared.fault.WireFault.TheVariants.{ZeroLength, TooLong}
-use Rattle.milter_wire.specs.Field.{number}
-use Rattle.milter_wire.specs.Packet.{packet}
 use Rattle.milter_wire.specs.Reading.{number_of}
-use Rattle.milter_wire.specs.Stream.{Frame, frame_bytes, IsFrame, fault_of, length_fault, IsUnfinished, IsRest, first_frame}
-use Rattle.milter_wire.proofs.Numbers.{FourBytes, four_bytes, number-number_of, number_of-lt}
+use Rattle.milter_wire.specs.Stream.{Frame, frame_bytes, IsFrame, fault_of, IsRest, first_frame}
+use Rattle.milter_wire.proofs.Numbers.{FourBytes, four_bytes}
 
 -- ---- lengths
 

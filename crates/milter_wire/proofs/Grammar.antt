@@ -1,5 +1,5 @@
 -- A direction's packets: what `decode` answers, from a reading that is the spelling's inverse. Both directions use it.
-use Rattle.std.proofs.Common.{◌≡◌, ℕ, ◌+◌, ◌≤◌, Bool, true, false, List, [], ◌∷◌, ◌++◌, length, Option, Some, None, Result, Ok, Err, refl, sym, ap, subst, ◌∙◌, append-nil, ◌⊎◌, inl, inr}
+use Rattle.std.proofs.Common.{◌≡◌, ℕ, Bool, true, false, List, [], ◌++◌, Option, Some, None, Result, Ok, Err, refl, sym, ap, ◌∙◌, append-nil, ◌⊎◌, inl, inr}
 use Rattle.std.specs.Prelude.{IsSome, IsTrue, IfOk, MatchResult, ◌↔◌, if◌then◌else◌}
 use Rattle.std.proofs.lemmas.Option.{none-some, same_Some}
 use Rattle.milter_wire.specs.declared.fault.WireFault.{WireFault}
@@ -7,7 +7,7 @@ use Rattle.milter_wire.specs.declared.fault.WireFault.TheVariants.{ZeroLength, T
 use Rattle.milter_wire.specs.Field.{number}
 use Rattle.milter_wire.specs.Packet.{packet, IsPayload}
 use Rattle.milter_wire.specs.Reading.{Decodes}
-use Rattle.milter_wire.specs.Stream.{Frame, frame_bytes, first_frame}
+use Rattle.milter_wire.specs.Stream.{Frame, first_frame}
 use Rattle.milter_wire.proofs.Frames.{first_frame-packet}
 
 -- a packet has one code and one payload

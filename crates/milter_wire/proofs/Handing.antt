@@ -1,10 +1,10 @@
 -- What `next` answers, from what stands at the front of its bytes.
-use Rattle.std.proofs.Common.{◌≡◌, ◌≢◌, ℕ, Bool, true, false, List, [], ◌∷◌, Option, Some, None, Result, Ok, Err}
+use Rattle.std.proofs.Common.{◌≡◌, ◌≢◌, ℕ, Bool, true, false, List, [], ◌∷◌, Some, None, Result, Ok, Err}
 use Rattle.std.specs.Prelude.{◌==◌, nat_lt, ◌↔◌, if◌then◌else◌}
 use Rattle.milter_wire.specs.declared.fault.WireFault.{WireFault}
 use Rattle.milter_wire.specs.declared.fault.WireFault.TheVariants.{ZeroLength, TooLong, NoMemory}
 use Rattle.milter_wire.specs.Reading.{number_of}
-use Rattle.milter_wire.specs.Stream.{fault_of, length_fault}
+use Rattle.milter_wire.specs.Stream.{length_fault}
 
 -- the faults that a call tells are those of the length field
 abbrev pub TellsFault : {T : Type 0} → List ℕ → Result T WireFault → Type 0

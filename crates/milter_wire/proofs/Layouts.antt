@@ -1,11 +1,11 @@
 -- What is read from the fields of a payload was written, and what was written is read.
-use Rattle.std.proofs.Common.{◌≡◌, ℕ, ◌<◌, ◌^◌, List, [], ◌∷◌, ◌++◌, length, All, Option, Some, None, refl, sym, ap, subst, ◌∙◌, append_assoc, append-nil}
+use Rattle.std.proofs.Common.{◌≡◌, ℕ, ◌<◌, ◌^◌, List, [], ◌∷◌, ◌++◌, Option, Some, None, refl, sym, ap, subst, ◌∙◌, append_assoc, append-nil}
 use Rattle.std.proofs.lemmas.Option.{same_Some}
 use Rattle.std.proofs.lemmas.List.Elements.{All-head, All-tail}
 use Rattle.milter_wire.specs.declared.options.Options.{Options}
 use Rattle.milter_wire.specs.Field.{number, options, OptionsFit}
 use Rattle.milter_wire.specs.Reading.{◌>>=◌, number_of, number_at, ended, options_in}
-use Rattle.milter_wire.proofs.Numbers.{FourBytes, four_bytes, number-number_of, number_of-lt}
+use Rattle.milter_wire.proofs.Numbers.{four_bytes, number-number_of, number_of-lt}
 use Rattle.milter_wire.proofs.Division.{IsBytes}
 
 -- ---- steps of a reading

@@ -1,13 +1,13 @@
 -- The division of a stream of which a splitter took a piece.
-use Rattle.std.proofs.Common.{◌≡◌, ◌≢◌, ℕ, ◌+◌, ◌-◌, ◌<◌, ◌≤◌, Bool, true, false, List, [], ◌∷◌, ◌++◌, length, get_or, take, drop, map, Option, Some, None, Result, Ok, Err, refl, sym, ap, subst, ◌∙◌, ◌⊎◌, inl, inr, arith, append_assoc, append-nil, take-append-drop}
+use Rattle.std.proofs.Common.{◌≡◌, ◌≢◌, ℕ, ◌+◌, ◌<◌, Bool, true, false, List, [], ◌∷◌, ◌++◌, length, get_or, take, drop, Option, Some, None, Err, refl, sym, ap, subst, ◌∙◌, ◌⊎◌, inl, inr, arith, append_assoc, append-nil, take-append-drop}
 use Rattle.std.specs.Prelude.{◌==◌, nat_lt, if◌then◌else◌}
 use Rattle.std.specs.List.{flat_map}
-use Rattle.std.proofs.lemmas.List.{take_more, take_rest}
+use Rattle.std.proofs.lemmas.List.{take_more}
 use Rattle.std.proofs.lemmas.List.Concat.{flat_map-append}
 use Rattle.milter_wire.specs.declared.fault.WireFault.{WireFault}
 use Rattle.milter_wire.specs.declared.fault.WireFault.TheVariants.{ZeroLength, TooLong, UnknownCode, Malformed, Truncated, NoMemory}
 use Rattle.milter_wire.specs.Reading.{number_of}
-use Rattle.milter_wire.specs.Stream.{Frame, Division, IsFrame, IsUnfinished, IsRest, divide, fault_of, first_frame, frame_bytes, length_fault, with_frame}
+use Rattle.milter_wire.specs.Stream.{Frame, Division, IsFrame, IsUnfinished, IsRest, divide, fault_of, frame_bytes, length_fault, with_frame}
 use Rattle.milter_wire.specs.Collected.{AddsFront, Collects, StopsBy}
 use Rattle.milter_wire.proofs.Frames.{first_frame-packet, first_frame-rest}
 use Rattle.milter_wire.proofs.Division.{divide-none, divide-first, divide-append}

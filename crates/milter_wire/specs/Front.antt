@@ -1,5 +1,5 @@
 -- What stands at the front of a stream.
-use Rattle.std.specs.Prelude.{ℕ, ◌+◌, ◌-◌, ◌≤◌, min, List, [], ◌∷◌, ◌++◌, length, Option, is_some, unwrap_or, Result, Ok, Err, if◌then◌else◌}
+use Rattle.std.specs.Prelude.{ℕ, ◌+◌, ◌-◌, ◌≤◌, min, List, [], ◌∷◌, ◌++◌, length, is_some, unwrap_or, Result, Ok, Err, if◌then◌else◌}
 use Rattle.milter_wire.specs.declared.fault.WireFault.{WireFault}
 use Rattle.milter_wire.specs.declared.fault.WireFault.TheVariants.{Truncated}
 use Rattle.milter_wire.specs.Reading.{number_of}

@@ -1,5 +1,4 @@
-use Rattle.std.proofs.Common.{◌≡◌, ◌∙◌, ◌<◌, ◌==◌, length, sym, lit<, false, nat_eq, codes, rules}
-use Rattle.std.specs.List.{after_first, before_first, position_or_len}
+use Rattle.std.proofs.Common.{◌≡◌, ◌∙◌, sym, lit<, false, nat_eq, codes, rules}
 use Rattle.std.specs.Cmp.Lexicographic.{pointwise}
 use Rattle.milter_wire.proofs.Names.{set_with-first, set_with-last, set_with-unknown, set_with-unknown_last}
 use Rattle.milter_wire.proofs.bits.named.Goals as goal

@@ -1,4 +1,4 @@
-use Rattle.std.proofs.Common.{List, sym, ap, ◌∙◌}
+use Rattle.std.proofs.Common.{sym, ap, ◌∙◌}
 use Rattle.milter_wire.specs.Stream.{Division}
 use Rattle.milter_wire.proofs.Division.{Divides-divide}
 use Rattle.milter_wire.proofs.laws.one_division.Goals as goal

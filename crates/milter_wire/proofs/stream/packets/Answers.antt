@@ -1,8 +1,6 @@
-use Rattle.std.proofs.Common.{ℕ, ◌+◌, List, ◌++◌, Err, map, take, drop, refl, sym, ap, subst, ◌∙◌}
+use Rattle.std.proofs.Common.{ℕ, ◌+◌, List, ◌++◌, Err, map, take, drop, sym, ap, subst, ◌∙◌}
 use Rattle.std.specs.List.{flat_map}
 use Rattle.std.proofs.lemmas.Result.{err_from_is_err_and}
-use Rattle.milter_wire.specs.declared.fault.WireFault.TheVariants.{NoMemory}
-use Rattle.milter_wire.specs.Stream.{divide}
 use Rattle.milter_wire.specs.Collected.{Collects}
 use Rattle.milter_wire.specs.Splitter.{frame_of}
 use Rattle.milter_wire.proofs.Pieces.{AddsFront-going, Going-none, Added-more, Added-none, Collects-before, piece_more, piece_split}

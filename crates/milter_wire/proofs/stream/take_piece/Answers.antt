@@ -1,10 +1,8 @@
-use Rattle.std.proofs.Common.{◌≡◌, ◌≢◌, ◌++◌, Err, map, sym, ap, ◌∙◌}
-use Rattle.std.specs.Prelude.{Some}
+use Rattle.std.proofs.Common.{◌≡◌, ◌≢◌, Err, sym, ap, ◌∙◌}
 use Rattle.std.proofs.lemmas.List.{map-append, take_rest}
 use Rattle.std.proofs.lemmas.Result.{err_from_is_err_and}
 use Rattle.std.proofs.lemmas.Bool.{eqb-true}
 use Rattle.milter_wire.specs.declared.fault.WireFault.TheVariants.{NoMemory}
-use Rattle.milter_wire.specs.Stream.{length_fault}
 use Rattle.milter_wire.specs.Splitter.{frame_of}
 use Rattle.milter_wire.proofs.Pieces.{AddsFront-going, Collects-err, Going-end, Going-fault, Going-handed}
 use Rattle.milter_wire.proofs.stream.take_piece.Goals as goal
