@@ -2,6 +2,8 @@ pub mod WireFault
 pub mod Bits
 pub mod Code
 pub mod Field
+pub mod Layout
+pub mod Pair
 pub mod Packet
 pub mod Reading
 pub mod Command
@@ -10,3 +12,5 @@ pub mod Stream
 pub mod Front
 pub mod Splitter
 pub mod Collected
+pub mod Stages
+pub mod Verdicts

@@ -1,8 +1,8 @@
 //! The fields that payloads are made of: how each is read from the front of some bytes, and appended to others.
 
 ghost use Rattle.std.specs.Prelude.{◌≡◌, ◌+◌, ◌≤◌, ◌∷◌, ◌++◌, [], OnOk, option_map};
-ghost use Rattle.milter_wire.specs.Field.{number, Extends};
-ghost use Rattle.milter_wire.specs.Reading.{number_at, number_of};
+ghost use Rattle.milter_wire.specs.Field.{Extends, number, port};
+ghost use Rattle.milter_wire.specs.Reading.{number_at, number_of, port_at, port_of};
 
 use crate::fault::NoMemory;
 
@@ -46,4 +46,32 @@ pub(crate) fn put_head(out: &mut Vec<u8>, code: u8, payload_len: usize) -> Resul
     put_number(out, payload_len as u32 + 1)?;
     out.push(code)?;
     Ok(())
+}
+
+/// Appends a port in two bytes, the higher first.
+#[tactic(auto, unfolding(crate::specs::Field::port))]
+pub(crate) fn put_port(out: &mut Vec<u8>, value: u16) -> Result<(), NoMemory>
+    ensures ok { OnOk result (out.new.items ≡ out.old.items ++ port value) }
+    ensures extends { Extends out.old.items out.new.items }
+{
+    out.extend_from_slice(&value.to_be_bytes())?;
+    Ok(())
+}
+
+/// The port that two bytes spell, the higher first.
+#[tactic(auto, unfolding(crate::specs::Reading::port_of))]
+fn port_of(a: u8, b: u8) -> u16
+    ensures { result ≡ port_of a b }
+{
+    u16::from_be_bytes([a, b])
+}
+
+/// The port in the first two bytes, and the bytes after it.
+pub(crate) fn take_port(bytes: &[u8]) -> Option<(u16, &[u8])>
+    ensures { option_map (λ x. (x.0, x.1.now)) result ≡ port_at bytes.now }
+{
+    match bytes {
+        [a, b, rest @ ..] => Some((port_of(*a, *b), rest)),
+        _ => None,
+    }
 }

@@ -1,7 +1,8 @@
 //! What the two ends agree on: versions, and two sets of bits.
 
 ghost use Rattle.std.specs.Prelude.{◌≡◌, ◌++◌, ◌↔◌, IsTrue, OnOk, option_map};
-ghost use Rattle.milter_wire.specs.Field.{Extends, options, OptionsFit};
+ghost use Rattle.milter_wire.specs.Field.{Extends};
+ghost use Rattle.milter_wire.specs.Layout.{options, OptionsFit};
 ghost use Rattle.milter_wire.specs.Reading.{options_in};
 
 use crate::fault::NoMemory;

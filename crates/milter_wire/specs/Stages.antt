@@ -1,0 +1,60 @@
+-- What the protocol knows of the stages of a connection and of its messages.
+use Rattle.std.specs.Prelude.{ℕ, Option, None, Some}
+use Rattle.milter_wire.specs.declared.command.Command.{Command}
+use Rattle.milter_wire.specs.declared.command.Command.TheVariants as commands
+use Rattle.milter_wire.specs.declared.options.Protocol.{Protocol}
+use Rattle.milter_wire.specs.declared.stage.Stage.{Stage}
+use Rattle.milter_wire.specs.declared.stage.Stage.TheVariants.{Connect, Helo, Mail, Rcpt, DataCmd, Header, Eoh, Body, Eob}
+
+-- the command byte of a stage's macro packet, in ASCII: the code of the stage's own command
+abbrev pub macro_command_of : Stage → Option ℕ
+macro_command_of Connect = Some 67
+macro_command_of Helo = Some 72
+macro_command_of Mail = Some 77
+macro_command_of Rcpt = Some 82
+macro_command_of DataCmd = Some 84
+macro_command_of Header = None
+macro_command_of Eoh = Some 78
+macro_command_of Body = None
+macro_command_of Eob = Some 69
+
+-- a bit of the protocol
+abbrev bit : ℕ → Option Protocol
+bit n = Some (record { 0 = n })
+
+-- the bit by which a stage is not sent
+abbrev pub not_sent_of : Stage → Option Protocol
+not_sent_of Connect = bit 1
+not_sent_of Helo = bit 2
+not_sent_of Mail = bit 4
+not_sent_of Rcpt = bit 8
+not_sent_of DataCmd = bit 512
+not_sent_of Header = bit 32
+not_sent_of Eoh = bit 64
+not_sent_of Body = bit 16
+not_sent_of Eob = None
+
+-- the bit by which a stage is not answered
+abbrev pub not_answered_of : Stage → Option Protocol
+not_answered_of Connect = bit 4096
+not_answered_of Helo = bit 8192
+not_answered_of Mail = bit 16384
+not_answered_of Rcpt = bit 32768
+not_answered_of DataCmd = bit 65536
+not_answered_of Header = bit 128
+not_answered_of Eoh = bit 262144
+not_answered_of Body = bit 524288
+not_answered_of Eob = None
+
+-- the stage that a command is
+abbrev pub stage_of : Command → Option Stage
+stage_of (commands.Connect c) = Some Connect
+stage_of (commands.Helo name) = Some Helo
+stage_of (commands.Mail sender) = Some Mail
+stage_of (commands.Rcpt recipient) = Some Rcpt
+stage_of commands.DataCmd = Some DataCmd
+stage_of (commands.Header h) = Some Header
+stage_of commands.Eoh = Some Eoh
+stage_of (commands.Body bytes) = Some Body
+stage_of (commands.Eob bytes) = Some Eob
+stage_of _ = None

@@ -1,0 +1,37 @@
+-- What the protocol knows of a filter's verdicts.
+use Rattle.std.specs.Prelude.{Bool, true, false, Result, Ok, Err}
+use Rattle.milter_wire.specs.declared.reply.Reply.{Reply}
+use Rattle.milter_wire.specs.declared.reply.Reply.TheVariants as replies
+use Rattle.milter_wire.specs.declared.stage.Stage.{Stage}
+use Rattle.milter_wire.specs.declared.stage.Stage.TheVariants as stages
+use Rattle.milter_wire.specs.declared.verdict.Verdict.{Verdict}
+use Rattle.milter_wire.specs.declared.verdict.Verdict.TheVariants.{Continue, Accept, Reject, Tempfail, Discard, Skip, Code}
+
+-- the reply that tells a verdict
+abbrev pub reply_of : Verdict → Reply
+reply_of Continue = replies.Continue
+reply_of Accept = replies.Accept
+reply_of Reject = replies.Reject
+reply_of Tempfail = replies.Tempfail
+reply_of Discard = replies.Discard
+reply_of Skip = replies.Skip
+reply_of (Code text) = replies.Code text
+
+-- the verdict that a reply tells, or the reply itself
+abbrev pub verdict_of : Reply → Result Verdict Reply
+verdict_of replies.Continue = Ok Continue
+verdict_of replies.Accept = Ok Accept
+verdict_of replies.Reject = Ok Reject
+verdict_of replies.Tempfail = Ok Tempfail
+verdict_of replies.Discard = Ok Discard
+verdict_of replies.Skip = Ok Skip
+verdict_of (replies.Code text) = Ok (Code text)
+verdict_of other = Err other
+
+-- A body's pieces alone can be skipped, and before there is a message nothing can be discarded.
+abbrev pub given_at : Verdict → Stage → Bool
+given_at Skip stages.Body = true
+given_at Skip other = false
+given_at Discard stages.Connect = false
+given_at Discard stages.Helo = false
+given_at other stage = true

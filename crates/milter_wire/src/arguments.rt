@@ -1,0 +1,88 @@
+//! An address with the arguments that may follow it, a string each; no arguments are not the empty ones.
+
+ghost use Rattle.std.specs.Prelude.{◌≡◌, ◌++◌, ◌↔◌, IsTrue, OnOk, length, option_map};
+ghost use Rattle.milter_wire.specs.Field.{Extends, string};
+ghost use Rattle.milter_wire.specs.Layout.{arguments, ArgumentsFit};
+ghost use Rattle.milter_wire.specs.Reading.{Takes, addressed_in, arguments_in};
+
+use crate::fault::NoMemory;
+use crate::strings::{has_no_nul, one_string, owned, put_string, string_len, take_string};
+use crate::text::Text;
+use std::alloc::Global;
+
+/// Whether the arguments, if there are any, hold no NUL.
+pub(crate) fn arguments_fit(value: &Option<Text>) -> bool
+    ensures { IsTrue result ↔ ArgumentsFit value.now }
+{
+    match value {
+        Some(text) => has_no_nul(text),
+        None => true,
+    }
+}
+
+/// The number of bytes of the arguments.
+pub(crate) fn arguments_len(value: &Option<Text>) -> usize
+    ensures { result ≡ length (arguments value.now) }
+{
+    match value {
+        Some(text) => string_len(text),
+        None => 0,
+    }
+}
+
+/// Appends the arguments, if there are any.
+fn put_arguments(out: &mut Vec<u8>, value: &Option<Text>) -> Result<(), NoMemory>
+    ensures ok { OnOk result (out.new.items ≡ out.old.items ++ arguments value.now) }
+    ensures extends { Extends out.old.items out.new.items }
+{
+    match value {
+        Some(text) => put_string(out, text),
+        None => Ok(()),
+    }
+}
+
+/// Appends the address, and the arguments if there are any.
+pub(crate) fn put_addressed(
+    out: &mut Vec<u8>,
+    address: &Text,
+    value: &Option<Text>,
+) -> Result<(), NoMemory>
+    ensures ok { OnOk result (out.new.items ≡ out.old.items ++ (string address.now ++ arguments value.now)) }
+    ensures extends { Extends out.old.items out.new.items }
+{
+    put_string(out, address)?;
+    put_arguments(out, value)
+}
+
+/// No arguments, where no byte is there, or the one string that these bytes are, all of the bytes.
+#[tactic(auto, unfolding(crate::specs::Reading::arguments_in))]
+fn find_arguments(bytes: &[u8]) -> Option<Option<&[u8]>>
+    ensures { option_map (λ found. option_map (λ text. text.now) found) result ≡ arguments_in bytes.now }
+{
+    if bytes.is_empty() {
+        return Some(None);
+    }
+    let text = one_string(bytes)?;
+    Some(Some(text))
+}
+
+/// The address, and the arguments if there are any, that these bytes spell, all of the bytes.
+#[tactic(auto, unfolding(crate::specs::Reading::addressed_in))]
+pub(crate) fn take_addressed(
+    alloc: Global,
+    bytes: &[u8],
+) -> Result<Option<(Text, Option<Text>)>, NoMemory>
+    ensures { Takes (addressed_in bytes.now) result }
+{
+    let Some((address, rest)) = take_string(bytes) else {
+        return Ok(None);
+    };
+    let Some(found) = find_arguments(rest) else {
+        return Ok(None);
+    };
+    let address = owned(alloc, address)?;
+    match found {
+        Some(text) => Ok(Some((address, Some(owned(alloc, text)?)))),
+        None => Ok(Some((address, None))),
+    }
+}

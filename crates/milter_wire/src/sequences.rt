@@ -1,0 +1,116 @@
+//! Strings in a row, up to the end of a payload: one by one, or two by two.
+
+ghost use Rattle.std.specs.Prelude.{◌≡◌, ◌-◌, ◌^◌, ◌++◌, ◌↔◌, All, IsTrue, OnOk, is_some, length, min};
+ghost use Rattle.std.specs.List.{flat_map};
+ghost use Rattle.milter_wire.specs.Field.{Extends, HasNoNul, string};
+ghost use Rattle.milter_wire.specs.Reading.{Takes, pairs_in, strings_in};
+
+use crate::fault::NoMemory;
+use crate::lists::{Pairs, Params};
+use crate::pair::Pair;
+use crate::strings::{has_no_nul, owned, put_string, string_len, take_string};
+use crate::text::Text;
+use std::alloc::Global;
+
+/// Whether strings can carry the texts.
+pub(crate) fn have_no_nul(texts: &[Text]) -> bool
+    ensures { IsTrue result ↔ All HasNoNul texts.now }
+{
+    texts.iter().all(|text| has_no_nul(text))
+}
+
+/// The number of bytes of the strings, or the greatest `usize`.
+pub(crate) fn strings_len(texts: &[Text]) -> usize
+    ensures { result ≡ min (length (flat_map string texts.now)) (2 ^ 64 - 1) }
+{
+    let mut total: usize = 0;
+    for text in texts {
+        total = total.saturating_add(string_len(text));
+    }
+    total
+}
+
+/// Appends the strings.
+pub(crate) fn put_strings(out: &mut Vec<u8>, texts: &[Text]) -> Result<(), NoMemory>
+    ensures ok { OnOk result (out.new.items ≡ out.old.items ++ flat_map string texts.now) }
+    ensures extends { Extends out.old.items out.new.items }
+{
+    for text in texts {
+        put_string(out, text)?;
+    }
+    Ok(())
+}
+
+/// Whether the bytes are strings up to the end.
+fn are_strings(bytes: &[u8]) -> bool
+    ensures { result ≡ is_some (strings_in bytes.now) }
+{
+    let mut rest = bytes;
+    while !rest.is_empty() {
+        let Some((_, after)) = take_string(rest) else {
+            return false;
+        };
+        rest = after;
+    }
+    true
+}
+
+/// The strings that the bytes are, up to the end.
+pub(crate) fn take_strings(alloc: Global, bytes: &[u8]) -> Result<Option<Params>, NoMemory>
+    ensures { Takes (strings_in bytes.now) result }
+{
+    if !are_strings(bytes) {
+        return Ok(None);
+    }
+    let mut texts = Vec::new(alloc);
+    let mut rest = bytes;
+    while !rest.is_empty() {
+        let Some((text, after)) = take_string(rest) else {
+            return Ok(None);
+        };
+        texts.push(owned(alloc, text)?)?;
+        rest = after;
+    }
+    Ok(Some(Params::new(texts)))
+}
+
+/// Whether the bytes are pairs of strings up to the end.
+fn are_pairs(bytes: &[u8]) -> bool
+    ensures { result ≡ is_some (pairs_in bytes.now) }
+{
+    let mut rest = bytes;
+    while !rest.is_empty() {
+        let Some((_, middle)) = take_string(rest) else {
+            return false;
+        };
+        let Some((_, after)) = take_string(middle) else {
+            return false;
+        };
+        rest = after;
+    }
+    true
+}
+
+/// The pairs of strings that the bytes are, up to the end.
+pub(crate) fn take_pairs(alloc: Global, bytes: &[u8]) -> Result<Option<Pairs>, NoMemory>
+    ensures { Takes (pairs_in bytes.now) result }
+{
+    if !are_pairs(bytes) {
+        return Ok(None);
+    }
+    let mut pairs = Vec::new(alloc);
+    let mut rest = bytes;
+    while !rest.is_empty() {
+        let Some((name, middle)) = take_string(rest) else {
+            return Ok(None);
+        };
+        let Some((value, after)) = take_string(middle) else {
+            return Ok(None);
+        };
+        let name = owned(alloc, name)?;
+        let value = owned(alloc, value)?;
+        pairs.push(Pair { name, value })?;
+        rest = after;
+    }
+    Ok(Some(Pairs::new(pairs)))
+}

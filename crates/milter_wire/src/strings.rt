@@ -1,0 +1,87 @@
+//! Strings: a text, and the NUL that ends it.
+
+ghost use Rattle.std.specs.Prelude.{◌≡◌, ◌==◌, ◌++◌, ◌↔◌, IfOk, IsTrue, OnOk, length, option_map, position};
+ghost use Rattle.milter_wire.specs.Field.{Extends, HasNoNul, string};
+ghost use Rattle.milter_wire.specs.Reading.{Takes, string_at, string_in};
+
+use crate::fault::NoMemory;
+use crate::text::Text;
+use std::alloc::Global;
+
+/// Whether a string can carry the text: no byte of it is a NUL.
+#[tactic(auto, unfolding(crate::specs::Field::HasNoNul))]
+pub(crate) fn has_no_nul(text: &Text) -> bool
+    ensures { IsTrue result ↔ HasNoNul text.now }
+{
+    text.as_slice().iter().all(|byte| *byte != 0)
+}
+
+/// The number of bytes of the string.
+pub(crate) fn string_len(text: &Text) -> usize
+    ensures { result ≡ length (string text.now) }
+{
+    text.as_slice().len() + 1
+}
+
+/// Appends the string.
+pub(crate) fn put_string(out: &mut Vec<u8>, text: &Text) -> Result<(), NoMemory>
+    ensures ok { OnOk result (out.new.items ≡ out.old.items ++ string text.now) }
+    ensures extends { Extends out.old.items out.new.items }
+{
+    put_bytes(out, text.as_slice())?;
+    out.push(0)?;
+    Ok(())
+}
+
+/// Appends bytes as they are.
+pub(crate) fn put_bytes(out: &mut Vec<u8>, bytes: &[u8]) -> Result<(), NoMemory>
+    ensures ok { OnOk result (out.new.items ≡ out.old.items ++ bytes.now) }
+    ensures extends { Extends out.old.items out.new.items }
+{
+    out.extend_from_slice(bytes)?;
+    Ok(())
+}
+
+/// The place of the first NUL.
+fn first_nul(bytes: &[u8]) -> Option<usize>
+    ensures { result ≡ position (λ byte. byte == 0) bytes.now }
+{
+    bytes.iter().position(|byte| *byte == 0)
+}
+
+/// The text of the string that the bytes begin with, and the bytes after the string.
+pub(crate) fn take_string(bytes: &[u8]) -> Option<(&[u8], &[u8])>
+    ensures { option_map (λ x. (x.0.now, x.1.now)) result ≡ string_at bytes.now }
+{
+    let end = first_nul(bytes)?;
+    Some((&bytes[..end], &bytes[end + 1..]))
+}
+
+/// The text of the one string that these bytes are, all of the bytes.
+#[tactic(auto, unfolding(crate::specs::Reading::string_in))]
+pub(crate) fn one_string(bytes: &[u8]) -> Option<&[u8]>
+    ensures { option_map (λ text. text.now) result ≡ string_in bytes.now }
+{
+    let (text, rest) = take_string(bytes)?;
+    if !rest.is_empty() {
+        return None;
+    }
+    Some(text)
+}
+
+/// The one string that these bytes are, all of the bytes.
+pub(crate) fn take_text(alloc: Global, bytes: &[u8]) -> Result<Option<Text>, NoMemory>
+    ensures { Takes (string_in bytes.now) result }
+{
+    let Some(text) = one_string(bytes) else {
+        return Ok(None);
+    };
+    Ok(Some(owned(alloc, text)?))
+}
+
+/// A text of its own with these bytes.
+pub(crate) fn owned(alloc: Global, bytes: &[u8]) -> Result<Text, NoMemory>
+    ensures { IfOk result (λ text. text ≡ bytes.now) }
+{
+    Ok(Text::new(Vec::from_slice(alloc, bytes)?))
+}

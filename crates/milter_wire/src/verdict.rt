@@ -1,0 +1,74 @@
+//! What a filter decides when it is asked.
+
+ghost use Rattle.std.specs.Prelude.{◌≡◌};
+ghost use Rattle.milter_wire.specs.Verdicts.{given_at, reply_of, verdict_of};
+
+use crate::reply::Reply;
+use crate::stage::Stage;
+use crate::text::Text;
+
+/// A filter's answer to a stage. Source: mfdef.h (SMFIR_CONTINUE and its kin), and the libmilter callback documentation
+/// (return values).
+#[derive(Clone, Debug, PartialEq, Eq, Drop)]
+pub enum Verdict {
+    /// The MTA goes on.
+    Continue,
+    /// The message, or at the first two stages the connection, is taken without asking further.
+    Accept,
+    /// What was asked about is refused for good.
+    Reject,
+    /// What was asked about is refused for now.
+    Tempfail,
+    /// The message is taken and thrown away.
+    Discard,
+    /// The MTA sends no further piece of this body.
+    Skip,
+    /// What was asked about is refused with this text, which has the form of [`Reply::Code`].
+    Code(Text),
+}
+
+impl Verdict {
+    /// Whether the verdict is an answer to the stage: only a piece of the body can be skipped, and nothing can be thrown
+    /// away before there is a message. No memory is taken. Source: the libmilter callback documentation; own.
+    pub fn is_given_at(&self, stage: Stage) -> bool
+        ensures { result ≡ given_at self.now stage }
+    {
+        match self {
+            Verdict::Skip => stage == Stage::Body,
+            Verdict::Discard => stage != Stage::Connect && stage != Stage::Helo,
+            _ => true,
+        }
+    }
+
+    /// The reply that tells the verdict. No memory is taken. Source: mfdef.h.
+    pub fn into_reply(self) -> Reply
+        ensures { result ≡ reply_of self }
+    {
+        match self {
+            Verdict::Continue => Reply::Continue,
+            Verdict::Accept => Reply::Accept,
+            Verdict::Reject => Reply::Reject,
+            Verdict::Tempfail => Reply::Tempfail,
+            Verdict::Discard => Reply::Discard,
+            Verdict::Skip => Reply::Skip,
+            Verdict::Code(text) => Reply::Code(text),
+        }
+    }
+
+    /// The verdict that a reply tells. A reply that tells none comes back: options, an edit of the message, or progress.
+    /// No memory is taken. Source: mfdef.h.
+    pub fn from_reply(reply: Reply) -> Result<Verdict, Reply>
+        ensures { result ≡ verdict_of reply }
+    {
+        match reply {
+            Reply::Continue => Ok(Verdict::Continue),
+            Reply::Accept => Ok(Verdict::Accept),
+            Reply::Reject => Ok(Verdict::Reject),
+            Reply::Tempfail => Ok(Verdict::Tempfail),
+            Reply::Discard => Ok(Verdict::Discard),
+            Reply::Skip => Ok(Verdict::Skip),
+            Reply::Code(text) => Ok(Verdict::Code(text)),
+            other => Err(other),
+        }
+    }
+}
