@@ -1,14 +1,17 @@
 -- A direction's packets: what `decode` answers, from a reading that is the spelling's inverse. Both directions use it.
-use Rattle.std.proofs.Common.{◌≡◌, ℕ, Bool, true, false, List, [], ◌++◌, Option, Some, None, Result, Ok, Err, refl, sym, ap, ◌∙◌, append-nil, ◌⊎◌, inl, inr}
-use Rattle.std.specs.Prelude.{IsSome, IsTrue, IfOk, MatchResult, ◌↔◌, if◌then◌else◌}
+use Rattle.std.proofs.Common.{◌≡◌, ℕ, Bool, true, false, List, [], ◌∷◌, ◌++◌, Option, Some, None, Result, Ok, Err, refl, sym, ap, subst, ◌∙◌, append-nil, inl, inr}
+use Rattle.std.specs.Prelude.{◌==◌, IsSome, IsTrue, IfOk, MatchResult, ◌↔◌}
+use Rattle.std.specs.Option.{option_map}
+use Rattle.std.proofs.lemmas.Bool.{eqb-true}
 use Rattle.std.proofs.lemmas.Option.{none-some, same_Some}
 use Rattle.milter_wire.specs.declared.fault.WireFault.{WireFault}
 use Rattle.milter_wire.specs.declared.fault.WireFault.TheVariants.{ZeroLength, TooLong, UnknownCode, Malformed, Truncated, NoMemory}
 use Rattle.milter_wire.specs.Field.{number}
 use Rattle.milter_wire.specs.Packet.{packet, IsPayload}
-use Rattle.milter_wire.specs.Reading.{Decodes}
+use Rattle.milter_wire.specs.Reading.{Decodes, Row, ended, read_by}
 use Rattle.milter_wire.specs.Stream.{Frame, first_frame}
 use Rattle.milter_wire.proofs.Frames.{first_frame-packet}
+use Rattle.milter_wire.proofs.Steps.{chosen, ended_takes}
 
 -- a packet has one code and one payload
 pub packet-same : (code other : ℕ) (payload others : List ℕ) → packet code payload ≡ packet other others → (code ≡ other) × (payload ≡ others)
@@ -23,6 +26,43 @@ packet-whole code other payload others more fits fit e =
     let same = same_Some _ _ (sym a ∙ ap first_frame (e ∙ sym (append-nil (packet other others))) ∙ b) in
     ap (λ (x : Frame × List ℕ). x.1) same
 
+-- ---- rows of a table
+
+-- what each row of a table reads is said of the value, the row's code and the payload
+abbrev pub EachRow : {V : Type 0} → (V → ℕ → List ℕ → Type 0) → List ℕ → List (Row V) → Type 0
+EachRow {V} Says payload [] = Unit {0}
+EachRow {V} Says payload (row ∷ rows) = ((v : V) → row.1 payload ≡ Some v → Says v row.0 payload) × EachRow Says payload rows
+
+infixr 5 ◌⨾◌
+-- one row, and then the others
+abbrev pub ◌⨾◌ : {A B : Type 0} → A → B → A × B
+row ⨾ others = (row, others)
+
+pub row_says : {V : Type 0} (Says : V → ℕ → List ℕ → Type 0) (rows : List (Row V)) (code : ℕ) (payload : List ℕ) (v : V) → EachRow Says payload rows → read_by rows code payload ≡ Some v → Says v code payload
+row_says Says [] code payload v each e = absurd cc
+row_says Says (row ∷ rows) code payload v each e =
+    elim (chosen (code == row.0) (row.1 payload) (read_by rows code payload) (Some v) e) [
+      | inl at ↦ subst (λ (n : ℕ). Says v n payload) (sym (eqb-true code row.0 at.0)) (each.0 v at.1)
+      | inr others ↦ row_says Says rows code payload v each.1 others.1
+    ]
+
+-- a row whose payload is one field
+pub field_says : {A V : Type 0} (Says : V → Type 0) (make : A → V) (o : Option A) → ((x : A) → o ≡ Some x → Says (make x)) → (v : V) → option_map make o ≡ Some v → Says v
+field_says Says make None row v e = absurd cc
+field_says Says make (Some x) row v e = subst Says (same_Some (make x) v e) (row x refl)
+
+-- a row without a payload
+pub nothing_says : {V : Type 0} (Says : V → List ℕ → Type 0) (x : V) (payload : List ℕ) → Says x [] → (v : V) → ended x payload ≡ Some v → Says v payload
+nothing_says {V} Says x payload row v e =
+    let end = ended_takes x payload v e in
+    subst (Says v) (sym end.0) (subst (λ (w : V). Says w []) end.1 row)
+
+-- a row with any payload
+pub bytes_say : {V : Type 0} (Says : V → Type 0) (x v : V) → Says x → Some x ≡ Some v → Says v
+bytes_say Says x v row e = subst Says (same_Some x v e) row
+
+-- ---- the clauses of `decode`
+
 -- what is read of a code and a payload is the value that they spell
 pub record Reads {V : Type 0} (known : Bool) (read : Option V) (Spelled : V → Type 0) : Type 0 where
   pub found : (v : V) → read ≡ Some v → Spelled v
@@ -32,10 +72,6 @@ pub record Reads {V : Type 0} (known : Bool) (read : Option V) (Spelled : V → 
 some_value : {A : Type 0} (o : Option A) → IsSome o → (x : A) × (o ≡ Some x)
 some_value None h = absurd cc
 some_value (Some x) h = (x, refl)
-
-pub chosen : {A : Type 0} (b : Bool) (x y z : A) → (if b then x else y) ≡ z → ((b ≡ true) × (x ≡ z)) ⊎ ((b ≡ false) × (y ≡ z))
-chosen true x y z e = inl (refl, e)
-chosen false x y z e = inr (refl, e)
 
 apart : (b : Bool) → b ≡ true → b ≡ false → ⊥
 apart b t f = cc

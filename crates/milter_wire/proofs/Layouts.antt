@@ -1,22 +1,14 @@
 -- What is read from the fields of a payload was written, and what was written is read.
-use Rattle.std.proofs.Common.{◌≡◌, ℕ, ◌<◌, ◌^◌, List, [], ◌∷◌, ◌++◌, Option, Some, None, refl, sym, ap, subst, ◌∙◌, append_assoc, append-nil}
+use Rattle.std.proofs.Common.{◌≡◌, ℕ, ◌<◌, ◌^◌, List, [], ◌∷◌, ◌++◌, Some, refl, sym, ap, subst, ◌∙◌, append_assoc, append-nil}
 use Rattle.std.proofs.lemmas.Option.{same_Some}
 use Rattle.std.proofs.lemmas.List.Elements.{All-head, All-tail}
 use Rattle.milter_wire.specs.declared.options.Options.{Options}
-use Rattle.milter_wire.specs.Field.{number, options, OptionsFit}
-use Rattle.milter_wire.specs.Reading.{◌>>=◌, number_of, number_at, ended, options_in}
-use Rattle.milter_wire.proofs.Numbers.{four_bytes, number-number_of, number_of-lt}
+use Rattle.milter_wire.specs.Field.{number, port}
+use Rattle.milter_wire.specs.Layout.{options, OptionsFit}
+use Rattle.milter_wire.specs.Reading.{◌>>=◌, number_of, number_at, port_of, port_at, ended, options_in}
+use Rattle.milter_wire.proofs.Numbers.{four_bytes, number-number_of, number_of-lt, two_bytes, port-port_of, port_of-lt}
 use Rattle.milter_wire.proofs.Division.{IsBytes}
-
--- ---- steps of a reading
-
-pub bind_some : {A B : Type 0} (o : Option A) (f : A → Option B) (y : B) → (o >>= f) ≡ Some y → (x : A) × (o ≡ Some x) × (f x ≡ Some y)
-bind_some (Some x) f y e = (x, refl, e)
-bind_some None f y e = absurd cc
-
-pub ended_takes : {A : Type 0} (x : A) (rest : List ℕ) (y : A) → ended x rest ≡ Some y → (rest ≡ []) × (x ≡ y)
-ended_takes x [] y e = (refl, cc)
-ended_takes x (b ∷ rest) y e = absurd cc
+use Rattle.milter_wire.proofs.Steps.{bind_some, ended_takes}
 
 -- ---- numbers
 
@@ -51,6 +43,30 @@ number_takes [] n rest bytes h = absurd cc
 number_takes (a ∷ []) n rest bytes h = absurd cc
 number_takes (a ∷ b ∷ []) n rest bytes h = absurd cc
 number_takes (a ∷ b ∷ c ∷ []) n rest bytes h = absurd cc
+
+-- ---- ports
+
+pub port_at-port : (n : ℕ) (rest : List ℕ) → n < 2 ^ 16 → port_at (port n ++ rest) ≡ Some (n, rest)
+port_at-port n rest lt = let k = two_bytes n lt in rw (k.spelled, k.value) refl
+
+pub record TakesPort (bytes : List ℕ) (n : ℕ) (rest : List ℕ) : Type 0 where
+  pub bytes_are : bytes ≡ port n ++ rest
+  pub fits : n < 2 ^ 16
+
+pub port_takes : (bytes : List ℕ) (n : ℕ) (rest : List ℕ) → IsBytes bytes → port_at bytes ≡ Some (n, rest) → TakesPort bytes n rest
+port_takes (a ∷ b ∷ body) n rest bytes h =
+    let P : ℕ → Type 0 = λ x. x < 2 ^ 8 in
+    let ha = All-head P a (b ∷ body) bytes in
+    let hb = All-head P b body (All-tail P a (b ∷ body) bytes) in
+    let same = same_Some (port_of a b, body) (n, rest) h in
+    let n_is : port_of a b ≡ n = ap (λ (x : ℕ × List ℕ). x.0) same in
+    let rest_is : body ≡ rest = ap (λ (x : ℕ × List ℕ). x.1) same in
+    record {
+      bytes_are = sym (ap (λ (x : ℕ). port x ++ rest) (sym n_is) ∙ ap (λ (x : List ℕ). x ++ rest) (port-port_of a b ha hb) ∙ ap (λ (x : List ℕ). a ∷ b ∷ x) (sym rest_is));
+      fits = subst (λ (x : ℕ). x < 2 ^ 16) n_is (port_of-lt a b ha hb);
+    }
+port_takes [] n rest bytes h = absurd cc
+port_takes (a ∷ []) n rest bytes h = absurd cc
 
 -- ---- options
 

@@ -2,7 +2,12 @@ pub mod Names
 pub mod Numbers
 pub mod Frames
 pub mod Division
+pub mod Written
+pub mod Steps
+pub mod StringFields
+pub mod InARow
 pub mod Layouts
+pub mod Values
 pub mod Grammar
 pub mod CommandGrammar
 pub mod ReplyGrammar

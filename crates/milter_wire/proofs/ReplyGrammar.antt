@@ -1,19 +1,17 @@
 -- The reading of replies is the inverse of their spelling.
-use Rattle.std.proofs.Common.{◌≡◌, ℕ, ◌<◌, ◌^◌, true, List, [], ◌++◌, get_or, Option, Some, None, refl, sym, ap, subst, ◌∙◌, inl, inr}
-use Rattle.std.specs.Prelude.{◌==◌}
-use Rattle.std.specs.Option.{option_map}
-use Rattle.std.proofs.lemmas.Bool.{eqb-true}
-use Rattle.std.proofs.lemmas.Option.{none-some, same_Some}
+use Rattle.std.proofs.Common.{◌≡◌, ℕ, ◌<◌, ◌^◌, true, List, [], ◌++◌, get_or, Some, refl, sym, ap, subst, ◌∙◌}
+use Rattle.std.proofs.lemmas.Option.{same_Some}
 use Rattle.std.proofs.lemmas.List.Elements.{All-from_get_or}
-use Rattle.milter_wire.specs.declared.options.Options as records
 use Rattle.milter_wire.specs.declared.reply.Reply.{Reply}
-use Rattle.milter_wire.specs.declared.reply.Reply.TheVariants.{Options}
+use Rattle.milter_wire.specs.declared.reply.Reply.TheVariants.{Options, AddRcpt, DelRcpt, AddRcptPar, Accept, ReplaceBody, Continue, Discard, ChangeFrom, AddHeader, InsertHeader, ChangeHeader, Progress, Quarantine, Reject, Skip, Tempfail, Code}
 use Rattle.milter_wire.specs.Packet.{packet, IsPayload}
-use Rattle.milter_wire.specs.Reading.{options_in}
-use Rattle.milter_wire.specs.Reply.{code_of, payload_of, is_code, FieldsFit, Spells, reply_in}
+use Rattle.milter_wire.specs.Reading.{addressed_in, header_in, indexed_in, options_in, reply_code_in, string_in}
+use Rattle.milter_wire.specs.Reply.{code_of, payload_of, is_code, FieldsFit, Spells, reply_in, rows}
 use Rattle.milter_wire.proofs.Division.{IsBytes}
 use Rattle.milter_wire.proofs.Layouts.{options_in-options, options_take}
-use Rattle.milter_wire.proofs.Grammar.{Reads, chosen, packet-same, packet-whole}
+use Rattle.milter_wire.proofs.Grammar.{◌⨾◌, EachRow, Reads, bytes_say, field_says, nothing_says, row_says, packet-same, packet-whole}
+use Rattle.milter_wire.proofs.StringFields.{one_string_takes, string_in-string}
+use Rattle.milter_wire.proofs.Values.{addressed_takes, addressed_in-addressed, header_takes, header_in-header, indexed_takes, indexed_in-indexed, reply_code_takes, reply_code_in-string}
 
 -- a code and a payload that are a reply's row of the table
 record IsRow (r : Reply) (code : ℕ) (payload : List ℕ) : Type 0 where
@@ -21,22 +19,54 @@ record IsRow (r : Reply) (code : ℕ) (payload : List ℕ) : Type 0 where
   payload_is : payload ≡ payload_of r
   fields : FieldsFit r
 
-options_row : (payload : List ℕ) (r : Reply) (o : Option records.Options) → ((x : records.Options) → o ≡ Some x → IsRow (Options x) 79 payload) → option_map Options o ≡ Some r → IsRow r 79 payload
-options_row payload r None row e = absurd cc
-options_row payload r (Some x) row e = subst (λ (q : Reply). IsRow q 79 payload) (same_Some (Options x) r e) (row x refl)
+-- the rows
+each_row : (payload : List ℕ) → IsBytes payload → EachRow IsRow payload rows
+each_row payload bytes =
+    let Says : ℕ → Reply → Type 0 = λ code r. IsRow r code payload in
+    field_says (Says 43) AddRcpt (string_in payload) (λ x read. let t = one_string_takes payload x read in record { code_is = refl; payload_is = t.bytes_are; fields = t.no_nul })
+    ⨾ field_says (Says 45) DelRcpt (string_in payload) (λ x read. let t = one_string_takes payload x read in record { code_is = refl; payload_is = t.bytes_are; fields = t.no_nul })
+    ⨾ field_says (Says 50) (λ a. AddRcptPar a.0 a.1) (addressed_in payload) (λ x read. let t = addressed_takes payload x read in record { code_is = refl; payload_is = t.0; fields = t.1 })
+    ⨾ field_says (Says 79) Options (options_in payload) (λ x read. let t = options_take payload x bytes read in record { code_is = refl; payload_is = t.0; fields = t.1 })
+    ⨾ nothing_says (λ r. IsRow r 97) Accept payload record { code_is = refl; payload_is = refl; fields = tt }
+    ⨾ (λ r. bytes_say (Says 98) (ReplaceBody payload) r record { code_is = refl; payload_is = refl; fields = tt })
+    ⨾ nothing_says (λ r. IsRow r 99) Continue payload record { code_is = refl; payload_is = refl; fields = tt }
+    ⨾ nothing_says (λ r. IsRow r 100) Discard payload record { code_is = refl; payload_is = refl; fields = tt }
+    ⨾ field_says (Says 101) (λ a. ChangeFrom a.0 a.1) (addressed_in payload) (λ x read. let t = addressed_takes payload x read in record { code_is = refl; payload_is = t.0; fields = t.1 })
+    ⨾ field_says (Says 104) AddHeader (header_in payload) (λ x read. let t = header_takes payload x read in record { code_is = refl; payload_is = t.0; fields = t.1 })
+    ⨾ field_says (Says 105) (λ i. InsertHeader i.0 i.1) (indexed_in payload) (λ x read. let t = indexed_takes payload x bytes read in record { code_is = refl; payload_is = t.0; fields = t.1 })
+    ⨾ field_says (Says 109) (λ i. ChangeHeader i.0 i.1) (indexed_in payload) (λ x read. let t = indexed_takes payload x bytes read in record { code_is = refl; payload_is = t.0; fields = t.1 })
+    ⨾ nothing_says (λ r. IsRow r 112) Progress payload record { code_is = refl; payload_is = refl; fields = tt }
+    ⨾ field_says (Says 113) Quarantine (string_in payload) (λ x read. let t = one_string_takes payload x read in record { code_is = refl; payload_is = t.bytes_are; fields = t.no_nul })
+    ⨾ nothing_says (λ r. IsRow r 114) Reject payload record { code_is = refl; payload_is = refl; fields = tt }
+    ⨾ nothing_says (λ r. IsRow r 115) Skip payload record { code_is = refl; payload_is = refl; fields = tt }
+    ⨾ nothing_says (λ r. IsRow r 116) Tempfail payload record { code_is = refl; payload_is = refl; fields = tt }
+    ⨾ field_says (Says 121) Code (reply_code_in payload) (λ x read. let t = reply_code_takes payload x read in record { code_is = refl; payload_is = t.0; fields = t.1 })
+    ⨾ tt
 
 reply_row : (code : ℕ) (payload : List ℕ) (r : Reply) → IsBytes payload → reply_in code payload ≡ Some r → IsRow r code payload
 unfolding reply_in
-reply_row code payload r bytes e =
-    elim (chosen (code == 79) (option_map Options (options_in payload)) None (Some r) e) [
-      | inl at ↦ subst (λ (n : ℕ). IsRow r n payload) (sym (eqb-true code 79 at.0))
-          (options_row payload r (options_in payload) (λ o read. let t = options_take payload o bytes read in record { code_is = refl; payload_is = t.0; fields = t.1 }) at.1)
-      | inr other ↦ absurd (none-some r other.1)
-    ]
+reply_row code payload r bytes e = row_says IsRow rows code payload r (each_row payload bytes) e
 
 reply_again : (r : Reply) → FieldsFit r → reply_in (code_of r) (payload_of r) ≡ Some r
 unfolding reply_in
-reply_again (Options o) h = rw (options_in-options o h) refl
+reply_again (AddRcpt address) fits = rw (string_in-string address fits) refl
+reply_again (DelRcpt address) fits = rw (string_in-string address fits) refl
+reply_again (AddRcptPar address args) fits = rw (addressed_in-addressed address args fits) refl
+reply_again (Options o) fits = rw (options_in-options o fits) refl
+reply_again Accept fits = refl
+reply_again (ReplaceBody bytes) fits = refl
+reply_again Continue fits = refl
+reply_again Discard fits = refl
+reply_again (ChangeFrom address args) fits = rw (addressed_in-addressed address args fits) refl
+reply_again (AddHeader h) fits = rw (header_in-header h fits) refl
+reply_again (InsertHeader index h) fits = rw (indexed_in-indexed index h fits) refl
+reply_again (ChangeHeader index h) fits = rw (indexed_in-indexed index h fits) refl
+reply_again Progress fits = refl
+reply_again (Quarantine reason) fits = rw (string_in-string reason fits) refl
+reply_again Reject fits = refl
+reply_again Skip fits = refl
+reply_again Tempfail fits = refl
+reply_again (Code text) fits = rw (reply_code_in-string text fits) refl
 
 spelled_is_read : (code : ℕ) (payload : List ℕ) (r : Reply) → Spells r (packet code payload) → reply_in code payload ≡ Some r
 spelled_is_read code payload r s =
@@ -44,7 +74,25 @@ spelled_is_read code payload r s =
     ap (λ (n : ℕ). reply_in n payload) same.0 ∙ ap (reply_in (code_of r)) same.1 ∙ reply_again r s.fits.fields
 
 reply_known : (r : Reply) → is_code (code_of r) ≡ true
+unfolding is_code
+reply_known (AddRcpt address) = refl
+reply_known (DelRcpt address) = refl
+reply_known (AddRcptPar address args) = refl
 reply_known (Options o) = refl
+reply_known Accept = refl
+reply_known (ReplaceBody bytes) = refl
+reply_known Continue = refl
+reply_known Discard = refl
+reply_known (ChangeFrom address args) = refl
+reply_known (AddHeader h) = refl
+reply_known (InsertHeader index h) = refl
+reply_known (ChangeHeader index h) = refl
+reply_known Progress = refl
+reply_known (Quarantine reason) = refl
+reply_known Reject = refl
+reply_known Skip = refl
+reply_known Tempfail = refl
+reply_known (Code text) = refl
 
 pub replies_read : (code : ℕ) (payload : List ℕ) → ((i : ℕ) → get_or payload i 0 < 256) → IsPayload payload → Reads (is_code code) (reply_in code payload) (λ r. Spells r (packet code payload))
 replies_read code payload below fits =

@@ -31,6 +31,7 @@ pub enum Stage {
 }
 
 /// What the protocol knows of a stage.
+#[derive(Clone, Copy)]
 struct Row {
     macro_command: Option<u8>,
     not_sent: Option<Protocol>,
@@ -38,7 +39,7 @@ struct Row {
 }
 
 /// The table of stages.
-fn row(stage: Stage) -> Row
+fn row_of(stage: Stage) -> Row
     ensures macros { result.macro_command ≡ macro_command_of stage }
     ensures sent { result.not_sent ≡ not_sent_of stage }
     ensures answered { result.not_answered ≡ not_answered_of stage }
@@ -71,7 +72,7 @@ impl Stage {
     pub fn macro_command(self) -> Option<u8>
         ensures { result ≡ macro_command_of self }
     {
-        row(self).macro_command
+        row_of(self).macro_command
     }
 
     /// The bit by which the stage isn't sent; the end of a message is always sent. Source: mfdef.h (SMFIP_NOCONNECT and
@@ -79,7 +80,7 @@ impl Stage {
     pub fn not_sent(self) -> Option<Protocol>
         ensures { result ≡ not_sent_of self }
     {
-        row(self).not_sent
+        row_of(self).not_sent
     }
 
     /// The bit by which the stage isn't answered; the end of a message is always answered. Source: mfdef.h
@@ -87,7 +88,7 @@ impl Stage {
     pub fn not_answered(self) -> Option<Protocol>
         ensures { result ≡ not_answered_of self }
     {
-        row(self).not_answered
+        row_of(self).not_answered
     }
 }
 
