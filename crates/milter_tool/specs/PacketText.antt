@@ -29,11 +29,15 @@ hex8 n = encode_lower (number n)
 abbrev pub options_text : Options → List ℕ
 options_text o = codes "version " ++ decimal o.version ++ codes " actions " ++ hex8 o.actions.0 ++ codes " protocol " ++ hex8 o.protocol.0
 
+-- the fields of a command: no packet but options is printed by its fields yet
 abbrev pub command_text : Command → List ℕ
 command_text (commands.Options o) = options_text o
+command_text other = []
 
+-- the fields of a reply: no packet but options is printed by its fields yet
 abbrev pub reply_text : Reply → List ℕ
 reply_text (replies.Options o) = options_text o
+reply_text other = []
 
 -- the number of bytes of the payload, for packets whose fields aren't printed yet
 abbrev pub size_text : ℕ → List ℕ

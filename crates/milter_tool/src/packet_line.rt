@@ -1,6 +1,7 @@
 //! The line that is printed for a packet.
 
 ghost use Rattle.std.specs.Prelude.{◌≡◌, ◌≢◌, ◌++◌, ◌∷◌, [], Ok, Err, OnOk, decimal};
+ghost use Rattle.milter_tool.specs.declared.direction.Direction.TheVariants.{ToFilter, ToMta};
 ghost use Rattle.milter_wire.specs.Packet.{IsPayload};
 ghost use Rattle.milter_wire.specs.Splitter.{frame_of};
 ghost use Rattle.milter_tool.specs.PacketText.{Shows, command_text, head_text, hex8, options_text, packet_text, reply_text, size_text};
@@ -25,20 +26,53 @@ pub(crate) fn put_packet(
     if packet.code != b'O' {
         put_head(alloc, text, direction, packet.code)?;
         put_size(text, payload.len())?;
-    } else {
-        match direction {
-            Direction::ToFilter => {
-                let command = Command::decode(alloc, b'O', payload)?;
-                put_head(alloc, text, direction, b'O')?;
-                put_command(text, &command)?;
-            }
-            Direction::ToMta => {
-                let reply = Reply::decode(alloc, b'O', payload)?;
-                put_head(alloc, text, direction, b'O')?;
-                put_reply(text, &reply)?;
-            }
-        }
+        text.push(b'\n')?;
+        return Ok(());
     }
+    match direction {
+        Direction::ToFilter => put_offer(alloc, payload, text),
+        Direction::ToMta => put_answer(alloc, payload, text),
+    }
+}
+
+/// Appends the line of the options that the MTA offers.
+#[tactic(auto, unfolding(milter_wire::specs::Command::is_code))]
+fn put_offer(alloc: Global, payload: &[u8], text: &mut Vec<u8>) -> Result<(), WireFault>
+    requires { IsPayload payload.now }
+    ensures { Shows (packet_text ToFilter (record { code = 79; payload = payload.now })) text.old.items text.new.items result }
+{
+    let command = Command::decode(alloc, b'O', payload)?;
+    let written = put_offer_line(alloc, &command, text);
+    drop(command);
+    Ok(written?)
+}
+
+fn put_offer_line(alloc: Global, command: &Command, text: &mut Vec<u8>) -> Result<(), NoMemory>
+    ensures { OnOk result (text.new.items ≡ text.old.items ++ (head_text ToFilter 79 ++ command_text command.now ++ 10 ∷ [])) }
+{
+    put_head(alloc, text, Direction::ToFilter, b'O')?;
+    put_command(text, command)?;
+    text.push(b'\n')?;
+    Ok(())
+}
+
+/// Appends the line of the options that the filter accepts.
+#[tactic(auto, unfolding(milter_wire::specs::Reply::is_code))]
+fn put_answer(alloc: Global, payload: &[u8], text: &mut Vec<u8>) -> Result<(), WireFault>
+    requires { IsPayload payload.now }
+    ensures { Shows (packet_text ToMta (record { code = 79; payload = payload.now })) text.old.items text.new.items result }
+{
+    let reply = Reply::decode(alloc, b'O', payload)?;
+    let written = put_answer_line(alloc, &reply, text);
+    drop(reply);
+    Ok(written?)
+}
+
+fn put_answer_line(alloc: Global, reply: &Reply, text: &mut Vec<u8>) -> Result<(), NoMemory>
+    ensures { OnOk result (text.new.items ≡ text.old.items ++ (head_text ToMta 79 ++ reply_text reply.now ++ 10 ∷ [])) }
+{
+    put_head(alloc, text, Direction::ToMta, b'O')?;
+    put_reply(text, reply)?;
     text.push(b'\n')?;
     Ok(())
 }
@@ -59,19 +93,23 @@ fn put_head(
     Ok(())
 }
 
+/// The fields of options. No other command comes here yet.
 fn put_command(text: &mut Vec<u8>, command: &Command) -> Result<(), NoMemory>
     ensures { OnOk result (text.new.items ≡ text.old.items ++ command_text command.now) }
 {
     match command {
         Command::Options(options) => put_options(text, options),
+        _ => Ok(()),
     }
 }
 
+/// The fields of options. No other reply comes here yet.
 fn put_reply(text: &mut Vec<u8>, reply: &Reply) -> Result<(), NoMemory>
     ensures { OnOk result (text.new.items ≡ text.old.items ++ reply_text reply.now) }
 {
     match reply {
         Reply::Options(options) => put_options(text, options),
+        _ => Ok(()),
     }
 }
 

@@ -1,5 +1,6 @@
 -- The names of the bits of options, and texts that name sets of them.
-use Rattle.std.specs.Prelude.{ℕ, ◌==◌, nat_eq, List, [], ◌∷◌, codes, Option, Some, option_map, if◌then◌else◌}
+use Rattle.std.specs.Prelude.{◌≡◌, ◌⊎◌, ◌↔◌, ℕ, ◌==◌, nat_eq, List, [], ◌∷◌, codes, All, Option, Some, IsSome, option_map, if◌then◌else◌}
+use Rattle.std.specs.Int.{bit_at}
 use Rattle.std.specs.List.{slice_split}
 use Rattle.std.specs.Cmp.Lexicographic.{pointwise}
 use Rattle.std.specs.Int.RustNames.{bit_or}
@@ -64,3 +65,25 @@ with_bits set (bit ∷ bits) = with_bits (bit_or set bit) bits
 -- the set of a text: no bit for the word `none`, else those of the names between its bars
 abbrev pub bits_named : List Row → List ℕ → Option ℕ
 bits_named table text = if pointwise nat_eq text (codes "none") then Some 0 else option_map (with_bits 0) (each_found table (names_in text))
+
+-- ---- what such a set is
+
+-- a name of a bit that has this place of a number
+pub record NamesPlace (table : List Row) (place : ℕ) (name : List ℕ) : Type 0 where
+  pub bit : ℕ
+  pub is : find_name table name ≡ Some bit
+  pub has : bit_at bit place ≡ 1
+
+-- one of these names is such a name
+abbrev pub OneNames : List Row → ℕ → List (List ℕ) → Type 0
+OneNames table place [] = ⊥
+OneNames table place (name ∷ names) = NamesPlace table place name ⊎ OneNames table place names
+
+-- each name is a bit's
+abbrev pub AreKnown : List Row → List (List ℕ) → Type 0
+AreKnown table names = All (λ name. IsSome (find_name table name)) names
+
+-- Each name is a bit's, and the set has the places of their bits and no others.
+pub record IsSetOf (table : List Row) (names : List (List ℕ)) (set : ℕ) : Type 0 where
+  pub known : AreKnown table names
+  pub places : (place : ℕ) → (bit_at set place ≡ 1) ↔ OneNames table place names

@@ -1,0 +1,89 @@
+-- A set that a text names has the bits of the names, and no others.
+use Rattle.std.proofs.Common.{◌≡◌, ◌≢◌, ℕ, ◌<◌, max, Bool, true, false, List, [], ◌∷◌, All, Option, Some, None, refl, sym, ap, ◌∙◌, ◌⊎◌, inl, inr, arith}
+use Rattle.std.specs.Prelude.{◌↔◌, nat_eq, codes, IsSome, option_map, if◌then◌else◌}
+use Rattle.std.specs.Cmp.Lexicographic.{pointwise, same_text}
+use Rattle.std.specs.Int.{bit_at}
+use Rattle.std.specs.Int.RustNames.{bit_or}
+use Rattle.std.proofs.lemmas.Bool.{cases_lt}
+use Rattle.std.proofs.lemmas.Nat.Bits.{bit_at_or, bit_at-lt, bit_at-zero}
+use Rattle.std.proofs.lemmas.Option.{none-some, same_Some}
+use Rattle.std.proofs.lemmas.List.Elements.{All-nil, All-cons}
+use Rattle.bitflags.specs.Sets.{Row, find_name}
+use Rattle.milter_wire.specs.Bits.{AreKnown, IsSetOf, NamesPlace, OneNames, bits_named, each_found, names_in, with_bits}
+use Rattle.milter_wire.specs.Reading.{◌>>=◌}
+use Rattle.milter_wire.proofs.Steps.{bind_some}
+
+-- ---- places of a number
+
+some_of_max : (x y : ℕ) → max x y ≡ 1 → (x ≡ 1) ⊎ (y ≡ 1)
+some_of_max x y h =
+    elim (cases_lt x y) [
+      | inl lt ↦ inr (omega (arith, h))
+      | inr le ↦ inl (omega (arith, h))
+    ]
+
+max_of_first : (x y : ℕ) → y < 2 → x ≡ 1 → max x y ≡ 1
+max_of_first x y lt h = omega (arith, lt, h)
+
+max_of_second : (x y : ℕ) → x < 2 → y ≡ 1 → max x y ≡ 1
+max_of_second x y lt h = omega (arith, lt, h)
+
+-- one of these bits has the place
+OneHas : ℕ → List ℕ → Type 0
+OneHas place [] = ⊥
+OneHas place (bit ∷ bits) = (bit_at bit place ≡ 1) ⊎ OneHas place bits
+
+from_set : (set place : ℕ) (bits : List ℕ) → bit_at (with_bits set bits) place ≡ 1 → (bit_at set place ≡ 1) ⊎ OneHas place bits
+unfolding with_bits
+from_set set place [] h = inl h
+from_set set place (bit ∷ bits) h =
+    elim (from_set (bit_or set bit) place bits h) [
+      | inl here ↦ elim (some_of_max (bit_at set place) (bit_at bit place) (sym (bit_at_or set bit place) ∙ here)) [
+        | inl old ↦ inl old
+        | inr new ↦ inr (inl new)
+      ]
+      | inr others ↦ inr (inr others)
+    ]
+
+to_set : (set place : ℕ) (bits : List ℕ) → (bit_at set place ≡ 1) ⊎ OneHas place bits → bit_at (with_bits set bits) place ≡ 1
+unfolding with_bits
+to_set set place [] (inl h) = h
+to_set set place [] (inr h) = absurd h
+to_set set place (bit ∷ bits) (inl h) =
+    to_set (bit_or set bit) place bits (inl (bit_at_or set bit place ∙ max_of_first (bit_at set place) (bit_at bit place) (bit_at-lt bit place) h))
+to_set set place (bit ∷ bits) (inr (inl h)) =
+    to_set (bit_or set bit) place bits (inl (bit_at_or set bit place ∙ max_of_second (bit_at set place) (bit_at bit place) (bit_at-lt set place) h))
+to_set set place (bit ∷ bits) (inr (inr h)) = to_set (bit_or set bit) place bits (inr h)
+
+-- ---- the bits of names
+
+-- what names and their bits have in common
+record Found (table : List Row) (names : List (List ℕ)) (bits : List ℕ) : Type 0 where
+  known : AreKnown table names
+  to : (place : ℕ) → OneHas place bits → OneNames table place names
+  from : (place : ℕ) → OneNames table place names → OneHas place bits
+
+is_some_some : {A : Type 0} (o : Option A) (x : A) → o ≡ Some x → IsSome o
+is_some_some (Some y) x e = tt
+is_some_some None x e = absurd cc
+
+found_more : (table : List Row) (name : List ℕ) (names : List (List ℕ)) (bit : ℕ) (bits : List ℕ) → find_name table name ≡ Some bit → Found table names bits → Found table (name ∷ names) (bit ∷ bits)
+found_more table name names bit bits is f = record {
+  known = All-cons (λ n. IsSome (find_name table n)) name names (is_some_some (find_name table name) bit is) f.known;
+  to = λ place h. elim h [ inl here ↦ inl record { bit = bit; is = is; has = here } | inr others ↦ inr (f.to place others) ];
+  from = λ place h. elim h [ inl here ↦ inl (ap (λ (b : ℕ). bit_at b place) (same_Some bit here.bit (sym is ∙ here.is)) ∙ here.has) | inr others ↦ inr (f.from place others) ];
+}
+
+found_is : (table : List Row) (names : List (List ℕ)) (bits : List ℕ) → each_found table names ≡ Some bits → Found table names bits
+unfolding each_found
+found_is table [] bits e =
+    subst (Found table []) (same_Some [] bits e) record { known = All-nil (λ n. IsSome (find_name table n)); to = λ place h. h; from = λ place h. h }
+found_is table (name ∷ names) bits e =
+    let b = bind_some (find_name table name) (λ bit. each_found table names >>= λ bits. Some (bit ∷ bits)) bits e in
+    let others = bind_some (each_found table names) (λ bits. Some (b.0 ∷ bits)) bits b.2 in
+    subst (Found table (name ∷ names)) (same_Some (b.0 ∷ others.0) bits others.2) (found_more table name names b.0 others.0 b.1 (found_is table names others.0 others.1))
+
+-- ---- the laws
+
+set_is : (table : List Row) (names : List (List ℕ)) (set : ℕ) → option_map (with_bits 0) (each_found table names) ≡ Some set → IsSetOf table names set
+set_is table names set e = set_by table names set (each_found table names) refl e
