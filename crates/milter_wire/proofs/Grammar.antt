@@ -69,7 +69,7 @@ pub record Reads {V : Type 0} (known : Bool) (read : Option V) (Spelled : V → 
   pub only : (v : V) → Spelled v → read ≡ Some v
   pub known_first : (v : V) → read ≡ Some v → known ≡ true
 
-some_value : {A : Type 0} (o : Option A) → IsSome o → (x : A) × (o ≡ Some x)
+pub some_value : {A : Type 0} (o : Option A) → IsSome o → (x : A) × (o ≡ Some x)
 some_value None h = absurd cc
 some_value (Some x) h = (x, refl)
 

@@ -9,6 +9,7 @@ pub mod InARow
 pub mod Layouts
 pub mod Values
 pub mod Grammar
+pub mod SetLaws
 pub mod CommandGrammar
 pub mod ReplyGrammar
 pub mod Fronts

@@ -1,5 +1,5 @@
 -- A set that a text names has the bits of the names, and no others.
-use Rattle.std.proofs.Common.{◌≡◌, ◌≢◌, ℕ, ◌<◌, max, Bool, true, false, List, [], ◌∷◌, All, Option, Some, None, refl, sym, ap, ◌∙◌, ◌⊎◌, inl, inr, arith}
+use Rattle.std.proofs.Common.{◌≡◌, ◌≢◌, ℕ, ◌<◌, max, Bool, true, false, List, [], ◌∷◌, All, Option, Some, None, refl, sym, ap, subst, ◌∙◌, ◌⊎◌, inl, inr, arith}
 use Rattle.std.specs.Prelude.{◌↔◌, nat_eq, codes, IsSome, option_map, if◌then◌else◌}
 use Rattle.std.specs.Cmp.Lexicographic.{pointwise, same_text}
 use Rattle.std.specs.Int.{bit_at}
@@ -7,7 +7,8 @@ use Rattle.std.specs.Int.RustNames.{bit_or}
 use Rattle.std.proofs.lemmas.Bool.{cases_lt}
 use Rattle.std.proofs.lemmas.Nat.Bits.{bit_at_or, bit_at-lt, bit_at-zero}
 use Rattle.std.proofs.lemmas.Option.{none-some, same_Some}
-use Rattle.std.proofs.lemmas.List.Elements.{All-nil, All-cons}
+use Rattle.milter_wire.proofs.Grammar.{some_value}
+use Rattle.std.proofs.lemmas.List.Elements.{All-nil, All-cons, All-head, All-tail}
 use Rattle.bitflags.specs.Sets.{Row, find_name}
 use Rattle.milter_wire.specs.Bits.{AreKnown, IsSetOf, NamesPlace, OneNames, bits_named, each_found, names_in, with_bits}
 use Rattle.milter_wire.specs.Reading.{◌>>=◌}
@@ -29,7 +30,7 @@ max_of_second : (x y : ℕ) → x < 2 → y ≡ 1 → max x y ≡ 1
 max_of_second x y lt h = omega (arith, lt, h)
 
 -- one of these bits has the place
-OneHas : ℕ → List ℕ → Type 0
+abbrev OneHas : ℕ → List ℕ → Type 0
 OneHas place [] = ⊥
 OneHas place (bit ∷ bits) = (bit_at bit place ≡ 1) ⊎ OneHas place bits
 
@@ -64,8 +65,7 @@ record Found (table : List Row) (names : List (List ℕ)) (bits : List ℕ) : Ty
   from : (place : ℕ) → OneNames table place names → OneHas place bits
 
 is_some_some : {A : Type 0} (o : Option A) (x : A) → o ≡ Some x → IsSome o
-is_some_some (Some y) x e = tt
-is_some_some None x e = absurd cc
+is_some_some o x e = rw e refl
 
 found_more : (table : List Row) (name : List ℕ) (names : List (List ℕ)) (bit : ℕ) (bits : List ℕ) → find_name table name ≡ Some bit → Found table names bits → Found table (name ∷ names) (bit ∷ bits)
 found_more table name names bit bits is f = record {
@@ -85,5 +85,48 @@ found_is table (name ∷ names) bits e =
 
 -- ---- the laws
 
-set_is : (table : List Row) (names : List (List ℕ)) (set : ℕ) → option_map (with_bits 0) (each_found table names) ≡ Some set → IsSetOf table names set
-set_is table names set e = set_by table names set (each_found table names) refl e
+set_of : (table : List Row) (names : List (List ℕ)) (bits : List ℕ) → Found table names bits → IsSetOf table names (with_bits 0 bits)
+set_of table names bits f = record {
+  known = f.known;
+  places = λ place. (
+    λ h. elim (from_set 0 place bits h) [
+      | inl zero ↦ absurd (let none = bit_at-zero place in omega (arith, zero, none))
+      | inr one ↦ f.to place one
+    ],
+    λ h. to_set 0 place bits (inr (f.from place h)),
+  );
+}
+
+mapped : (table : List Row) (names : List (List ℕ)) (set : ℕ) (found : Option (List ℕ)) → each_found table names ≡ found → option_map (with_bits 0) found ≡ Some set → IsSetOf table names set
+mapped table names set None e h = absurd cc
+mapped table names set (Some bits) e h = subst (IsSetOf table names) (same_Some (with_bits 0 bits) set h) (set_of table names bits (found_is table names bits e))
+
+not_none : {A : Type 0} (text : List ℕ) (x y : A) → text ≢ codes "none" → (if pointwise nat_eq text (codes "none") then x else y) ≡ y
+not_none text x y other = by_test (pointwise nat_eq text (codes "none")) refl
+  where
+    by_test : (b : Bool) → pointwise nat_eq text (codes "none") ≡ b → (if pointwise nat_eq text (codes "none") then x else y) ≡ y
+    by_test true e = absurd (other (same_text text (codes "none") (sym e)))
+    by_test false e = rw e refl
+
+pub names_set : (table : List Row) (text : List ℕ) (set : ℕ) → text ≢ codes "none" → bits_named table text ≡ Some set → IsSetOf table (names_in text) set
+names_set table text set other e =
+    mapped table (names_in text) set (each_found table (names_in text)) refl (sym (not_none text (Some 0) (option_map (with_bits 0) (each_found table (names_in text))) other) ∙ e)
+
+one_more : (table : List Row) (name : List ℕ) (names : List (List ℕ)) (bit : ℕ) (bits : List ℕ) → find_name table name ≡ Some bit → each_found table names ≡ Some bits
+    → each_found table (name ∷ names) ≡ Some (bit ∷ bits)
+unfolding each_found
+one_more table name names bit bits first others = rw (first, others) refl
+
+each_known : (table : List Row) (names : List (List ℕ)) → AreKnown table names → (bits : List ℕ) × (each_found table names ≡ Some bits)
+unfolding each_found
+each_known table [] known = ([], refl)
+each_known table (name ∷ names) known =
+    let b = some_value (find_name table name) (All-head (λ n. IsSome (find_name table n)) name names known) in
+    let others = each_known table names (All-tail (λ n. IsSome (find_name table n)) name names known) in
+    (b.0 ∷ others.0, one_more table name names b.0 others.0 b.1 others.1)
+
+pub names_known : (table : List Row) (text : List ℕ) → text ≢ codes "none" → bits_named table text ≡ None → ¬ AreKnown table (names_in text)
+names_known table text other e = λ known.
+    let bits = each_known table (names_in text) known in
+    let set : option_map (with_bits 0) (each_found table (names_in text)) ≡ Some (with_bits 0 bits.0) = ap (option_map (with_bits 0)) bits.1 in
+    none-some (with_bits 0 bits.0) (sym e ∙ not_none text (Some 0) (option_map (with_bits 0) (each_found table (names_in text))) other ∙ set)

@@ -1,7 +1,9 @@
 //! Laws of the definitions, each the contract of a function that does nothing: it holds of every value and every
 //! stream.
 
-ghost use Rattle.std.specs.Prelude.{◌≡◌, ◌<◌, ◌^◌, ◌++◌, List, ℕ, [], None, Some, All, take, drop};
+ghost use Rattle.std.specs.Prelude.{◌≡◌, ◌≢◌, ◌<◌, ◌^◌, ◌++◌, List, ℕ, [], None, Some, All, codes, take, drop};
+ghost use Rattle.bitflags.specs.Sets.{Row};
+ghost use Rattle.milter_wire.specs.Bits.{AreKnown, IsSetOf, bits_named, names_in};
 ghost use Rattle.milter_wire.specs.declared.command.Command.{Command};
 ghost use Rattle.milter_wire.specs.declared.fault.WireFault.{WireFault};
 ghost use Rattle.milter_wire.specs.declared.reply.Reply.{Reply};
@@ -35,6 +37,18 @@ pub fn replies_apart()
     ensures one { (r s : Reply) (bytes : List ℕ) → replies.Spells r bytes → replies.Spells s bytes → r ≡ s }
     ensures whole { (r s : Reply) (bytes more : List ℕ) →
         replies.Spells r bytes → replies.Spells s (bytes ++ more) → more ≡ [] }
+{}
+
+/// The set of bits that a text names, for any table of names. Source: own.
+pub fn names_of_bits()
+    // `none` names the set without a bit.
+    ensures none { (table : List Row) → bits_named table (codes "none") ≡ Some 0 }
+    // Else each name between the bars is a bit's, and the set has their bits and no others.
+    ensures names { (table : List Row) (text : List ℕ) (set : ℕ) → text ≢ codes "none" →
+        bits_named table text ≡ Some set → IsSetOf table (names_in text) set }
+    // A text that names no set has a name that is no bit's.
+    ensures unknown { (table : List Row) (text : List ℕ) → text ≢ codes "none" →
+        bits_named table text ≡ None → ¬ AreKnown table (names_in text) }
 {}
 
 /// Every stream of bytes divides into packets and a rest, and `divide` computes them. Source: own.

@@ -36,7 +36,7 @@ pub use command::Command;
 pub use fault::{NoMemory, WireFault};
 pub use header::Header;
 pub use laws::{
-    command_spellings, commands_apart, one_division, replies_apart, reply_spellings,
+    command_spellings, commands_apart, names_of_bits, one_division, replies_apart, reply_spellings,
     stream_divides, stream_fed, stream_goes_on,
 };
 pub use lists::{Pairs, Params};
