@@ -29,7 +29,7 @@ pub enum Verdict {
 
 impl Verdict {
     /// Whether the verdict is an answer to the stage: only a piece of the body can be skipped, and nothing can be thrown
-    /// away before there is a message. No memory is taken. Source: the libmilter callback documentation; own.
+    /// away before there is a message. No memory is taken. Source: the libmilter callback documentation (return values).
     pub fn is_given_at(&self, stage: Stage) -> bool
         ensures { result ≡ given_at self.now stage }
     {
