@@ -2,16 +2,34 @@
 #![tactic(auto)]
 
 #[cfg(test)]
+mod codes;
+#[cfg(test)]
+mod commands;
+#[cfg(test)]
+mod ends;
+#[cfg(test)]
 mod faults;
+#[cfg(test)]
+mod fits;
+#[cfg(test)]
+mod layouts;
+#[cfg(test)]
+mod made;
 #[cfg(test)]
 mod names;
 #[cfg(test)]
 mod refused;
 #[cfg(test)]
+mod replies;
+#[cfg(test)]
 mod splitter;
+#[cfg(test)]
+mod stages;
 #[cfg(test)]
 mod stream;
 #[cfg(test)]
 mod text;
+#[cfg(test)]
+mod values;
 #[cfg(test)]
 mod wire;
