@@ -259,52 +259,47 @@ fn two_texts_have_65_533_bytes(rt: HostRuntime) -> Result<(), Fail> {
 }
 
 #[test]
-fn more_fields_leave_room_for_fewer_bytes(rt: HostRuntime) -> Result<(), Fail> {
+fn more_fields_of_a_command_leave_room_for_fewer_bytes(rt: HostRuntime) -> Result<(), Fail> {
     let alloc = rt.alloc();
-    let longest = long(alloc, 65_534)?;
-    for over in [0, 1] {
-        assert_command_fits(
-            &rt,
-            macros(alloc, 0, &[(b"j", &longest[..65_531 + over])])?,
-            over == 0,
-        );
-        assert_command_fits(
-            &rt,
-            macros(alloc, 0, &[(b"", b""), (&longest[..65_530 + over], b"")])?,
-            over == 0,
-        );
-        assert_command_fits(
-            &rt,
-            Command::Connect(client(alloc, &longest[..65_533 + over], Origin::Unknown)?),
-            over == 0,
-        );
-        let origin = inet(alloc, 25, &longest[..65_530 + over])?;
-        assert_command_fits(
-            &rt,
-            Command::Connect(client(alloc, b"", origin)?),
-            over == 0,
-        );
+    for (over, wanted) in [(0, true), (1, false)] {
+        let bytes = long(alloc, 65_531 + over)?;
+        let command = macros(alloc, 0, &[(b"j", bytes.as_slice())])?;
+        assert_command_fits(&rt, command, wanted);
+        let bytes = long(alloc, 65_530 + over)?;
+        let command = macros(alloc, 0, &[(b"", b""), (bytes.as_slice(), b"")])?;
+        assert_command_fits(&rt, command, wanted);
+        let bytes = long(alloc, 65_532 + over)?;
+        let command = Command::Mail(path(alloc, b"", &[b"", bytes.as_slice()])?);
+        assert_command_fits(&rt, command, wanted);
+    }
+    Ok(())
+}
+
+#[test]
+fn an_origin_leaves_room_for_fewer_bytes(rt: HostRuntime) -> Result<(), Fail> {
+    let alloc = rt.alloc();
+    for (over, wanted) in [(0, true), (1, false)] {
+        let bytes = long(alloc, 65_533 + over)?;
+        let client_without = client(alloc, bytes.as_slice(), Origin::Unknown)?;
+        assert_command_fits(&rt, Command::Connect(client_without), wanted);
+        let bytes = long(alloc, 65_530 + over)?;
+        let origin = inet(alloc, 25, bytes.as_slice())?;
+        let client_at = client(alloc, b"", origin)?;
+        assert_command_fits(&rt, Command::Connect(client_at), wanted);
         let origin = unix(alloc, 0, b"")?;
-        assert_command_fits(
-            &rt,
-            Command::Connect(client(alloc, &longest[..65_530 + over], origin)?),
-            over == 0,
-        );
-        assert_command_fits(
-            &rt,
-            Command::Mail(path(alloc, b"", &[b"", &longest[..65_532 + over]])?),
-            over == 0,
-        );
-        assert_reply_fits(
-            &rt,
-            inserted(alloc, 0, b"", &longest[..65_529 + over])?,
-            over == 0,
-        );
-        assert_reply_fits(
-            &rt,
-            changed(alloc, 0, &longest[..65_529 + over], b"")?,
-            over == 0,
-        );
+        let client_of = client(alloc, bytes.as_slice(), origin)?;
+        assert_command_fits(&rt, Command::Connect(client_of), wanted);
+    }
+    Ok(())
+}
+
+#[test]
+fn an_index_leaves_room_for_fewer_bytes(rt: HostRuntime) -> Result<(), Fail> {
+    let alloc = rt.alloc();
+    for (over, wanted) in [(0, true), (1, false)] {
+        let bytes = long(alloc, 65_529 + over)?;
+        assert_reply_fits(&rt, inserted(alloc, 0, b"", bytes.as_slice())?, wanted);
+        assert_reply_fits(&rt, changed(alloc, 0, bytes.as_slice(), b"")?, wanted);
     }
     Ok(())
 }
