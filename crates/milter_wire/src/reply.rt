@@ -81,8 +81,8 @@ pub enum Reply {
 }
 
 impl Reply {
-    /// Whether the reply has a spelling: its code and payload have at most 65,536 bytes, and no string in it holds a
-    /// NUL. No memory is taken. Source: own.
+    /// Whether the reply has a spelling: its code and payload have at most 65,536 bytes, no string in it holds a NUL, and
+    /// a reply code begins with `4` or `5` and two digits. No memory is taken. Source: own.
     pub fn fits(&self) -> bool
         ensures { IsTrue result ↔ Fits self.now }
     {
