@@ -84,7 +84,7 @@ Prints-told line direction start text NoMemory t h = tt
 pub Shows-fault : (shown : Result (List ℕ) WireFault) (old new : List ℕ) (fault : WireFault) → Shows shown old new (Err fault) → fault ≢ NoMemory → (shown ≡ Err fault) × (new ≡ old)
 Shows-fault shown old new ZeroLength h other = absurd h
 Shows-fault shown old new (TooLong n) h other = absurd h
-Shows-fault shown old new (UnknownCode n) h other = absurd h
+Shows-fault shown old new (UnknownCode n) h other = h
 Shows-fault shown old new (Malformed n) h other = h
 Shows-fault shown old new (Truncated n) h other = absurd h
 Shows-fault shown old new NoMemory h other = absurd (other refl)

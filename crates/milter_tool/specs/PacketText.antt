@@ -1,18 +1,26 @@
--- How a packet is printed.
-use Rattle.std.specs.Prelude.{◌≡◌, ℕ, ◌==◌, List, [], ◌∷◌, ◌++◌, codes, length, decimal, Option, Some, None, Result, Ok, Err, if◌then◌else◌}
+-- How a packet is printed: its direction, its code and its fields.
+use Rattle.std.specs.Prelude.{◌≡◌, ℕ, Bool, true, false, List, [], ◌∷◌, ◌++◌, map, codes, length, decimal, Option, Some, None, Result, Ok, Err}
+use Rattle.std.specs.List.{flat_map}
 use Rattle.hex.specs.Hex.{encode_lower}
 use Rattle.milter_wire.specs.declared.fault.WireFault.{WireFault}
 use Rattle.milter_wire.specs.declared.fault.WireFault.TheVariants.{ZeroLength, TooLong, UnknownCode, Malformed, Truncated, NoMemory}
+use Rattle.milter_wire.specs.declared.client.Client.{Client}
+use Rattle.milter_wire.specs.declared.client.Origin.{Origin}
+use Rattle.milter_wire.specs.declared.client.Origin.TheVariants as origins
+use Rattle.milter_wire.specs.declared.header.Header.{Header}
 use Rattle.milter_wire.specs.declared.options.Options.{Options}
+use Rattle.milter_wire.specs.declared.pair.Pair.{Pair}
+use Rattle.milter_wire.specs.declared.path.Path.{Path}
 use Rattle.milter_wire.specs.declared.command.Command.{Command}
 use Rattle.milter_wire.specs.declared.command.Command.TheVariants as commands
 use Rattle.milter_wire.specs.declared.reply.Reply.{Reply}
 use Rattle.milter_wire.specs.declared.reply.Reply.TheVariants as replies
 use Rattle.milter_wire.specs.Code.{code_text}
-use Rattle.milter_wire.specs.Command.{command_in}
+use Rattle.milter_wire.specs.Command as of_commands
 use Rattle.milter_wire.specs.Field.{number}
-use Rattle.milter_wire.specs.Reply.{reply_in}
+use Rattle.milter_wire.specs.Reply as of_replies
 use Rattle.milter_wire.specs.Stream.{Frame}
+use Rattle.milter_mail.specs.Quoting.{quoted}
 use Rattle.milter_tool.specs.declared.direction.Direction.{Direction}
 use Rattle.milter_tool.specs.declared.direction.Direction.TheVariants.{ToFilter, ToMta}
 
@@ -25,52 +33,105 @@ mark_of ToMta = 60
 abbrev pub hex8 : ℕ → List ℕ
 hex8 n = encode_lower (number n)
 
--- the three numbers of options: the version in decimal, the sets of bits in hexadecimal
-abbrev pub options_text : Options → List ℕ
-options_text o = codes "version " ++ decimal o.version ++ codes " actions " ++ hex8 o.actions.0 ++ codes " protocol " ++ hex8 o.protocol.0
+-- ---- fields
 
--- the fields of a command: no packet but options is printed by its fields yet
-abbrev pub command_text : Command → List ℕ
-command_text (commands.Options o) = options_text o
-command_text other = []
+-- each of the three numbers after its name: the version in decimal, the sets of bits in hexadecimal
+abbrev pub options_fields : Options → List (List ℕ)
+options_fields o = codes "version" ∷ decimal o.version ∷ codes "actions" ∷ hex8 o.actions.0 ∷ codes "protocol" ∷ hex8 o.protocol.0 ∷ []
 
--- the fields of a reply: no packet but options is printed by its fields yet
-abbrev pub reply_text : Reply → List ℕ
-reply_text (replies.Options o) = options_text o
-reply_text other = []
+-- the family, and then the port and the address where it is known
+abbrev pub origin_fields : Origin → List (List ℕ)
+origin_fields origins.Unknown = codes "U" ∷ []
+origin_fields (origins.Unix port address) = codes "L" ∷ decimal port ∷ quoted address ∷ []
+origin_fields (origins.Inet port address) = codes "4" ∷ decimal port ∷ quoted address ∷ []
+origin_fields (origins.Inet6 port address) = codes "6" ∷ decimal port ∷ quoted address ∷ []
 
--- the number of bytes of the payload, for packets whose fields aren't printed yet
-abbrev pub size_text : ℕ → List ℕ
-size_text len = codes "data " ++ decimal len
+abbrev pub client_fields : Client → List (List ℕ)
+client_fields c = quoted c.host ∷ origin_fields c.origin
 
--- the text of what was read, or the fault where nothing was
-abbrev pub read_text : {V : Type 0} → ℕ → (V → List ℕ) → Option V → Result (List ℕ) WireFault
-read_text code text None = Err (Malformed code)
-read_text code text (Some value) = Ok (text value)
+abbrev pub pair_fields : Pair → List (List ℕ)
+pair_fields p = quoted p.name ∷ quoted p.value ∷ []
 
--- the fields of a packet: those of an options packet, the size of another
-abbrev pub fields_text : Direction → Frame → Result (List ℕ) WireFault
-fields_text ToFilter f = if f.code == 79 then read_text 79 command_text (command_in 79 f.payload) else Ok (size_text (length f.payload))
-fields_text ToMta f = if f.code == 79 then read_text 79 reply_text (reply_in 79 f.payload) else Ok (size_text (length f.payload))
+abbrev pub header_fields : Header → List (List ℕ)
+header_fields h = quoted h.name ∷ quoted h.value ∷ []
 
--- what stands before the fields: the direction and the code, each with a blank after it
-abbrev pub head_text : Direction → ℕ → List ℕ
-head_text direction code = mark_of direction ∷ 32 ∷ (code_text code ++ 32 ∷ [])
+abbrev pub path_fields : Path → List (List ℕ)
+path_fields p = quoted p.address ∷ map quoted p.params
 
-abbrev pub line_with : List ℕ → Result (List ℕ) WireFault → Result (List ℕ) WireFault
-line_with head (Ok fields) = Ok (head ++ fields ++ 10 ∷ [])
-line_with head (Err fault) = Err fault
+abbrev pub arguments_fields : Option (List ℕ) → List (List ℕ)
+arguments_fields None = []
+arguments_fields (Some arguments) = quoted arguments ∷ []
 
--- the line of a packet: the direction, the code and the fields, with a blank between, or its fault
+-- of the bytes of a body, how many there are
+abbrev pub body_fields : List ℕ → List (List ℕ)
+body_fields bytes = decimal (length bytes) ∷ []
+
+-- the fields of a command, in the order of its payload
+abbrev pub command_fields : Command → List (List ℕ)
+command_fields commands.Abort = []
+command_fields (commands.Body bytes) = body_fields bytes
+command_fields (commands.Connect client) = client_fields client
+command_fields (commands.Macro command pairs) = code_text command ∷ flat_map pair_fields pairs
+command_fields (commands.Eob bytes) = body_fields bytes
+command_fields (commands.Helo name) = quoted name ∷ []
+command_fields commands.QuitNew = []
+command_fields (commands.Header header) = header_fields header
+command_fields (commands.Mail sender) = path_fields sender
+command_fields commands.Eoh = []
+command_fields (commands.Options options) = options_fields options
+command_fields commands.Quit = []
+command_fields (commands.Rcpt recipient) = path_fields recipient
+command_fields commands.DataCmd = []
+command_fields (commands.Unknown text) = quoted text ∷ []
+
+-- the fields of a reply, in the order of its payload
+abbrev pub reply_fields : Reply → List (List ℕ)
+reply_fields (replies.AddRcpt address) = quoted address ∷ []
+reply_fields (replies.DelRcpt address) = quoted address ∷ []
+reply_fields (replies.AddRcptPar address arguments) = quoted address ∷ arguments_fields arguments
+reply_fields (replies.Options options) = options_fields options
+reply_fields replies.Accept = []
+reply_fields (replies.ReplaceBody bytes) = body_fields bytes
+reply_fields replies.Continue = []
+reply_fields replies.Discard = []
+reply_fields (replies.ChangeFrom address arguments) = quoted address ∷ arguments_fields arguments
+reply_fields (replies.AddHeader header) = header_fields header
+reply_fields (replies.InsertHeader index header) = decimal index ∷ header_fields header
+reply_fields (replies.ChangeHeader index header) = decimal index ∷ header_fields header
+reply_fields replies.Progress = []
+reply_fields (replies.Quarantine reason) = quoted reason ∷ []
+reply_fields replies.Reject = []
+reply_fields replies.Skip = []
+reply_fields replies.Tempfail = []
+reply_fields (replies.Code text) = quoted text ∷ []
+
+-- ---- lines
+
+-- fields as they are printed: each after a blank
+abbrev pub fields_text : List (List ℕ) → List ℕ
+fields_text fields = flat_map (λ field. 32 ∷ field) fields
+
+-- the line of these fields: the direction, a blank, the code, the fields, LF
+abbrev pub line_text : Direction → ℕ → List (List ℕ) → List ℕ
+line_text direction code fields = mark_of direction ∷ 32 ∷ code_text code ++ fields_text fields ++ 10 ∷ []
+
+-- the line of what was read, or the fault: of the code where no packet has it, else of the payload where nothing was
+abbrev pub read_text : {V : Type 0} → Direction → ℕ → (V → List (List ℕ)) → Bool → Option V → Result (List ℕ) WireFault
+read_text direction code fields false read = Err (UnknownCode code)
+read_text direction code fields true None = Err (Malformed code)
+read_text direction code fields true (Some value) = Ok (line_text direction code (fields value))
+
+-- the line of a packet, or its fault
 abbrev pub packet_text : Direction → Frame → Result (List ℕ) WireFault
-packet_text direction f = line_with (head_text direction f.code) (fields_text direction f)
+packet_text ToFilter f = read_text ToFilter f.code command_fields (of_commands.is_code f.code) (of_commands.command_in f.code f.payload)
+packet_text ToMta f = read_text ToMta f.code reply_fields (of_replies.is_code f.code) (of_replies.reply_in f.code f.payload)
 
--- The text was appended, or its fault told, unless memory was refused.
+-- The text was appended, or its fault told and nothing appended, unless memory was refused.
 abbrev pub Shows : Result (List ℕ) WireFault → List ℕ → List ℕ → Result Unit WireFault → Type 0
 Shows text old new (Ok u) = (t : List ℕ) × (text ≡ Ok t) × (new ≡ old ++ t)
 Shows text old new (Err ZeroLength) = ⊥
 Shows text old new (Err (TooLong n)) = ⊥
-Shows text old new (Err (UnknownCode code)) = ⊥
+Shows text old new (Err (UnknownCode code)) = (text ≡ Err (UnknownCode code)) × (new ≡ old)
 Shows text old new (Err (Malformed code)) = (text ≡ Err (Malformed code)) × (new ≡ old)
 Shows text old new (Err (Truncated n)) = ⊥
 Shows text old new (Err NoMemory) = Unit {0}

@@ -7,6 +7,7 @@
 mod command_line;
 mod direction;
 mod fault;
+mod fields;
 mod line;
 mod packet_line;
 mod packets;

@@ -4,6 +4,7 @@ mod arguments;
 mod fakes;
 mod fault_lines;
 mod faulty_packets;
+mod fields;
 mod limits;
 mod lines;
 mod printed;

@@ -10,7 +10,7 @@ fn bad_lines_end_a_trace(rt: HostRuntime) -> Result<(), Fail> {
         "> 000000064 86d61696c00",
         "> 0",
         "> 000",
-        "> 00000001630",
+        "> 00000001510",
         ">00",
         ">",
         "<",
@@ -40,9 +40,9 @@ fn bad_lines_end_a_trace(rt: HostRuntime) -> Result<(), Fail> {
         assert_trace(&rt, input.as_bytes(), "", bad, line)?;
         assert_trace(&rt, line.as_bytes(), "", bad, line)?;
 
-        let input = format!(in rt.alloc(); "> 0000000163\n{line}\n> 0000000164\n")?;
+        let input = format!(in rt.alloc(); "> 0000000151\n{line}\n> 0000000141\n")?;
         let bad = Err(TraceFault::BadLine(2));
-        assert_trace(&rt, input.as_bytes(), "> c data 0\n", bad, line)?;
+        assert_trace(&rt, input.as_bytes(), "> Q\n", bad, line)?;
     }
     Ok(())
 }
@@ -60,19 +60,15 @@ fn blank_lines_and_comments_are_skipped(rt: HostRuntime) -> Result<(), Fail> {
         ("# > 00\n", "", Ok(())),
         ("  # x\tÿ\n", "", Ok(())),
         ("#\r", "", Ok(())),
-        (
-            "\n   \n#...\n  # ...\n> 0000000163\n",
-            "> c data 0\n",
-            Ok(()),
-        ),
+        ("\n   \n#...\n  # ...\n> 0000000151\n", "> Q\n", Ok(())),
         (
             "\n   \n#...\n  # ...\n> 0\n",
             "",
             Err(TraceFault::BadLine(5)),
         ),
         (
-            "# 1\r\n\r\n> 0000000163\r\n  \r\nx\r\n",
-            "> c data 0\n",
+            "# 1\r\n\r\n> 0000000151\r\n  \r\nx\r\n",
+            "> Q\n",
             Err(TraceFault::BadLine(5)),
         ),
     ];
@@ -86,31 +82,19 @@ fn blank_lines_and_comments_are_skipped(rt: HostRuntime) -> Result<(), Fail> {
 fn lines_end_by_a_line_feed_or_the_end(rt: HostRuntime) -> Result<(), Fail> {
     let cases = [
         ("", "", Ok(())),
-        ("> 0000000163", "> c data 0\n", Ok(())),
-        ("> 0000000163\r\n", "> c data 0\n", Ok(())),
-        ("> 00\r\n> 00000163\r\n", "> c data 0\n", Ok(())),
-        (
-            "> 0000000163\n> 0000000164",
-            "> c data 0\n> d data 0\n",
-            Ok(()),
-        ),
+        ("> 0000000151", "> Q\n", Ok(())),
+        ("> 0000000151\r\n", "> Q\n", Ok(())),
+        ("> 00\r\n> 00000151\r\n", "> Q\n", Ok(())),
+        ("> 0000000151\n> 0000000141", "> Q\n> A\n", Ok(())),
         ("> \n", "", Ok(())),
         ("< \r\n> ", "", Ok(())),
-        ("> 00\n> \n> 00000163", "> c data 0\n", Ok(())),
+        ("> 00\n> \n> 00000151", "> Q\n", Ok(())),
         ("> 00\r", "", Err(TraceFault::BadLine(1))),
         ("> 00\n\r", "", Err(TraceFault::BadLine(2))),
         ("> 00\r\r\n", "", Err(TraceFault::BadLine(1))),
         ("> 00\r> 00\n", "", Err(TraceFault::BadLine(1))),
-        (
-            "> 0000000163\n> 00\r",
-            "> c data 0\n",
-            Err(TraceFault::BadLine(2)),
-        ),
-        (
-            "> 0000000163\nx",
-            "> c data 0\n",
-            Err(TraceFault::BadLine(2)),
-        ),
+        ("> 0000000151\n> 00\r", "> Q\n", Err(TraceFault::BadLine(2))),
+        ("> 0000000151\nx", "> Q\n", Err(TraceFault::BadLine(2))),
     ];
     for (input, text, ending) in cases {
         assert_trace(&rt, input.as_bytes(), text, ending, input)?;

@@ -40,7 +40,7 @@ fn refused_trace_of_three_lines(rt: HostRuntime) {
         &rt,
         rt.alloc(),
         "> 0000000d4f00000006000000ff000ff7ff\n< 00\n< 00000163",
-        "> O version 6 actions 000000ff protocol 000ff7ff\n< c data 0\n",
+        "> O version 6 actions 000000ff protocol 000ff7ff\n< c\n",
         Ok(()),
     );
 }
@@ -51,7 +51,7 @@ fn refused_trace_of_malformed_options(rt: HostRuntime) {
         &rt,
         rt.alloc(),
         "< 0000000163\n> 000000024f00\n",
-        "< c data 0\n",
+        "< c\n",
         at_fault(2, Direction::ToFilter, WireFault::Malformed(0x4f)),
     );
 }
@@ -62,7 +62,43 @@ fn refused_trace_of_a_bad_line(rt: HostRuntime) {
         &rt,
         rt.alloc(),
         "< 0000000163\n> 0g\n",
-        "< c data 0\n",
+        "< c\n",
         Err(TraceFault::BadLine(2)),
+    );
+}
+
+#[test]
+fn refused_trace_of_texts(rt: HostRuntime) {
+    assert_answers_or_wants_memory(
+        &rt,
+        rt.alloc(),
+        "> 0000000744436a006d7800\n< 000000062b6540780000",
+        "> D C \"j\" \"mx\"\n",
+        at_fault(2, Direction::ToMta, WireFault::Malformed(0x2b)),
+    );
+    assert_answers_or_wants_memory(
+        &rt,
+        rt.alloc(),
+        "< 0000000732624079015c00\n> 000000024401",
+        "< 2 \"b@y\\x01\\\\\"\n> D \\x01\n",
+        Ok(()),
+    );
+}
+
+#[test]
+fn refused_trace_of_an_unknown_code(rt: HostRuntime) {
+    assert_answers_or_wants_memory(
+        &rt,
+        rt.alloc(),
+        "< 000000056d61696c00",
+        "",
+        at_fault(1, Direction::ToMta, WireFault::Malformed(0x6d)),
+    );
+    assert_answers_or_wants_memory(
+        &rt,
+        rt.alloc(),
+        "< 000000016300000001e4",
+        "< c\n",
+        at_fault(1, Direction::ToMta, WireFault::UnknownCode(0xe4)),
     );
 }

@@ -1,0 +1,2 @@
+pub mod WordFault
+pub mod Quoting
