@@ -1,9 +1,10 @@
 #!/usr/bin/env bash
 # Times `milter_tool trace` over 64 MiB of packets in hexadecimal, cut into lines of 64 KiB and again of 32 bytes, and
-# over 1 MiB of the same, beside what `xxd -r -p` takes for the same digits in the same run. It prints a line for each:
-# what ran, bytes of packets, seconds (the best of three), and MB of packets a second; then the two figures that the
-# program is held to: 64 MiB takes at most 70 times 1 MiB, and no longer than `xxd`. Status 1 where one is missed.
-# The program is built first where it has to be. It takes about 150 MB of a temporary folder.
+# over 1 MiB of the same, beside what `xxd -r -p` takes for the same digits in the same run; and then over a stream of
+# small packets, each a header field of 60 bytes, whose name and value are printed in quotes. It prints a line for each:
+# what ran, bytes of packets, seconds (the best of three), and MB of packets a second; then the figures that the program
+# is held to: 64 MiB takes at most 70 times 1 MiB, and for the first stream no longer than `xxd`. Status 1 where one is
+# missed. The program is built first where it has to be. It takes about 150 MB of a temporary folder.
 set -eu
 cd "$(dirname "${BASH_SOURCE[0]}")/.."
 ./milter_tool --version >/dev/null
@@ -23,6 +24,19 @@ while len(block) < 65536 - 600:
     number += 1
 block += packet(b"B", bytes(65536 - len(block) - 5))
 sys.stdout.buffer.write(block * (int(sys.argv[1]) * 16))
+PYTHON
+}
+
+# headers MEBIBYTES: packets of a header field of 60 bytes; one in sixteen has a line end and a byte that isn't ASCII
+headers() {
+    python3 - "$1" <<'PYTHON'
+import struct, sys
+def packet(code, payload): return struct.pack(">I", 1 + len(payload)) + code + payload
+plain = packet(b"L", b"X-Header" + bytes(1) + b"a value of fifty bytes, with \"quotes\" and blanks. " + bytes(1))
+folded = packet(b"L", b"X-Header" + bytes(1) + b"a value of fifty bytes, on two\n\tlines, and one: \xe9 " + bytes(1))
+assert len(plain) == len(folded) == 65
+block = plain * 15 + folded
+sys.stdout.buffer.write(block * (int(sys.argv[1]) * 1048576 // len(block)))
 PYTHON
 }
 
@@ -71,4 +85,11 @@ for width in 65536 32; do
     held "64 MiB over 1 MiB, lines of $width" "$(awk -v a="$long" -v b="$took" 'BEGIN { printf "%.1f", a / b }')" 70
     held "trace over xxd, lines of $width" "$(awk -v a="$long" -v b="$beside" 'BEGIN { printf "%.2f", a / b }')" 1
 done
+for mebibytes in 64 1; do
+    headers "$mebibytes" | lines 65536 >"$work/input"
+    took=$(best "'$program' trace <'$work/input' >/dev/null")
+    row "trace, header fields of 60 bytes" "$mebibytes" "$took"
+    if [ "$mebibytes" = 64 ]; then long=$took; fi
+done
+held "64 MiB over 1 MiB, header fields" "$(awk -v a="$long" -v b="$took" 'BEGIN { printf "%.1f", a / b }')" 70
 exit "$status"
