@@ -1,9 +1,10 @@
 #!/bin/bash
-# Runs the tests named refused_* with one allocation refused: the first one, then the second one, and so on.
+# Runs the tests of crates/milter_refused, and those of crates/milter_tool named refused_*, with one allocation refused:
+# the first one, then the second one, and so on.
 #
 # Each such test accepts the answer that it expects, or want of memory in the form of that call, and nothing else. Other
 # tests want ample memory, and are left out here. The most allocations that one of these tests makes are 15 in
-# crates/milter_tests (refused_command_clone) and 14 in crates/milter_tool (refused_trace_of_three_lines): past those
+# crates/milter_refused (refused_command_clone) and 14 in crates/milter_tool (refused_trace_of_three_lines): past those
 # nothing is refused, and each test runs as ever. So the numbers below end one after that. Where a test comes to make
 # more allocations, raise the last number of its crate.
 #
@@ -30,7 +31,7 @@ export top
 said=$(
     {
         seq 15 | sed 's/^/milter_tool /'
-        seq 16 | sed 's/^/milter_tests /'
+        seq 16 | sed 's/^/milter_refused /'
     } | xargs -P "${JOBS:-3}" -L 1 bash -c 'set -u; refuse "$@"' refuse
 )
 grep -v ' \.\.\. ok$' <<<"$said"

@@ -18,8 +18,6 @@ mod made;
 #[cfg(test)]
 mod names;
 #[cfg(test)]
-mod refused;
-#[cfg(test)]
 mod replies;
 #[cfg(test)]
 mod splitter;
