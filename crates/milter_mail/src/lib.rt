@@ -1,0 +1,16 @@
+//! Mail as sessions and files speak of it. Today: the words of a line, and the quoting of texts.
+//!
+//! Session files, rule files and traces are lines of words. A word is plain or stands in quotes; a text in quotes may
+//! hold any byte. [`words`] reads the words of a line, and [`quote`] writes a text so that it is read back as it was.
+#![tactic(auto)]
+
+mod laws;
+mod quoting;
+mod escapes;
+mod word;
+mod line;
+
+pub use laws::{lines_of_words, quoted_texts};
+pub use quoting::quote;
+pub use word::{Word, WordFault};
+pub use line::words;

@@ -1,0 +1,67 @@
+//! Texts in quotes.
+
+ghost use Rattle.std.specs.Prelude.{◌≡◌, ◌<◌, ◌++◌, OnOk, OnErr};
+ghost use Rattle.milter_wire.specs.Code.{hex_digit};
+ghost use Rattle.milter_wire.specs.Field.{Extends};
+ghost use Rattle.milter_mail.specs.Quoting.{quoted, quoted_byte};
+
+use milter_wire::NoMemory;
+use std::alloc::Global;
+
+/// Appends the text in quotes, in its one canonical spelling: a visible ASCII character and the blank as itself, but
+/// `\"`, `\\`, `\n`, `\r` and `\t` for the quote, the backslash, LF, CR and TAB, and `\xhh` with lower-case digits for
+/// any other byte. That takes at most four bytes for each one, and two more. After `NoMemory`, `out` is as it was.
+/// Source: own.
+pub fn quote(_alloc: Global, text: &[u8], out: &mut Vec<u8>) -> Result<(), NoMemory>
+    ensures ok { OnOk result (out.new.items ≡ out.old.items ++ quoted text.now) }
+    ensures err { OnErr result (out.new.items ≡ out.old.items) }
+{
+    let start = out.len();
+    let written = put_quoted(out, text);
+    if written.is_err() {
+        out.truncate(start);
+    }
+    written
+}
+
+#[tactic(auto, unfolding(crate::specs::Quoting::quoted))]
+fn put_quoted(out: &mut Vec<u8>, text: &[u8]) -> Result<(), NoMemory>
+    ensures ok { OnOk result (out.new.items ≡ out.old.items ++ quoted text.now) }
+    ensures extends { Extends out.old.items out.new.items }
+{
+    out.push(b'"')?;
+    for byte in text {
+        put_byte(out, *byte)?;
+    }
+    out.push(b'"')?;
+    Ok(())
+}
+
+/// Appends a byte as it stands between quotes.
+fn put_byte(out: &mut Vec<u8>, byte: u8) -> Result<(), NoMemory>
+    ensures ok { OnOk result (out.new.items ≡ out.old.items ++ quoted_byte byte) }
+    ensures err { OnErr result (out.new.items ≡ out.old.items) }
+{
+    match byte {
+        b'"' => out.extend_from_slice(b"\\\"")?,
+        b'\\' => out.extend_from_slice(b"\\\\")?,
+        b'\n' => out.extend_from_slice(b"\\n")?,
+        b'\r' => out.extend_from_slice(b"\\r")?,
+        b'\t' => out.extend_from_slice(b"\\t")?,
+        b' '..=b'~' => out.push(byte)?,
+        _ => out.extend_from_slice(&[b'\\', b'x', hex_digit(byte / 16), hex_digit(byte % 16)])?,
+    }
+    Ok(())
+}
+
+/// The hexadecimal digit of a number below 16, a letter in lower case.
+fn hex_digit(value: u8) -> u8
+    requires { value < 16 }
+    ensures { result ≡ hex_digit value }
+{
+    if value < 10 {
+        b'0' + value
+    } else {
+        b'a' + (value - 10)
+    }
+}
