@@ -1,18 +1,18 @@
--- How a byte between quotes is read, as it computes.
+-- How a byte between quotes is read, and blanks are passed over, as it computes.
 use Rattle.std.specs.Prelude.{ℕ, ◌==◌, ◌+◌, ◌*◌, List, [], ◌∷◌, Option, Some, None, option_map, if◌then◌else◌}
 use Rattle.milter_mail.specs.Words.{digit_value, escape_of, is_bare}
 
-abbrev two_digits : Option ℕ → Option ℕ → Option ℕ
+abbrev pub two_digits : Option ℕ → Option ℕ → Option ℕ
 two_digits (Some x) (Some y) = Some (16 * x + y)
 two_digits (Some x) None = None
 two_digits None y = None
 
-abbrev hexadecimal_at : List ℕ → Option (ℕ × List ℕ)
+abbrev pub hexadecimal_at : List ℕ → Option (ℕ × List ℕ)
 hexadecimal_at [] = None
 hexadecimal_at (high ∷ []) = None
 hexadecimal_at (high ∷ low ∷ rest) = option_map (λ byte. (byte, rest)) (two_digits (digit_value high) (digit_value low))
 
-abbrev escape_at : List ℕ → Option (ℕ × List ℕ)
+abbrev pub escape_at : List ℕ → Option (ℕ × List ℕ)
 escape_at [] = None
 escape_at (letter ∷ rest) = if letter == 120 then hexadecimal_at rest else option_map (λ byte. (byte, rest)) (escape_of letter)
 
@@ -20,3 +20,8 @@ escape_at (letter ∷ rest) = if letter == 120 then hexadecimal_at rest else opt
 abbrev pub byte_at : List ℕ → Option (ℕ × List ℕ)
 byte_at [] = None
 byte_at (byte ∷ rest) = if byte == 92 then escape_at rest else if is_bare byte then Some (byte, rest) else None
+
+-- the bytes from the first that is no blank
+abbrev pub past_blanks : List ℕ → List ℕ
+past_blanks [] = []
+past_blanks (byte ∷ bytes) = if byte == 32 then past_blanks bytes else byte ∷ bytes

@@ -1,9 +1,10 @@
 //! The words of a line, read from the left.
 
-ghost use Rattle.std.specs.Prelude.{◌≡◌, ◌↔◌, ◌⊎◌, ◌∷◌, [], IfOk, IsErrOf, IsTrue, List, MatchResult};
+ghost use Rattle.std.specs.Prelude.{◌≡◌, ◌==◌, ◌⊎◌, ◌∷◌, ℕ, false, not, IfOk, IsErrOf, List, MatchResult};
+ghost use Rattle.std.specs.List.{list_all, position_or_len};
 ghost use Rattle.milter_mail.specs.declared.word.Word.{Word};
-ghost use Rattle.milter_mail.specs.Words.{BeginsWith, HasWords, SpellsQuoted, is_plain};
-
+ghost use Rattle.milter_mail.specs.Reading.{past_blanks};
+ghost use Rattle.milter_mail.specs.Words.{BeginsWith, HasWords, is_plain};
 
 use crate::escapes::take_byte;
 use crate::word::{Word, WordFault};
@@ -38,15 +39,24 @@ pub fn words(alloc: Global, line: &[u8]) -> Result<Vec<Word>, WordFault>
 
 /// The bytes after the blanks that these begin with.
 fn after_blanks(bytes: &[u8]) -> &[u8]
+    ensures { result.now ≡ past_blanks bytes.now }
 {
-    let end = bytes.iter().position(|byte| *byte != b' ');
-    &bytes[end.unwrap_or(bytes.len())..]
+    &bytes[blanks_len(bytes)..]
 }
 
-/// The word that the bytes begin with, and the bytes after it. The first one is no blank.
+/// How many blanks the bytes begin with.
+fn blanks_len(bytes: &[u8]) -> usize
+    ensures { result ≡ position_or_len (λ byte. not (byte == 32)) bytes.now }
+{
+    let end = bytes.iter().position(|byte| *byte != b' ');
+    end.unwrap_or(bytes.len())
+}
+
+/// The word that the bytes begin with, and the bytes after it.
 fn take_word(alloc: Global, bytes: &[u8]) -> Result<(Word, &[u8]), WordFault>
     ensures found { IfOk result (λ taken. BeginsWith taken.0 taken.1.now bytes.now) }
-    ensures only { (word : Word) (rest : List ℕ) → BeginsWith word rest bytes.now → ¬ IsErrOf result WordFault.BadWord }
+    ensures only { (word : Word) (rest : List ℕ) → BeginsWith word rest bytes.now
+        → ¬ IsErrOf result WordFault.BadWord }
 {
     match bytes {
         [b'"', body @ ..] => take_quoted(alloc, body),
@@ -56,10 +66,12 @@ fn take_word(alloc: Global, bytes: &[u8]) -> Result<(Word, &[u8]), WordFault>
 
 /// The plain word that the bytes begin with, and the bytes after it.
 fn take_plain(alloc: Global, bytes: &[u8]) -> Result<(Word, &[u8]), WordFault>
+    ensures found { IfOk result (λ taken. BeginsWith taken.0 taken.1.now bytes.now) }
+    ensures only { (word : Word) (rest : List ℕ) → word.quoted ≡ false → BeginsWith word rest bytes.now
+        → ¬ IsErrOf result WordFault.BadWord }
 {
-    let end = bytes.iter().position(|byte| *byte == b' ');
-    let (plain, rest) = bytes.split_at(end.unwrap_or(bytes.len()));
-    if plain.is_empty() || !plain.iter().all(|byte| is_plain(*byte)) {
+    let (plain, rest) = bytes.split_at(plain_len(bytes));
+    if plain.is_empty() || !are_plain(plain) {
         return Err(WordFault::BadWord);
     }
     let text = Text::new(Vec::from_slice(alloc, plain)?);
@@ -67,8 +79,26 @@ fn take_plain(alloc: Global, bytes: &[u8]) -> Result<(Word, &[u8]), WordFault>
     Ok((word, rest))
 }
 
+/// How many bytes stand before the first blank.
+fn plain_len(bytes: &[u8]) -> usize
+    ensures { result ≡ position_or_len (λ byte. byte == 32) bytes.now }
+{
+    let end = bytes.iter().position(|byte| *byte == b' ');
+    end.unwrap_or(bytes.len())
+}
+
+/// Whether each of the bytes may stand in a plain word.
+fn are_plain(bytes: &[u8]) -> bool
+    ensures { result ≡ list_all is_plain bytes.now }
+{
+    bytes.iter().all(|byte| is_plain(*byte))
+}
+
 /// The quoted word whose body these bytes begin with, and the bytes after it.
 fn take_quoted(alloc: Global, body: &[u8]) -> Result<(Word, &[u8]), WordFault>
+    ensures found { IfOk result (λ taken. BeginsWith taken.0 taken.1.now (34 ∷ body.now)) }
+    ensures only { (word : Word) (rest : List ℕ) → BeginsWith word rest (34 ∷ body.now)
+        → ¬ IsErrOf result WordFault.BadWord }
 {
     let mut text = Vec::new(alloc);
     let mut rest = body;
