@@ -29,6 +29,9 @@ drop-blanks (byte ∷ bytes) =
       | inr e ↦ rw e refl
     ]
 
+pub drop-first_other : (bytes : List ℕ) (start : ℕ) → start ≡ unwrap_or (position (λ byte. not (byte == 32)) bytes) (length bytes) → drop start bytes ≡ past_blanks bytes
+drop-first_other bytes start e = ap (λ (n : ℕ). drop n bytes) (e ∙ unwrap_or-position (λ byte. not (byte == 32)) bytes) ∙ drop-blanks bytes
+
 pub past_blanks-le-length : (bytes : List ℕ) → length (past_blanks bytes) ≤ length bytes
 past_blanks-le-length [] = omega arith
 past_blanks-le-length (byte ∷ bytes) =

@@ -21,6 +21,11 @@ abbrev pub byte_at : List ℕ → Option (ℕ × List ℕ)
 byte_at [] = None
 byte_at (byte ∷ rest) = if byte == 92 then escape_at rest else if is_bare byte then Some (byte, rest) else None
 
+-- the bytes after a quote at the front
+abbrev pub behind_quote : List ℕ → Option (List ℕ)
+behind_quote [] = None
+behind_quote (byte ∷ bytes) = if byte == 34 then Some bytes else None
+
 -- the bytes from the first that is no blank
 abbrev pub past_blanks : List ℕ → List ℕ
 past_blanks [] = []

@@ -1,10 +1,10 @@
 //! The words of a line, read from the left.
 
-ghost use Rattle.std.specs.Prelude.{◌≡◌, ◌==◌, ◌⊎◌, ◌∷◌, ℕ, false, not, IfOk, IsErrOf, List, MatchResult};
-ghost use Rattle.std.specs.List.{list_all, position_or_len};
+ghost use Rattle.std.specs.Prelude.{◌≡◌, ◌==◌, ◌⊎◌, ◌↔◌, ◌∷◌, ℕ, false, not, IfOk, IsErrOf, IsTrue, List, MatchResult, option_map, position};
+ghost use Rattle.std.specs.List.{list_all};
 ghost use Rattle.milter_mail.specs.declared.word.Word.{Word};
-ghost use Rattle.milter_mail.specs.Reading.{past_blanks};
-ghost use Rattle.milter_mail.specs.Words.{BeginsWith, HasWords, is_plain};
+ghost use Rattle.milter_mail.specs.Reading.{behind_quote, past_blanks};
+ghost use Rattle.milter_mail.specs.Words.{BeginsWith, HasWords, IsAfterWord, is_plain};
 
 use crate::escapes::take_byte;
 use crate::word::{Word, WordFault};
@@ -41,15 +41,15 @@ pub fn words(alloc: Global, line: &[u8]) -> Result<Vec<Word>, WordFault>
 fn after_blanks(bytes: &[u8]) -> &[u8]
     ensures { result.now ≡ past_blanks bytes.now }
 {
-    &bytes[blanks_len(bytes)..]
+    let start = first_other(bytes).unwrap_or(bytes.len());
+    &bytes[start..]
 }
 
-/// How many blanks the bytes begin with.
-fn blanks_len(bytes: &[u8]) -> usize
-    ensures { result ≡ position_or_len (λ byte. not (byte == 32)) bytes.now }
+/// The place of the first byte that is no blank.
+fn first_other(bytes: &[u8]) -> Option<usize>
+    ensures { result ≡ position (λ byte. not (byte == 32)) bytes.now }
 {
-    let end = bytes.iter().position(|byte| *byte != b' ');
-    end.unwrap_or(bytes.len())
+    bytes.iter().position(|byte| *byte != b' ')
 }
 
 /// The word that the bytes begin with, and the bytes after it.
@@ -58,9 +58,19 @@ fn take_word(alloc: Global, bytes: &[u8]) -> Result<(Word, &[u8]), WordFault>
     ensures only { (word : Word) (rest : List ℕ) → BeginsWith word rest bytes.now
         → ¬ IsErrOf result WordFault.BadWord }
 {
+    match after_quote(bytes) {
+        Some(body) => take_quoted(alloc, body),
+        None => take_plain(alloc, bytes),
+    }
+}
+
+/// The bytes after the quote that these begin with, or nothing where they begin with none.
+fn after_quote(bytes: &[u8]) -> Option<&[u8]>
+    ensures { option_map (λ rest. rest.now) result ≡ behind_quote bytes.now }
+{
     match bytes {
-        [b'"', body @ ..] => take_quoted(alloc, body),
-        _ => take_plain(alloc, bytes),
+        [b'"', rest @ ..] => Some(rest),
+        _ => None,
     }
 }
 
@@ -70,7 +80,8 @@ fn take_plain(alloc: Global, bytes: &[u8]) -> Result<(Word, &[u8]), WordFault>
     ensures only { (word : Word) (rest : List ℕ) → word.quoted ≡ false → BeginsWith word rest bytes.now
         → ¬ IsErrOf result WordFault.BadWord }
 {
-    let (plain, rest) = bytes.split_at(plain_len(bytes));
+    let end = first_blank(bytes).unwrap_or(bytes.len());
+    let (plain, rest) = bytes.split_at(end);
     if plain.is_empty() || !are_plain(plain) {
         return Err(WordFault::BadWord);
     }
@@ -79,12 +90,11 @@ fn take_plain(alloc: Global, bytes: &[u8]) -> Result<(Word, &[u8]), WordFault>
     Ok((word, rest))
 }
 
-/// How many bytes stand before the first blank.
-fn plain_len(bytes: &[u8]) -> usize
-    ensures { result ≡ position_or_len (λ byte. byte == 32) bytes.now }
+/// The place of the first blank.
+fn first_blank(bytes: &[u8]) -> Option<usize>
+    ensures { result ≡ position (λ byte. byte == 32) bytes.now }
 {
-    let end = bytes.iter().position(|byte| *byte == b' ');
-    end.unwrap_or(bytes.len())
+    bytes.iter().position(|byte| *byte == b' ')
 }
 
 /// Whether each of the bytes may stand in a plain word.
@@ -106,13 +116,22 @@ fn take_quoted(alloc: Global, body: &[u8]) -> Result<(Word, &[u8]), WordFault>
         text.push(byte)?;
         rest = after;
     }
-    match rest {
-        [b'"'] | [b'"', b' ', ..] => {
-            let text = Text::new(text);
-            Ok((Word { text, quoted: true }, &rest[1..]))
-        }
-        _ => Err(WordFault::BadWord),
+    let Some(after) = after_quote(rest) else {
+        return Err(WordFault::BadWord);
+    };
+    if !is_after_word(after) {
+        return Err(WordFault::BadWord);
     }
+    let text = Text::new(text);
+    let word = Word { text, quoted: true };
+    Ok((word, after))
+}
+
+/// Whether a word may stand before these bytes.
+fn is_after_word(bytes: &[u8]) -> bool
+    ensures { IsTrue result ↔ IsAfterWord bytes.now }
+{
+    matches!(bytes, [] | [b' ', ..])
 }
 
 fn is_plain(byte: u8) -> bool

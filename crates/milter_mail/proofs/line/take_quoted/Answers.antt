@@ -1,0 +1,1 @@
+use Rattle.milter_mail.proofs.line.take_quoted.Goals as goal

@@ -1,0 +1,1 @@
+use Rattle.milter_mail.proofs.line.take_word.Goals as goal
