@@ -1,5 +1,5 @@
 -- The blanks and the plain words that bytes begin with.
-use Rattle.std.proofs.Common.{◌≡◌, ℕ, suc, ◌+◌, ◌<◌, ◌≤◌, ◌==◌, nat_lt, ltb, cond, Bool, true, false, not, List, [], ◌∷◌, ◌++◌, length, All, Option, Some, None, take, drop, position, unwrap_or, refl, sym, ap, subst, ◌∙◌, arith, inl, inr, one-add, take-append-drop}
+use Rattle.std.proofs.Common.{◌≡◌, ℕ, ◌≤◌, ◌==◌, nat_lt, Bool, true, false, not, List, [], ◌∷◌, ◌++◌, length, All, Option, Some, None, drop, position, unwrap_or, refl, ap, ◌∙◌, arith, inl, inr, one-add}
 use Rattle.std.specs.List.{list_all, position_or_len}
 use Rattle.std.proofs.lemmas.Bool.{and_parts, and_from, cases_Bool, cond_both, eqb-true, eq-eqb, ltb-false}
 use Rattle.std.proofs.lemmas.Bool.Decides.{nat_tests}
@@ -29,8 +29,8 @@ drop-blanks (byte ∷ bytes) =
       | inr e ↦ rw e refl
     ]
 
-pub drop-first_other : (bytes : List ℕ) (start : ℕ) → start ≡ unwrap_or (position (λ byte. not (byte == 32)) bytes) (length bytes) → drop start bytes ≡ past_blanks bytes
-drop-first_other bytes start e = ap (λ (n : ℕ). drop n bytes) (e ∙ unwrap_or-position (λ byte. not (byte == 32)) bytes) ∙ drop-blanks bytes
+pub drop-first_non_blank : (bytes : List ℕ) (start : ℕ) → start ≡ unwrap_or (position (λ byte. not (byte == 32)) bytes) (length bytes) → drop start bytes ≡ past_blanks bytes
+drop-first_non_blank bytes start e = ap (λ (n : ℕ). drop n bytes) (e ∙ unwrap_or-position (λ byte. not (byte == 32)) bytes) ∙ drop-blanks bytes
 
 pub past_blanks-le-length : (bytes : List ℕ) → length (past_blanks bytes) ≤ length bytes
 past_blanks-le-length [] = omega arith

@@ -1,14 +1,16 @@
 -- A line has its words in one way only, and how they are read from the left.
-use Rattle.std.proofs.Common.{◌≡◌, ◌≢◌, ℕ, suc, ◌+◌, ◌<◌, ◌≤◌, ◌==◌, Bool, true, false, List, [], ◌∷◌, ◌++◌, length, All, Option, Some, None, position, unwrap_or, take, drop, refl, sym, ap, subst, ◌∙◌, arith, append_assoc, append-nil, length-append, take-append-drop, take_at, drop_at}
+use Rattle.std.proofs.Common.{◌≡◌, ◌≢◌, ℕ, ◌<◌, ◌==◌, Bool, true, false, List, [], ◌∷◌, ◌++◌, length, Option, Some, None, position, unwrap_or, take, drop, refl, sym, ap, subst, ◌∙◌, arith, append_assoc, append-nil, length-append, take-append-drop, take_at}
 use Rattle.std.specs.List.{list_all, position_or_len}
 use Rattle.std.proofs.lemmas.Bool.{cond_both, eqb-true, false≢true}
 use Rattle.std.proofs.lemmas.Option.{none-some, same_Some}
 use Rattle.std.proofs.lemmas.List.Elements.{All-nil, All-cons, All-head, All-tail}
 use Rattle.milter_mail.specs.declared.word.Word.{Word}
-use Rattle.milter_mail.specs.Words.{AreBlanks, BeginsWith, HasWords, IsAfterWord, SpellsEither, SpellsPlain, SpellsQuoted, SpellsText, SpellsWord, is_plain}
+use Rattle.milter_mail.specs.declared.word.WordFault.{WordFault}
+use Rattle.milter_mail.specs.declared.word.WordFault.TheVariants.{BadWord, NoMemory}
+use Rattle.milter_mail.specs.Words.{AreBlanks, BeginsWith, HasWords, IsAfterWord, SpellsEither, SpellsPlain, SpellsQuoted, SpellsText, is_plain}
 use Rattle.milter_mail.specs.Reading.{behind_quote, byte_at, past_blanks}
 use Rattle.milter_mail.proofs.Spelling.{spelled-byte_at, text_more, texts_same}
-use Rattle.milter_mail.proofs.Fronts.{ArePlain, InFront, blanks_in_front, ends_at_place, list_all-plain, plain-list_all, place_after_plain, unwrap_or-position, past_blanks-all, past_blanks-append, past_blanks-twice, past_blanks-le-length, plain_is_no_blank, plain_is_no_quote}
+use Rattle.milter_mail.proofs.Fronts.{ArePlain, blanks_in_front, ends_at_place, list_all-plain, plain-list_all, place_after_plain, unwrap_or-position, past_blanks-all, past_blanks-append, past_blanks-twice, plain_is_no_blank, plain_is_no_quote}
 
 -- ---- a word in front
 
@@ -313,3 +315,7 @@ no_words_left rest (word ∷ words) no_blank some none h = none word h.2 (subst 
 pub read_bad : (line : List ℕ) (front : List Word) (rest : List ℕ) → ReadSo line front rest → length rest ≢ 0 → ((word : Word) (after : List ℕ) → ¬ BeginsWith word after rest)
     → (words : List Word) → ¬ HasWords line words
 read_bad line front rest r some none words h = let left = r.only words h in no_words_left rest left.0 r.no_blank some none left.1
+
+pub other_fault : (fault : WordFault) → ¬ (fault ≡ BadWord) → fault ≡ NoMemory
+other_fault BadWord h = absurd (h refl)
+other_fault NoMemory h = refl

@@ -12,6 +12,10 @@ pub fn lines_of_words()
 
 /// A text in quotes has one word, which is quoted and says the text, and no other words. Source: own.
 pub fn quoted_texts()
-    ensures { (text : List ℕ) → All (λ byte. byte < 2 ^ 8) text →
+    // The one word is there,
+    ensures found { (text : List ℕ) → All (λ byte. byte < 2 ^ 8) text →
         HasWords (quoted text) (record { text = text; quoted = true } ∷ []) }
+    // and no other words are.
+    ensures only { (text : List ℕ) (words : List Word) → All (λ byte. byte < 2 ^ 8) text → HasWords (quoted text) words →
+        words ≡ record { text = text; quoted = true } ∷ [] }
 {}

@@ -4,13 +4,13 @@
 //! hold any byte. [`words`] reads the words of a line, and [`quote`] writes a text so that it is read back as it was.
 #![tactic(auto)]
 
-mod laws;
-mod quoting;
 mod escapes;
-mod word;
+mod laws;
 mod line;
+mod quoting;
+mod word;
 
 pub use laws::{lines_of_words, quoted_texts};
+pub use line::words;
 pub use quoting::quote;
 pub use word::{Word, WordFault};
-pub use line::words;

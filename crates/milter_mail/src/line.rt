@@ -15,7 +15,7 @@ use std::alloc::Global;
 /// them; blanks at both ends are ignored. A plain word is one or more of the bytes 0x21 to 0x7E but for `"`. A quoted
 /// word is a `"`, a body and a `"`, and a blank or the end of the line follows. In its body the bytes 0x20 to 0x7E but
 /// for `"` and `\`, and 0x80 to 0xFF, stand for themselves, and `\"`, `\\`, `\n`, `\r`, `\t` and `\xHH`, with two
-/// hexadecimal digits of either case, for a byte. The fault is `BadWord` where the line is of no other form, and then
+/// hexadecimal digits of either case, for a byte. The fault is `BadWord` where the line is of any other form, and then
 /// a word before may have taken memory. Source: own.
 pub fn words(alloc: Global, line: &[u8]) -> Result<Vec<Word>, WordFault>
     // What is read are the words that the line has.
@@ -41,12 +41,12 @@ pub fn words(alloc: Global, line: &[u8]) -> Result<Vec<Word>, WordFault>
 fn after_blanks(bytes: &[u8]) -> &[u8]
     ensures { result.now ≡ past_blanks bytes.now }
 {
-    let start = first_other(bytes).unwrap_or(bytes.len());
+    let start = first_non_blank(bytes).unwrap_or(bytes.len());
     &bytes[start..]
 }
 
 /// The place of the first byte that is no blank.
-fn first_other(bytes: &[u8]) -> Option<usize>
+fn first_non_blank(bytes: &[u8]) -> Option<usize>
     ensures { result ≡ position (λ byte. not (byte == 32)) bytes.now }
 {
     bytes.iter().position(|byte| *byte != b' ')
@@ -86,7 +86,10 @@ fn take_plain(alloc: Global, bytes: &[u8]) -> Result<(Word, &[u8]), WordFault>
         return Err(WordFault::BadWord);
     }
     let text = Text::new(Vec::from_slice(alloc, plain)?);
-    let word = Word { text, quoted: false };
+    let word = Word {
+        text,
+        quoted: false,
+    };
     Ok((word, rest))
 }
 
@@ -134,6 +137,7 @@ fn is_after_word(bytes: &[u8]) -> bool
     matches!(bytes, [] | [b' ', ..])
 }
 
+/// Whether the byte may stand in a plain word.
 fn is_plain(byte: u8) -> bool
     ensures { result ≡ is_plain byte }
 {

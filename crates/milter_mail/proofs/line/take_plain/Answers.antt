@@ -1,4 +1,4 @@
-use Rattle.std.proofs.Common.{length, ap, ◌∙◌, sym, unwrap_or, false}
+use Rattle.std.proofs.Common.{length, ap, ◌∙◌, sym, unwrap_or}
 use Rattle.std.proofs.lemmas.Bool.{eqb-false, eqb-true, false≢true}
 use Rattle.milter_mail.proofs.Wording.{plain_found, plain_front, plain_only}
 use Rattle.milter_mail.proofs.line.take_plain.Goals as goal
