@@ -16,9 +16,6 @@ unwrap_or-position test bytes =
     cond_both (nat_lt n (length bytes)) (Some n) None (λ (found : Option ℕ). unwrap_or found (length bytes) ≡ n) (λ _. refl)
     (λ past. let over = ltb-false n (length bytes) past in omega (arith, prefix_len-le-length (λ x. not (test x)) bytes))
 
-pub place-le-length : (test : ℕ → Bool) (bytes : List ℕ) → position_or_len test bytes ≤ length bytes
-place-le-length test bytes = prefix_len-le-length (λ x. not (test x)) bytes
-
 -- ---- blanks
 
 pub drop-blanks : (bytes : List ℕ) → drop (position_or_len (λ byte. not (byte == 32)) bytes) bytes ≡ past_blanks bytes

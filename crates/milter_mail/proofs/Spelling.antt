@@ -1,5 +1,5 @@
 -- A byte that is spelled is read, and one that is read was spelled; a text is spelled in one way only.
-use Rattle.std.proofs.Common.{◌≡◌, ℕ, ◌+◌, ◌*◌, ◌<◌, ◌==◌, true, false, List, [], ◌∷◌, ◌++◌, length, Option, Some, None, option_map, refl, sym, ap, ◌∙◌, arith, append_assoc, append-nil, length-append}
+use Rattle.std.proofs.Common.{◌≡◌, ℕ, ◌+◌, ◌*◌, ◌==◌, true, false, List, [], ◌∷◌, ◌++◌, Option, Some, None, option_map, refl, sym, ap, ◌∙◌, arith, append_assoc, append-nil}
 use Rattle.std.proofs.lemmas.Bool.{and_parts, cond_both, eqb-true, not-true}
 use Rattle.std.proofs.lemmas.Bool.Decides.{nat_tests}
 use Rattle.std.proofs.lemmas.Option.{some_pair_parts}
@@ -80,20 +80,7 @@ spelled-byte_at (first ∷ tail) rest byte e =
     (λ b h. rw (eqb-true first 92 b) (spelled_by_escape tail rest byte h))
     (λ _. cond_both (is_bare first) _ _ P (λ is h. spelled_bare first tail rest byte is h) (λ _ h. no_byte (first ∷ tail) rest byte h)) e
 
-byte_has_length : (byte : ℕ) (first : List ℕ) → SpellsByte byte first → 0 < length first
-byte_has_length byte first (bare is e) = rw e (omega arith)
-byte_has_length byte first (escaped letter is e) = rw e (omega arith)
-byte_has_length byte first (hexadecimal high low x y is_x is_y sum e) = rw e (omega arith)
-
-pub byte_at-shorter : (bytes rest : List ℕ) (byte : ℕ) → byte_at bytes ≡ Some (byte, rest) → length rest < length bytes
-byte_at-shorter bytes rest byte e =
-    let s = spelled-byte_at bytes rest byte e in
-    omega (arith, byte_has_length byte s.first s.spells, length-append s.first rest, ap length s.bytes_are)
-
 -- ---- texts
-
-pub text-nil : SpellsText [] []
-text-nil = refl
 
 -- a text and one more byte
 pub text_more : (text spelling : List ℕ) (byte : ℕ) (first : List ℕ) → SpellsText text spelling → SpellsByte byte first → SpellsText (text ++ byte ∷ []) (spelling ++ first)

@@ -234,9 +234,6 @@ pub record Consumed (text rest body : List ℕ) : Type 0 where
   pub spells : SpellsText text front
   pub body_is : body ≡ front ++ rest
 
-pub consumed_none : (body : List ℕ) → Consumed [] body body
-consumed_none body = record { front = []; spells = refl; body_is = refl }
-
 pub consumed_more : (text rest body after : List ℕ) (byte : ℕ) → Consumed text rest body → byte_at rest ≡ Some (byte, after) → Consumed (text ++ byte ∷ []) after body
 consumed_more text rest body after byte h e =
     let s = spelled-byte_at rest after byte e in
