@@ -1,2 +1,4 @@
 pub mod WordFault
 pub mod Quoting
+pub mod Words
+pub mod Reading

@@ -1,8 +1,16 @@
-//! Quoting.
+//! Mail as sessions and files speak of it. Today: the words of a line, and the quoting of texts.
+//!
+//! Session files, rule files and traces are lines of words. A word is plain or stands in quotes; a text in quotes may
+//! hold any byte. [`words`] reads the words of a line, and [`quote`] writes a text so that it is read back as it was.
 #![tactic(auto)]
 
+mod escapes;
+mod laws;
+mod line;
 mod quoting;
 mod word;
 
+pub use laws::{lines_of_words, quoted_texts};
+pub use line::words;
 pub use quoting::quote;
 pub use word::{Word, WordFault};

@@ -1,4 +1,5 @@
-//! Tests of the packets of the Sendmail milter protocol, by values that were written out by hand.
+//! Tests of the packets of the Sendmail milter protocol, and of the words and quotes of text files, by values that were
+//! written out by hand.
 #![tactic(auto)]
 
 #[cfg(test)]
@@ -18,6 +19,8 @@ mod made;
 #[cfg(test)]
 mod names;
 #[cfg(test)]
+mod quoting;
+#[cfg(test)]
 mod replies;
 #[cfg(test)]
 mod splitter;
@@ -31,3 +34,5 @@ mod text;
 mod values;
 #[cfg(test)]
 mod wire;
+#[cfg(test)]
+mod word_lists;

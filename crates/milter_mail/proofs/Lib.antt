@@ -1,0 +1,4 @@
+pub mod Spelling
+pub mod Fronts
+pub mod Wording
+pub mod RoundTrip
