@@ -4,7 +4,7 @@
 #
 # Each such test accepts the answer that it expects, or want of memory in the form of that call, and nothing else. Other
 # tests want ample memory, and are left out here. The most allocations that one of these tests makes are 15 in
-# crates/milter_refused (refused_command_clone) and 14 in crates/milter_tool (refused_trace_of_three_lines): past those
+# crates/milter_refused (refused_command_clone) and 14 in crates/milter_tool (refused_trace_of_macros): past those
 # nothing is refused, and each test runs as ever. So the numbers below end one after that. Where a test comes to make
 # more allocations, raise the last number of its crate.
 #

@@ -36,7 +36,10 @@ fn refused_quote(rt: HostRuntime) {
     };
     match quote(rt.alloc(), b"a \"b\"\n\xff", &mut out) {
         Ok(()) => {
-            assert_eq!(rt; out.as_slice(), b"\xaa\xbb\"a \\\"b\\\"\\n\\xff\"".as_slice());
+            assert_eq!(rt;
+                out.as_slice(),
+                b"\xaa\xbb\"a \\\"b\\\"\\n\\xff\"".as_slice()
+            );
         }
         Err(NoMemory) => assert_eq!(rt; out.as_slice(), [0xaa, 0xbb].as_slice()),
     }

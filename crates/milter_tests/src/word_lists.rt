@@ -27,17 +27,42 @@ fn plain_words_stand_between_blanks(rt: HostRuntime) {
     assert_words(&rt, rt.alloc(), b"   ", &[]);
     assert_words(&rt, rt.alloc(), b"end", &[(b"end", false)]);
     assert_words(&rt, rt.alloc(), b"  end ", &[(b"end", false)]);
-    assert_words(&rt, rt.alloc(), b"a  b c", &[(b"a", false), (b"b", false), (b"c", false)]);
-    assert_words(&rt, rt.alloc(), b"!~\\x #'", &[(b"!~\\x", false), (b"#'", false)]);
+    assert_words(
+        &rt,
+        rt.alloc(),
+        b"a  b c",
+        &[(b"a", false), (b"b", false), (b"c", false)],
+    );
+    assert_words(
+        &rt,
+        rt.alloc(),
+        b"!~\\x #'",
+        &[(b"!~\\x", false), (b"#'", false)],
+    );
 }
 
 #[test]
 fn quoted_words_say_what_stands_between_the_quotes(rt: HostRuntime) {
     assert_words(&rt, rt.alloc(), b"\"\"", &[(b"", true)]);
     assert_words(&rt, rt.alloc(), b"\"a b\"", &[(b"a b", true)]);
-    assert_words(&rt, rt.alloc(), b" \"a\"  b \"\" ", &[(b"a", true), (b"b", false), (b"", true)]);
-    assert_words(&rt, rt.alloc(), b"\"\\\"\\\\\\n\\r\\t\"", &[(b"\"\\\n\r\t", true)]);
-    assert_words(&rt, rt.alloc(), b"\"\\x00\\x7f\\xFf\\xaB\"", &[(b"\x00\x7f\xff\xab", true)]);
+    assert_words(
+        &rt,
+        rt.alloc(),
+        b" \"a\"  b \"\" ",
+        &[(b"a", true), (b"b", false), (b"", true)],
+    );
+    assert_words(
+        &rt,
+        rt.alloc(),
+        b"\"\\\"\\\\\\n\\r\\t\"",
+        &[(b"\"\\\n\r\t", true)],
+    );
+    assert_words(
+        &rt,
+        rt.alloc(),
+        b"\"\\x00\\x7f\\xFf\\xaB\"",
+        &[(b"\x00\x7f\xff\xab", true)],
+    );
     assert_words(&rt, rt.alloc(), b"\"\\x410\\\\x41\"", &[(b"A0\\x41", true)]);
     assert_words(&rt, rt.alloc(), b"\" ~\x80\xff\"", &[(b" ~\x80\xff", true)]);
     assert_words(
@@ -112,7 +137,13 @@ fn each_byte_is_plain_or_bare_or_neither(rt: HostRuntime) {
 
 #[test]
 fn each_character_is_an_escape_or_none(rt: HostRuntime) {
-    let escapes = [(b'"', b'"'), (b'\\', b'\\'), (b'n', b'\n'), (b'r', b'\r'), (b't', b'\t')];
+    let escapes = [
+        (b'"', b'"'),
+        (b'\\', b'\\'),
+        (b'n', b'\n'),
+        (b'r', b'\r'),
+        (b't', b'\t'),
+    ];
     for character in 0..=255u8 {
         let line = [b'"', b'\\', character, b'"'];
         let meant = escapes.iter().find(|escape| escape.0 == character);

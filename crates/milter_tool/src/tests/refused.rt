@@ -68,25 +68,29 @@ fn refused_trace_of_a_bad_line(rt: HostRuntime) {
 }
 
 #[test]
-fn refused_trace_of_texts(rt: HostRuntime) {
+fn refused_trace_of_macros(rt: HostRuntime) {
     assert_answers_or_wants_memory(
         &rt,
         rt.alloc(),
-        "> 0000000744436a006d7800\n< 000000062b6540780000",
-        "> D C \"j\" \"mx\"\n",
-        at_fault(2, Direction::ToMta, WireFault::Malformed(0x2b)),
-    );
-    assert_answers_or_wants_memory(
-        &rt,
-        rt.alloc(),
-        "< 0000000732624079015c00\n> 000000024401",
-        "< 2 \"b@y\\x01\\\\\"\n> D \\x01\n",
+        "> 0000000744436a006d7800\n> 000000024401",
+        "> D C \"j\" \"mx\"\n> D \\x01\n",
         Ok(()),
     );
 }
 
 #[test]
-fn refused_trace_of_an_unknown_code(rt: HostRuntime) {
+fn refused_trace_of_arguments(rt: HostRuntime) {
+    assert_answers_or_wants_memory(
+        &rt,
+        rt.alloc(),
+        "< 0000000832624079015c0000",
+        "< 2 \"b@y\\x01\\\\\" \"\"\n",
+        Ok(()),
+    );
+}
+
+#[test]
+fn refused_trace_of_a_malformed_header(rt: HostRuntime) {
     assert_answers_or_wants_memory(
         &rt,
         rt.alloc(),
@@ -94,6 +98,10 @@ fn refused_trace_of_an_unknown_code(rt: HostRuntime) {
         "",
         at_fault(1, Direction::ToMta, WireFault::Malformed(0x6d)),
     );
+}
+
+#[test]
+fn refused_trace_of_an_unknown_code(rt: HostRuntime) {
     assert_answers_or_wants_memory(
         &rt,
         rt.alloc(),
