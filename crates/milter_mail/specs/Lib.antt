@@ -1,4 +1,5 @@
 pub mod WordFault
+pub mod Edits
 pub mod Quoting
 pub mod Words
 pub mod Reading

@@ -4,12 +4,14 @@
 //! hold any byte. [`words`] reads the words of a line, and [`quote`] writes a text so that it is read back as it was.
 #![tactic(auto)]
 
+mod edit;
 mod escapes;
 mod laws;
 mod line;
 mod quoting;
 mod word;
 
+pub use edit::Edit;
 pub use laws::{lines_of_words, quoted_texts};
 pub use line::words;
 pub use quoting::quote;
