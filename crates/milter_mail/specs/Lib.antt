@@ -1,5 +1,9 @@
 pub mod WordFault
+pub mod MailObject
 pub mod Edits
+pub mod Edited
+pub mod Agreed
+pub mod Plan
 pub mod Quoting
 pub mod Words
 pub mod Reading

@@ -8,11 +8,13 @@ mod edit;
 mod escapes;
 mod laws;
 mod line;
+mod macros;
 mod quoting;
 mod word;
 
 pub use edit::Edit;
 pub use laws::{lines_of_words, quoted_texts};
 pub use line::words;
+pub use macros::Macros;
 pub use quoting::quote;
 pub use word::{Word, WordFault};
