@@ -4,6 +4,7 @@ pub mod Edits
 pub mod Edited
 pub mod Agreed
 pub mod Plan
+pub mod Weight
 pub mod Quoting
 pub mod Words
 pub mod Reading

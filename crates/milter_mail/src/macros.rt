@@ -18,7 +18,7 @@ pub struct Macros {
     /// Before each recipient.
     pub rcpt: Pairs,
     /// Before the client's DATA.
-    pub data: Pairs,
+    pub data_cmd: Pairs,
     /// Before the end of a message.
     pub eom: Pairs,
     /// Before the end of the header.
@@ -35,7 +35,7 @@ impl Macros {
             Stage::Helo => self.helo.as_slice(),
             Stage::Mail => self.mail.as_slice(),
             Stage::Rcpt => self.rcpt.as_slice(),
-            Stage::DataCmd => self.data.as_slice(),
+            Stage::DataCmd => self.data_cmd.as_slice(),
             Stage::Eob => self.eom.as_slice(),
             Stage::Eoh => self.eoh.as_slice(),
             Stage::Header | Stage::Body => &[],

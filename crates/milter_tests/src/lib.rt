@@ -6,6 +6,9 @@
 mod codes;
 #[cfg(test)]
 mod commands;
+mod definitions;
+#[cfg(test)]
+mod edits;
 #[cfg(test)]
 mod ends;
 #[cfg(test)]
@@ -36,3 +39,5 @@ mod values;
 mod wire;
 #[cfg(test)]
 mod word_lists;
+
+pub use definitions::{agreed_options, edited_fields, edited_messages, planned_sessions};

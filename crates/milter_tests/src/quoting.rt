@@ -1,6 +1,7 @@
 //! Texts in quotes, and how they are read back.
 
 use milter_mail::{quote, words};
+use std::alloc::{AllocError, Global};
 use std::test::Fail;
 
 #[test]
@@ -25,26 +26,31 @@ fn texts_are_quoted(rt: HostRuntime) -> Result<(), Fail> {
     Ok(())
 }
 
+/// What stands between quotes for a byte.
+fn between_quotes(alloc: Global, byte: u8) -> Result<Vec<u8>, AllocError> {
+    let digits = b"0123456789abcdef";
+    let high = digits[usize::from(byte / 16)];
+    let low = digits[usize::from(byte % 16)];
+    match byte {
+        b'"' => b"\\\"".to_vec(alloc),
+        b'\\' => b"\\\\".to_vec(alloc),
+        0x0a => b"\\n".to_vec(alloc),
+        0x0d => b"\\r".to_vec(alloc),
+        0x09 => b"\\t".to_vec(alloc),
+        0x20..=0x7e => [byte].to_vec(alloc),
+        _ => [b'\\', b'x', high, low].to_vec(alloc),
+    }
+}
+
 #[test]
 fn each_byte_is_quoted_and_read_back(rt: HostRuntime) -> Result<(), Fail> {
-    let digits = b"0123456789abcdef";
     for byte in 0..=255u8 {
         let mut line = Vec::new(rt.alloc());
         quote(rt.alloc(), &[byte], &mut line)?;
-        let high = digits[usize::from(byte / 16)];
-        let low = digits[usize::from(byte % 16)];
-        let inside: &[u8] = match byte {
-            b'"' => b"\\\"",
-            b'\\' => b"\\\\",
-            0x0a => b"\\n",
-            0x0d => b"\\r",
-            0x09 => b"\\t",
-            0x20..=0x7e => &[byte],
-            _ => &[b'\\', b'x', high, low],
-        };
-        let length = line.len();
-        assert_eq!(rt; length, inside.len() + 2, "{byte}");
-        assert_eq!(rt; &line.as_slice()[1..length - 1], inside, "{byte}");
+        let mut expected = b"\"".to_vec(rt.alloc())?;
+        expected.extend_from_slice(between_quotes(rt.alloc(), byte)?.as_slice())?;
+        expected.push(b'"')?;
+        assert_eq!(rt; line, expected, "{byte}");
 
         let found = words(rt.alloc(), line.as_slice())?;
         assert_eq!(rt; found.len(), 1, "{byte}");

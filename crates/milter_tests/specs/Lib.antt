@@ -1,0 +1,2 @@
+pub mod WorkedMessage
+pub mod WorkedEdits
