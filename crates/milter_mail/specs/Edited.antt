@@ -111,11 +111,11 @@ abbrev pub edited : MailObject → List Edit → HeldMail
 edited message edits =
     record {
       message =
-      record {
-        sender = or_as_it_was message.sender (last_or None (filter_map new_sender edits));
-        recipients = recipients_after message.recipients edits;
-        headers = headers_after message.headers edits;
-        body = body_of message.body (filter_map new_piece edits);
-      };
+          record {
+            sender = or_as_it_was message.sender (last_or None (filter_map new_sender edits));
+            recipients = recipients_after message.recipients edits;
+            headers = headers_after message.headers edits;
+            body = body_of message.body (filter_map new_piece edits);
+          };
       quarantine = last_or None (filter_map new_reason edits);
     }
