@@ -1,4 +1,5 @@
-//! Mail as sessions and files speak of it. Today: the words of a line, and the quoting of texts.
+//! Mail as sessions and files speak of it. Today: the edits that a filter may ask for, the words of a line, and the
+//! quoting of texts.
 //!
 //! Session files, rule files and traces are lines of words. A word is plain or stands in quotes; a text in quotes may
 //! hold any byte. [`words`] reads the words of a line, and [`quote`] writes a text so that it is read back as it was.
