@@ -6,12 +6,8 @@ use Rattle.milter_wire.specs.declared.header.Header.{Header}
 use Rattle.milter_wire.specs.declared.path.Path.{Path}
 use Rattle.milter_mail.specs.declared.edit.Edit.{Edit}
 use Rattle.milter_mail.specs.declared.edit.Edit.TheVariants.{AddHeader, InsertHeader, ChangeHeader, AddRcpt, AddRcptPar, DelRcpt, ChangeFrom, ReplaceBody, Quarantine, Progress}
+use Rattle.milter_mail.specs.declared.message.Held.{Held}
 use Rattle.milter_mail.specs.MailObject.{MailObject}
-
--- a message, and the reason for which it is held in quarantine, if it is
-pub record HeldMail : Type 0 where
-  pub message : MailObject
-  pub quarantine : Option (List ℕ)
 
 -- ---- header fields
 
@@ -107,7 +103,7 @@ body_of old (piece ∷ pieces) = concat (piece ∷ pieces)
 
 -- the last sender that is asked for, the recipients and header fields after all edits, the new body in place of the old
 -- one, and the last reason for a quarantine
-abbrev pub edited : MailObject → List Edit → HeldMail
+abbrev pub edited : MailObject → List Edit → Held
 edited message edits =
     record {
       message =

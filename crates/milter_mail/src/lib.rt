@@ -10,6 +10,7 @@ mod escapes;
 mod laws;
 mod line;
 mod macros;
+mod message;
 mod quoting;
 mod word;
 
@@ -17,5 +18,6 @@ pub use edit::Edit;
 pub use laws::{lines_of_words, quoted_texts};
 pub use line::words;
 pub use macros::Macros;
+pub use message::{Held, Message};
 pub use quoting::quote;
 pub use word::{Word, WordFault};

@@ -1,5 +1,5 @@
 -- The spelling of each command, by one case for each row of the table of commands, and its reading.
-use Rattle.std.specs.Prelude.{◌≡◌, ℕ, Bool, ◌==◌, List, [], ◌∷◌, All, codes, Option, Some}
+use Rattle.std.specs.Prelude.{◌≡◌, ℕ, Bool, ◌==◌, List, [], ◌∷◌, length, All, codes, Option, None, Some}
 use Rattle.std.specs.List.{flat_map, list_any}
 use Rattle.std.specs.Option.{option_map}
 use Rattle.milter_wire.specs.declared.command.Command.{Command}
@@ -84,6 +84,11 @@ spelling c = packet (code_of c) (payload_of c)
 pub record Spells (c : Command) (bytes : List ℕ) : Type 0 where
   pub fits : Fits c
   pub bytes_are : bytes ≡ spelling c
+
+-- a number, where a packet can be of the command: that of its bytes
+abbrev pub PacketLen : Command → Option ℕ → Type 0
+PacketLen c None = ¬ Fits c
+PacketLen c (Some n) = Fits c × (n ≡ length (spelling c))
 
 -- ---- reading
 

@@ -16,6 +16,7 @@ mod field;
 mod front;
 mod header;
 mod laws;
+mod lengths;
 mod lists;
 mod options;
 mod pair;

@@ -1,0 +1,85 @@
+//! The lengths of packets, told from what they carry: whoever counts bytes needs no command for it.
+
+ghost use Rattle.std.specs.Prelude.{◌≡◌, ◌≤◌, ◌<◌, ◌+◌, ℕ, None, Some};
+ghost use Rattle.milter_wire.specs.declared.command.Command.{Command};
+ghost use Rattle.milter_wire.specs.Command.{PacketLen};
+
+use crate::client::{Client, client_fits, client_len};
+use crate::field::PAYLOAD_MAX;
+use crate::header::{Header, header_fits, header_len};
+use crate::lists::Pairs;
+use crate::pair::{pairs_fit, pairs_len};
+use crate::path::{Path, path_fits, path_len};
+
+/// The bytes of a packet before its payload: the length and the code.
+const HEAD_LEN: usize = 5;
+
+impl Client {
+    /// The number of bytes of the packet that tells of the client, from 8 to 65,540, its length field among them; or
+    /// none, where no packet does: a string holds a NUL, or they have too many bytes. No memory is taken. Source: own.
+    #[tactic(auto, unfolding(crate::specs::Field::number))]
+    pub fn packet_len(&self) -> Option<usize>
+        ensures { PacketLen (Command.Connect self.now) result }
+    {
+        if !client_fits(self) {
+            return None;
+        }
+        with_head(client_len(self))
+    }
+}
+
+impl Path {
+    /// The number of bytes of the packet that tells of the sender or the recipient, from 6 to 65,540, its length field
+    /// among them; or none, where no packet does: a string holds a NUL, or they have too many bytes. No memory is
+    /// taken. Source: own.
+    #[tactic(auto, unfolding(crate::specs::Field::number))]
+    pub fn packet_len(&self) -> Option<usize>
+        ensures mail { PacketLen (Command.Mail self.now) result }
+        ensures rcpt { PacketLen (Command.Rcpt self.now) result }
+    {
+        if !path_fits(self) {
+            return None;
+        }
+        with_head(path_len(self))
+    }
+}
+
+impl Header {
+    /// The number of bytes of the packet that tells of the header field, from 7 to 65,540, its length field among them;
+    /// or none, where no packet does: a string holds a NUL, or they have too many bytes. No memory is taken. Source:
+    /// own.
+    #[tactic(auto, unfolding(crate::specs::Field::number))]
+    pub fn packet_len(&self) -> Option<usize>
+        ensures { PacketLen (Command.Header self.now) result }
+    {
+        if !header_fits(self) {
+            return None;
+        }
+        with_head(header_len(self))
+    }
+}
+
+impl Pairs {
+    /// The number of bytes of a packet with these macros, from 6 to 65,540, its length field among them; or none, where
+    /// no packet has them: a string holds a NUL, or they have too many bytes. No memory is taken. Source: own.
+    #[tactic(auto, unfolding(crate::specs::Field::number))]
+    pub fn packet_len(&self) -> Option<usize>
+        ensures { (command : ℕ) → PacketLen (Command.Macro command self.now) result }
+    {
+        if !pairs_fit(self.as_slice()) {
+            return None;
+        }
+        with_head(pairs_len(self.as_slice()).saturating_add(1))
+    }
+}
+
+/// The number of bytes of a packet whose payload has so many, where a packet has room for it.
+fn with_head(payload_len: usize) -> Option<usize>
+    ensures some { payload_len ≤ 65535 → result ≡ Some (payload_len + 5) }
+    ensures none { 65535 < payload_len → result ≡ None }
+{
+    if payload_len > PAYLOAD_MAX {
+        return None;
+    }
+    Some(payload_len + HEAD_LEN)
+}
