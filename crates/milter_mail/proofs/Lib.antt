@@ -2,3 +2,4 @@ pub mod Spelling
 pub mod Fronts
 pub mod Wording
 pub mod RoundTrip
+pub mod Weights

@@ -5,6 +5,8 @@ pub mod Edited
 pub mod Agreed
 pub mod Plan
 pub mod Weight
+pub mod MailSession
+pub mod Weighing
 pub mod Quoting
 pub mod Words
 pub mod Reading

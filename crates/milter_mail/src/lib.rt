@@ -12,6 +12,8 @@ mod line;
 mod macros;
 mod message;
 mod quoting;
+mod session;
+mod weight;
 mod word;
 
 pub use edit::Edit;
@@ -20,4 +22,5 @@ pub use line::words;
 pub use macros::Macros;
 pub use message::{Held, Message};
 pub use quoting::quote;
+pub use session::Session;
 pub use word::{Word, WordFault};

@@ -74,23 +74,26 @@ impl Message {
         })
     }
 
-    /// The sender. No memory is taken. Source: own.
+    /// The sender, of which a packet can tell. No memory is taken. Source: own.
     pub fn sender(&self) -> &Path
-        ensures { result.now ≡ self.now.sender }
+        ensures sender { result.now ≡ self.now.sender }
+        ensures fits { Fits (commands.Mail result.now) }
     {
         &self.sender
     }
 
-    /// The recipients, in order. No memory is taken. Source: own.
+    /// The recipients, in order; a packet can tell of each. No memory is taken. Source: own.
     pub fn recipients(&self) -> &[Path]
-        ensures { result.now ≡ self.now.recipients }
+        ensures recipients { result.now ≡ self.now.recipients }
+        ensures fit { All (λ path. Fits (commands.Rcpt path)) result.now }
     {
         self.recipients.as_slice()
     }
 
-    /// The header fields, in order. No memory is taken. Source: own.
+    /// The header fields, in order; a packet can tell of each. No memory is taken. Source: own.
     pub fn headers(&self) -> &[Header]
-        ensures { result.now ≡ self.now.headers }
+        ensures headers { result.now ≡ self.now.headers }
+        ensures fit { All (λ header. Fits (commands.Header header)) result.now }
     {
         self.headers.as_slice()
     }

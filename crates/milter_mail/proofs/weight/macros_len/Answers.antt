@@ -1,0 +1,12 @@
+use Rattle.std.proofs.Common.{rules, ◌≡◌, Fits, arith}
+use Rattle.milter_mail.proofs.weight.macros_len.Goals as goal
+
+pub returns-in_err-len : goal.returns-in_err-len
+returns-in_err-len c =
+    let told = c.packet_len.ensures c.args.command in
+    search (rules, told)
+
+pub returns : goal.returns
+returns c =
+    let told = c.packet_len.ensures c.args.command in
+    search (rules, told)

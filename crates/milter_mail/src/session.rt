@@ -1,0 +1,101 @@
+//! Sessions of a mail server with one client.
+
+ghost use Rattle.std.specs.Prelude.{◌≡◌, ◌↔◌, IfSome, IsSome};
+ghost use Rattle.milter_mail.specs.MailSession.{IsSession};
+
+use crate::macros::Macros;
+use crate::message::Message;
+use crate::weight::is_session;
+use milter_wire::{Client, Text};
+use std::marker::Model;
+
+/// What a mail server has to tell of one client: who it is and how it greets, the macros of each stage, and the
+/// messages that it sends, in order.
+///
+/// Each message has a recipient and weighs at most 16,777,216 bytes: those of all packets that tell of it where nothing
+/// is left out, of the client, of its greeting and of all macros, with their length fields. Source: own.
+#[derive(Debug, Drop)]
+pub struct Session {
+    client: Client,
+    helo: Text,
+    macros: Macros,
+    messages: Vec<Message>,
+}
+
+impl Model for Session {
+    ghost use Rattle.milter_mail.specs.MailSession.{IsSession, MailSession};
+
+    ghost Value = { MailSession };
+
+    ghost view = { λ s. record {
+      client = s.client;
+      helo = s.helo;
+      macros = s.macros;
+      messages = s.messages.items;
+    } };
+
+    ghost invariant = { λ s. IsSession (record {
+      client = s.client;
+      helo = s.helo;
+      macros = s.macros;
+      messages = s.messages.items;
+    }) };
+}
+
+impl Session {
+    /// The session of these parts; or none, where no packet can tell of the client, of the greeting or of the macros of
+    /// a stage, or where a message has no recipient or weighs more than 16,777,216 bytes. There may be no message. No
+    /// memory is taken. Source: own.
+    pub fn new(client: Client, helo: Text, macros: Macros, messages: Vec<Message>) -> Option<Self>
+        ensures parts { IfSome result (λ s. s ≡ record {
+          client = client;
+          helo = helo;
+          macros = macros;
+          messages = messages.items;
+        }) }
+        ensures exact { IsSome result ↔ IsSession (record {
+          client = client;
+          helo = helo;
+          macros = macros;
+          messages = messages.items;
+        }) }
+    {
+        if !is_session(&client, &helo, &macros, &messages) {
+            return None;
+        }
+        Some(Session {
+            client,
+            helo,
+            macros,
+            messages,
+        })
+    }
+
+    /// The client. No memory is taken. Source: own.
+    pub fn client(&self) -> &Client
+        ensures { result.now ≡ self.now.client }
+    {
+        &self.client
+    }
+
+    /// The name with which the client greets. No memory is taken. Source: own.
+    pub fn helo(&self) -> &Text
+        ensures { result.now ≡ self.now.helo }
+    {
+        &self.helo
+    }
+
+    /// The macros of each stage. No memory is taken. Source: own.
+    pub fn macros(&self) -> &Macros
+        ensures { result.now ≡ self.now.macros }
+    {
+        &self.macros
+    }
+
+    /// The messages, in order. No memory is taken. Source: own.
+    pub fn messages(&self) -> &[Message]
+        ensures { result.now ≡ self.now.messages }
+    {
+        self.messages.as_slice()
+    }
+}
