@@ -3,3 +3,5 @@ pub mod Fronts
 pub mod Wording
 pub mod RoundTrip
 pub mod Weights
+pub mod Turns
+pub mod Changes

@@ -2,6 +2,7 @@ pub mod WordFault
 pub mod MailObject
 pub mod Edits
 pub mod Edited
+pub mod Occurrences
 pub mod Agreed
 pub mod Plan
 pub mod Weight

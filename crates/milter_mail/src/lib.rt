@@ -6,6 +6,7 @@
 #![tactic(auto)]
 
 mod edit;
+mod edit_laws;
 mod escapes;
 mod laws;
 mod line;
@@ -17,6 +18,7 @@ mod weight;
 mod word;
 
 pub use edit::Edit;
+pub use edit_laws::{changed_fields, edits_in_turn, edits_of_replies, weights_of_parts};
 pub use laws::{lines_of_words, quoted_texts};
 pub use line::words;
 pub use macros::Macros;

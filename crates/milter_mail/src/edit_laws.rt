@@ -1,0 +1,62 @@
+//! Laws of edits and of weights, each the contract of a function that does nothing.
+
+ghost use Rattle.std.specs.Prelude.{◌≡◌, ◌≢◌, ◌+◌, ◌-◌, ◌∷◌, ◌++◌, [], drop, take, Err, List, None, Ok, Some, ℕ};
+ghost use Rattle.std.specs.List.{concat, filter_map};
+ghost use Rattle.milter_wire.specs.declared.client.Client.{Client};
+ghost use Rattle.milter_wire.specs.declared.header.Header.{Header};
+ghost use Rattle.milter_wire.specs.declared.path.Path.{Path};
+ghost use Rattle.milter_wire.specs.declared.reply.Reply.{Reply};
+ghost use Rattle.milter_mail.specs.declared.edit.Edit.{Edit};
+ghost use Rattle.milter_mail.specs.declared.edit.Edit.TheVariants.{Quarantine};
+ghost use Rattle.milter_mail.specs.declared.macros.Macros.{Macros};
+ghost use Rattle.milter_mail.specs.Edited.{change, edited, headers_after, new_piece, recipients_after};
+ghost use Rattle.milter_mail.specs.Edits.{edit_of, reply_of};
+ghost use Rattle.milter_mail.specs.MailObject.{MailObject};
+ghost use Rattle.milter_mail.specs.Occurrences.{others_than, value_if_any, values_of};
+ghost use Rattle.milter_mail.specs.Weighing.{common_weight, macros_weight, opening_weight, parts_weight};
+ghost use Rattle.milter_mail.specs.Weight.{weight};
+
+/// Each edit is asked for by one reply, and what asks for none comes back. Source: own.
+pub fn edits_of_replies()
+    ensures asked { (edit : Edit) → edit_of (reply_of edit) ≡ Ok edit }
+    ensures only { (reply : Reply) (edit : Edit) → edit_of reply ≡ Ok edit → reply ≡ reply_of edit }
+    ensures given_back { (reply other : Reply) → edit_of reply ≡ Err other → other ≡ reply }
+{}
+
+/// Two lists of edits in a row are the one after the other. Source: own.
+pub fn edits_in_turn()
+    ensures headers { (headers : List Header) (first second : List Edit) →
+        headers_after headers (first ++ second) ≡ headers_after (headers_after headers first) second }
+    ensures recipients { (recipients : List Path) (first second : List Edit) →
+        recipients_after recipients (first ++ second) ≡ recipients_after (recipients_after recipients first) second }
+    ensures sender { (message : MailObject) (first second : List Edit) →
+        (edited message (first ++ second)).message.sender
+        ≡ (edited (edited message first).message second).message.sender }
+    // A body is replaced once; what comes later is appended.
+    ensures body { (message : MailObject) (first second : List Edit) → filter_map new_piece first ≢ [] →
+        (edited message (first ++ second)).message.body
+        ≡ (edited message first).message.body ++ concat (filter_map new_piece second) }
+    // The last reason stands.
+    ensures quarantine { (message : MailObject) (edits : List Edit) (reason : List ℕ) →
+        (edited message (edits ++ Quarantine reason ∷ [])).quarantine ≡ Some reason }
+{}
+
+/// A change of a header field, told by the values of its name: the one with this number, counted from 1, gets the new
+/// value, or is no more where that is empty; where there are fewer, the new value comes last. The fields of other names
+/// stay as they are. Source: own.
+pub fn changed_fields()
+    ensures values { (index : ℕ) (header : Header) (headers : List Header) →
+        values_of header.name (change index header headers)
+        ≡ take (index - 1) (values_of header.name headers) ++ value_if_any header.value
+        ++ drop (index - 1 + 1) (values_of header.name headers) }
+    ensures others { (index : ℕ) (header : Header) (headers : List Header) →
+        others_than header.name (change index header headers) ≡ others_than header.name headers }
+{}
+
+/// What a message weighs is the sum of what its parts weigh, and of what each message of the session weighs beside
+/// them. Source: own.
+pub fn weights_of_parts()
+    ensures { (client : Client) (helo : List ℕ) (macros : Macros) (m : MailObject) →
+        weight client helo macros m
+        ≡ (opening_weight client helo macros + common_weight macros) + parts_weight (macros_weight 82 macros.rcpt) m }
+{}
