@@ -5,3 +5,4 @@ pub mod RoundTrip
 pub mod Weights
 pub mod Turns
 pub mod Changes
+pub mod Telling

@@ -1,11 +1,11 @@
 -- What edits make of a message: one edit after the other, on whole lists.
-use Rattle.std.specs.Prelude.{ℕ, ◌+◌, ◌-◌, ◌==◌, Bool, true, false, not, List, [], ◌∷◌, ◌++◌, take, drop, Option, None, Some, if◌then◌else◌}
+use Rattle.std.specs.Prelude.{ℕ, ◌+◌, ◌-◌, ◌==◌, not, List, [], ◌∷◌, ◌++◌, take, drop, Option, None, Some, if◌then◌else◌}
 use Rattle.std.specs.List.{concat, filter, filter_map, last_or}
 use Rattle.std.specs.Str.{bytes_eq, str_eq_ignore_ascii_case}
 use Rattle.milter_wire.specs.declared.header.Header.{Header}
 use Rattle.milter_wire.specs.declared.path.Path.{Path}
 use Rattle.milter_mail.specs.declared.edit.Edit.{Edit}
-use Rattle.milter_mail.specs.declared.edit.Edit.TheVariants.{AddHeader, InsertHeader, ChangeHeader, AddRcpt, AddRcptPar, DelRcpt, ChangeFrom, ReplaceBody, Quarantine, Progress}
+use Rattle.milter_mail.specs.declared.edit.Edit.TheVariants.{AddHeader, InsertHeader, ChangeHeader, AddRcpt, AddRcptPar, DelRcpt, ChangeFrom, ReplaceBody, Quarantine}
 use Rattle.milter_mail.specs.declared.message.Held.{Held}
 use Rattle.milter_mail.specs.MailObject.{MailObject}
 

@@ -11,3 +11,6 @@ pub mod Weighing
 pub mod Quoting
 pub mod Words
 pub mod Reading
+pub mod HeldText
+pub mod TextFault
+pub mod Writing

@@ -1,5 +1,8 @@
-//! Mail as sessions and files speak of it. Today: the edits that a filter may ask for, the words of a line, and the
-//! quoting of texts.
+//! Mail as sessions and files speak of it: messages and sessions, the edits that a filter may ask for, the words of a
+//! line, the quoting of texts, and held messages as texts.
+//!
+//! A [`Session`] is what a mail server has to tell of one client, with its [`Message`]s. An [`Edit`] is a change to a
+//! message that a filter asks for, and a [`Held`] message is one after all edits, which [`write_message`] writes.
 //!
 //! Session files, rule files and traces are lines of words. A word is plain or stands in quotes; a text in quotes may
 //! hold any byte. [`words`] reads the words of a line, and [`quote`] writes a text so that it is read back as it was.
@@ -8,21 +11,25 @@
 mod edit;
 mod edit_laws;
 mod escapes;
+mod held_text;
 mod laws;
 mod line;
 mod macros;
 mod message;
 mod quoting;
 mod session;
+mod text_fault;
 mod weight;
 mod word;
 
 pub use edit::Edit;
 pub use edit_laws::{changed_fields, edits_in_turn, edits_of_replies, weights_of_parts};
+pub use held_text::write_message;
 pub use laws::{lines_of_words, quoted_texts};
 pub use line::words;
 pub use macros::Macros;
 pub use message::{Held, Message};
 pub use quoting::quote;
 pub use session::Session;
+pub use text_fault::TextFault;
 pub use word::{Word, WordFault};

@@ -1,6 +1,7 @@
 //! Texts in quotes.
 
 ghost use Rattle.std.specs.Prelude.{◌≡◌, ◌<◌, ◌++◌, OnOk, OnErr};
+ghost use Rattle.std.specs.List.{flat_map};
 ghost use Rattle.milter_wire.specs.Code.{hex_digit};
 ghost use Rattle.milter_wire.specs.Field.{Extends};
 ghost use Rattle.milter_mail.specs.Quoting.{quoted, quoted_byte};
@@ -30,10 +31,19 @@ fn put_quoted(out: &mut Vec<u8>, text: &[u8]) -> Result<(), NoMemory>
     ensures extends { Extends out.old.items out.new.items }
 {
     out.push(b'"')?;
-    for byte in text {
+    put_escaped(out, text)?;
+    out.push(b'"')?;
+    Ok(())
+}
+
+/// Appends the bytes as they stand between quotes.
+pub(crate) fn put_escaped(out: &mut Vec<u8>, bytes: &[u8]) -> Result<(), NoMemory>
+    ensures ok { OnOk result (out.new.items ≡ out.old.items ++ flat_map quoted_byte bytes.now) }
+    ensures extends { Extends out.old.items out.new.items }
+{
+    for byte in bytes {
         put_byte(out, *byte)?;
     }
-    out.push(b'"')?;
     Ok(())
 }
 

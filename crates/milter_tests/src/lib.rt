@@ -26,6 +26,8 @@ mod quoting;
 #[cfg(test)]
 mod replies;
 #[cfg(test)]
+mod sessions;
+#[cfg(test)]
 mod splitter;
 #[cfg(test)]
 mod stages;

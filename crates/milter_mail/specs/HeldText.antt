@@ -1,0 +1,37 @@
+-- How a held message is written: a line for each part of it, which is a keyword and then texts in quotes.
+use Rattle.std.specs.Prelude.{ℕ, List, [], ◌∷◌, ◌++◌, codes, Option, None, Some}
+use Rattle.std.specs.List.{flat_map}
+use Rattle.milter_wire.specs.declared.header.Header.{Header}
+use Rattle.milter_wire.specs.declared.path.Path.{Path}
+use Rattle.milter_mail.specs.declared.message.Held.{Held}
+use Rattle.milter_mail.specs.Quoting.{quoted}
+
+-- each text in quotes, after a blank
+abbrev pub texts_of : List (List ℕ) → List ℕ
+texts_of texts = flat_map (λ text. 32 ∷ quoted text) texts
+
+-- the keyword, the texts, and LF
+unfoldable pub line_of : List ℕ → List (List ℕ) → List ℕ
+line_of keyword texts = keyword ++ texts_of texts ++ 10 ∷ []
+
+-- a line with the reason, where there is one
+abbrev pub reason_line : Option (List ℕ) → List ℕ
+reason_line None = []
+reason_line (Some reason) = line_of (codes "quarantine") (reason ∷ [])
+
+-- the address, and then each parameter
+abbrev pub path_line : List ℕ → Path → List ℕ
+path_line keyword path = line_of keyword (path.address ∷ path.params)
+
+abbrev pub header_line : Header → List ℕ
+header_line header = line_of (codes "header") (header.name ∷ header.value ∷ [])
+
+-- the quarantine, the sender, the recipients, the header fields, the body and the end, a line each
+unfoldable pub held_text : Held → List ℕ
+held_text held =
+    reason_line held.quarantine
+    ++ path_line (codes "sender") held.message.sender
+    ++ flat_map (path_line (codes "recipient")) held.message.recipients
+    ++ flat_map header_line held.message.headers
+    ++ line_of (codes "body") (held.message.body ∷ [])
+    ++ line_of (codes "end") []
