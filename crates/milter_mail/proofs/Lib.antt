@@ -1,5 +1,7 @@
 pub mod Spelling
 pub mod Fronts
+pub mod Folds
+pub mod Kept
 pub mod Wording
 pub mod RoundTrip
 pub mod Weights

@@ -8,20 +8,25 @@
 //! hold any byte. [`words`] reads the words of a line, and [`quote`] writes a text so that it is read back as it was.
 #![tactic(auto)]
 
+mod application;
+mod copies;
 mod edit;
 mod edit_laws;
 mod escapes;
+mod header_edits;
 mod held_text;
 mod laws;
 mod line;
 mod macros;
 mod message;
 mod quoting;
+mod recipient_edits;
 mod session;
 mod text_fault;
 mod weight;
 mod word;
 
+pub use application::apply;
 pub use edit::Edit;
 pub use edit_laws::{changed_fields, edits_in_turn, edits_of_replies, weights_of_parts};
 pub use held_text::write_message;

@@ -74,6 +74,34 @@ impl Message {
         })
     }
 
+    /// The message of these parts, each of which has a packet that tells of it.
+    pub(crate) fn from_parts(
+        sender: Path,
+        recipients: Vec<Path>,
+        headers: Vec<Header>,
+        body: Vec<u8>,
+    ) -> Self
+        requires { IsMessage (record {
+          sender = sender;
+          recipients = recipients.items;
+          headers = headers.items;
+          body = body.items;
+        }) }
+        ensures { result ≡ record {
+          sender = sender;
+          recipients = recipients.items;
+          headers = headers.items;
+          body = body.items;
+        } }
+    {
+        Message {
+            sender,
+            recipients,
+            headers,
+            body,
+        }
+    }
+
     /// The sender, of which a packet can tell. No memory is taken. Source: own.
     pub fn sender(&self) -> &Path
         ensures sender { result.now ≡ self.now.sender }
