@@ -16,6 +16,8 @@ mod faults;
 #[cfg(test)]
 mod fits;
 #[cfg(test)]
+mod held;
+#[cfg(test)]
 mod layouts;
 #[cfg(test)]
 mod made;
@@ -41,5 +43,7 @@ mod values;
 mod wire;
 #[cfg(test)]
 mod word_lists;
+#[cfg(test)]
+mod writers;
 
 pub use definitions::{agreed_options, edited_fields, edited_messages, planned_sessions};
