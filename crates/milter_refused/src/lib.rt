@@ -9,6 +9,8 @@ mod copies;
 #[cfg(test)]
 mod ends;
 #[cfg(test)]
+mod held;
+#[cfg(test)]
 mod lines;
 #[cfg(test)]
 mod made;

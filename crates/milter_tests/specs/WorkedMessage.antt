@@ -1,5 +1,5 @@
 -- One small session, and the values that it is made of.
-use Rattle.std.specs.Prelude.{ℕ, List, [], ◌∷◌, codes, None}
+use Rattle.std.specs.Prelude.{ℕ, List, [], ◌∷◌, ◌++◌, codes, None}
 use Rattle.milter_wire.specs.declared.client.Client.{Client}
 use Rattle.milter_wire.specs.declared.client.Origin.TheVariants.{Unknown}
 use Rattle.milter_wire.specs.declared.header.Header.{Header}
@@ -38,3 +38,7 @@ one_macro = macros_with (record { name = codes "j"; value = codes "mx" } ∷ [])
 -- a version, and a set of protocol bits
 abbrev pub agreed : ℕ → ℕ → Options
 agreed version protocol = record { version = version; actions = record { 0 = 0 }; protocol = record { 0 = protocol } }
+
+-- a keyword, a blank, a text between quotes that holds nothing but itself, and LF
+abbrev pub line : List ℕ → List ℕ → List ℕ
+line keyword text = keyword ++ 32 ∷ 34 ∷ text ++ 34 ∷ 10 ∷ []

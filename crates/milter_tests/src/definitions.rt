@@ -1,14 +1,17 @@
 //! Worked examples of the definitions that contracts stand on: each is what the definition computes.
 
-ghost use Rattle.std.specs.Prelude.{◌≡◌, [], ◌∷◌, codes, length, List, ℕ, None, Some};
+ghost use Rattle.std.specs.Prelude.{◌≡◌, [], ◌∷◌, ◌++◌, codes, length, List, ℕ, None, Some};
 ghost use Rattle.milter_wire.specs.declared.command.Command.TheVariants as commands;
 ghost use Rattle.milter_mail.specs.declared.edit.Edit.TheVariants.{AddHeader, AddRcpt, AddRcptPar, ChangeFrom, ChangeHeader, DelRcpt, Quarantine, ReplaceBody};
 ghost use Rattle.milter_mail.specs.Agreed.{agree};
 ghost use Rattle.milter_mail.specs.Edited.{edited, headers_after, recipients_after};
+ghost use Rattle.milter_mail.specs.HeldText.{held_text};
 ghost use Rattle.milter_mail.specs.Plan.{message_steps, opening, pieces_of};
 ghost use Rattle.milter_mail.specs.Weight.{weight};
 ghost use Rattle.milter_tests.specs.WorkedEdits.{edits_of_fields, new_fields, old_fields};
-ghost use Rattle.milter_tests.specs.WorkedMessage.{agreed, at, client, field, helo, message, no_macros, one_macro};
+ghost use Rattle.milter_tests.specs.WorkedMessage.{agreed, at, client, field, helo, line, message, no_macros, one_macro};
+
+use milter_mail::weights_of_parts;
 
 /// Edits of header fields count places and occurrences in the list as it is by then.
 pub fn edited_fields()
@@ -64,4 +67,20 @@ pub fn planned_sessions()
 pub fn agreed_options()
     ensures smaller { agree (agreed 6 1047) (agreed 2 3) ≡ agreed 2 3 }
     ensures bits { agree (agreed 3 5) (agreed 6 6) ≡ agreed 3 4 }
+{}
+
+/// The heaviest body of a message of that session: 16 MiB with all else.
+#[tactic(auto, unfolding(milter_wire::specs::Field::number))]
+pub fn heaviest_messages()
+    ensures { (body : List ℕ) → length body ≡ 16775877 →
+        weight client helo no_macros (record { sender = message.sender; recipients = message.recipients; headers = []; body = body }) ≡ 16777216 }
+{
+    weights_of_parts();
+}
+
+/// The text of a held message.
+#[tactic(auto, unfolding(milter_mail::specs::HeldText::held_text, milter_mail::specs::HeldText::line_of, milter_mail::specs::Quoting::quoted))]
+pub fn told_messages()
+    ensures unedited { held_text (record { message = message; quarantine = None })
+        ≡ line (codes "sender") (codes "a@x") ++ line (codes "recipient") (codes "b@y") ++ line (codes "body") [] ++ codes "end" ++ 10 ∷ [] }
 {}

@@ -46,4 +46,7 @@ mod word_lists;
 #[cfg(test)]
 mod writers;
 
-pub use definitions::{agreed_options, edited_fields, edited_messages, planned_sessions};
+pub use definitions::{
+    agreed_options, edited_fields, edited_messages, heaviest_messages, planned_sessions,
+    told_messages,
+};
