@@ -1,12 +1,10 @@
 -- Edits one after the other, and the replies that ask for them.
-use Rattle.std.proofs.Common.{◌≡◌, ◌≢◌, List, [], ◌∷◌, ◌++◌, ℕ, Option, Some, None, Ok, Err, refl, sym, ap, ◌∙◌}
+use Rattle.std.proofs.Common.{◌≡◌, ◌≢◌, List, [], ◌∷◌, ◌++◌, ℕ, Option, Some, None, Ok, refl, ap, ◌∙◌}
 use Rattle.std.specs.List.{concat, filter_map, last_or}
 use Rattle.std.proofs.lemmas.List.Elements.{filter_map-append}
 use Rattle.std.proofs.lemmas.List.Folds.{concat-append}
 use Rattle.milter_wire.specs.declared.header.Header.{Header}
 use Rattle.milter_wire.specs.declared.path.Path.{Path}
-use Rattle.milter_wire.specs.declared.reply.Reply.{Reply}
-use Rattle.milter_wire.specs.declared.reply.Reply.TheVariants as replies
 use Rattle.milter_mail.specs.declared.edit.Edit.{Edit}
 use Rattle.milter_mail.specs.declared.edit.Edit.TheVariants.{AddHeader, InsertHeader, ChangeHeader, AddRcpt, AddRcptPar, DelRcpt, ChangeFrom, ReplaceBody, Quarantine, Progress}
 use Rattle.milter_mail.specs.Edited.{body_of, edit_headers, edit_recipients, headers_after, new_piece, new_reason, new_sender, or_as_it_was, recipients_after}

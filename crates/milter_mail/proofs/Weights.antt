@@ -1,5 +1,5 @@
 -- The weight of a message is the sum of its parts' weights.
-use Rattle.std.proofs.Common.{◌≡◌, ℕ, zero, suc, ◌+◌, ◌-◌, ◌*◌, ◌/◌, ◌^◌, ◌≤◌, All, List, [], ◌∷◌, ◌++◌, length, min, map, take, drop, Option, Some, None, refl, sym, subst, ◌∙◌, arith}
+use Rattle.std.proofs.Common.{◌≡◌, ℕ, zero, suc, ◌+◌, ◌-◌, ◌*◌, ◌/◌, ◌^◌, ◌≤◌, All, List, [], ◌∷◌, ◌++◌, length, min, map, take, drop, Some, refl, sym, subst, ◌∙◌, arith}
 use Rattle.std.specs.List.{flat_map, range_with_len, sum_by}
 use Rattle.std.proofs.lemmas.List.{length-take, length-drop}
 use Rattle.std.proofs.lemmas.List.Concat.{flat_map-cons}
@@ -17,8 +17,8 @@ use Rattle.milter_wire.specs.Field.{number}
 use Rattle.milter_mail.specs.declared.macros.Macros.{Macros}
 use Rattle.milter_mail.specs.MailObject.{MailObject}
 use Rattle.milter_mail.specs.MailSession.{IsSendable, IsSession, MailSession}
-use Rattle.milter_mail.specs.Plan.{macro_step, message_steps, opening, pieces_of}
-use Rattle.milter_mail.specs.Weight.{all_is_sent, bytes_of, weight}
+use Rattle.milter_mail.specs.Plan.{macro_step, pieces_of}
+use Rattle.milter_mail.specs.Weight.{bytes_of, weight}
 use Rattle.milter_mail.specs.Weighing.{body_weight, common_weight, macros_weight, opening_weight, parts_weight, IsLight}
 
 len : Command → ℕ

@@ -1,6 +1,6 @@
 -- A set that a text names has the bits of the names, and no others.
-use Rattle.std.proofs.Common.{◌≡◌, ◌≢◌, ℕ, ◌<◌, max, Bool, true, false, List, [], ◌∷◌, All, Option, Some, None, refl, sym, ap, subst, ◌∙◌, ◌⊎◌, inl, inr, arith}
-use Rattle.std.specs.Prelude.{◌↔◌, nat_eq, codes, IsSome, option_map, if◌then◌else◌}
+use Rattle.std.proofs.Common.{◌≡◌, ◌≢◌, ℕ, ◌<◌, max, Bool, true, false, List, [], ◌∷◌, Option, Some, None, refl, sym, ap, subst, ◌∙◌, ◌⊎◌, inl, inr, arith}
+use Rattle.std.specs.Prelude.{nat_eq, codes, IsSome, option_map, if◌then◌else◌}
 use Rattle.std.specs.Cmp.Lexicographic.{pointwise, same_text}
 use Rattle.std.specs.Int.{bit_at}
 use Rattle.std.specs.Int.RustNames.{bit_or}
@@ -10,7 +10,7 @@ use Rattle.std.proofs.lemmas.Option.{none-some, same_Some}
 use Rattle.milter_wire.proofs.Grammar.{some_value}
 use Rattle.std.proofs.lemmas.List.Elements.{All-nil, All-cons, All-head, All-tail}
 use Rattle.bitflags.specs.Sets.{Row, find_name}
-use Rattle.milter_wire.specs.Bits.{AreKnown, IsSetOf, NamesPlace, OneNames, bits_named, each_found, names_in, with_bits}
+use Rattle.milter_wire.specs.Bits.{AreKnown, IsSetOf, OneNames, bits_named, each_found, names_in, with_bits}
 use Rattle.milter_wire.specs.Reading.{◌>>=◌}
 use Rattle.milter_wire.proofs.Steps.{bind_some}
 

@@ -1,4 +1,4 @@
-use Rattle.milter_mail.specs.MailSession.{IsSession, MailSession}
+use Rattle.milter_mail.specs.MailSession.{MailSession}
 use Rattle.milter_mail.proofs.Weights.{Measured, all_light, all_sendable}
 use Rattle.milter_mail.proofs.weight.is_session.Goals as goal
 

@@ -1,4 +1,4 @@
-use Rattle.std.proofs.Common.{rules, ◌≡◌, Fits, arith}
+use Rattle.std.proofs.Common.{rules}
 use Rattle.milter_mail.proofs.weight.macros_len.Goals as goal
 
 pub returns-in_err-len : goal.returns-in_err-len
