@@ -1,7 +1,9 @@
 //! Sessions of a mail server with one client.
 
-ghost use Rattle.std.specs.Prelude.{◌≡◌, ◌↔◌, IfSome, IsSome};
-ghost use Rattle.milter_mail.specs.MailSession.{IsSession};
+ghost use Rattle.std.specs.Prelude.{◌≡◌, ◌↔◌, All, IfSome, IsSome};
+ghost use Rattle.milter_wire.specs.declared.command.Command.TheVariants as commands;
+ghost use Rattle.milter_wire.specs.Command.{Fits};
+ghost use Rattle.milter_mail.specs.MailSession.{IsSendable, IsSession, MacrosFit};
 
 use crate::macros::Macros;
 use crate::message::Message;
@@ -71,30 +73,34 @@ impl Session {
         })
     }
 
-    /// The client. No memory is taken. Source: own.
+    /// The client, of which a packet can tell. No memory is taken. Source: own.
     pub fn client(&self) -> &Client
-        ensures { result.now ≡ self.now.client }
+        ensures client { result.now ≡ self.now.client }
+        ensures fits { Fits (commands.Connect result.now) }
     {
         &self.client
     }
 
-    /// The name with which the client greets. No memory is taken. Source: own.
+    /// The name with which the client greets, of which a packet can tell. No memory is taken. Source: own.
     pub fn helo(&self) -> &Text
-        ensures { result.now ≡ self.now.helo }
+        ensures helo { result.now ≡ self.now.helo }
+        ensures fits { Fits (commands.Helo result.now) }
     {
         &self.helo
     }
 
-    /// The macros of each stage. No memory is taken. Source: own.
+    /// The macros of each stage; those of a stage fit a packet. No memory is taken. Source: own.
     pub fn macros(&self) -> &Macros
-        ensures { result.now ≡ self.now.macros }
+        ensures macros { result.now ≡ self.now.macros }
+        ensures fit { MacrosFit result.now }
     {
         &self.macros
     }
 
-    /// The messages, in order. No memory is taken. Source: own.
+    /// The messages, in order; each has a recipient and weighs at most 16,777,216 bytes. No memory is taken. Source: own.
     pub fn messages(&self) -> &[Message]
-        ensures { result.now ≡ self.now.messages }
+        ensures messages { result.now ≡ self.now.messages }
+        ensures sendable { All (IsSendable self.now.client self.now.helo self.now.macros) result.now }
     {
         self.messages.as_slice()
     }
