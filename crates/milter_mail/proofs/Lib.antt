@@ -3,8 +3,14 @@ pub mod Fronts
 pub mod Folds
 pub mod Kept
 pub mod Wording
+pub mod LineParts
+pub mod FileLines
 pub mod RoundTrip
 pub mod Weights
 pub mod Turns
 pub mod Changes
 pub mod Telling
+pub mod Runs
+pub mod MacroTelling
+pub mod SessionParts
+pub mod Sayings

@@ -12,5 +12,14 @@ pub mod Quoting
 pub mod Words
 pub mod Reading
 pub mod HeldText
+pub mod SessionLines
+pub mod LineParts
+pub mod ClientPlace
+pub mod MacroStage
+pub mod SessionFile
+pub mod FileLines
+pub mod SessionFault
+pub mod SessionReading
+pub mod MacroLists
 pub mod TextFault
 pub mod Writing

@@ -9,19 +9,28 @@
 #![tactic(auto)]
 
 mod application;
+mod client_place;
 mod copies;
 mod edit;
 mod edit_laws;
 mod escapes;
+mod file_lines;
 mod header_edits;
 mod held_text;
 mod laws;
 mod line;
+mod macro_stage;
 mod macros;
 mod message;
 mod quoting;
 mod recipient_edits;
 mod session;
+mod session_fault;
+mod session_file;
+mod session_lines;
+mod session_macros;
+mod session_messages;
+mod stage_macros;
 mod text_fault;
 mod weight;
 mod word;
@@ -36,5 +45,7 @@ pub use macros::Macros;
 pub use message::{Held, Message};
 pub use quoting::quote;
 pub use session::Session;
+pub use session_fault::SessionFault;
+pub use session_file::read_session;
 pub use text_fault::TextFault;
 pub use word::{Word, WordFault};

@@ -26,7 +26,7 @@ const WEIGHT_MAX: usize = 16_777_216;
 
 /// What each message of a session weighs beside the packets of its own parts.
 #[derive(Drop)]
-struct Overhead {
+pub(crate) struct Overhead {
     /// The opening, the macros of the message, and the packets that say nothing but their code.
     message: usize,
     /// The macros before each recipient.
@@ -35,7 +35,7 @@ struct Overhead {
 
 /// What each message weighs beside its own parts; or none, where a packet can't tell of the client, of its greeting, or
 /// of the macros of a stage.
-fn measure(client: &Client, helo: &Text, macros: &Macros) -> Option<Overhead>
+pub(crate) fn measure(client: &Client, helo: &Text, macros: &Macros) -> Option<Overhead>
     ensures fits { IfSome result (λ _. Fits (commands.Connect client.now) × Fits (commands.Helo helo.now) × MacrosFit macros.now) }
     ensures none { Fits (commands.Connect client.now) → Fits (commands.Helo helo.now) → MacrosFit macros.now → IsSome result }
     ensures message { IfSome result (λ o. o.message
@@ -86,7 +86,7 @@ fn macros_len(command: u8, pairs: &Pairs) -> Option<usize>
 
 /// The number of bytes of the packet with the client's greeting.
 #[tactic(auto, unfolding(milter_wire::specs::Field::number, milter_wire::specs::Field::HasNoNul))]
-fn helo_len(helo: &Text) -> Option<usize>
+pub(crate) fn helo_len(helo: &Text) -> Option<usize>
     ensures { PacketLen (commands.Helo helo.now) result }
 {
     let bytes = helo.as_slice();
@@ -125,7 +125,7 @@ fn are_light(overhead: &Overhead, messages: &[Message]) -> bool
 }
 
 /// Whether the message goes to someone, and weighs at most 16,777,216 bytes.
-fn is_light(overhead: &Overhead, message: &Message) -> bool
+pub(crate) fn is_light(overhead: &Overhead, message: &Message) -> bool
     ensures { IsTrue result ↔ IsLight overhead.now.message overhead.now.recipient message.now }
 {
     if message.recipients().is_empty() {

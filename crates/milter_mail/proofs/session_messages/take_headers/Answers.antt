@@ -1,0 +1,32 @@
+use Rattle.std.proofs.Common.{codes, refl}
+use Rattle.std.proofs.lemmas.Result.{err_from_is_err_and}
+use Rattle.milter_wire.specs.declared.command.Command.TheVariants as commands
+use Rattle.milter_wire.specs.Command.{Fits}
+use Rattle.milter_mail.specs.SessionLines.{header_of}
+use Rattle.milter_mail.specs.SessionReading.{words_of}
+use Rattle.milter_mail.proofs.Runs.{TellsRun, fit_more, next_told, header_opens, runs_same, tell_more}
+use Rattle.milter_mail.proofs.session_messages.take_headers.Goals as goal
+
+pub returns-in_err-header_in-clause-only : goal.returns-in_err-header_in-clause-only
+returns-in_err-header_in-clause-only c = λ front rest headers order told fit ends.
+    let run : TellsRun (codes "header") header_of (words_of c.args.lines.now) headers rest = record { front = front; in_order = order; told = told; ends = ends } in
+    let next = next_told (λ header. Fits (commands.Header header)) (codes "header") header_of (words_of c.args.lines.now) (words_of c.loop-line.rest.now) (words_of c.in-Some.after.now) rest
+    c.in-Some.line.now.words.items c.loop-line.headers.items headers header_opens c.loop-line.invariant.told c.in-Some.ensures.some.0 c.in-Some.ensures.some.1 run fit in
+    let p = err_from_is_err_and c.from_residual.result c.from_residual.ensures.1 in
+    rw (p.1, p.2) (c.in_err-header_in.ensures next.0 next.1 next.2)
+
+pub loop-line-preserved : goal.loop-line-preserved
+loop-line-preserved c =
+    rw c.in_ok-push.ensures.items
+    record {
+      told = tell_more header_of (words_of c.args.lines.now) c.loop-line.headers.items (words_of c.loop-line.rest.now) c.in-Some.line.now.words.items (words_of c.in-Some.after.now)
+          c.in_ok-header_in.field-0 c.loop-line.invariant.told c.in-Some.ensures.some.0 c.in_ok-header_in.ensures.0;
+      fit = fit_more (λ header. Fits (commands.Header header)) c.loop-line.headers.items c.in_ok-header_in.field-0 c.loop-line.invariant.fit c.in_ok-header_in.ensures.1;
+    }
+
+pub returns-clause-only : goal.returns-clause-only
+returns-clause-only c = λ front rest headers order told fit ends.
+    let run : TellsRun (codes "header") header_of (words_of c.args.lines.now) headers rest = record { front = front; in_order = order; told = told; ends = ends } in
+    let same = runs_same (codes "header") header_of (words_of c.args.lines.now) (words_of c.loop-line.rest.now) rest c.loop-line.headers.items headers
+    header_opens c.loop-line.invariant.told (c.in_default.ensures.none refl) run in
+    (same.values, same.left)
