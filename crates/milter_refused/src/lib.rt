@@ -19,4 +19,6 @@ mod options;
 #[cfg(test)]
 mod replies;
 #[cfg(test)]
+mod session_files;
+#[cfg(test)]
 mod splitter;

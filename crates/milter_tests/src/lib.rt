@@ -28,6 +28,10 @@ mod quoting;
 #[cfg(test)]
 mod replies;
 #[cfg(test)]
+mod session_files;
+#[cfg(test)]
+mod session_values;
+#[cfg(test)]
 mod sessions;
 #[cfg(test)]
 mod splitter;
