@@ -1,5 +1,5 @@
 -- What the parts of the reader of session files tell of each other.
-use Rattle.std.specs.Prelude.{◌≡◌, ℕ, Bool, false, List, [], ◌∷◌, ◌++◌, map, codes, Option, Some, Result, Ok, Err}
+use Rattle.std.specs.Prelude.{◌≡◌, ℕ, Bool, false, List, [], ◌∷◌, ◌++◌, map, codes, IfSome, Option, Some, Result, Ok, Err}
 use Rattle.std.specs.List.{concat}
 use Rattle.milter_mail.specs.declared.file_lines.FileLine.{FileLine}
 use Rattle.milter_mail.specs.declared.macros.Macros.{Macros}
@@ -7,6 +7,7 @@ use Rattle.milter_mail.specs.declared.session_fault.SessionFault.{SessionFault}
 use Rattle.milter_mail.specs.declared.session_fault.SessionFault.TheVariants.{NoMemory}
 use Rattle.milter_mail.specs.declared.word.Word.{Word}
 use Rattle.milter_mail.specs.MailObject.{MailObject}
+use Rattle.milter_mail.specs.SessionFault.{line_of}
 use Rattle.milter_mail.specs.SessionFile.{SaysMessage, Tell, macros_told}
 use Rattle.milter_mail.specs.SessionLines.{Told, begins, header_of, macro_of, message_line, path_of, piece_of}
 
@@ -18,6 +19,15 @@ words_of lines = map (λ line. line.words.items) lines
 abbrev pub Reads : {X : Type 0} → Option X → (X → Type 0) → Result X SessionFault → Type 0
 Reads read Fit (Ok x) = (read ≡ Some x) × Fit x
 Reads read Fit (Err e) = (x : _) → read ≡ Some x → Fit x → e ≡ NoMemory
+
+-- the fault is told of the line with this number, unless it is want of memory
+abbrev pub IsAt : ℕ → SessionFault → Type 0
+IsAt number fault = IfSome (line_of fault) (λ told. told ≡ number)
+
+-- the fault is told of the first of the lines; where there are none, it is the one that is given for that
+abbrev pub IsAtFirst : List FileLine → SessionFault → SessionFault → Type 0
+IsAtFirst [] missing fault = fault ≡ missing
+IsAtFirst (line ∷ lines) missing fault = IsAt line.number fault
 
 -- whether the first of the lines begins with the keyword
 abbrev pub goes_on : List ℕ → List (List Word) → Bool

@@ -1,6 +1,7 @@
 //! Session files.
 
 ghost use Rattle.std.specs.Prelude.{◌≡◌, IfOk, MatchResult};
+ghost use Rattle.std.specs.Option.{MatchOption};
 ghost use Rattle.milter_wire.specs.declared.command.Command.TheVariants as commands;
 ghost use Rattle.milter_wire.specs.Command.{Fits};
 ghost use Rattle.milter_mail.specs.declared.session_fault.SessionFault.TheVariants as SessionFault;
@@ -62,7 +63,9 @@ fn session_in(alloc: Global, file: &FileLines) -> Result<Session, SessionFault>
 }
 
 /// What is wrong where a line is missing at the end: there may be one that is not in words.
-fn missing(file: &FileLines, fault: SessionFault) -> SessionFault {
+fn missing(file: &FileLines, fault: SessionFault) -> SessionFault
+    ensures { MatchOption file.now.bad (result ≡ fault) (λ line. result ≡ SessionFault.UnknownLine line) }
+{
     match file.bad {
         Some(line) => SessionFault::UnknownLine(line),
         None => fault,

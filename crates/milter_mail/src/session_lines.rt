@@ -1,7 +1,7 @@
 //! What the lines of a session file say, each alone. A fault tells in this order what is wrong: the words don't have
 //! the line's form, a text holds a NUL, a header field has no name, or a packet would be too long.
 
-ghost use Rattle.std.specs.Prelude.{◌≡◌, ◌↔◌, ◌==◌, ◌&&◌, ◌-◌, ◌^◌, nat_le, not, min, All, IfOk, IsTrue, MatchResult, List, None, Some, ℕ, if◌then◌else◌, map, option_map};
+ghost use Rattle.std.specs.Prelude.{◌≡◌, ◌↔◌, ◌==◌, ◌&&◌, ◌-◌, ◌^◌, nat_le, not, min, All, IfErr, IfOk, IsTrue, MatchResult, List, None, Some, ℕ, if◌then◌else◌, map, option_map};
 ghost use Rattle.std.specs.Char.{is_ascii_digit};
 ghost use Rattle.std.specs.List.{list_all};
 ghost use Rattle.milter_wire.specs.declared.command.Command.TheVariants as commands;
@@ -13,7 +13,7 @@ ghost use Rattle.milter_mail.specs.ClientPlace.{origin_at, place_origin};
 ghost use Rattle.milter_mail.specs.LineParts.{if_named};
 ghost use Rattle.milter_mail.specs.MacroStage.{stage_of, word_of};
 ghost use Rattle.milter_mail.specs.declared.session_fault.SessionFault.TheVariants as SessionFault;
-ghost use Rattle.milter_mail.specs.SessionReading.{Reads};
+ghost use Rattle.milter_mail.specs.SessionReading.{IsAt, Reads};
 
 use crate::client_place::{Family, Place};
 use crate::copies::copy_text;
@@ -27,7 +27,8 @@ use std::alloc::Global;
 
 /// The client that the line tells.
 pub(crate) fn client_in(alloc: Global, line: &FileLine) -> Result<Client, SessionFault>
-    ensures { Reads (client_of line.now.words.items) (λ client. Fits (commands.Connect client)) result }
+    ensures reads { Reads (client_of line.now.words.items) (λ client. Fits (commands.Connect client)) result }
+    ensures at { IfErr result (λ e. IsAt line.now.number e) }
 {
     let Some((host, place)) = client_parts(line.words.as_slice()) else {
         return Err(SessionFault::BadClient(line.number));
@@ -162,7 +163,8 @@ fn copy_origin(alloc: Global, place: Option<Place<'_>>) -> Result<Origin, NoMemo
 
 /// The client, unless its packet would be too long.
 fn sized_client(client: Client, number: u64) -> Result<Client, SessionFault>
-    ensures { Reads (Some client) (λ client. Fits (commands.Connect client)) result }
+    ensures reads { Reads (Some client) (λ client. Fits (commands.Connect client)) result }
+    ensures at { IfErr result (λ e. IsAt number e) }
 {
     match client.packet_len() {
         Some(_) => Ok(client),
@@ -172,7 +174,8 @@ fn sized_client(client: Client, number: u64) -> Result<Client, SessionFault>
 
 /// The name with which the client greets, that the line tells.
 pub(crate) fn helo_in(alloc: Global, line: &FileLine) -> Result<Text, SessionFault>
-    ensures { Reads (helo_of line.now.words.items) (λ name. Fits (commands.Helo name)) result }
+    ensures reads { Reads (helo_of line.now.words.items) (λ name. Fits (commands.Helo name)) result }
+    ensures at { IfErr result (λ e. IsAt line.now.number e) }
 {
     let Some(name) = helo_text(line.words.as_slice()) else {
         return Err(SessionFault::UnknownLine(line.number));
@@ -205,6 +208,7 @@ pub(crate) fn macro_in(alloc: Global, line: &FileLine) -> Result<(MacroStage, Pa
     ensures only { (t : Told) → macro_of line.now.words.items ≡ Some t → PairFits t.pair →
         MatchResult result (λ x. (word_of x.0 ≡ t.stage) × (x.1 ≡ t.pair)) (λ e. e ≡ SessionFault.NoMemory) }
     ensures fits { IfOk result (λ x. PairFits x.1) }
+    ensures at { IfErr result (λ e. IsAt line.now.number e) }
 {
     let Some((stage, name, value)) = macro_parts(line.words.as_slice()) else {
         return Err(SessionFault::UnknownLine(line.number));
@@ -258,7 +262,8 @@ fn stage_in(word: &Word) -> Option<MacroStage>
 /// The sender or the recipient that a line with this keyword tells.
 #[tactic(auto, using(crate::proofs::LineParts::texts_no_nul))]
 pub(crate) fn path_in(alloc: Global, keyword: &[u8], line: &FileLine) -> Result<Path, SessionFault>
-    ensures { Reads (path_of keyword.now line.now.words.items) (λ path. Fits (commands.Rcpt path)) result }
+    ensures reads { Reads (path_of keyword.now line.now.words.items) (λ path. Fits (commands.Rcpt path)) result }
+    ensures at { IfErr result (λ e. IsAt line.now.number e) }
 {
     let Some((address, params)) = path_words(keyword, line.words.as_slice()) else {
         return Err(SessionFault::UnknownLine(line.number));
@@ -312,7 +317,8 @@ fn copy_texts(alloc: Global, words: &[Word]) -> Result<Params, NoMemory>
 
 /// The path, unless its packet would be too long.
 fn sized_path(path: Path, number: u64) -> Result<Path, SessionFault>
-    ensures { Reads (Some path) (λ path. Fits (commands.Rcpt path)) result }
+    ensures reads { Reads (Some path) (λ path. Fits (commands.Rcpt path)) result }
+    ensures at { IfErr result (λ e. IsAt number e) }
 {
     match path.packet_len() {
         Some(_) => Ok(path),
@@ -322,7 +328,8 @@ fn sized_path(path: Path, number: u64) -> Result<Path, SessionFault>
 
 /// The header field that the line tells.
 pub(crate) fn header_in(alloc: Global, line: &FileLine) -> Result<Header, SessionFault>
-    ensures { Reads (header_of line.now.words.items) (λ header. Fits (commands.Header header)) result }
+    ensures reads { Reads (header_of line.now.words.items) (λ header. Fits (commands.Header header)) result }
+    ensures at { IfErr result (λ e. IsAt line.now.number e) }
 {
     let Some((name, value)) = header_texts(line.words.as_slice()) else {
         return Err(SessionFault::BadHeader(line.number));
@@ -377,7 +384,8 @@ fn is_name_byte(byte: u8) -> bool
 
 /// The header field, unless its packet would be too long.
 fn sized_header(header: Header, number: u64) -> Result<Header, SessionFault>
-    ensures { Reads (Some header) (λ header. Fits (commands.Header header)) result }
+    ensures reads { Reads (Some header) (λ header. Fits (commands.Header header)) result }
+    ensures at { IfErr result (λ e. IsAt number e) }
 {
     match header.packet_len() {
         Some(_) => Ok(header),
@@ -390,6 +398,7 @@ pub(crate) fn piece_in(line: &FileLine) -> Result<&[u8], SessionFault>
     ensures found { IfOk result (λ piece. piece_of line.now.words.items ≡ Some piece.now) }
     ensures only { (piece : List ℕ) → piece_of line.now.words.items ≡ Some piece →
         MatchResult result (λ found. found.now ≡ piece) (λ e. e ≡ SessionFault.NoMemory) }
+    ensures at { IfErr result (λ e. IsAt line.now.number e) }
 {
     match piece_text(line.words.as_slice()) {
         Some(text) => Ok(text.as_slice()),

@@ -8,7 +8,7 @@ ghost use Rattle.milter_mail.specs.declared.word.Word.{Word};
 ghost use Rattle.milter_mail.specs.MailSession.{MacrosFit};
 ghost use Rattle.milter_mail.specs.SessionFile.{Tell, macros_told};
 ghost use Rattle.milter_mail.specs.SessionLines.{Told, macro_of};
-ghost use Rattle.milter_mail.specs.SessionReading.{TellMacros, goes_on, words_of};
+ghost use Rattle.milter_mail.specs.SessionReading.{IsAt, TellMacros, goes_on, words_of};
 
 use crate::file_lines::FileLine;
 use crate::macro_stage::MacroStage;
@@ -53,6 +53,7 @@ impl MacroLists {
         requires { PairFits pair }
         ensures ok { OnOk result (macros_of self.new ≡ with_macro stage pair (macros_of self.old)) }
         ensures err { MacrosFit (with_macro stage pair (macros_of self.old)) → IfErr result (λ e. e ≡ faults.NoMemory) }
+        ensures at { IfErr result (λ e. IsAt line e) }
     {
         match stage {
             MacroStage::Connect => self.connect.push(pair, line),

@@ -1,6 +1,6 @@
 //! The messages of a session file, read from its lines.
 
-ghost use Rattle.std.specs.Prelude.{◌≡◌, ◌++◌, ◌∷◌, [], All, IfOk, IfSome, IsOk, List, MatchResult, None, Some, codes, false, true, ℕ};
+ghost use Rattle.std.specs.Prelude.{◌≡◌, ◌++◌, ◌∷◌, [], All, IfErr, IfOk, IfSome, IsOk, List, MatchResult, None, Some, codes, false, true, ℕ};
 ghost use Rattle.std.specs.List.{concat};
 ghost use Rattle.milter_wire.specs.declared.command.Command.TheVariants as commands;
 ghost use Rattle.milter_wire.specs.declared.header.Header.{Header};
@@ -11,7 +11,7 @@ ghost use Rattle.milter_mail.specs.declared.word.Word.{Word};
 ghost use Rattle.milter_mail.specs.MailObject.{IsMessage, MailObject};
 ghost use Rattle.milter_mail.specs.SessionFile.{SayMessages, SaysMessage, Tell};
 ghost use Rattle.milter_mail.specs.SessionLines.{begins, end_line, header_of, keyword, path_of, piece_of};
-ghost use Rattle.milter_mail.specs.SessionReading.{SayFront, SayParts, TellFront, goes_on, words_of};
+ghost use Rattle.milter_mail.specs.SessionReading.{IsAt, IsAtFirst, SayFront, SayParts, TellFront, goes_on, words_of};
 ghost use Rattle.milter_mail.specs.Weighing.{IsLight};
 
 use crate::file_lines::FileLine;
@@ -107,6 +107,7 @@ pub(crate) fn first_line(
 ) -> Result<(&FileLine, &[FileLine]), SessionFault>
     ensures found { IfOk result (λ x. words_of lines.now ≡ x.0.now.words.items ∷ words_of x.1.now) }
     ensures only { (line : List Word) (rest : List (List Word)) → words_of lines.now ≡ line ∷ rest → IsOk result }
+    ensures first { MatchResult result (λ x. lines.now ≡ x.0.now ∷ x.1.now) (λ e. (lines.now ≡ []) × (e ≡ missing)) }
 {
     lines.split_first().ok_or(missing)
 }
@@ -119,6 +120,7 @@ fn take_keyword<'l>(
 ) -> Result<&'l [FileLine], SessionFault>
     ensures found { IfOk result (λ left. words_of lines.now ≡ (keyword text.now ∷ []) ∷ words_of left.now) }
     ensures only { (rest : List (List Word)) → words_of lines.now ≡ (keyword text.now ∷ []) ∷ rest → IsOk result }
+    ensures at { IfErr result (λ e. IsAtFirst lines.now missing e) }
 {
     let (line, rest) = first_line(lines, missing)?;
     match line.words.as_slice() {
@@ -138,6 +140,7 @@ fn take_sender(
     ensures only { (line : List Word) (rest : List (List Word)) (sender : Path) → words_of lines.now ≡ line ∷ rest
         → path_of (codes "sender") line ≡ Some sender → Fits (commands.Mail sender)
         → MatchResult result (λ x. (x.0 ≡ sender) × (words_of x.1.now ≡ rest)) (λ e. e ≡ SessionFault.NoMemory) }
+    ensures at { IfErr result (λ e. IsAtFirst lines.now missing e) }
 {
     let (line, rest) = first_line(lines, missing)?;
     if !begins(b"sender", line) {
@@ -150,6 +153,7 @@ fn take_sender(
 fn admit(overhead: &Overhead, message: Message, number: u64) -> Result<Message, SessionFault>
     ensures found { IfOk result (λ m. (m ≡ message) × IsLight overhead.now.message overhead.now.recipient m) }
     ensures only { IsLight overhead.now.message overhead.now.recipient message → IsOk result }
+    ensures at { IfErr result (λ e. IsAt number e) }
 {
     if message.recipients().is_empty() {
         return Err(SessionFault::NoRecipient(number));
@@ -171,6 +175,7 @@ fn finish<'l>(
         × IsLight overhead.now.message overhead.now.recipient x.0) }
     ensures only { (rest : List (List Word)) → words_of lines.now ≡ end_line ∷ rest
         → IsLight overhead.now.message overhead.now.recipient message → IsOk result }
+    ensures at { IfErr result (λ e. IsAtFirst lines.now missing e) }
 {
     let (line, _) = first_line(lines, missing)?;
     let rest = take_keyword(b"end", lines, missing)?;

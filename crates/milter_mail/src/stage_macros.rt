@@ -5,6 +5,7 @@ ghost use Rattle.milter_wire.specs.declared.command.Command.TheVariants as comma
 ghost use Rattle.milter_wire.specs.Command.{Fits};
 ghost use Rattle.milter_wire.specs.Layout.{PairFits, pair};
 ghost use Rattle.milter_mail.specs.declared.session_fault.SessionFault.TheVariants as faults;
+ghost use Rattle.milter_mail.specs.SessionReading.{IsAt};
 
 use crate::session_fault::SessionFault;
 use milter_wire::{Pair, Pairs};
@@ -50,6 +51,7 @@ impl StageMacros {
         requires { PairFits pair }
         ensures ok { OnOk result (self.new ≡ self.old ++ pair ∷ []) }
         ensures err { (command : ℕ) → Fits (commands.Macro command (self.old ++ pair ∷ [])) → IfErr result (λ e. e ≡ faults.NoMemory) }
+        ensures at { IfErr result (λ e. IsAt line e) }
     {
         let len = self.len.saturating_add(pair_len(&pair));
         if len > PAYLOAD_MAX {

@@ -22,6 +22,6 @@ returns-clause-only c = λ s says session.
     let start = opened c.in_ok-client.client.now.words.items c.in_ok-helo.helo.now.words.items (words_of c.in_ok-helo.rest.now) (words_of c.in_ok-client.rest.now) (words_of c.args.file.now.lines.items) s first c.in_ok-helo.ensures.found says in
     let fit = subst MacrosFit says.macros_are session.told_macros in
     let macros = c.in_ok-macros.ensures.only says.macros says.messages says.told start.rest_is says.told_macros fit (no_macros says.messages s.messages says.say_messages) in
-    let client_is = same_Some s.client c.in_ok-client-2.client (sym says.told_client ∙ ap client_of (sym start.client_is) ∙ c.in_ok-client-2.ensures.0) in
-    let helo_is = same_Some s.helo c.in_ok-helo-2.helo (sym says.told_helo ∙ ap helo_of (sym start.helo_is) ∙ c.in_ok-helo-2.ensures.0) in
+    let client_is = same_Some s.client c.in_ok-client-2.client (sym says.told_client ∙ ap client_of (sym start.client_is) ∙ c.in_ok-client-2.ensures.reads.0) in
+    let helo_is = same_Some s.helo c.in_ok-helo-2.helo (sym says.told_helo ∙ ap helo_of (sym start.helo_is) ∙ c.in_ok-helo-2.ensures.reads.0) in
     c.with_messages.ensures.only s client_is helo_is (says.macros_are ∙ sym macros.0) (subst (λ l. SayMessages l s.messages) (sym macros.1) says.say_messages) session

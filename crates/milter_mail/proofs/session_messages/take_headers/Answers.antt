@@ -13,15 +13,15 @@ returns-in_err-header_in-clause-only c = λ front rest headers order told fit en
     let next = next_told (λ header. Fits (commands.Header header)) (codes "header") header_of (words_of c.args.lines.now) (words_of c.loop-line.rest.now) (words_of c.in-Some.after.now) rest
     c.in-Some.line.now.words.items c.loop-line.headers.items headers header_opens c.loop-line.invariant.told c.in-Some.ensures.some.0 c.in-Some.ensures.some.1 run fit in
     let p = err_from_is_err_and c.from_residual.result c.from_residual.ensures.1 in
-    rw (p.1, p.2) (c.in_err-header_in.ensures next.0 next.1 next.2)
+    rw (p.1, p.2) (c.in_err-header_in.ensures.reads next.0 next.1 next.2)
 
 pub loop-line-preserved : goal.loop-line-preserved
 loop-line-preserved c =
     rw c.in_ok-push.ensures.items
     record {
       told = tell_more header_of (words_of c.args.lines.now) c.loop-line.headers.items (words_of c.loop-line.rest.now) c.in-Some.line.now.words.items (words_of c.in-Some.after.now)
-          c.in_ok-header_in.field-0 c.loop-line.invariant.told c.in-Some.ensures.some.0 c.in_ok-header_in.ensures.0;
-      fit = fit_more (λ header. Fits (commands.Header header)) c.loop-line.headers.items c.in_ok-header_in.field-0 c.loop-line.invariant.fit c.in_ok-header_in.ensures.1;
+          c.in_ok-header_in.field-0 c.loop-line.invariant.told c.in-Some.ensures.some.0 c.in_ok-header_in.ensures.reads.0;
+      fit = fit_more (λ header. Fits (commands.Header header)) c.loop-line.headers.items c.in_ok-header_in.field-0 c.loop-line.invariant.fit c.in_ok-header_in.ensures.reads.1;
     }
 
 pub returns-clause-only : goal.returns-clause-only

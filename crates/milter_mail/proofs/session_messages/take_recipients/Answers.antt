@@ -14,7 +14,7 @@ returns-in_err-path_in-clause-only c = λ front rest paths order told fit ends.
     let next = next_told (λ path. Fits (commands.Rcpt path)) text (path_of text) (words_of c.args.lines.now) (words_of c.loop-line.rest.now) (words_of c.in-Some.after.now) rest
     c.in-Some.line.now.words.items c.loop-line.paths.items paths (path_opens text) c.loop-line.invariant.told c.in-Some.ensures.some.0 c.in-Some.ensures.some.1 run fit in
     let p = err_from_is_err_and c.from_residual.result c.from_residual.ensures.1 in
-    rw (p.1, p.2) (c.in_err-path_in.ensures next.0 next.1 next.2)
+    rw (p.1, p.2) (c.in_err-path_in.ensures.reads next.0 next.1 next.2)
 
 pub loop-line-preserved : goal.loop-line-preserved
 loop-line-preserved c =
@@ -22,8 +22,8 @@ loop-line-preserved c =
     rw c.in_ok-push.ensures.items
     record {
       told = tell_more (path_of text) (words_of c.args.lines.now) c.loop-line.paths.items (words_of c.loop-line.rest.now) c.in-Some.line.now.words.items (words_of c.in-Some.after.now)
-          c.in_ok-path_in.field-0 c.loop-line.invariant.told c.in-Some.ensures.some.0 c.in_ok-path_in.ensures.0;
-      fit = fit_more (λ path. Fits (commands.Rcpt path)) c.loop-line.paths.items c.in_ok-path_in.field-0 c.loop-line.invariant.fit c.in_ok-path_in.ensures.1;
+          c.in_ok-path_in.field-0 c.loop-line.invariant.told c.in-Some.ensures.some.0 c.in_ok-path_in.ensures.reads.0;
+      fit = fit_more (λ path. Fits (commands.Rcpt path)) c.loop-line.paths.items c.in_ok-path_in.field-0 c.loop-line.invariant.fit c.in_ok-path_in.ensures.reads.1;
     }
 
 pub returns-clause-only : goal.returns-clause-only
