@@ -12,11 +12,11 @@ set -eu
 cd "$(dirname "${BASH_SOURCE[0]}")/.."
 work=$(mktemp -d)
 trap 'rm -rf "$work"' EXIT
-mkdir -p "$work/crates/session_reader/src"
+mkdir -p "$work/crates/session_counter/src"
 grep -E '^(milter_wire|milter_mail):' crates.txt >"$work/crates.txt"
-echo 'session_reader: milter_wire milter_mail thiserror' >>"$work/crates.txt"
+echo 'session_counter: milter_wire milter_mail thiserror' >>"$work/crates.txt"
 cp -r crates/milter_wire crates/milter_mail "$work/crates/"
-cat >"$work/crates/session_reader/src/main.rt" <<'RATTLE'
+cat >"$work/crates/session_counter/src/main.rt" <<'RATTLE'
 //! Reads a session file from standard input, and tells how many messages it says, or the number of its fault.
 #![tactic(auto)]
 
@@ -65,14 +65,14 @@ PYTHON
 }
 
 for size in 1 64 128; do session "$size" >"$work/$size.session"; done
-if ! (cd "$work/crates/session_reader" && rt run <"$work/1.session" >"$work/log" 2>&1); then
+if ! (cd "$work/crates/session_counter" && rt run <"$work/1.session" >"$work/log" 2>&1); then
     cat "$work/log" >&2
     exit 1
 fi
 python3 - "$work" <<'PYTHON'
 import os, resource, subprocess, sys, time
 work = sys.argv[1]
-program = f"{work}/crates/session_reader/out/session_reader"
+program = f"{work}/crates/session_counter/out/session_counter"
 best = {}
 for size in (1, 64, 128):
     file = f"{work}/{size}.session"

@@ -1,5 +1,6 @@
 //! The faults: their numbers, and what is printed of them.
 
+use milter_mail::{SessionFault, TextFault};
 use milter_wire::{NoMemory, WireFault};
 use std::test::Fail;
 
@@ -53,4 +54,35 @@ fn faults_are_printed(rt: HostRuntime) -> Result<(), Fail> {
 #[test]
 fn refused_memory_is_a_fault(rt: HostRuntime) {
     assert_eq!(rt; WireFault::from(NoMemory), WireFault::NoMemory);
+}
+
+#[test]
+fn faults_of_session_files_are_printed(rt: HostRuntime) -> Result<(), Fail> {
+    let cases = [
+        (SessionFault::UnknownLine(1), "line 1: unknown line"),
+        (SessionFault::BadClient(2), "line 2: bad client"),
+        (SessionFault::NoRecipient(30), "line 30: no recipient"),
+        (SessionFault::BadHeader(4), "line 4: bad header"),
+        (SessionFault::NoEnd(5), "line 5: no end"),
+        (SessionFault::TooLarge(6), "line 6: too large"),
+        (
+            SessionFault::Nul(18_446_744_073_709_551_615),
+            "line 18446744073709551615: NUL",
+        ),
+        (SessionFault::NoMemory, "out of memory"),
+    ];
+    for (fault, text) in cases {
+        let printed = fault.to_string(rt.alloc())?;
+        assert_eq!(rt; printed.as_str(), text);
+    }
+    Ok(())
+}
+
+#[test]
+fn faults_of_texts_are_printed(rt: HostRuntime) -> Result<(), Fail> {
+    let printed = TextFault::Write.to_string(rt.alloc())?;
+    assert_eq!(rt; printed.as_str(), "write fault");
+    let printed = TextFault::NoMemory.to_string(rt.alloc())?;
+    assert_eq!(rt; printed.as_str(), "out of memory");
+    Ok(())
 }

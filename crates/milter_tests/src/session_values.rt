@@ -2,7 +2,7 @@
 
 use crate::made::{client, inet, pair};
 use milter_mail::{Message, Session, apply, read_session, write_message};
-use milter_wire::{Client, Pair, Stage};
+use milter_wire::{Client, Origin, Pair, Path, Stage};
 use std::alloc::{AllocError, Global};
 use std::process::Abort;
 use std::test::Fail;
@@ -16,6 +16,19 @@ const FILE: &[u8] = b"# two messages\r\n\
     header \"Subject\" \"hi\\r\\n there\"\nheader \"X\" \"\"\n\
     body \"a\\x00\"\n\nbody \"\"\n# more\nbody \"b\\n\"\nend\n\
     message\nsender \"\"\nrecipient \"d\"\nend";
+
+/// The stages, in the order of a session.
+const ALL_STAGES: [Stage; 9] = [
+    Stage::Connect,
+    Stage::Helo,
+    Stage::Mail,
+    Stage::Rcpt,
+    Stage::DataCmd,
+    Stage::Header,
+    Stage::Eoh,
+    Stage::Body,
+    Stage::Eob,
+];
 
 /// The text of the message as it is.
 fn text_of(alloc: Global, message: &Message) -> Result<Vec<u8>, AllocError> {
@@ -76,4 +89,39 @@ fn a_file_may_have_no_messages(rt: HostRuntime) {
     let session = read_session(rt.alloc(), file).expect(&rt, "the file says a session");
     assert_eq!(rt; session.messages().len(), 0);
     assert_eq!(rt; session.client().host.as_slice(), b"".as_slice());
+}
+
+/// Whether the path is this address, without parameters.
+fn is_address(path: &Path, address: &[u8]) -> bool {
+    path.address.as_slice() == address && path.params.as_slice().is_empty()
+}
+
+/// Whether the message goes from `a@x` to `b@y`, and has no header field and no body.
+fn is_bare(message: &Message) -> bool {
+    let [recipient] = message.recipients() else {
+        return false;
+    };
+    is_address(message.sender(), b"a@x")
+        && is_address(recipient, b"b@y")
+        && message.headers().is_empty()
+        && message.body().is_empty()
+}
+
+/// Whether no stage has macros.
+fn has_no_macros(session: &Session) -> bool {
+    ALL_STAGES
+        .iter()
+        .all(|stage| session.macros().at(*stage).is_empty())
+}
+
+#[test]
+fn a_file_of_six_lines(rt: HostRuntime) {
+    let file = b"client U \"h.example\"\nhelo \"mail\"\n\
+        message\nsender \"a@x\"\nrecipient \"b@y\"\nend\n";
+    let session = read_session(rt.alloc(), file).expect(&rt, "the file says a session");
+    assert_eq!(rt; session.client().host.as_slice(), b"h.example".as_slice());
+    assert!(rt; matches!(session.client().origin, Origin::Unknown));
+    assert_eq!(rt; session.helo().as_slice(), b"mail".as_slice());
+    assert!(rt; has_no_macros(&session));
+    assert!(rt; matches!(session.messages(), [message] if is_bare(message)));
 }
