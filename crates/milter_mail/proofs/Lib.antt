@@ -14,3 +14,4 @@ pub mod Runs
 pub mod MacroTelling
 pub mod SessionParts
 pub mod Sayings
+pub mod Placed

@@ -1,5 +1,5 @@
 -- The faults of a session file.
-use Rattle.std.specs.Prelude.{ℕ, Option, None, Some}
+use Rattle.std.specs.Prelude.{ℕ, ◌≤◌, IfSome, Option, None, Some}
 use Rattle.milter_mail.specs.declared.session_fault.SessionFault.{SessionFault}
 use Rattle.milter_mail.specs.declared.session_fault.SessionFault.TheVariants.{UnknownLine, BadClient, NoRecipient, BadHeader, NoEnd, TooLarge, Nul, NoMemory}
 
@@ -22,3 +22,7 @@ line_of (NoEnd n) = Some n
 line_of (TooLarge n) = Some n
 line_of (Nul n) = Some n
 line_of NoMemory = None
+
+-- the fault is told of a line from 1 to this one, unless it is want of memory
+abbrev pub IsWithin : ℕ → SessionFault → Type 0
+IsWithin last fault = IfSome (line_of fault) (λ line. (1 ≤ line) × (line ≤ last))

@@ -1,5 +1,5 @@
 -- What the parts of the reader of session files tell of each other.
-use Rattle.std.specs.Prelude.{◌≡◌, ℕ, Bool, false, List, [], ◌∷◌, ◌++◌, map, codes, IfSome, Option, Some, Result, Ok, Err}
+use Rattle.std.specs.Prelude.{◌≡◌, ◌≤◌, ℕ, All, Bool, false, List, [], ◌∷◌, ◌++◌, map, codes, IfSome, Option, Some, Result, Ok, Err}
 use Rattle.std.specs.List.{concat}
 use Rattle.milter_mail.specs.declared.file_lines.FileLine.{FileLine}
 use Rattle.milter_mail.specs.declared.macros.Macros.{Macros}
@@ -28,6 +28,10 @@ IsAt number fault = IfSome (line_of fault) (λ told. told ≡ number)
 abbrev pub IsAtFirst : List FileLine → SessionFault → SessionFault → Type 0
 IsAtFirst [] missing fault = fault ≡ missing
 IsAtFirst (line ∷ lines) missing fault = IsAt line.number fault
+
+-- the numbers of the lines go from 1 to this one at most
+abbrev pub AreWithin : ℕ → List FileLine → Type 0
+AreWithin last lines = All (λ line. (1 ≤ line.number) × (line.number ≤ last)) lines
 
 -- whether the first of the lines begins with the keyword
 abbrev pub goes_on : List ℕ → List (List Word) → Bool

@@ -1,13 +1,13 @@
 //! The lines of a session file, as words.
 
-ghost use Rattle.std.specs.Prelude.{◌≡◌, ◌<◌, ◌==◌, ◌∷◌, [], None, IfOk, IfSome, IsSome, List, ℕ, find, length, not, position};
+ghost use Rattle.std.specs.Prelude.{◌≡◌, ◌<◌, ◌≤◌, ◌+◌, ◌==◌, ◌∷◌, [], None, IfOk, IfSome, IsSome, List, ℕ, find, length, not, position};
 ghost use Rattle.std.specs.Io.BufRead.{strip_last};
 ghost use Rattle.std.specs.List.{AllZip};
 ghost use Rattle.std.specs.Option.{MatchOption};
 ghost use Rattle.milter_mail.specs.declared.word.Word.{Word};
 ghost use Rattle.milter_mail.specs.FileLines.{all_contents};
-ghost use Rattle.milter_mail.specs.SessionFile.{contents, is_skipped};
-ghost use Rattle.milter_mail.specs.SessionReading.{words_of};
+ghost use Rattle.milter_mail.specs.SessionFile.{contents, is_skipped, lines_of};
+ghost use Rattle.milter_mail.specs.SessionReading.{AreWithin, words_of};
 ghost use Rattle.milter_mail.specs.Words.{HasWords};
 
 use crate::line::words;
@@ -38,6 +38,9 @@ pub(crate) struct FileLines {
 pub(crate) fn read_lines(alloc: Global, bytes: &[u8]) -> Result<FileLines, NoMemory>
     ensures whole { IfOk result (λ f. f.bad ≡ None → AllZip HasWords (contents bytes.now) (words_of f.lines.items)) }
     ensures bad { IfOk result (λ f. IsSome f.bad → (said : List (List Word)) → ¬ AllZip HasWords (contents bytes.now) said) }
+    ensures numbers { IfOk result (λ f. AreWithin (length (lines_of bytes.now)) f.lines.items) }
+    ensures bad_line { IfOk result (λ f. IfSome f.bad (λ line. (1 ≤ line) × (line ≤ length (lines_of bytes.now)))) }
+    ensures end { IfOk result (λ f. (1 ≤ f.end) × (f.end ≤ length (lines_of bytes.now) + 1)) }
 {
     let mut lines = Vec::new(alloc);
     let mut rest = bytes;

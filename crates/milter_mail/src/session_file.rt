@@ -1,13 +1,14 @@
 //! Session files.
 
-ghost use Rattle.std.specs.Prelude.{◌≡◌, IfOk, MatchResult};
+ghost use Rattle.std.specs.Prelude.{◌≡◌, ◌≤◌, ◌+◌, IfErr, IfOk, IfSome, MatchResult, ℕ, length};
 ghost use Rattle.std.specs.Option.{MatchOption};
 ghost use Rattle.milter_wire.specs.declared.command.Command.TheVariants as commands;
 ghost use Rattle.milter_wire.specs.Command.{Fits};
 ghost use Rattle.milter_mail.specs.declared.session_fault.SessionFault.TheVariants as SessionFault;
 ghost use Rattle.milter_mail.specs.MailSession.{IsSession, MacrosFit, MailSession};
-ghost use Rattle.milter_mail.specs.SessionFile.{IsSessionFile, SayMessages, SaysSession};
-ghost use Rattle.milter_mail.specs.SessionReading.{words_of};
+ghost use Rattle.milter_mail.specs.SessionFault.{IsWithin};
+ghost use Rattle.milter_mail.specs.SessionFile.{IsSessionFile, SayMessages, SaysSession, lines_of};
+ghost use Rattle.milter_mail.specs.SessionReading.{AreWithin, words_of};
 
 use crate::file_lines::{FileLine, FileLines, read_lines};
 use crate::macros::Macros;
@@ -28,13 +29,16 @@ use std::alloc::Global;
 /// `body TEXT`, whose texts are joined; and `end`. Texts stand in quotes, and all else is plain.
 ///
 /// The fault is the first line that isn't of this form, or by which the session would be none: memory aside, that is
-/// told exactly where the file says no session. Source: own.
+/// told exactly where the file says no session. The line of a fault is one of the file, or the one after its last.
+/// Source: own.
 pub fn read_session(alloc: Global, bytes: &[u8]) -> Result<Session, SessionFault>
     // What is read is what the file says.
     ensures found { IfOk result (λ s. IsSessionFile bytes.now s) }
     // What the file says is read, unless memory is refused.
     ensures only { (s : MailSession) → IsSessionFile bytes.now s →
         MatchResult result (λ t. t ≡ s) (λ e. e ≡ SessionFault.NoMemory) }
+    // The line of a fault is one of the file, or the one after the last.
+    ensures line { IfErr result (IsWithin (length (lines_of bytes.now) + 1)) }
 {
     let file = read_lines(alloc, bytes)?;
     let session = session_in(alloc, &file)?;
@@ -50,6 +54,8 @@ fn session_in(alloc: Global, file: &FileLines) -> Result<Session, SessionFault>
     ensures found { IfOk result (λ s. SaysSession (words_of file.now.lines.items) s × IsSession s) }
     ensures only { (s : MailSession) → SaysSession (words_of file.now.lines.items) s → IsSession s →
         MatchResult result (λ t. t ≡ s) (λ e. e ≡ SessionFault.NoMemory) }
+    ensures within { (last : ℕ) → AreWithin last file.now.lines.items → IfSome file.now.bad (λ line. (1 ≤ line) × (line ≤ last))
+        → 1 ≤ file.now.end → file.now.end ≤ last → IfErr result (IsWithin last) }
 {
     let no_client = missing(file, SessionFault::BadClient(file.end));
     let (client, rest) = first_line(file.lines.as_slice(), no_client)?;
@@ -89,6 +95,7 @@ fn with_messages(
     ensures only { (s : MailSession) → s.client ≡ client → s.helo ≡ helo → s.macros ≡ macros →
         SayMessages (words_of lines.now) s.messages → IsSession s →
         MatchResult result (λ t. t ≡ s) (λ e. e ≡ SessionFault.NoMemory) }
+    ensures within { (last : ℕ) → AreWithin last lines.now → IsWithin last missing → IfErr result (IsWithin last) }
 {
     let Some(overhead) = measure(&client, &helo, &macros) else {
         return Err(missing);

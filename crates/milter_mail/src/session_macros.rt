@@ -1,14 +1,15 @@
 //! The macros of a session file.
 
-ghost use Rattle.std.specs.Prelude.{◌≡◌, ◌++◌, [], codes, false, IfErr, IfOk, List, MatchResult, OnOk};
+ghost use Rattle.std.specs.Prelude.{◌≡◌, ◌++◌, [], codes, false, IfErr, IfOk, List, MatchResult, OnOk, ℕ};
 ghost use Rattle.milter_wire.specs.Layout.{PairFits};
 ghost use Rattle.milter_mail.specs.declared.session_fault.SessionFault.TheVariants as faults;
 ghost use Rattle.milter_mail.specs.MacroLists.{macros_of, with_macro};
 ghost use Rattle.milter_mail.specs.declared.word.Word.{Word};
 ghost use Rattle.milter_mail.specs.MailSession.{MacrosFit};
+ghost use Rattle.milter_mail.specs.SessionFault.{IsWithin};
 ghost use Rattle.milter_mail.specs.SessionFile.{Tell, macros_told};
 ghost use Rattle.milter_mail.specs.SessionLines.{Told, macro_of};
-ghost use Rattle.milter_mail.specs.SessionReading.{IsAt, TellMacros, goes_on, words_of};
+ghost use Rattle.milter_mail.specs.SessionReading.{AreWithin, IsAt, TellMacros, goes_on, words_of};
 
 use crate::file_lines::FileLine;
 use crate::macro_stage::MacroStage;
@@ -92,6 +93,8 @@ pub(crate) fn take_macros<'l>(
     ensures only { (front rest : List (List Word)) (told : List Told) → words_of lines.now ≡ front ++ rest →
         Tell macro_of front told → MacrosFit (macros_told told) → goes_on (codes "macro") rest ≡ false →
         MatchResult result (λ x. (x.0 ≡ macros_told told) × (words_of x.1.now ≡ rest)) (λ e. e ≡ faults.NoMemory) }
+    ensures left { (last : ℕ) → AreWithin last lines.now → IfOk result (λ x. AreWithin last x.1.now) }
+    ensures within { (last : ℕ) → AreWithin last lines.now → IfErr result (IsWithin last) }
 {
     let mut lists = MacroLists::new(alloc);
     let mut rest = lines;

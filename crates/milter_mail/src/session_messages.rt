@@ -9,9 +9,10 @@ ghost use Rattle.milter_wire.specs.Command.{Fits};
 ghost use Rattle.milter_mail.specs.declared.session_fault.SessionFault.TheVariants as SessionFault;
 ghost use Rattle.milter_mail.specs.declared.word.Word.{Word};
 ghost use Rattle.milter_mail.specs.MailObject.{IsMessage, MailObject};
+ghost use Rattle.milter_mail.specs.SessionFault.{IsWithin};
 ghost use Rattle.milter_mail.specs.SessionFile.{SayMessages, SaysMessage, Tell};
 ghost use Rattle.milter_mail.specs.SessionLines.{begins, end_line, header_of, keyword, path_of, piece_of};
-ghost use Rattle.milter_mail.specs.SessionReading.{IsAt, IsAtFirst, SayFront, SayParts, TellFront, goes_on, words_of};
+ghost use Rattle.milter_mail.specs.SessionReading.{AreWithin, IsAt, IsAtFirst, SayFront, SayParts, TellFront, goes_on, words_of};
 ghost use Rattle.milter_mail.specs.Weighing.{IsLight};
 
 use crate::file_lines::FileLine;
@@ -30,6 +31,7 @@ pub(crate) fn next_with<'l>(
     ensures some { IfSome result (λ x. (words_of lines.now ≡ x.0.now.words.items ∷ words_of x.1.now)
         × (begins keyword.now x.0.now.words.items ≡ true)) }
     ensures none { result ≡ None → goes_on keyword.now (words_of lines.now) ≡ false }
+    ensures next { IfSome result (λ x. lines.now ≡ x.0.now ∷ x.1.now) }
 {
     let (line, rest) = lines.split_first()?;
     if begins(keyword, line) {
@@ -50,6 +52,8 @@ fn take_recipients(
         → Tell (path_of (codes "recipient")) front paths → All (λ path. Fits (commands.Rcpt path)) paths
         → goes_on (codes "recipient") rest ≡ false
         → MatchResult result (λ x. (x.0.items ≡ paths) × (words_of x.1.now ≡ rest)) (λ e. e ≡ SessionFault.NoMemory) }
+    ensures left { (last : ℕ) → AreWithin last lines.now → IfOk result (λ x. AreWithin last x.1.now) }
+    ensures within { (last : ℕ) → AreWithin last lines.now → IfErr result (IsWithin last) }
 {
     let mut paths = Vec::new(alloc);
     let mut rest = lines;
@@ -72,6 +76,8 @@ fn take_headers(
         → Tell header_of front headers → All (λ header. Fits (commands.Header header)) headers
         → goes_on (codes "header") rest ≡ false
         → MatchResult result (λ x. (x.0.items ≡ headers) × (words_of x.1.now ≡ rest)) (λ e. e ≡ SessionFault.NoMemory) }
+    ensures left { (last : ℕ) → AreWithin last lines.now → IfOk result (λ x. AreWithin last x.1.now) }
+    ensures within { (last : ℕ) → AreWithin last lines.now → IfErr result (IsWithin last) }
 {
     let mut headers = Vec::new(alloc);
     let mut rest = lines;
@@ -90,6 +96,8 @@ fn take_body(alloc: Global, lines: &[FileLine]) -> Result<(Vec<u8>, &[FileLine])
     ensures only { (front rest : List (List Word)) (pieces : List (List ℕ)) → words_of lines.now ≡ front ++ rest
         → Tell piece_of front pieces → goes_on (codes "body") rest ≡ false
         → MatchResult result (λ x. (x.0.items ≡ concat pieces) × (words_of x.1.now ≡ rest)) (λ e. e ≡ SessionFault.NoMemory) }
+    ensures left { (last : ℕ) → AreWithin last lines.now → IfOk result (λ x. AreWithin last x.1.now) }
+    ensures within { (last : ℕ) → AreWithin last lines.now → IfErr result (IsWithin last) }
 {
     let mut body = Vec::new(alloc);
     let mut rest = lines;
@@ -121,6 +129,8 @@ fn take_keyword<'l>(
     ensures found { IfOk result (λ left. words_of lines.now ≡ (keyword text.now ∷ []) ∷ words_of left.now) }
     ensures only { (rest : List (List Word)) → words_of lines.now ≡ (keyword text.now ∷ []) ∷ rest → IsOk result }
     ensures at { IfErr result (λ e. IsAtFirst lines.now missing e) }
+    ensures left { (last : ℕ) → AreWithin last lines.now → IfOk result (λ left. AreWithin last left.now) }
+    ensures within { (last : ℕ) → AreWithin last lines.now → IsWithin last missing → IfErr result (IsWithin last) }
 {
     let (line, rest) = first_line(lines, missing)?;
     match line.words.as_slice() {
@@ -141,6 +151,8 @@ fn take_sender(
         → path_of (codes "sender") line ≡ Some sender → Fits (commands.Mail sender)
         → MatchResult result (λ x. (x.0 ≡ sender) × (words_of x.1.now ≡ rest)) (λ e. e ≡ SessionFault.NoMemory) }
     ensures at { IfErr result (λ e. IsAtFirst lines.now missing e) }
+    ensures left { (last : ℕ) → AreWithin last lines.now → IfOk result (λ x. AreWithin last x.1.now) }
+    ensures within { (last : ℕ) → AreWithin last lines.now → IsWithin last missing → IfErr result (IsWithin last) }
 {
     let (line, rest) = first_line(lines, missing)?;
     if !begins(b"sender", line) {
@@ -176,6 +188,8 @@ fn finish<'l>(
     ensures only { (rest : List (List Word)) → words_of lines.now ≡ end_line ∷ rest
         → IsLight overhead.now.message overhead.now.recipient message → IsOk result }
     ensures at { IfErr result (λ e. IsAtFirst lines.now missing e) }
+    ensures left { (last : ℕ) → AreWithin last lines.now → IfOk result (λ x. AreWithin last x.1.now) }
+    ensures within { (last : ℕ) → AreWithin last lines.now → IsWithin last missing → IfErr result (IsWithin last) }
 {
     let (line, _) = first_line(lines, missing)?;
     let rest = take_keyword(b"end", lines, missing)?;
@@ -191,6 +205,8 @@ fn take_parts(
     ensures found { IfOk result (λ x. SayParts (words_of lines.now) x.0 (words_of x.1.now)) }
     ensures only { (m : MailObject) (rest : List (List Word)) → SayParts (words_of lines.now) m (end_line ∷ rest) → IsMessage m
         → MatchResult result (λ x. (x.0 ≡ m) × (words_of x.1.now ≡ end_line ∷ rest)) (λ e. e ≡ SessionFault.NoMemory) }
+    ensures left { (last : ℕ) → AreWithin last lines.now → IfOk result (λ x. AreWithin last x.1.now) }
+    ensures within { (last : ℕ) → AreWithin last lines.now → IsWithin last missing → IfErr result (IsWithin last) }
 {
     let rest = take_keyword(b"message", lines, missing)?;
     let (sender, rest) = take_sender(alloc, rest, missing)?;
@@ -213,6 +229,8 @@ fn take_message<'l>(
     ensures only { (front rest : List (List Word)) (m : MailObject) → words_of lines.now ≡ front ++ rest
         → SaysMessage front m → IsLight overhead.now.message overhead.now.recipient m
         → MatchResult result (λ x. (x.0 ≡ m) × (words_of x.1.now ≡ rest)) (λ e. e ≡ SessionFault.NoMemory) }
+    ensures left { (last : ℕ) → AreWithin last lines.now → IfOk result (λ x. AreWithin last x.1.now) }
+    ensures within { (last : ℕ) → AreWithin last lines.now → IsWithin last missing → IfErr result (IsWithin last) }
 {
     let (message, end) = take_parts(alloc, lines, missing)?;
     let (message, rest) = finish(overhead, message, end, missing)?;
@@ -232,6 +250,7 @@ pub(crate) fn take_messages(
     ensures only { (messages : List MailObject) → SayMessages (words_of lines.now) messages
         → All (IsLight overhead.now.message overhead.now.recipient) messages
         → MatchResult result (λ found. found.items ≡ messages) (λ e. e ≡ SessionFault.NoMemory) }
+    ensures within { (last : ℕ) → AreWithin last lines.now → IsWithin last missing → IfErr result (IsWithin last) }
 {
     let mut messages = Vec::new(alloc);
     let mut rest = lines;

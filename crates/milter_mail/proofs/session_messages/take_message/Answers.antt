@@ -31,3 +31,11 @@ returns-clause-only c = λ front rest m order say light.
     let f = c.in_ok-message-2.ensures.found in
     let a = c.in_ok-message.ensures.only m rest (parts_of_message (words_of c.args.lines.now) front rest m order say) light.whole in
     (f.1 ∙ a.0, left_same (words_of c.in_ok-message.end.now) end_line (words_of c.in_ok-message-2.rest.now) rest f.0 a.1)
+
+pub returns-in_err-message-2-clause-within : goal.returns-in_err-message-2-clause-within
+returns-in_err-message-2-clause-within c = λ last within end.
+    let p = err_from_is_err_and c.from_residual-in_err-message-2.result c.from_residual-in_err-message-2.ensures.1 in
+    rw (p.1, p.2) (c.in_err-message-2.ensures.within last (c.in_ok-message.ensures.left last within) end)
+
+pub returns-clause-left : goal.returns-clause-left
+returns-clause-left c = λ last within. c.in_ok-message-2.ensures.left last (c.in_ok-message.ensures.left last within)
