@@ -220,6 +220,34 @@ fn lines_are_in_words(rt: HostRuntime) -> Result<(), Fail> {
     Ok(())
 }
 
+#[test]
+fn a_line_is_looked_at_in_order(rt: HostRuntime) -> Result<(), Fail> {
+    let alloc = rt.alloc();
+    // Its words come first, then which line it is, its form, the NULs and the name of a header field.
+    let files: [(&[u8], u8, u64); 4] = [
+        (b"helo \"m\n", 1, 1),
+        (b"client U h \"x\n", 1, 1),
+        (b"client U \"h\\x00\" \"\n", 1, 1),
+        (b"helo \"m\\x00\"\n", 2, 1),
+    ];
+    assert_faults(&rt, alloc, &files);
+    let files: [(&[u8], u8, u64); 4] = [
+        (b"client U\n", 1, 3),
+        (b"header \"X\"\n", 1, 3),
+        (b"header \"X:\" \"1\"\n", 1, 3),
+        (b"sender \"\\x00\"\n", 1, 3),
+    ];
+    assert_faults_after(&rt, alloc, OPENING, &files)?;
+    let files: [(&[u8], u8, u64); 4] = [
+        (b"header \"X\" \"\n", 1, 6),
+        (b"header \"X:\" \"1\n", 1, 6),
+        (b"header \"X\\x00\" \"1\n", 1, 6),
+        (b"end \"\n", 1, 6),
+    ];
+    assert_faults_after(&rt, alloc, MESSAGE, &files)?;
+    Ok(())
+}
+
 /// A file of these lines, with so many bytes `z` between them.
 fn long(alloc: Global, front: &[u8], len: usize, back: &[u8]) -> Result<Vec<u8>, AllocError> {
     let mut file = front.to_vec(alloc)?;
@@ -245,6 +273,28 @@ fn packets_have_room_for_each_line(rt: HostRuntime) -> Result<(), Fail> {
     assert_fault(&rt, alloc, &file, 6, 5);
     let front = b"client U \"h\"\nhelo \"m\"\nmessage\nsender \"a\"\nheader \"X:\" \"";
     let file = long(alloc, front, 65_533, b"\"\n")?;
+    assert_fault(&rt, alloc, &file, 4, 5);
+    Ok(())
+}
+
+#[test]
+fn the_length_of_a_line_is_looked_at_last(rt: HostRuntime) -> Result<(), Fail> {
+    let alloc = rt.alloc();
+    let file = long(alloc, b"client U \"", 65_534, b"\" \"\n")?;
+    assert_fault(&rt, alloc, &file, 1, 1);
+    let file = long(alloc, b"helo \"", 65_535, b"\"\n")?;
+    assert_fault(&rt, alloc, &file, 2, 1);
+    let file = long(alloc, b"client 4 \"", 65_534, b"\"\n")?;
+    assert_fault(&rt, alloc, &file, 2, 1);
+    let file = long(
+        alloc,
+        b"client U \"h\"\nhelo \"m\"\nsender \"",
+        65_535,
+        b"\"\n",
+    )?;
+    assert_fault(&rt, alloc, &file, 1, 3);
+    let front = b"client U \"h\"\nhelo \"m\"\nmessage\nsender \"a\"\nheader \"X\" \"";
+    let file = long(alloc, front, 65_533, b"\" \"\"\n")?;
     assert_fault(&rt, alloc, &file, 4, 5);
     Ok(())
 }
