@@ -73,6 +73,34 @@ impl Session {
         })
     }
 
+    /// The session of these parts, which make one.
+    pub(crate) fn from_parts(
+        client: Client,
+        helo: Text,
+        macros: Macros,
+        messages: Vec<Message>,
+    ) -> Self
+        requires { IsSession (record {
+          client = client;
+          helo = helo;
+          macros = macros;
+          messages = messages.items;
+        }) }
+        ensures { result ≡ record {
+          client = client;
+          helo = helo;
+          macros = macros;
+          messages = messages.items;
+        } }
+    {
+        Session {
+            client,
+            helo,
+            macros,
+            messages,
+        }
+    }
+
     /// The client, of which a packet can tell. No memory is taken. Source: own.
     pub fn client(&self) -> &Client
         ensures client { result.now ≡ self.now.client }

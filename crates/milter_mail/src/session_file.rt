@@ -97,12 +97,7 @@ fn with_messages(
         MatchResult result (λ t. t ≡ s) (λ e. e ≡ SessionFault.NoMemory) }
     ensures within { (last : ℕ) → AreWithin last lines.now → IsWithin last missing → IfErr result (IsWithin last) }
 {
-    let Some(overhead) = measure(&client, &helo, &macros) else {
-        return Err(missing);
-    };
+    let overhead = measure(&client, &helo, &macros).unwrap();
     let messages = take_messages(alloc, &overhead, lines, missing)?;
-    match Session::new(client, helo, macros, messages) {
-        Some(session) => Ok(session),
-        None => Err(missing),
-    }
+    Ok(Session::from_parts(client, helo, macros, messages))
 }
