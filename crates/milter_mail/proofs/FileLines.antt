@@ -11,7 +11,7 @@ use Rattle.std.proofs.lemmas.List.Elements.{All-nil, All-cons, All-head, All-tai
 use Rattle.std.proofs.lemmas.List.Quantifiers.{position-Some}
 use Rattle.milter_mail.specs.declared.word.Word.{Word}
 use Rattle.milter_mail.specs.FileLines.{all_contents}
-use Rattle.milter_mail.specs.SessionFile.{Line, content, contents, lines_of, onto}
+use Rattle.milter_mail.specs.Lines.{Line, content, contents, lines_of, onto}
 use Rattle.milter_mail.specs.Words.{HasWords}
 
 -- ---- the first line

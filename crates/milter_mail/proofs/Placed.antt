@@ -7,8 +7,8 @@ use Rattle.milter_mail.specs.declared.file_lines.FileLine.{FileLine}
 use Rattle.milter_mail.specs.declared.session_fault.SessionFault.{SessionFault}
 use Rattle.milter_mail.specs.declared.session_fault.SessionFault.TheVariants.{UnknownLine}
 use Rattle.milter_mail.specs.FileLines.{all_contents}
+use Rattle.milter_mail.specs.Lines.{content, lines_of}
 use Rattle.milter_mail.specs.SessionFault.{IsWithin, line_of}
-use Rattle.milter_mail.specs.SessionFile.{content, lines_of}
 use Rattle.milter_mail.specs.SessionReading.{AreWithin, IsAt}
 
 -- the line's number is from 1 to this one

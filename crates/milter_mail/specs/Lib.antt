@@ -16,6 +16,7 @@ pub mod SessionLines
 pub mod LineParts
 pub mod ClientPlace
 pub mod MacroStage
+pub mod Lines
 pub mod SessionFile
 pub mod FileLines
 pub mod SessionFault

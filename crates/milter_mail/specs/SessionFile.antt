@@ -1,47 +1,15 @@
--- The form of a session file: its lines, what they say in order, and the session that they tell.
-use Rattle.std.specs.Prelude.{◌≡◌, ℕ, Bool, true, false, ◌==◌, not, List, [], ◌∷◌, ◌++◌, map, find, codes, Option, None, Some, if◌then◌else◌}
-use Rattle.std.specs.Io.BufRead.{strip_last}
-use Rattle.std.specs.List.{AllZip, concat, filter, filter_map}
+-- The form of a session file: what its lines say in order, and the session that they tell.
+use Rattle.std.specs.Prelude.{◌≡◌, ℕ, List, [], ◌∷◌, ◌++◌, map, codes, Option, None, Some, if◌then◌else◌}
+use Rattle.std.specs.List.{AllZip, concat, filter_map}
 use Rattle.std.specs.Str.{bytes_eq}
 use Rattle.milter_wire.specs.declared.pair.Pair.{Pair}
 use Rattle.milter_mail.specs.declared.macros.Macros.{Macros}
 use Rattle.milter_mail.specs.declared.word.Word.{Word}
+use Rattle.milter_mail.specs.Lines.{contents}
 use Rattle.milter_mail.specs.MailObject.{MailObject}
 use Rattle.milter_mail.specs.MailSession.{IsSession, MailSession}
 use Rattle.milter_mail.specs.SessionLines.{Told, client_of, end_line, header_of, helo_of, macro_of, message_line, path_of, piece_of}
 use Rattle.milter_mail.specs.Words.{HasWords}
-
--- ---- lines
-
--- the bytes of a line before its LF, and whether it has one: the last line of a text may have none
-pub record Line : Type 0 where
-  pub bytes : List ℕ
-  pub ended : Bool
-
--- one more byte at the front of the first line
-abbrev pub onto : ℕ → List Line → List Line
-onto byte [] = record { bytes = byte ∷ []; ended = false } ∷ []
-onto byte (line ∷ lines) = record { bytes = byte ∷ line.bytes; ended = line.ended } ∷ lines
-
-abbrev pub lines_of : List ℕ → List Line
-lines_of [] = []
-lines_of (byte ∷ bytes) = if byte == 10 then record { bytes = []; ended = true } ∷ lines_of bytes else onto byte (lines_of bytes)
-
--- what a line says: one CR before the LF doesn't count
-abbrev pub content : Line → List ℕ
-content line = if line.ended then strip_last 13 line.bytes else line.bytes
-
-abbrev pub skips : Option ℕ → Bool
-skips None = true
-skips (Some byte) = byte == 35
-
--- only blanks, or a `#` after blanks
-abbrev pub is_skipped : List ℕ → Bool
-is_skipped bytes = skips (find (λ byte. not (byte == 32)) bytes)
-
--- what the lines of a file say, but for those that are skipped
-abbrev pub contents : List ℕ → List (List ℕ)
-contents bytes = filter (λ line. not (is_skipped line)) (map content (lines_of bytes))
 
 -- ---- macros
 

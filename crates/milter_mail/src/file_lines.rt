@@ -1,16 +1,16 @@
 //! The lines of a session file, as words.
 
-ghost use Rattle.std.specs.Prelude.{◌≡◌, ◌<◌, ◌≤◌, ◌+◌, ◌==◌, ◌∷◌, [], None, IfOk, IfSome, IsSome, List, ℕ, find, length, not, position};
-ghost use Rattle.std.specs.Io.BufRead.{strip_last};
+ghost use Rattle.std.specs.Prelude.{◌≡◌, ◌<◌, ◌≤◌, ◌+◌, ◌==◌, ◌∷◌, [], None, IfOk, IfSome, IsSome, List, ℕ, length, position};
 ghost use Rattle.std.specs.List.{AllZip};
 ghost use Rattle.std.specs.Option.{MatchOption};
 ghost use Rattle.milter_mail.specs.declared.word.Word.{Word};
 ghost use Rattle.milter_mail.specs.FileLines.{all_contents};
-ghost use Rattle.milter_mail.specs.SessionFile.{contents, is_skipped, lines_of};
+ghost use Rattle.milter_mail.specs.Lines.{contents, lines_of};
 ghost use Rattle.milter_mail.specs.SessionReading.{AreWithin, words_of};
 ghost use Rattle.milter_mail.specs.Words.{HasWords};
 
 use crate::line::words;
+use crate::text_lines::{is_skipped, line_content};
 use crate::word::{Word, WordFault};
 use milter_wire::NoMemory;
 use std::alloc::Global;
@@ -83,7 +83,7 @@ fn first_line(bytes: &[u8]) -> Option<(&[u8], &[u8])>
     ensures shorter { IfSome result (λ x. length x.1.now < length bytes.now) }
 {
     if let Some(end) = first_end(bytes) {
-        return Some((without_return(&bytes[..end]), &bytes[end + 1..]));
+        return Some((line_content(&bytes[..end], true), &bytes[end + 1..]));
     }
     if bytes.is_empty() {
         return None;
@@ -96,31 +96,4 @@ fn first_end(bytes: &[u8]) -> Option<usize>
     ensures { result ≡ position (λ byte. byte == 10) bytes.now }
 {
     bytes.iter().position(|byte| *byte == b'\n')
-}
-
-/// The bytes of a line without the CR before its LF.
-fn without_return(bytes: &[u8]) -> &[u8]
-    ensures { result.now ≡ strip_last 13 bytes.now }
-{
-    match bytes {
-        [front @ .., b'\r'] => front,
-        _ => bytes,
-    }
-}
-
-/// Whether a line has only blanks, or a `#` after them.
-fn is_skipped(line: &[u8]) -> bool
-    ensures { result ≡ is_skipped line.now }
-{
-    match first_visible(line) {
-        None => true,
-        Some(byte) => byte == b'#',
-    }
-}
-
-/// The first byte that is no blank.
-fn first_visible(bytes: &[u8]) -> Option<u8>
-    ensures { result ≡ find (λ byte. not (byte == 32)) bytes.now }
-{
-    bytes.iter().copied().find(|byte| *byte != b' ')
 }

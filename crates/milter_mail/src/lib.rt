@@ -32,6 +32,7 @@ mod session_macros;
 mod session_messages;
 mod stage_macros;
 mod text_fault;
+mod text_lines;
 mod weight;
 mod word;
 
@@ -48,4 +49,5 @@ pub use session::Session;
 pub use session_fault::SessionFault;
 pub use session_file::read_session;
 pub use text_fault::TextFault;
+pub use text_lines::{is_skipped, line_content};
 pub use word::{Word, WordFault};

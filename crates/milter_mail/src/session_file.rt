@@ -5,9 +5,10 @@ ghost use Rattle.std.specs.Option.{MatchOption};
 ghost use Rattle.milter_wire.specs.declared.command.Command.TheVariants as commands;
 ghost use Rattle.milter_wire.specs.Command.{Fits};
 ghost use Rattle.milter_mail.specs.declared.session_fault.SessionFault.TheVariants as SessionFault;
+ghost use Rattle.milter_mail.specs.Lines.{lines_of};
 ghost use Rattle.milter_mail.specs.MailSession.{IsSession, MacrosFit, MailSession};
 ghost use Rattle.milter_mail.specs.SessionFault.{IsWithin};
-ghost use Rattle.milter_mail.specs.SessionFile.{IsSessionFile, SayMessages, SaysSession, lines_of};
+ghost use Rattle.milter_mail.specs.SessionFile.{IsSessionFile, SayMessages, SaysSession};
 ghost use Rattle.milter_mail.specs.SessionReading.{AreWithin, words_of};
 
 use crate::file_lines::{FileLine, FileLines, read_lines};

@@ -1,5 +1,5 @@
-//! Tests of the packets of the Sendmail milter protocol, and of the words and quotes of text files, by values that were
-//! written out by hand.
+//! Tests of the packets of the Sendmail milter protocol, and of the lines, words and quotes of text files, by values that
+//! were written out by hand.
 #![tactic(auto)]
 
 #[cfg(test)]
@@ -41,6 +41,8 @@ mod stages;
 mod stream;
 #[cfg(test)]
 mod text;
+#[cfg(test)]
+mod text_lines;
 #[cfg(test)]
 mod values;
 #[cfg(test)]

@@ -8,7 +8,7 @@ use Rattle.std.proofs.lemmas.Option.{none-some}
 use Rattle.std.proofs.lemmas.List.{get_or-take, length-take}
 use Rattle.std.proofs.lemmas.List.Elements.{All-nil, All-cons, All-head, All-tail}
 use Rattle.std.proofs.lemmas.List.Quantifiers.{position-Some}
-use Rattle.milter_tool.specs.Lines.{Line, onto, lines_of}
+use Rattle.milter_mail.specs.Lines.{Line, onto, lines_of}
 use Rattle.milter_tool.specs.Tracing.{HasNoEnd}
 
 abbrev IsNoEnd : ℕ → Type 0

@@ -4,11 +4,11 @@ use Rattle.std.specs.Prelude.{◌==◌, OnOk, OnErr}
 use Rattle.std.proofs.lemmas.Bool.{eqb-false, eqb-true, lt-ltb}
 use Rattle.std.proofs.lemmas.List.Elements.{All-append}
 use Rattle.milter_wire.specs.Stream.{divide}
+use Rattle.milter_mail.specs.Lines.{Line, lines_of}
 use Rattle.milter_tool.specs.declared.direction.Direction.{Direction}
 use Rattle.milter_tool.specs.declared.direction.Direction.TheVariants.{ToFilter, ToMta}
 use Rattle.milter_tool.specs.declared.fault.TraceFault.{TraceFault}
 use Rattle.milter_tool.specs.declared.fault.TraceFault.TheVariants.{BadLine, Packet, Truncated, ReadFault, WriteFault, TurnLimit, NoMemory}
-use Rattle.milter_tool.specs.Lines.{Line, lines_of}
 use Rattle.milter_tool.specs.Entry.{Entry, Skipped, Bad, Carries, entry_of}
 use Rattle.milter_tool.specs.Trace.{Trace, after_text, at_end, followed_by, go_on, nothing, stopped}
 use Rattle.milter_tool.specs.Tracing.{Feeds, HasNoEnd, Held, Prints, held_after, print_on, to_come, took, trace_on, unread_in}

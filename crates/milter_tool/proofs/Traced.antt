@@ -3,8 +3,8 @@ use Rattle.std.proofs.Common.{◌≡◌, ℕ, List, [], ◌++◌, length, Option
 use Rattle.std.specs.Prelude.{IfErr, OnOk}
 use Rattle.std.specs.Io.KnownBytes.{Appends, Consumes, IsAtEnd}
 use Rattle.std.proofs.KnownBytes.{Appends-nil, Appends-trans, Consumes-nil, Consumes-trans}
+use Rattle.milter_mail.specs.Lines.{lines_of}
 use Rattle.milter_tool.specs.declared.fault.TraceFault.{TraceFault}
-use Rattle.milter_tool.specs.Lines.{lines_of}
 use Rattle.milter_tool.specs.Trace.{Trace, after_text, trace_of}
 use Rattle.milter_tool.specs.TraceRun.{HasBytes, IsBegun, IsTraced}
 use Rattle.milter_tool.specs.Tracing.{Held, start, to_come, trace_on}

@@ -5,9 +5,9 @@ use Rattle.std.proofs.lemmas.List.Concat.{flat_map-append}
 use Rattle.milter_wire.specs.declared.fault.WireFault.{WireFault}
 use Rattle.milter_wire.specs.Stream.{Division, Frame, divide, length_fault}
 use Rattle.milter_wire.proofs.StreamLaws.{divide-append, divide-nil}
+use Rattle.milter_mail.specs.Lines.{Line, lines_of}
 use Rattle.milter_tool.specs.declared.direction.Direction.{Direction}
 use Rattle.milter_tool.specs.declared.direction.Direction.TheVariants.{ToFilter, ToMta}
-use Rattle.milter_tool.specs.Lines.{Line, lines_of}
 use Rattle.milter_tool.specs.Entry.{Entry, Skipped, Bad, Carries, entry_of}
 use Rattle.milter_tool.specs.Trace.{Trace, entry_bytes, followed_by, left_of, new_fault, new_packets, print, print_entry, stream, trace_after, trace_of}
 use Rattle.milter_tool.specs.Tracing.{Held, held_after, print_division, print_on, start, trace_on, unread_in}

@@ -1,10 +1,10 @@
 -- What a line of a trace is.
-use Rattle.std.specs.Prelude.{ℕ, Bool, true, not, ◌==◌, List, ◌∷◌, find, Option, None, Some, Result, Ok, Err, if◌then◌else◌}
+use Rattle.std.specs.Prelude.{ℕ, Bool, ◌==◌, nat_lt, List, ◌∷◌, length, Result, Ok, Err, if◌then◌else◌}
 use Rattle.hex.specs.Hex.{decode_of}
 use Rattle.hex.specs.declared.error.FromHexError.{FromHexError}
+use Rattle.milter_mail.specs.Lines.{Line, content, is_skipped}
 use Rattle.milter_tool.specs.declared.direction.Direction.{Direction}
 use Rattle.milter_tool.specs.declared.direction.Direction.TheVariants.{ToFilter, ToMta}
-use Rattle.milter_tool.specs.Lines.{Line, content, is_too_long}
 
 -- A line is skipped, or is none of a trace, or carries bytes in a direction.
 pub data Entry : Type 0 where
@@ -12,13 +12,9 @@ pub data Entry : Type 0 where
   Bad : Entry
   Carries : Direction → List ℕ → Entry
 
-abbrev pub skips : Option ℕ → Bool
-skips None = true
-skips (Some byte) = byte == 35
-
--- only blanks, or a `#` after blanks
-abbrev pub is_skipped : List ℕ → Bool
-is_skipped bytes = skips (find (λ byte. not (byte == 32)) bytes)
+-- a line has at most 262,144 bytes before its LF
+abbrev pub is_too_long : Line → Bool
+is_too_long line = nat_lt 262144 (length line.bytes)
 
 abbrev pub carried : Direction → Result (List ℕ) FromHexError → Entry
 carried direction (Ok bytes) = Carries direction bytes

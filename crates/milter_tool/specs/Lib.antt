@@ -1,4 +1,3 @@
-pub mod Lines
 pub mod Entry
 pub mod PacketText
 pub mod Trace

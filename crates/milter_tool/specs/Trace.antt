@@ -3,11 +3,11 @@ use Rattle.std.specs.Prelude.{ℕ, ◌+◌, ◌==◌, List, [], ◌∷◌, ◌++
 use Rattle.std.specs.List.{flat_map}
 use Rattle.milter_wire.specs.declared.fault.WireFault.{WireFault}
 use Rattle.milter_wire.specs.Stream.{Frame, divide, length_fault}
+use Rattle.milter_mail.specs.Lines.{Line, lines_of}
 use Rattle.milter_tool.specs.declared.direction.Direction.{Direction}
 use Rattle.milter_tool.specs.declared.direction.Direction.TheVariants.{ToFilter, ToMta}
 use Rattle.milter_tool.specs.declared.fault.TraceFault.{TraceFault}
 use Rattle.milter_tool.specs.declared.fault.TraceFault.TheVariants.{BadLine, Packet, Truncated}
-use Rattle.milter_tool.specs.Lines.{Line, lines_of}
 use Rattle.milter_tool.specs.Entry.{Entry, Skipped, Bad, Carries, entry_of}
 use Rattle.milter_tool.specs.PacketText.{packet_text}
 

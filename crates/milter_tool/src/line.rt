@@ -1,11 +1,11 @@
 //! The lines of a trace.
 
-ghost use Rattle.std.specs.Prelude.{◌≡◌, find, not, position, ◌==◌};
-ghost use Rattle.std.specs.Io.BufRead.{strip_last};
-ghost use Rattle.milter_tool.specs.Entry.{entry_of, is_skipped};
+ghost use Rattle.std.specs.Prelude.{◌≡◌, position, ◌==◌};
+ghost use Rattle.milter_tool.specs.Entry.{entry_of};
 ghost use Rattle.milter_tool.specs.Shape.{shape_entry};
 
 use crate::direction::Direction;
+use milter_mail::{is_skipped, line_content};
 
 /// The most bytes that a line has before its LF.
 pub(crate) const LINE_MAX: usize = 262_144;
@@ -28,7 +28,7 @@ pub(crate) fn shape_of(bytes: &[u8], ended: bool) -> Shape<'_>
     if bytes.len() > LINE_MAX {
         return Shape::Bad;
     }
-    let content = if ended { without_return(bytes) } else { bytes };
+    let content = line_content(bytes, ended);
     if is_skipped(content) {
         return Shape::Skipped;
     }
@@ -44,31 +44,4 @@ pub(crate) fn first_end(bytes: &[u8]) -> Option<usize>
     ensures { result ≡ position (λ byte. byte == 10) bytes.now }
 {
     bytes.iter().position(|byte| *byte == b'\n')
-}
-
-/// The bytes of a line without the CR before its LF.
-fn without_return(bytes: &[u8]) -> &[u8]
-    ensures { result.now ≡ strip_last 13 bytes.now }
-{
-    match bytes {
-        [front @ .., b'\r'] => front,
-        _ => bytes,
-    }
-}
-
-/// Whether a line has only blanks, or a `#` after them.
-fn is_skipped(bytes: &[u8]) -> bool
-    ensures { result ≡ is_skipped bytes.now }
-{
-    match first_visible(bytes) {
-        None => true,
-        Some(byte) => byte == b'#',
-    }
-}
-
-/// The first byte that is no blank.
-fn first_visible(bytes: &[u8]) -> Option<u8>
-    ensures { result ≡ find (λ byte. not (byte == 32)) bytes.now }
-{
-    bytes.iter().copied().find(|byte| *byte != b' ')
 }

@@ -2,8 +2,8 @@
 
 ghost use Rattle.std.specs.Prelude.{◌≡◌, ◌≢◌, ◌≤◌, ◌<◌, ◌+◌, ◌++◌, ◌^◌, List, ℕ, [], None, Some, length, IfOk, IfErr, OnOk, OnErr, IsErrOf, IsTrue, ◌↔◌};
 ghost use Rattle.std.specs.Io.KnownBytes.{Appends, IsAtEnd};
+ghost use Rattle.milter_mail.specs.Lines.{lines_of};
 ghost use Rattle.milter_tool.specs.Calls.{Follows, FollowsNoRead};
-ghost use Rattle.milter_tool.specs.Lines.{lines_of};
 ghost use Rattle.milter_tool.specs.Printing.{held_in};
 ghost use Rattle.milter_tool.specs.TraceRun.{HasBytes, IsBegun, IsTraced};
 ghost use Rattle.milter_tool.specs.TracerValue.{IsFresh, IsReady};

@@ -1,9 +1,9 @@
 //! A trace, from its bytes in any pieces to its text.
 
 ghost use Rattle.std.specs.Prelude.{◌≡◌, ◌≤◌, ◌<◌, ◌+◌, ◌++◌, ◌^◌, ◌⊎◌, List, ℕ, [], true, Err, IfOk, OnOk, OnErr, length};
+ghost use Rattle.milter_mail.specs.Lines.{lines_of};
 ghost use Rattle.milter_tool.specs.Printing.{IsSound, held_in};
 ghost use Rattle.milter_tool.specs.Entry.{entry_of};
-ghost use Rattle.milter_tool.specs.Lines.{lines_of};
 ghost use Rattle.milter_tool.specs.Tracing.{Feeds, Prints, held_after, print_on, to_come, trace_on};
 
 use crate::fault::TraceFault;

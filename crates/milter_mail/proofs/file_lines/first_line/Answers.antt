@@ -6,7 +6,7 @@ use Rattle.milter_mail.proofs.file_lines.first_line.Goals as goal
 
 pub returns-in-Some-clause-line : goal.returns-in-Some-clause-line
 returns-in-Some-clause-line c =
-    rw (take_rest, c.without_return.ensures) (first_ended c.args.bytes.now c.in-Some.end (sym c.first_end.ensures ∙ c.in-Some.is))
+    rw (take_rest, c.line_content.ensures) (first_ended c.args.bytes.now c.in-Some.end (sym c.first_end.ensures ∙ c.in-Some.is))
 
 pub returns-clause-line : goal.returns-clause-line
 returns-clause-line c =

@@ -1,5 +1,5 @@
 use Rattle.std.proofs.Common.{◌+◌, ◌≤◌, length}
-use Rattle.milter_mail.specs.SessionFile.{lines_of}
+use Rattle.milter_mail.specs.Lines.{lines_of}
 use Rattle.milter_mail.specs.SessionReading.{AreWithin, words_of}
 use Rattle.milter_mail.proofs.FileLines.{ReadSo}
 use Rattle.milter_mail.proofs.file_lines.read_lines.Given as goal

@@ -1,6 +1,7 @@
 use Rattle.std.proofs.Common.{subst}
 use Rattle.std.proofs.lemmas.Result.{err_from_is_err_and}
-use Rattle.milter_mail.specs.SessionFile.{SaysSession, contents}
+use Rattle.milter_mail.specs.Lines.{contents}
+use Rattle.milter_mail.specs.SessionFile.{SaysSession}
 use Rattle.milter_mail.specs.SessionReading.{words_of}
 use Rattle.milter_mail.proofs.SessionParts.{said_so}
 use Rattle.milter_mail.proofs.session_file.read_session.Goals as goal

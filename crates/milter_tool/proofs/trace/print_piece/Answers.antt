@@ -1,10 +1,10 @@
 use Rattle.std.proofs.Common.{◌≡◌, ℕ, List, [], ◌++◌, Err}
 use Rattle.std.proofs.lemmas.Result.{err_from_is_err_and}
+use Rattle.milter_mail.specs.Lines.{lines_of}
 use Rattle.milter_tool.specs.declared.fault.TraceFault.{TraceFault}
 use Rattle.milter_tool.specs.declared.fault.TraceFault.TheVariants.{NoMemory}
 use Rattle.milter_tool.specs.Printing.{held_in}
 use Rattle.milter_tool.specs.Tracing.{to_come, trace_on}
-use Rattle.milter_tool.specs.Lines.{lines_of}
 use Rattle.milter_tool.specs.Writing.{Stops}
 use Rattle.milter_tool.proofs.Steps.{Feeds-front, Feeds-going, Feeds-stops, Feeds-calls, Stops-write, each_more}
 use Rattle.milter_tool.proofs.trace.print_piece.Goals as goal

@@ -1,6 +1,7 @@
 -- The lines of a text, by cases on its bytes.
-use Rattle.std.specs.Prelude.{ℕ, Bool, true, false, ◌==◌, nat_lt, List, [], ◌∷◌, length, if◌then◌else◌}
+use Rattle.std.specs.Prelude.{ℕ, Bool, true, false, ◌==◌, not, List, [], ◌∷◌, map, find, Option, None, Some, if◌then◌else◌}
 use Rattle.std.specs.Io.BufRead.{strip_last}
+use Rattle.std.specs.List.{filter}
 
 -- the bytes of a line before its LF, and whether it has one: the last line of a text may have none
 pub record Line : Type 0 where
@@ -20,6 +21,14 @@ lines_of (byte ∷ bytes) = if byte == 10 then record { bytes = []; ended = true
 abbrev pub content : Line → List ℕ
 content line = if line.ended then strip_last 13 line.bytes else line.bytes
 
--- a line has at most 262,144 bytes before its LF
-abbrev pub is_too_long : Line → Bool
-is_too_long line = nat_lt 262144 (length line.bytes)
+abbrev pub skips : Option ℕ → Bool
+skips None = true
+skips (Some byte) = byte == 35
+
+-- only blanks, or a `#` after blanks
+abbrev pub is_skipped : List ℕ → Bool
+is_skipped bytes = skips (find (λ byte. not (byte == 32)) bytes)
+
+-- what the lines of a file say, but for those that are skipped
+abbrev pub contents : List ℕ → List (List ℕ)
+contents bytes = filter (λ line. not (is_skipped line)) (map content (lines_of bytes))
