@@ -1,8 +1,8 @@
 #!/usr/bin/env bash
-# Plays each case of cases/ on its program as both compilers build it. A case is a folder with `args` (one word a line),
-# `stdin`, `stdout`, `stderr`, `status` and `program`; a file that isn't there is empty, a status that isn't there is 0,
-# and a program that isn't there is milter_tool. In place of `stdin` there may be `stdin_from`, which names a file of the
-# repository. The programs are those that `rt ci` leaves. The last line is 'N passed, M failed'.
+# Plays each case of cases/ on milter_tool as both compilers build it, and then the rows of the tables there. A case is a
+# folder with `args` (one word a line), `stdin`, `stdout`, `stderr` and `status`; a file that isn't there is empty, and a
+# status that isn't there is 0. A word of `args` may name a file of the repository. The programs are those that `rt ci`
+# leaves. The last line is 'N passed, M failed'.
 set -u
 cd "$(dirname "${BASH_SOURCE[0]}")/.."
 work=$(mktemp -d)
@@ -12,28 +12,34 @@ failed=0
 for compiler in '' .by-rattle; do
     for case in cases/*/; do
         name=$(basename "$case")
-        program=milter_tool
-        [ -f "$case/program" ] && program=$(cat "$case/program")
-        program=crates/$program/out/$program$compiler
+        program=crates/milter_tool/out/milter_tool$compiler
         words=()
         [ -f "$case/args" ] && mapfile -t words <"$case/args"
         for file in stdin stdout stderr; do
             if [ -f "$case/$file" ]; then cp "$case/$file" "$work/$file"; else : >"$work/$file"; fi
         done
-        [ -f "$case/stdin_from" ] && cp "$(cat "$case/stdin_from")" "$work/stdin"
-        wanted=0
-        [ -f "$case/status" ] && wanted=$(cat "$case/status")
+        expected=0
+        [ -f "$case/status" ] && expected=$(cat "$case/status")
         "$program" ${words[@]+"${words[@]}"} <"$work/stdin" >"$work/out" 2>"$work/err"
         status=$?
-        if [ "$status" = "$wanted" ] && cmp -s "$work/out" "$work/stdout" && cmp -s "$work/err" "$work/stderr"; then
+        if [ "$status" = "$expected" ] && cmp -s "$work/out" "$work/stdout" && cmp -s "$work/err" "$work/stderr"; then
             passed=$((passed + 1))
         else
             failed=$((failed + 1))
-            echo "FAILED: case $name on $program: status $status, wanted $wanted"
+            echo "FAILED: case $name on $program: status $status, expected $expected"
             diff "$work/stdout" "$work/out" | head -5
             diff "$work/stderr" "$work/err" | head -5
         fi
     done
 done
+rows=$(python3 tests/tables.py)
+grep '^FAILED' <<<"$rows"
+if [[ $rows =~ ([0-9]+)\ passed,\ ([0-9]+)\ failed$ ]]; then
+    passed=$((passed + BASH_REMATCH[1]))
+    failed=$((failed + BASH_REMATCH[2]))
+else
+    failed=$((failed + 1))
+    echo "FAILED: the tables were not played"
+fi
 echo "$passed passed, $failed failed"
 [ "$failed" = 0 ]

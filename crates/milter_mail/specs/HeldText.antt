@@ -4,11 +4,15 @@ use Rattle.std.specs.List.{flat_map}
 use Rattle.milter_wire.specs.declared.header.Header.{Header}
 use Rattle.milter_wire.specs.declared.path.Path.{Path}
 use Rattle.milter_mail.specs.declared.message.Held.{Held}
-use Rattle.milter_mail.specs.Quoting.{quoted}
+use Rattle.milter_mail.specs.MailObject.{MailObject}
+use Rattle.milter_text.specs.Quoting.{quoted}
 
--- each text in quotes, after a blank
+-- a text in quotes, after a blank
+abbrev pub text_of : List ℕ → List ℕ
+text_of text = 32 ∷ quoted text
+
 abbrev pub texts_of : List (List ℕ) → List ℕ
-texts_of texts = flat_map (λ text. 32 ∷ quoted text) texts
+texts_of texts = flat_map text_of texts
 
 -- the keyword, the texts, and LF
 unfoldable pub line_of : List ℕ → List (List ℕ) → List ℕ
@@ -26,12 +30,16 @@ path_line keyword path = line_of keyword (path.address ∷ path.params)
 abbrev pub header_line : Header → List ℕ
 header_line header = line_of (codes "header") (header.name ∷ header.value ∷ [])
 
+-- the lines of the sender and the recipients
+abbrev pub envelope_lines : MailObject → List ℕ
+envelope_lines message =
+    path_line (codes "sender") message.sender ++ flat_map (path_line (codes "recipient")) message.recipients
+
+-- the lines of the header fields and the body, and the last line
+abbrev pub content_lines : MailObject → List ℕ
+content_lines message =
+    flat_map header_line message.headers ++ (line_of (codes "body") (message.body ∷ []) ++ line_of (codes "end") [])
+
 -- the quarantine, the sender, the recipients, the header fields, the body and the end, a line each
 unfoldable pub held_text : Held → List ℕ
-held_text held =
-    reason_line held.quarantine
-    ++ path_line (codes "sender") held.message.sender
-    ++ flat_map (path_line (codes "recipient")) held.message.recipients
-    ++ flat_map header_line held.message.headers
-    ++ line_of (codes "body") (held.message.body ∷ [])
-    ++ line_of (codes "end") []
+held_text held = reason_line held.quarantine ++ (envelope_lines held.message ++ content_lines held.message)

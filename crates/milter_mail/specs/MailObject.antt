@@ -11,7 +11,7 @@ pub record MailObject : Type 0 where
   pub headers : List Header
   pub body : List ℕ
 
--- each command that tells a part of it fits; the body may be any bytes
+-- the command of each part fits; the body may be any bytes
 pub record IsMessage (m : MailObject) : Type 0 where
   pub sender : Fits (commands.Mail m.sender)
   pub recipients : All (λ recipient. Fits (commands.Rcpt recipient)) m.recipients

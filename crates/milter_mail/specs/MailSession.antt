@@ -1,5 +1,7 @@
 -- A session of a mail server with one client, and what is asked of one.
 use Rattle.std.specs.Prelude.{◌≢◌, ◌≤◌, ℕ, List, [], All}
+use Rattle.milter_mail.specs.declared.weight.TheConstants.{WEIGHT_MAX}
+use Rattle.milter_wire.specs.declared.codes.TheConstants.{SMFIC_BODYEOB, SMFIC_CONNECT, SMFIC_DATA, SMFIC_EOH, SMFIC_HELO, SMFIC_MAIL, SMFIC_RCPT}
 use Rattle.milter_wire.specs.declared.client.Client.{Client}
 use Rattle.milter_wire.specs.declared.command.Command.TheVariants as commands
 use Rattle.milter_wire.specs.Command.{Fits}
@@ -16,22 +18,22 @@ pub record MailSession : Type 0 where
 
 -- each packet of macros can be made, with the code of its stage's command
 pub record MacrosFit (macros : Macros) : Type 0 where
-  pub connect : Fits (commands.Macro 67 macros.connect)
-  pub helo : Fits (commands.Macro 72 macros.helo)
-  pub mail : Fits (commands.Macro 77 macros.mail)
-  pub rcpt : Fits (commands.Macro 82 macros.rcpt)
-  pub data_cmd : Fits (commands.Macro 84 macros.data_cmd)
-  pub eoh : Fits (commands.Macro 78 macros.eoh)
-  pub eom : Fits (commands.Macro 69 macros.eom)
+  pub connect : Fits (commands.Macro SMFIC_CONNECT macros.connect)
+  pub helo : Fits (commands.Macro SMFIC_HELO macros.helo)
+  pub mail : Fits (commands.Macro SMFIC_MAIL macros.mail)
+  pub rcpt : Fits (commands.Macro SMFIC_RCPT macros.rcpt)
+  pub data_cmd : Fits (commands.Macro SMFIC_DATA macros.data_cmd)
+  pub eoh : Fits (commands.Macro SMFIC_EOH macros.eoh)
+  pub eom : Fits (commands.Macro SMFIC_BODYEOB macros.eom)
 
--- a message that goes to someone, and isn't too heavy: 16 MiB
+-- a message that has a recipient and weighs at most 16 MiB
 pub record IsSendable (client : Client) (helo : List ℕ) (macros : Macros) (m : MailObject) : Type 0 where
   pub whole : IsMessage m
   pub has_recipient : m.recipients ≢ []
-  pub not_too_heavy : weight client helo macros m ≤ 16777216
+  pub weight_fits : weight client helo macros m ≤ WEIGHT_MAX
 
 pub record IsSession (s : MailSession) : Type 0 where
-  pub told_client : Fits (commands.Connect s.client)
-  pub told_helo : Fits (commands.Helo s.helo)
-  pub told_macros : MacrosFit s.macros
+  pub client_fits : Fits (commands.Connect s.client)
+  pub helo_fits : Fits (commands.Helo s.helo)
+  pub macros_fit : MacrosFit s.macros
   pub are_sendable : All (IsSendable s.client s.helo s.macros) s.messages

@@ -6,13 +6,14 @@ use Rattle.milter_wire.specs.declared.header.Header.{Header}
 
 -- the values of the fields of a name, in order, without regard to ASCII case
 abbrev pub values_of : List ℕ → List Header → List (List ℕ)
-values_of name headers = map (λ header. header.value) (filter (λ header. str_eq_ignore_ascii_case header.name name) headers)
+values_of name headers =
+    map (λ header. header.value) (filter (λ header. str_eq_ignore_ascii_case header.name name) headers)
 
 -- the fields of other names
 abbrev pub others_than : List ℕ → List Header → List Header
 others_than name headers = filter (λ header. not (str_eq_ignore_ascii_case header.name name)) headers
 
--- a value, but for the empty one, which says that there is none
+-- a value, but for the empty one, which stands for none
 abbrev pub value_if_any : List ℕ → List (List ℕ)
 value_if_any [] = []
 value_if_any (byte ∷ bytes) = (byte ∷ bytes) ∷ []

@@ -1,16 +1,18 @@
 -- The commands of a session, in order: those of its opening, and those of each message.
-use Rattle.std.specs.Prelude.{ℕ, ◌+◌, ◌*◌, ◌/◌, ◌==◌, nat_lt, Bool, true, false, not, List, [], ◌∷◌, ◌++◌, length, map, take, drop, Option, None, Some, if◌then◌else◌}
+use Rattle.std.specs.Prelude.{ℕ, ◌+◌, ◌-◌, ◌*◌, ◌/◌, ◌==◌, nat_lt, Bool, true, false, not, List, [], ◌∷◌, ◌++◌, length, map, take, drop, Option, None, Some, if◌then◌else◌}
 use Rattle.std.specs.List.{flat_map, range_with_len}
 use Rattle.std.specs.Int.Bits.{bit_and}
+use Rattle.milter_mail.specs.declared.weight.TheConstants.{PIECE_LEN}
 use Rattle.milter_wire.specs.declared.client.Client.{Client}
 use Rattle.milter_wire.specs.declared.command.Command.{Command}
 use Rattle.milter_wire.specs.declared.command.Command.TheVariants as commands
-use Rattle.milter_wire.specs.declared.options.Options.{Options}
-use Rattle.milter_wire.specs.declared.options.Protocol.{Protocol}
+use Rattle.milter_options.specs.declared.options.Options.{Options}
+use Rattle.milter_options.specs.declared.options.Protocol.{Protocol}
 use Rattle.milter_wire.specs.declared.pair.Pair.{Pair}
 use Rattle.milter_wire.specs.declared.stage.Stage.{Stage}
 use Rattle.milter_wire.specs.declared.stage.Stage.TheVariants.{Connect, Helo, Mail, Rcpt, DataCmd, Header, Eoh, Body, Eob}
-use Rattle.milter_wire.specs.Stages.{macro_command_of, not_answered_of, not_sent_of, stage_of}
+use Rattle.milter_wire.specs.Stages.{macro_command_of, not_answered_of, not_sent_of}
+use Rattle.milter_wire.specs.Stages.{stage_of}
 use Rattle.milter_mail.specs.declared.macros.Macros.{Macros}
 use Rattle.milter_mail.specs.MailObject.{MailObject}
 
@@ -39,7 +41,7 @@ is_asked agreed command = is_asked_at agreed (stage_of command)
 
 -- ---- steps
 
--- the macros that are told before each command of a stage
+-- the macros that are sent before each command of a stage
 abbrev pub macros_at : Macros → Stage → List Pair
 macros_at macros Connect = macros.connect
 macros_at macros Helo = macros.helo
@@ -64,13 +66,16 @@ step agreed macros stage command =
 
 -- the pieces of a body: 65,535 bytes each, the last one perhaps fewer, and of an empty body none
 abbrev pub pieces_of : List ℕ → List (List ℕ)
-pieces_of body = map (λ i. take 65535 (drop (65535 * i) body)) (range_with_len 0 ((length body + 65534) / 65535))
+pieces_of body =
+    let count = (length body + (PIECE_LEN - 1)) / PIECE_LEN in
+    map (λ i. take PIECE_LEN (drop (PIECE_LEN * i) body)) (range_with_len 0 count)
 
 -- ---- the plan
 
 -- what is sent of the connection, before its first message
 abbrev pub opening : Options → Macros → Client → List ℕ → List Command
-opening agreed macros client helo = step agreed macros Connect (commands.Connect client) ++ step agreed macros Helo (commands.Helo helo)
+opening agreed macros client helo =
+    step agreed macros Connect (commands.Connect client) ++ step agreed macros Helo (commands.Helo helo)
 
 -- what is sent of one message
 abbrev pub message_steps : Options → Macros → MailObject → List Command

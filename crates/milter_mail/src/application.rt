@@ -3,10 +3,9 @@
 ghost use Rattle.std.specs.Prelude.{◌≡◌, All, IfOk, None, option_map};
 ghost use Rattle.std.specs.List.{filter_map, last_or};
 ghost use Rattle.milter_wire.specs.Reply.{Fits};
-ghost use Rattle.milter_mail.specs.Edits.{reply_of};
-ghost use Rattle.milter_mail.specs.Edited.{body_of, edited, new_piece, new_reason};
+ghost use Rattle.milter_mail.specs.EditReplies.{reply_of};
+ghost use Rattle.milter_mail.specs.EditedMessage.{body_of, edited_message, new_piece, new_reason};
 
-use crate::copies::copy_text;
 use crate::edit::Edit;
 use crate::header_edits::headers_after;
 use crate::message::{Held, Message};
@@ -14,22 +13,22 @@ use crate::recipient_edits::{recipients_after, sender_after};
 use milter_wire::{NoMemory, Text};
 use std::alloc::Global;
 
-/// The message after the edits, one after the other, and the reason for which it is then held in quarantine, if any.
+/// The message after the edits, one after the other, and the reason for its quarantine, if any.
 /// Each edit must be one that a packet can ask for: no string of it holds a NUL, and its packet isn't too long.
 ///
-/// An added header field comes last, and an inserted one behind as many others as its index says, or last where there
+/// An added header field comes last, and an inserted one after as many others as its index states, or last where there
 /// are fewer. A changed one is found by its name, without regard to ASCII case, and by its number among those of this
-/// name, counted from 1; 0 is taken as 1. It keeps the spelling of its name, and an empty value deletes it; where there
+/// name, counted from 1; 0 is taken as 1. Its name stays as it was, and an empty value deletes it; where there
 /// are fewer, a value that isn't empty is added as the last. An added recipient comes last, and a deleted one goes
 /// wherever this very address stands, with any parameters. The last sender counts, with its own parameters or none, and
-/// so does the last reason. The pieces of a body, one after the other, take the place of the old body.
+/// so does the last reason. The pieces of a body, one after the other, replace the old body.
 ///
-/// An edit looks at each header field or recipient at most once. No text is copied twice, and a new body is appended
-/// to as its pieces come. The given message stays as it was, and after `NoMemory` nothing is left. Source: the libmilter
+/// An edit looks at each header field or recipient at most once. No text is copied twice, and a new body is appended to
+/// as its pieces come. The given message stays as it was, and after `NoMemory` nothing is left. Source: the libmilter
 /// callback documentation (message modification functions).
 pub fn apply(alloc: Global, message: &Message, edits: &[Edit]) -> Result<Held, NoMemory>
     requires { All (λ edit. Fits (reply_of edit)) edits.now }
-    ensures { IfOk result (λ held. held ≡ edited message.now edits.now) }
+    ensures { IfOk result (λ held. held ≡ edited_message message.now edits.now) }
 {
     let quarantine = quarantine_after(alloc, edits)?;
     let message = message_after(alloc, message, edits)?;
@@ -42,7 +41,7 @@ pub fn apply(alloc: Global, message: &Message, edits: &[Edit]) -> Result<Held, N
 /// The message after the edits.
 fn message_after(alloc: Global, message: &Message, edits: &[Edit]) -> Result<Message, NoMemory>
     requires { All (λ edit. Fits (reply_of edit)) edits.now }
-    ensures { IfOk result (λ changed. changed ≡ (edited message.now edits.now).message) }
+    ensures { IfOk result (λ changed. changed ≡ (edited_message message.now edits.now).message) }
 {
     let sender = sender_after(alloc, message.sender(), edits)?;
     let recipients = recipients_after(alloc, message.recipients(), edits)?;
@@ -74,7 +73,7 @@ fn quarantine_after(alloc: Global, edits: &[Edit]) -> Result<Option<Text>, NoMem
     ensures { IfOk result (λ reason. reason ≡ last_or None (filter_map new_reason edits.now)) }
 {
     match last_reason(edits) {
-        Some(reason) => Ok(Some(copy_text(alloc, reason)?)),
+        Some(reason) => Ok(Some(Text::copy_of(alloc, reason.as_slice())?)),
         None => Ok(None),
     }
 }

@@ -5,19 +5,12 @@ ghost use Rattle.std.specs.Prelude.{◌≡◌, IfOk};
 use milter_wire::{Header, NoMemory, Params, Path, Text};
 use std::alloc::Global;
 
-/// A text of the same bytes.
-pub(crate) fn copy_text(alloc: Global, text: &Text) -> Result<Text, NoMemory>
-    ensures { IfOk result (λ copy. copy ≡ text.now) }
-{
-    Ok(Text::new(Vec::from_slice(alloc, text.as_slice())?))
-}
-
 /// A header field of the same name and value.
 pub(crate) fn copy_header(alloc: Global, header: &Header) -> Result<Header, NoMemory>
     ensures { IfOk result (λ copy. copy ≡ header.now) }
 {
-    let name = copy_text(alloc, &header.name)?;
-    let value = copy_text(alloc, &header.value)?;
+    let name = Text::copy_of(alloc, header.name.as_slice())?;
+    let value = Text::copy_of(alloc, header.value.as_slice())?;
     Ok(Header { name, value })
 }
 
@@ -39,7 +32,7 @@ fn copy_params(alloc: Global, params: &Params) -> Result<Params, NoMemory>
     let texts = params.as_slice();
     let mut copies = Vec::with_capacity(alloc, texts.len())?;
     for text in texts {
-        copies.push(copy_text(alloc, text)?)?;
+        copies.push(Text::copy_of(alloc, text.as_slice())?)?;
     }
     Ok(Params::new(copies))
 }
@@ -48,7 +41,7 @@ fn copy_params(alloc: Global, params: &Params) -> Result<Params, NoMemory>
 pub(crate) fn copy_path(alloc: Global, path: &Path) -> Result<Path, NoMemory>
     ensures { IfOk result (λ copy. copy ≡ path.now) }
 {
-    let address = copy_text(alloc, &path.address)?;
+    let address = Text::copy_of(alloc, path.address.as_slice())?;
     let params = copy_params(alloc, &path.params)?;
     Ok(Path { address, params })
 }

@@ -1,15 +1,10 @@
 //! What a filter may ask to change of a message.
 
 ghost use Rattle.std.specs.Prelude.{◌≡◌, ◌+◌, ◌-◌, ◌^◌, length, min};
-ghost use Rattle.milter_wire.specs.Field.{string};
-ghost use Rattle.milter_wire.specs.Layout.{arguments, header};
 ghost use Rattle.milter_wire.specs.Reply.{payload_of};
-ghost use Rattle.milter_mail.specs.Edits.{edit_of, needed_by, reply_of, weight_of};
+ghost use Rattle.milter_mail.specs.EditReplies.{edit_of, needed_by, reply_of, weight_of};
 
-use milter_wire::{Actions, Header, Reply, Text};
-
-/// The bytes of a packet before its payload: the length and the code.
-const HEAD_LEN: usize = 5;
+use milter_wire::{Actions, HEAD_LEN, Header, Reply, Text, arguments_len, header_len, string_len};
 
 /// The bytes of the number of a header field.
 const INDEX_LEN: usize = 4;
@@ -20,7 +15,7 @@ const INDEX_LEN: usize = 4;
 pub enum Edit {
     /// A header field more, after all others. Source: smfi_addheader.
     AddHeader(Header),
-    /// A header field more, at a place. Source: smfi_insheader.
+    /// A header field more, at an index. Source: smfi_insheader.
     InsertHeader {
         /// The number of header fields before it. Where there are fewer, it comes last.
         index: u32,
@@ -54,7 +49,7 @@ pub enum Edit {
     },
     /// A piece of another body. The first one replaces the body, each later one is appended. Source: smfi_replacebody.
     ReplaceBody(Text),
-    /// The message is held, for this reason. Source: smfi_quarantine.
+    /// The message goes into quarantine, for this reason. Source: smfi_quarantine.
     Quarantine(Text),
     /// No change: the filter is still at work. Source: smfi_progress.
     Progress,
@@ -118,8 +113,8 @@ impl Edit {
     }
 
     /// The number of bytes of the packet that asks for the edit, its length field among them; or the greatest `usize`,
-    /// where there are more. No memory is taken. Source: own.
-    #[tactic(auto, unfolding(milter_wire::specs::Field::number))]
+    /// where there are more. No memory is taken.
+    #[tactic(auto, unfolding(milter_stream::specs::Number::number))]
     pub fn weight(&self) -> usize
         ensures { result ≡ min (weight_of self.now) (2 ^ 64 - 1) }
     {
@@ -128,7 +123,7 @@ impl Edit {
 }
 
 /// The number of bytes of the payload, or the greatest `usize`.
-#[tactic(auto, unfolding(milter_wire::specs::Field::number))]
+#[tactic(auto, unfolding(milter_stream::specs::Number::number))]
 fn payload_len(edit: &Edit) -> usize
     ensures { result ≡ min (length (payload_of (reply_of edit.now))) (2 ^ 64 - 1) }
 {
@@ -144,26 +139,4 @@ fn payload_len(edit: &Edit) -> usize
         Edit::ReplaceBody(bytes) => bytes.as_slice().len(),
         Edit::Progress => 0,
     }
-}
-
-fn header_len(field: &Header) -> usize
-    ensures { result ≡ min (length (header field.now)) (2 ^ 64 - 1) }
-{
-    string_len(&field.name).saturating_add(string_len(&field.value))
-}
-
-fn arguments_len(given: &Option<Text>) -> usize
-    ensures { result ≡ length (arguments given.now) }
-{
-    match given {
-        Some(text) => string_len(text),
-        None => 0,
-    }
-}
-
-/// The number of bytes of a string: its text and a NUL.
-fn string_len(text: &Text) -> usize
-    ensures { result ≡ length (string text.now) }
-{
-    text.as_slice().len() + 1
 }

@@ -2,9 +2,9 @@
 
 ghost use Rattle.std.specs.Prelude.{◌≡◌, ◌<◌, ◌+◌, ◌++◌, IfOk, OnOk, drop, length, take};
 ghost use Rattle.std.specs.Str.{str_eq_ignore_ascii_case};
-ghost use Rattle.milter_mail.specs.Edited.{added_field, change, changed_field, counted, edit_headers, headers_after, insert_at, places_from};
+ghost use Rattle.milter_mail.specs.EditedMessage.{added_field, change, occurrence, set_field, edit_headers, headers_after, insert_at, positions_from};
 
-use crate::copies::{copy_header, copy_headers, copy_text};
+use crate::copies::{copy_header, copy_headers};
 use crate::edit::Edit;
 use milter_wire::{Header, NoMemory, Text};
 use std::alloc::Global;
@@ -39,7 +39,7 @@ fn edit_headers(alloc: Global, headers: &mut Vec<Header>, edit: &Edit) -> Result
     }
 }
 
-/// Puts the header field behind so many of the others, or behind them all where there are fewer.
+/// Inserts the header field after so many of the others, or after them all where there are fewer.
 fn insert_header(
     alloc: Global,
     headers: &mut Vec<Header>,
@@ -48,9 +48,9 @@ fn insert_header(
 ) -> Result<(), NoMemory>
     ensures { OnOk result (headers.new.items ≡ insert_at index header.now headers.old.items) }
 {
-    let place = headers.len().min(index as usize);
+    let position = headers.len().min(index as usize);
     let copy = copy_header(alloc, header)?;
-    headers.insert(place, copy)?;
+    headers.insert(position, copy)?;
     Ok(())
 }
 
@@ -63,22 +63,22 @@ fn change_header(
 ) -> Result<(), NoMemory>
     ensures { OnOk result (headers.new.items ≡ change index header.now headers.old.items) }
 {
-    match place_of(headers.as_slice(), &header.name, index) {
-        Some(place) => change_field(alloc, headers, place, &header.value),
+    match position_of(headers.as_slice(), &header.name, index) {
+        Some(position) => change_field(alloc, headers, position, &header.value),
         None => add_field(alloc, headers, header),
     }
 }
 
-/// The place of the occurrence of the name with this number, counted from 1, without regard to ASCII case; 0 is taken
+/// The index of the occurrence of the name with this number, counted from 1, without regard to ASCII case; 0 is taken
 /// as 1.
-fn place_of(headers: &[Header], name: &Text, index: u32) -> Option<usize>
-    ensures { result ≡ counted index (places_from 0 name.now headers.now) }
+fn position_of(headers: &[Header], name: &Text, index: u32) -> Option<usize>
+    ensures { result ≡ occurrence index (positions_from 0 name.now headers.now) }
 {
     let mut left = index;
-    for place in 0..headers.len() {
-        if has_name(&headers[place], name) {
+    for position in 0..headers.len() {
+        if has_name(&headers[position], name) {
             if left <= 1 {
-                return Some(place);
+                return Some(position);
             }
             left -= 1;
         }
@@ -93,21 +93,22 @@ fn has_name(header: &Header, name: &Text) -> bool
     header.name.as_slice().eq_ignore_ascii_case(name.as_slice())
 }
 
-/// Gives the field at a place another value, or deletes it where that is empty.
+/// Gives the field at an index another value, or deletes it where that is empty.
 fn change_field(
     alloc: Global,
     headers: &mut Vec<Header>,
-    place: usize,
+    position: usize,
     value: &Text,
 ) -> Result<(), NoMemory>
-    requires { place < length headers.old.items }
-    ensures { OnOk result (headers.new.items ≡ take place headers.old.items ++ changed_field value.now (drop place headers.old.items) ++ drop (place + 1) headers.old.items) }
+    requires { position < length headers.old.items }
+    ensures { OnOk result (headers.new.items ≡ set_field position value.now headers.old.items) }
 {
-    if value.as_slice().is_empty() {
-        drop(headers.remove(place));
+    let bytes = value.as_slice();
+    if bytes.is_empty() {
+        drop(headers.remove(position));
         return Ok(());
     }
-    headers[place].value = copy_text(alloc, value)?;
+    headers[position].value = Text::copy_of(alloc, bytes)?;
     Ok(())
 }
 

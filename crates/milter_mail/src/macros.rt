@@ -1,12 +1,12 @@
-//! The macros that a mail server tells before its commands.
+//! The macros that a mail server sends before its commands.
 
 ghost use Rattle.std.specs.Prelude.{◌≡◌};
 ghost use Rattle.milter_mail.specs.Plan.{macros_at};
 
 use milter_wire::{Pair, Pairs, Stage};
 
-/// The macros of each stage that has some: what is told before each command of the stage, of every message. Source:
-/// mfapi.h (SMFIM_CONNECT and its kin).
+/// The macros of each stage that has some: what is sent before each command of the stage, of every message. Source:
+/// mfapi.h (SMFIM_CONNECT and those after it).
 #[derive(Clone, Debug, PartialEq, Eq, Drop)]
 pub struct Macros {
     /// Before the client.
@@ -26,7 +26,7 @@ pub struct Macros {
 }
 
 impl Macros {
-    /// The macros of a stage. A header field and a piece of the body have none. No memory is taken. Source: own.
+    /// The macros of a stage. A header field and a piece of the body have none. No memory is taken.
     pub fn at(&self, stage: Stage) -> &[Pair]
         ensures { result.now ≡ macros_at self.now stage }
     {

@@ -1,4 +1,4 @@
-//! Messages, and what is held of them.
+//! Messages, before and after edits.
 
 ghost use Rattle.std.specs.Prelude.{◌≡◌, ◌↔◌, All, IfSome, IsSome, IsTrue};
 ghost use Rattle.milter_wire.specs.declared.command.Command.TheVariants as commands;
@@ -8,8 +8,8 @@ ghost use Rattle.milter_mail.specs.MailObject.{IsMessage};
 use milter_wire::{Header, Path, Text};
 use std::marker::Model;
 
-/// A message as SMTP carries it: the sender, the recipients, the header and the body. Each part but the body has a
-/// packet that tells of it: no string holds a NUL, and none is too long. Source: own.
+/// A message as SMTP carries it: the sender, the recipients, the header and the body. Each part but the body fits a
+/// packet: no string has a NUL, and none is too long.
 #[derive(Debug, Drop)]
 pub struct Message {
     sender: Path,
@@ -39,8 +39,8 @@ impl Model for Message {
 }
 
 impl Message {
-    /// The message of these parts; or none, where the sender, a recipient or a header field has no packet that tells of
-    /// it. The body may be any bytes, and there may be no recipient. No memory is taken. Source: own.
+    /// The message of these parts; or none, where the sender, a recipient or a header field fits no packet. The body
+    /// may be any bytes, and there may be no recipient. No memory is taken.
     pub fn new(
         sender: Path,
         recipients: Vec<Path>,
@@ -61,8 +61,8 @@ impl Message {
         }) }
     {
         if sender.packet_len().is_none()
-            || !can_be_recipients(&recipients)
-            || !can_be_told(&headers)
+            || !are_encodable_paths(&recipients)
+            || !are_encodable_headers(&headers)
         {
             return None;
         }
@@ -74,8 +74,8 @@ impl Message {
         })
     }
 
-    /// The message of these parts, each of which has a packet that tells of it.
-    pub(crate) fn from_parts(
+    /// The message of these parts, each of which must fit a packet. No memory is taken.
+    pub fn from_parts(
         sender: Path,
         recipients: Vec<Path>,
         headers: Vec<Header>,
@@ -102,7 +102,7 @@ impl Message {
         }
     }
 
-    /// The sender, of which a packet can tell. No memory is taken. Source: own.
+    /// The sender, which fits a packet. No memory is taken.
     pub fn sender(&self) -> &Path
         ensures sender { result.now ≡ self.now.sender }
         ensures fits { Fits (commands.Mail result.now) }
@@ -110,7 +110,7 @@ impl Message {
         &self.sender
     }
 
-    /// The recipients, in order; a packet can tell of each. No memory is taken. Source: own.
+    /// The recipients, in order; each fits a packet. No memory is taken.
     pub fn recipients(&self) -> &[Path]
         ensures recipients { result.now ≡ self.now.recipients }
         ensures fit { All (λ path. Fits (commands.Rcpt path)) result.now }
@@ -118,7 +118,7 @@ impl Message {
         self.recipients.as_slice()
     }
 
-    /// The header fields, in order; a packet can tell of each. No memory is taken. Source: own.
+    /// The header fields, in order; each fits a packet. No memory is taken.
     pub fn headers(&self) -> &[Header]
         ensures headers { result.now ≡ self.now.headers }
         ensures fit { All (λ header. Fits (commands.Header header)) result.now }
@@ -126,7 +126,7 @@ impl Message {
         self.headers.as_slice()
     }
 
-    /// The bytes of the body. No memory is taken. Source: own.
+    /// The bytes of the body. No memory is taken.
     pub fn body(&self) -> &[u8]
         ensures { result.now ≡ self.now.body }
     {
@@ -134,24 +134,24 @@ impl Message {
     }
 }
 
-/// What is held of a message after all edits. Source: own.
+/// A message after all edits.
 #[derive(Debug, Drop)]
 pub struct Held {
     /// The message; it may have no recipient left.
     pub message: Message,
-    /// The reason for which it is held in quarantine, if it is.
+    /// The reason for its quarantine, if there is one.
     pub quarantine: Option<Text>,
 }
 
-/// Whether each recipient has a packet that tells of it.
-fn can_be_recipients(paths: &[Path]) -> bool
+/// Whether each recipient fits a packet.
+fn are_encodable_paths(paths: &[Path]) -> bool
     ensures { IsTrue result ↔ All (λ path. Fits (commands.Rcpt path)) paths.now }
 {
     paths.iter().all(|path| path.packet_len().is_some())
 }
 
-/// Whether each header field has a packet that tells of it.
-fn can_be_told(headers: &[Header]) -> bool
+/// Whether each header field fits a packet.
+fn are_encodable_headers(headers: &[Header]) -> bool
     ensures { IsTrue result ↔ All (λ header. Fits (commands.Header header)) headers.now }
 {
     headers.iter().all(|header| header.packet_len().is_some())

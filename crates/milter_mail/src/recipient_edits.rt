@@ -2,9 +2,9 @@
 
 ghost use Rattle.std.specs.Prelude.{◌≡◌, IfOk, OnOk, None, option_map};
 ghost use Rattle.std.specs.List.{filter_map, last_or};
-ghost use Rattle.milter_mail.specs.Edited.{edit_recipients, new_sender, or_as_it_was, params_of, recipients_after, without};
+ghost use Rattle.milter_mail.specs.EditedMessage.{edit_recipients, new_sender, or_as_it_was, params_of, recipients_after, without};
 
-use crate::copies::{copy_path, copy_paths, copy_text};
+use crate::copies::{copy_path, copy_paths};
 use crate::edit::Edit;
 use milter_wire::{NoMemory, Params, Path, Text};
 use std::alloc::Global;
@@ -54,10 +54,10 @@ fn path_of(alloc: Global, address: &Text, arguments: &Option<Text>) -> Result<Pa
 {
     let mut params = Vec::new(alloc);
     if let Some(text) = arguments {
-        params.push(copy_text(alloc, text)?)?;
+        params.push(Text::copy_of(alloc, text.as_slice())?)?;
     }
     let params = Params::new(params);
-    let address = copy_text(alloc, address)?;
+    let address = Text::copy_of(alloc, address.as_slice())?;
     Ok(Path { address, params })
 }
 

@@ -11,11 +11,11 @@ use crate::weight::is_session;
 use milter_wire::{Client, Text};
 use std::marker::Model;
 
-/// What a mail server has to tell of one client: who it is and how it greets, the macros of each stage, and the
+/// What a mail server sends of one client: who it is and how it greets, the macros of each stage, and the
 /// messages that it sends, in order.
 ///
-/// Each message has a recipient and weighs at most 16,777,216 bytes: those of all packets that tell of it where nothing
-/// is left out, of the client, of its greeting and of all macros, with their length fields. Source: own.
+/// Each message has a recipient and weighs at most 16,777,216 bytes: those of all its packets where nothing is left
+/// out, of the client, of its greeting and of all macros, with their length fields.
 #[derive(Debug, Drop)]
 pub struct Session {
     client: Client,
@@ -45,9 +45,9 @@ impl Model for Session {
 }
 
 impl Session {
-    /// The session of these parts; or none, where no packet can tell of the client, of the greeting or of the macros of
-    /// a stage, or where a message has no recipient or weighs more than 16,777,216 bytes. There may be no message. No
-    /// memory is taken. Source: own.
+    /// The session of these parts; or none, where the client, the greeting or the macros of a stage fit no packet, or
+    /// where a message has no recipient or weighs more than 16,777,216 bytes. There may be no message. No
+    /// memory is taken.
     pub fn new(client: Client, helo: Text, macros: Macros, messages: Vec<Message>) -> Option<Self>
         ensures parts { IfSome result (λ s. s ≡ record {
           client = client;
@@ -73,13 +73,8 @@ impl Session {
         })
     }
 
-    /// The session of these parts, which make one.
-    pub(crate) fn from_parts(
-        client: Client,
-        helo: Text,
-        macros: Macros,
-        messages: Vec<Message>,
-    ) -> Self
+    /// The session of these parts, which must make one. No memory is taken.
+    pub fn from_parts(client: Client, helo: Text, macros: Macros, messages: Vec<Message>) -> Self
         requires { IsSession (record {
           client = client;
           helo = helo;
@@ -101,7 +96,7 @@ impl Session {
         }
     }
 
-    /// The client, of which a packet can tell. No memory is taken. Source: own.
+    /// The client, which fits a packet. No memory is taken.
     pub fn client(&self) -> &Client
         ensures client { result.now ≡ self.now.client }
         ensures fits { Fits (commands.Connect result.now) }
@@ -109,7 +104,7 @@ impl Session {
         &self.client
     }
 
-    /// The name with which the client greets, of which a packet can tell. No memory is taken. Source: own.
+    /// The name with which the client greets, which fits a packet. No memory is taken.
     pub fn helo(&self) -> &Text
         ensures helo { result.now ≡ self.now.helo }
         ensures fits { Fits (commands.Helo result.now) }
@@ -117,7 +112,7 @@ impl Session {
         &self.helo
     }
 
-    /// The macros of each stage; those of a stage fit a packet. No memory is taken. Source: own.
+    /// The macros of each stage; those of a stage fit a packet. No memory is taken.
     pub fn macros(&self) -> &Macros
         ensures macros { result.now ≡ self.now.macros }
         ensures fit { MacrosFit result.now }
@@ -125,7 +120,7 @@ impl Session {
         &self.macros
     }
 
-    /// The messages, in order; each has a recipient and weighs at most 16,777,216 bytes. No memory is taken. Source: own.
+    /// The messages, in order; each has a recipient and weighs at most 16,777,216 bytes. No memory is taken.
     pub fn messages(&self) -> &[Message]
         ensures messages { result.now ≡ self.now.messages }
         ensures sendable { All (IsSendable self.now.client self.now.helo self.now.macros) result.now }

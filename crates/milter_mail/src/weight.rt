@@ -3,69 +3,81 @@
 ghost use Rattle.std.specs.Prelude.{◌≡◌, ◌≢◌, ◌≤◌, ◌+◌, ◌-◌, ◌^◌, ◌↔◌, [], All, IfSome, IsSome, IsTrue, ℕ, length, min};
 ghost use Rattle.std.specs.List.{sum_by};
 ghost use Rattle.milter_wire.specs.declared.command.Command.TheVariants as commands;
-ghost use Rattle.milter_wire.specs.Command.{Fits, PacketLen, spelling};
+ghost use Rattle.milter_wire.specs.Command.{Fits, PacketLen, encoding};
 ghost use Rattle.milter_mail.specs.MailObject.{IsMessage};
-ghost use Rattle.milter_mail.specs.MailSession.{IsSession, MacrosFit};
-ghost use Rattle.milter_mail.specs.Weighing.{body_weight, common_weight, macros_weight, opening_weight, parts_weight, CommonWeighs, IsLight, MacrosWeigh, OpeningWeighs};
+ghost use Rattle.milter_mail.specs.MailSession.{IsSession};
+ghost use Rattle.milter_mail.specs.WeightParts.{body_weight, parts_weight, CommonWeighs, IsOverhead, IsSendableWith, MacrosWeigh, OpeningAndMacrosFit, OpeningWeighs};
 
 use crate::macros::Macros;
 use crate::message::Message;
-use milter_wire::{Client, Header, Pairs, Path, Text};
-
-/// The bytes of a packet before its payload: the length and the code.
-const HEAD_LEN: usize = 5;
-
-/// The most bytes of a string in a packet, its NUL among them.
-const STRING_MAX: usize = 65_535;
+use milter_wire::codes::{
+    SMFIC_BODYEOB, SMFIC_CONNECT, SMFIC_DATA, SMFIC_EOH, SMFIC_HELO, SMFIC_MAIL, SMFIC_RCPT,
+};
+use milter_wire::{Client, HEAD_LEN, Header, Pairs, Path, Text, helo_packet_len};
 
 /// The bytes of a piece of a body, but for the last one, which may have fewer.
 const PIECE_LEN: usize = 65_535;
 
 /// The most bytes that the packets of one message have, with those of the connection that it comes on: 16 MiB.
-const WEIGHT_MAX: usize = 16_777_216;
+pub const WEIGHT_MAX: usize = 16_777_216;
 
-/// What each message of a session weighs beside the packets of its own parts.
-#[derive(Drop)]
-pub(crate) struct Overhead {
-    /// The opening, the macros of the message, and the packets that say nothing but their code.
-    message: usize,
-    /// The macros before each recipient.
-    recipient: usize,
+/// What each message of a session weighs beside the packets of its own parts, in bytes.
+#[derive(Clone, Copy, Debug)]
+pub struct Overhead {
+    /// The packets of the opening, of the macros of a message, and those without a payload; or the greatest `usize`,
+    /// where there are more.
+    pub message: usize,
+    /// The packet of macros before each recipient.
+    pub recipient: usize,
 }
 
-/// What each message weighs beside its own parts; or none, where a packet can't tell of the client, of its greeting, or
-/// of the macros of a stage.
-pub(crate) fn measure(client: &Client, helo: &Text, macros: &Macros) -> Option<Overhead>
-    ensures fits { IfSome result (λ _. Fits (commands.Connect client.now) × Fits (commands.Helo helo.now) × MacrosFit macros.now) }
-    ensures none { Fits (commands.Connect client.now) → Fits (commands.Helo helo.now) → MacrosFit macros.now → IsSome result }
-    ensures message { IfSome result (λ o. o.message
-        ≡ min (opening_weight client.now helo.now macros.now + common_weight macros.now) (2 ^ 64 - 1)) }
-    ensures recipient { IfSome result (λ o. o.recipient ≡ macros_weight 82 macros.now.rcpt) }
-{
-    let opening = opening_len(client, helo, macros)?;
-    let common = common_len(macros)?;
-    let recipient = macros_len(b'R', &macros.rcpt)?;
-    Some(Overhead {
-        message: opening.saturating_add(common),
-        recipient,
-    })
+impl Overhead {
+    /// What each message of a session weighs beside its own parts; or none, where the client, its greeting or the
+    /// macros of a stage fit no packet. No memory is taken.
+    pub fn new(client: &Client, helo: &Text, macros: &Macros) -> Option<Self>
+        ensures fits { IfSome result (λ _. OpeningAndMacrosFit client.now helo.now macros.now) }
+        ensures none { OpeningAndMacrosFit client.now helo.now macros.now → IsSome result }
+        ensures overhead { IfSome result (IsOverhead client.now helo.now macros.now) }
+    {
+        let opening = opening_len(client, helo, macros)?;
+        let common = common_len(macros)?;
+        let recipient = macros_len(SMFIC_RCPT, &macros.rcpt)?;
+        Some(Overhead {
+            message: opening.saturating_add(common),
+            recipient,
+        })
+    }
+
+    /// Whether the message has a recipient, and weighs at most 16,777,216 bytes in a session with this overhead. No
+    /// memory is taken.
+    pub fn allows(&self, message: &Message) -> bool
+        ensures { IsTrue result ↔ IsSendableWith self.now message.now }
+    {
+        if message.recipients().is_empty() {
+            return false;
+        }
+        let weight = self
+            .message
+            .saturating_add(parts_len(self.recipient, message));
+        weight <= WEIGHT_MAX
+    }
 }
 
 fn opening_len(client: &Client, helo: &Text, macros: &Macros) -> Option<usize>
     ensures { OpeningWeighs client.now helo.now macros.now result }
 {
-    let connect = macros_len(b'C', &macros.connect)?.saturating_add(client.packet_len()?);
-    let helo = macros_len(b'H', &macros.helo)?.saturating_add(helo_len(helo)?);
+    let connect = macros_len(SMFIC_CONNECT, &macros.connect)?.saturating_add(client.packet_len()?);
+    let helo = macros_len(SMFIC_HELO, &macros.helo)?.saturating_add(helo_packet_len(helo)?);
     Some(connect.saturating_add(helo))
 }
 
 fn common_len(macros: &Macros) -> Option<usize>
     ensures { CommonWeighs macros.now result }
 {
-    let mail = macros_len(b'M', &macros.mail)?;
-    let data_cmd = macros_len(b'T', &macros.data_cmd)?.saturating_add(HEAD_LEN);
-    let eoh = macros_len(b'N', &macros.eoh)?.saturating_add(HEAD_LEN);
-    let eom = macros_len(b'E', &macros.eom)?.saturating_add(HEAD_LEN);
+    let mail = macros_len(SMFIC_MAIL, &macros.mail)?;
+    let data_cmd = macros_len(SMFIC_DATA, &macros.data_cmd)?.saturating_add(HEAD_LEN);
+    let eoh = macros_len(SMFIC_EOH, &macros.eoh)?.saturating_add(HEAD_LEN);
+    let eom = macros_len(SMFIC_BODYEOB, &macros.eom)?.saturating_add(HEAD_LEN);
     Some(
         mail.saturating_add(data_cmd)
             .saturating_add(eoh)
@@ -73,7 +85,8 @@ fn common_len(macros: &Macros) -> Option<usize>
     )
 }
 
-/// The number of bytes of the packet with these macros of the command with this code: 0 where there are none, since there is no packet then.
+/// The number of bytes of the packet with these macros of the command with this code: 0 where there are none, since
+/// there is no packet then.
 fn macros_len(command: u8, pairs: &Pairs) -> Option<usize>
     ensures { MacrosWeigh command pairs.now result }
 {
@@ -84,20 +97,8 @@ fn macros_len(command: u8, pairs: &Pairs) -> Option<usize>
     Some(len)
 }
 
-/// The number of bytes of the packet with the client's greeting.
-#[tactic(auto, unfolding(milter_wire::specs::Field::number, milter_wire::specs::Field::HasNoNul))]
-pub(crate) fn helo_len(helo: &Text) -> Option<usize>
-    ensures { PacketLen (commands.Helo helo.now) result }
-{
-    let bytes = helo.as_slice();
-    if bytes.iter().any(|byte| *byte == 0) || bytes.len() >= STRING_MAX {
-        return None;
-    }
-    Some(bytes.len() + 1 + HEAD_LEN)
-}
-
-/// Whether a packet can tell of the client, of its greeting and of the macros of each stage, and each message goes to
-/// someone and weighs at most 16,777,216 bytes.
+/// Whether the client, its greeting and the macros of each stage fit a packet, and each message has a recipient and
+/// weighs at most 16,777,216 bytes.
 pub(crate) fn is_session(
     client: &Client,
     helo: &Text,
@@ -111,30 +112,17 @@ pub(crate) fn is_session(
       messages = messages.now;
     }) }
 {
-    let Some(overhead) = measure(client, helo, macros) else {
+    let Some(overhead) = Overhead::new(client, helo, macros) else {
         return false;
     };
-    are_light(&overhead, messages)
+    are_sendable(&overhead, messages)
 }
 
 /// Whether each message goes to someone, and weighs at most 16,777,216 bytes.
-fn are_light(overhead: &Overhead, messages: &[Message]) -> bool
-    ensures { IsTrue result ↔ All (IsLight overhead.now.message overhead.now.recipient) messages.now }
+fn are_sendable(overhead: &Overhead, messages: &[Message]) -> bool
+    ensures { IsTrue result ↔ All (IsSendableWith overhead.now) messages.now }
 {
-    messages.iter().all(|message| is_light(overhead, message))
-}
-
-/// Whether the message goes to someone, and weighs at most 16,777,216 bytes.
-pub(crate) fn is_light(overhead: &Overhead, message: &Message) -> bool
-    ensures { IsTrue result ↔ IsLight overhead.now.message overhead.now.recipient message.now }
-{
-    if message.recipients().is_empty() {
-        return false;
-    }
-    overhead
-        .message
-        .saturating_add(parts_len(overhead.recipient, message))
-        <= WEIGHT_MAX
+    messages.iter().all(|message| overhead.allows(message))
 }
 
 fn parts_len(more: usize, message: &Message) -> usize
@@ -150,7 +138,7 @@ fn parts_len(more: usize, message: &Message) -> usize
 /// The number of bytes of the packet of the sender.
 fn sender_len(path: &Path) -> usize
     requires { Fits (commands.Mail path.now) }
-    ensures { result ≡ length (spelling (commands.Mail path.now)) }
+    ensures { result ≡ length (encoding (commands.Mail path.now)) }
 {
     path.packet_len().unwrap_or(0)
 }
@@ -158,7 +146,7 @@ fn sender_len(path: &Path) -> usize
 /// The number of bytes of the packets of recipients, with so many more for each.
 fn recipients_len(more: usize, paths: &[Path]) -> usize
     requires { All (λ path. Fits (commands.Rcpt path)) paths.now }
-    ensures { result ≡ min (sum_by (λ path. more + length (spelling (commands.Rcpt path))) paths.now) (2 ^ 64 - 1) }
+    ensures { result ≡ min (sum_by (λ path. more + length (encoding (commands.Rcpt path))) paths.now) (2 ^ 64 - 1) }
 {
     let mut total: usize = 0;
     for path in paths {
@@ -170,7 +158,7 @@ fn recipients_len(more: usize, paths: &[Path]) -> usize
 /// The number of bytes of the packet of a recipient.
 fn recipient_len(path: &Path) -> usize
     requires { Fits (commands.Rcpt path.now) }
-    ensures { result ≡ length (spelling (commands.Rcpt path.now)) }
+    ensures { result ≡ length (encoding (commands.Rcpt path.now)) }
 {
     path.packet_len().unwrap_or(0)
 }
@@ -178,7 +166,7 @@ fn recipient_len(path: &Path) -> usize
 /// The number of bytes of the packets of header fields.
 fn headers_len(headers: &[Header]) -> usize
     requires { All (λ header. Fits (commands.Header header)) headers.now }
-    ensures { result ≡ min (sum_by (λ header. length (spelling (commands.Header header))) headers.now) (2 ^ 64 - 1) }
+    ensures { result ≡ min (sum_by (λ header. length (encoding (commands.Header header))) headers.now) (2 ^ 64 - 1) }
 {
     let mut total: usize = 0;
     for header in headers {
@@ -190,7 +178,7 @@ fn headers_len(headers: &[Header]) -> usize
 /// The number of bytes of the packet of a header field.
 fn header_len(header: &Header) -> usize
     requires { Fits (commands.Header header.now) }
-    ensures { result ≡ length (spelling (commands.Header header.now)) }
+    ensures { result ≡ length (encoding (commands.Header header.now)) }
 {
     header.packet_len().unwrap_or(0)
 }

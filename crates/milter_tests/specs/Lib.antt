@@ -1,2 +1,3 @@
 pub mod WorkedMessage
 pub mod WorkedEdits
+pub mod WorkedPlan

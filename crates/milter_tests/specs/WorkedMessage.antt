@@ -3,7 +3,7 @@ use Rattle.std.specs.Prelude.{ℕ, List, [], ◌∷◌, ◌++◌, codes, None}
 use Rattle.milter_wire.specs.declared.client.Client.{Client}
 use Rattle.milter_wire.specs.declared.client.Origin.TheVariants.{Unknown}
 use Rattle.milter_wire.specs.declared.header.Header.{Header}
-use Rattle.milter_wire.specs.declared.options.Options.{Options}
+use Rattle.milter_options.specs.declared.options.Options.{Options}
 use Rattle.milter_wire.specs.declared.pair.Pair.{Pair}
 use Rattle.milter_wire.specs.declared.path.Path.{Path}
 use Rattle.milter_mail.specs.declared.macros.Macros.{Macros}

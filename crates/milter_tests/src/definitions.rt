@@ -1,17 +1,18 @@
 //! Worked examples of the definitions that contracts stand on: each is what the definition computes.
 
-ghost use Rattle.std.specs.Prelude.{◌≡◌, [], ◌∷◌, ◌++◌, codes, length, List, ℕ, None, Some};
+ghost use Rattle.std.specs.Prelude.{◌≡◌, [], ◌∷◌, ◌++◌, codes, false, length, List, ℕ, None, Some, true};
 ghost use Rattle.milter_wire.specs.declared.command.Command.TheVariants as commands;
 ghost use Rattle.milter_mail.specs.declared.edit.Edit.TheVariants.{AddHeader, AddRcpt, AddRcptPar, ChangeFrom, ChangeHeader, DelRcpt, Quarantine, ReplaceBody};
-ghost use Rattle.milter_mail.specs.Agreed.{agree};
-ghost use Rattle.milter_mail.specs.Edited.{edited, headers_after, recipients_after};
+ghost use Rattle.milter_options.specs.Agreement.{agree};
+ghost use Rattle.milter_mail.specs.EditedMessage.{edited_message, headers_after, recipients_after};
 ghost use Rattle.milter_mail.specs.HeldText.{held_text};
-ghost use Rattle.milter_mail.specs.Plan.{message_steps, opening, pieces_of};
+ghost use Rattle.milter_mail.specs.Plan.{is_asked, message_steps, opening, pieces_of};
 ghost use Rattle.milter_mail.specs.Weight.{weight};
 ghost use Rattle.milter_tests.specs.WorkedEdits.{edits_of_fields, new_fields, old_fields};
 ghost use Rattle.milter_tests.specs.WorkedMessage.{agreed, at, client, field, helo, line, message, no_macros, one_macro};
+ghost use Rattle.milter_tests.specs.WorkedPlan.{all_macros, body, eob, full_message, header, mail, one, rcpt, short_message};
 
-use milter_mail::weights_of_parts;
+use milter_mail::weight_of_parts;
 
 /// Edits of header fields count places and occurrences in the list as it is by then.
 pub fn edited_fields()
@@ -23,7 +24,8 @@ pub fn edited_fields()
     ensures deleted { headers_after old_fields (ChangeHeader 2 (field (codes "a") []) ∷ [])
         ≡ field (codes "A") (codes "1") ∷ field (codes "B") (codes "2") ∷ [] }
     ensures absent { headers_after old_fields (ChangeHeader 3 (field (codes "a") []) ∷ []) ≡ old_fields }
-    ensures added { headers_after [] (AddHeader (field (codes "A") (codes "1")) ∷ []) ≡ field (codes "A") (codes "1") ∷ [] }
+    ensures added { headers_after [] (AddHeader (field (codes "A") (codes "1")) ∷ [])
+        ≡ field (codes "A") (codes "1") ∷ [] }
 {}
 
 /// Edits of recipients, of the sender, of the body and of the quarantine.
@@ -36,20 +38,24 @@ pub fn edited_messages()
         ≡ (record { address = codes "b"; params = codes "N=1 X" ∷ [] }) ∷ [] }
     ensures no_arguments { recipients_after [] (AddRcptPar (codes "b") None ∷ []) ≡ at (codes "b") ∷ [] }
     // The last sender stands, and without arguments it has no parameters.
-    ensures sender { (edited message (ChangeFrom (codes "c") (Some []) ∷ ChangeFrom (codes "d") None ∷ [])).message.sender
+    ensures sender { (edited_message message (ChangeFrom (codes "c") (Some []) ∷ ChangeFrom (codes "d") None
+        ∷ [])).message.sender
         ≡ at (codes "d") }
-    ensures body { (edited message (ReplaceBody (codes "one") ∷ ReplaceBody [] ∷ ReplaceBody (codes "two") ∷ [])).message.body
+    ensures body { (edited_message message (ReplaceBody (codes "one") ∷ ReplaceBody [] ∷ ReplaceBody (codes "two")
+        ∷ [])).message.body
         ≡ codes "onetwo" }
-    ensures quarantine { (edited message (Quarantine (codes "p") ∷ Quarantine (codes "q") ∷ [])).quarantine ≡ Some (codes "q") }
-    ensures nothing { edited message [] ≡ record { message = message; quarantine = None } }
+    ensures quarantine { (edited_message message (Quarantine (codes "p") ∷ Quarantine (codes "q") ∷ [])).quarantine
+        ≡ Some (codes "q") }
+    ensures nothing { edited_message message [] ≡ record { message = message; quarantine = None } }
 {}
 
 /// The commands of one small session, and their weight.
-#[tactic(auto, unfolding(milter_wire::specs::Field::number))]
+#[tactic(auto, unfolding(milter_stream::specs::Number::number))]
 pub fn planned_sessions()
     ensures opened { opening (agreed 6 0) no_macros client helo ≡ commands.Connect client ∷ commands.Helo helo ∷ [] }
     ensures whole { message_steps (agreed 6 0) no_macros message
-        ≡ commands.Mail (at (codes "a@x")) ∷ commands.Rcpt (at (codes "b@y")) ∷ commands.DataCmd ∷ commands.Eoh ∷ commands.Eob [] ∷ [] }
+        ≡ commands.Mail (at (codes "a@x")) ∷ commands.Rcpt (at (codes "b@y")) ∷ commands.DataCmd ∷ commands.Eoh
+        ∷ commands.Eob [] ∷ [] }
     // Before version 4 there was no DATA.
     ensures version { message_steps (agreed 3 0) no_macros message
         ≡ commands.Mail (at (codes "a@x")) ∷ commands.Rcpt (at (codes "b@y")) ∷ commands.Eoh ∷ commands.Eob [] ∷ [] }
@@ -60,7 +66,64 @@ pub fn planned_sessions()
     ensures weight { weight client helo no_macros message ≡ 59 }
     ensures weight_of_macros { weight client helo one_macro message ≡ 70 }
     ensures pieces { (body : List ℕ) → length body ≡ 131071 → length (pieces_of body) ≡ 3 }
+    ensures two_pieces { (body : List ℕ) → length body ≡ 65536 → length (pieces_of body) ≡ 2 }
+    ensures one_piece { (body : List ℕ) → length body ≡ 65535 → length (pieces_of body) ≡ 1 }
     ensures no_pieces { pieces_of [] ≡ [] }
+{}
+
+/// The commands with the macros of each stage, and of a message with each part.
+pub fn planned_macros()
+    ensures opened { opening (agreed 6 0) all_macros client helo
+        ≡ commands.Macro 67 (one (codes "c")) ∷ commands.Connect client ∷ commands.Macro 72 (one (codes "h"))
+        ∷ commands.Helo helo ∷ [] }
+    // The macros of recipients come before each of them, and those of header fields and of the body are none.
+    ensures whole { message_steps (agreed 6 0) all_macros full_message
+        ≡ commands.Macro 77 (one (codes "m")) ∷ mail ∷ commands.Macro 82 (one (codes "r")) ∷ rcpt
+        ∷ commands.Macro 82 (one (codes "r")) ∷ commands.Rcpt (at (codes "c@z"))
+        ∷ commands.Macro 84 (one (codes "t")) ∷ commands.DataCmd
+        ∷ header ∷ commands.Header (field (codes "B") (codes "2")) ∷ commands.Macro 78 (one (codes "n")) ∷ commands.Eoh
+        ∷ body ∷ commands.Macro 69 (one (codes "e")) ∷ eob ∷ [] }
+{}
+
+/// The commands of a message with each NO bit: the stage of the bit is left out.
+pub fn planned_stages()
+    ensures none { message_steps (agreed 6 0) no_macros short_message ≡ mail ∷ rcpt ∷ commands.DataCmd ∷ header
+        ∷ commands.Eoh ∷ body ∷ eob ∷ [] }
+    ensures mail { message_steps (agreed 6 4) no_macros short_message ≡ rcpt ∷ commands.DataCmd ∷ header
+        ∷ commands.Eoh ∷ body ∷ eob ∷ [] }
+    ensures rcpt { message_steps (agreed 6 8) no_macros short_message ≡ mail ∷ commands.DataCmd ∷ header
+        ∷ commands.Eoh ∷ body ∷ eob ∷ [] }
+    ensures data { message_steps (agreed 6 512) no_macros short_message ≡ mail ∷ rcpt ∷ header ∷ commands.Eoh ∷ body
+        ∷ eob ∷ [] }
+    ensures header { message_steps (agreed 6 32) no_macros short_message ≡ mail ∷ rcpt ∷ commands.DataCmd
+        ∷ commands.Eoh ∷ body ∷ eob ∷ [] }
+    ensures eoh { message_steps (agreed 6 64) no_macros short_message ≡ mail ∷ rcpt ∷ commands.DataCmd ∷ header
+        ∷ body ∷ eob ∷ [] }
+    ensures body { message_steps (agreed 6 16) no_macros short_message ≡ mail ∷ rcpt ∷ commands.DataCmd ∷ header
+        ∷ commands.Eoh ∷ eob ∷ [] }
+    // The end of a message is always sent, and NOUNKNOWN, SKIP and the NR bits leave nothing out.
+    ensures all { message_steps (agreed 6 636) all_macros short_message ≡ commands.Macro 69 (one (codes "e")) ∷ eob
+        ∷ [] }
+    ensures others { message_steps (agreed 6 1045888) no_macros short_message ≡ mail ∷ rcpt ∷ commands.DataCmd
+        ∷ header ∷ commands.Eoh ∷ body ∷ eob ∷ [] }
+{}
+
+/// Which commands are asked about, with each NR bit.
+pub fn asked_commands()
+    ensures connect { is_asked (agreed 6 0) (commands.Connect client) ≡ true }
+    ensures not_connect { is_asked (agreed 6 4096) (commands.Connect client) ≡ false }
+    ensures not_helo { is_asked (agreed 6 8192) (commands.Helo helo) ≡ false }
+    ensures not_mail { is_asked (agreed 6 16384) mail ≡ false }
+    ensures not_rcpt { is_asked (agreed 6 32768) rcpt ≡ false }
+    ensures not_data { is_asked (agreed 6 65536) commands.DataCmd ≡ false }
+    ensures not_header { is_asked (agreed 6 128) header ≡ false }
+    ensures not_eoh { is_asked (agreed 6 262144) commands.Eoh ≡ false }
+    ensures not_body { is_asked (agreed 6 524288) body ≡ false }
+    // Another bit leaves it asked, the end of a message always is, and macros and what is no stage never are.
+    ensures other { is_asked (agreed 6 1032191) mail ≡ true }
+    ensures eob { is_asked (agreed 6 1048575) eob ≡ true }
+    ensures macros { is_asked (agreed 6 0) (commands.Macro 67 (one (codes "c"))) ≡ false }
+    ensures quit { is_asked (agreed 6 0) commands.Quit ≡ false }
 {}
 
 /// What two ends agree on.
@@ -69,18 +132,25 @@ pub fn agreed_options()
     ensures bits { agree (agreed 3 5) (agreed 6 6) ≡ agreed 3 4 }
 {}
 
-/// The heaviest body of a message of that session: 16 MiB with all else.
-#[tactic(auto, unfolding(milter_wire::specs::Field::number))]
-pub fn heaviest_messages()
+/// The largest body of a message of that session: 16 MiB with all else.
+#[tactic(auto, unfolding(milter_stream::specs::Number::number))]
+pub fn largest_messages()
     ensures { (body : List ℕ) → length body ≡ 16775877 →
-        weight client helo no_macros (record { sender = message.sender; recipients = message.recipients; headers = []; body = body }) ≡ 16777216 }
+        weight client helo no_macros (record {
+          sender = message.sender;
+          recipients = message.recipients;
+          headers =
+              [];
+          body = body;
+        }) ≡ 16777216 }
 {
-    weights_of_parts();
+    weight_of_parts();
 }
 
 /// The text of a held message.
-#[tactic(auto, unfolding(milter_mail::specs::HeldText::held_text, milter_mail::specs::HeldText::line_of, milter_mail::specs::Quoting::quoted))]
-pub fn told_messages()
+#[tactic(auto, unfolding(milter_mail::specs::HeldText::held_text, milter_mail::specs::HeldText::line_of, milter_text::specs::Quoting::quoted))]
+pub fn message_texts()
     ensures unedited { held_text (record { message = message; quarantine = None })
-        ≡ line (codes "sender") (codes "a@x") ++ line (codes "recipient") (codes "b@y") ++ line (codes "body") [] ++ codes "end" ++ 10 ∷ [] }
+        ≡ line (codes "sender") (codes "a@x") ++ line (codes "recipient") (codes "b@y") ++ line (codes "body") []
+        ++ codes "end" ++ 10 ∷ [] }
 {}

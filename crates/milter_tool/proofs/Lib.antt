@@ -1,7 +1,7 @@
-pub mod Printed
+pub mod PacketLaws
 pub mod LineLaws
-pub mod ToCome
-pub mod Writes
-pub mod Steps
-pub mod Whole
-pub mod Traced
+pub mod PieceLaws
+pub mod WriteLaws
+pub mod TraceLaws
+pub mod RunLaws
+pub mod SessionLaws

@@ -8,8 +8,8 @@ use Rattle.std.proofs.lemmas.Option.{none-some}
 use Rattle.std.proofs.lemmas.List.{get_or-take, length-take}
 use Rattle.std.proofs.lemmas.List.Elements.{All-nil, All-cons, All-head, All-tail}
 use Rattle.std.proofs.lemmas.List.Quantifiers.{position-Some}
-use Rattle.milter_mail.specs.Lines.{Line, onto, lines_of}
-use Rattle.milter_tool.specs.Tracing.{HasNoEnd}
+use Rattle.milter_text.specs.Lines.{Line, onto, lines_of}
+use Rattle.milter_tool.specs.TraceState.{HasNoLf}
 
 abbrev IsNoEnd : ℕ → Type 0
 IsNoEnd byte = byte ≢ 10
@@ -17,24 +17,24 @@ IsNoEnd byte = byte ≢ 10
 lines_of-byte : (byte : ℕ) (bytes : List ℕ) → byte ≢ 10 → lines_of (byte ∷ bytes) ≡ onto byte (lines_of bytes)
 lines_of-byte byte bytes ne = let f : (byte == 10) ≡ false = ne_eqb byte 10 ne in rw f refl
 
-pub lines_of-ended : (front more : List ℕ) → HasNoEnd front → lines_of (front ++ 10 ∷ more) ≡ record { bytes = front; ended = true } ∷ lines_of more
+pub lines_of-ended : (prefix more : List ℕ) → HasNoLf prefix → lines_of (prefix ++ 10 ∷ more) ≡ record { bytes = prefix; ended = true } ∷ lines_of more
 lines_of-ended [] more h = refl
-lines_of-ended (b ∷ front) more h =
-    lines_of-byte b (front ++ 10 ∷ more) (All-head IsNoEnd b front h) ∙ ap (onto b) (lines_of-ended front more (All-tail IsNoEnd b front h))
+lines_of-ended (b ∷ prefix) more h =
+    lines_of-byte b (prefix ++ 10 ∷ more) (All-head IsNoEnd b prefix h) ∙ ap (onto b) (lines_of-ended prefix more (All-tail IsNoEnd b prefix h))
 
-pub lines_of-last : (b : ℕ) (front : List ℕ) → HasNoEnd (b ∷ front) → lines_of (b ∷ front) ≡ record { bytes = b ∷ front; ended = false } ∷ []
+pub lines_of-last : (b : ℕ) (prefix : List ℕ) → HasNoLf (b ∷ prefix) → lines_of (b ∷ prefix) ≡ record { bytes = b ∷ prefix; ended = false } ∷ []
 lines_of-last b [] h = lines_of-byte b [] (All-head IsNoEnd b [] h)
-lines_of-last b (c ∷ front) h = lines_of-byte b (c ∷ front) (All-head IsNoEnd b (c ∷ front) h) ∙ ap (onto b) (lines_of-last c front (All-tail IsNoEnd b (c ∷ front) h))
+lines_of-last b (c ∷ prefix) h = lines_of-byte b (c ∷ prefix) (All-head IsNoEnd b (c ∷ prefix) h) ∙ ap (onto b) (lines_of-last c prefix (All-tail IsNoEnd b (c ∷ prefix) h))
 
 -- the line that begins with some bytes
-pub record Begins (front bytes : List ℕ) : Type 0 where
+pub record Begins (prefix bytes : List ℕ) : Type 0 where
   pub line : Line
   pub lines : List Line
   pub lines_are : lines_of bytes ≡ line ∷ lines
-  pub long : length front ≤ length line.bytes
+  pub long : length prefix ≤ length line.bytes
 
-begins_onto : (b : ℕ) (front bytes : List ℕ) → b ≢ 10 → Begins front bytes → Begins (b ∷ front) (b ∷ bytes)
-begins_onto b front bytes ne r = record {
+begins_onto : (b : ℕ) (prefix bytes : List ℕ) → b ≢ 10 → Begins prefix bytes → Begins (b ∷ prefix) (b ∷ bytes)
+begins_onto b prefix bytes ne r = record {
   line = record { bytes = b ∷ r.line.bytes; ended = r.line.ended };
   lines = r.lines;
   lines_are = lines_of-byte b bytes ne ∙ ap (onto b) r.lines_are;
@@ -45,18 +45,18 @@ one_onto : (b : ℕ) (bytes : List ℕ) (ls : List Line) → b ≢ 10 → lines_
 one_onto b bytes [] ne is = record { line = record { bytes = b ∷ []; ended = false }; lines = []; lines_are = lines_of-byte b bytes ne ∙ ap (onto b) is; long = omega arith }
 one_onto b bytes (l ∷ ls) ne is = record { line = record { bytes = b ∷ l.bytes; ended = l.ended }; lines = ls; lines_are = lines_of-byte b bytes ne ∙ ap (onto b) is; long = omega arith }
 
-pub begins : (b : ℕ) (front more : List ℕ) → HasNoEnd (b ∷ front) → Begins (b ∷ front) ((b ∷ front) ++ more)
+pub begins : (b : ℕ) (prefix more : List ℕ) → HasNoLf (b ∷ prefix) → Begins (b ∷ prefix) ((b ∷ prefix) ++ more)
 begins b [] more h = one_onto b more (lines_of more) (All-head IsNoEnd b [] h) refl
-begins b (c ∷ front) more h = begins_onto b (c ∷ front) ((c ∷ front) ++ more) (All-head IsNoEnd b (c ∷ front) h) (begins c front more (All-tail IsNoEnd b (c ∷ front) h))
+begins b (c ∷ prefix) more h = begins_onto b (c ∷ prefix) ((c ∷ prefix) ++ more) (All-head IsNoEnd b (c ∷ prefix) h) (begins c prefix more (All-tail IsNoEnd b (c ∷ prefix) h))
 
 -- ---- where a line ends
 
-pub record Ends (bytes : List ℕ) (i : ℕ) : Type 0 where
+pub record LineEnd (bytes : List ℕ) (i : ℕ) : Type 0 where
   pub within : i < length bytes
   pub split : bytes ≡ take i bytes ++ 10 ∷ drop (i + 1) bytes
-  pub front : HasNoEnd (take i bytes)
+  pub prefix : HasNoLf (take i bytes)
 
-pub ends_at : (bytes : List ℕ) (i : ℕ) → position (λ byte. byte == 10) bytes ≡ Some i → Ends bytes i
+pub ends_at : (bytes : List ℕ) (i : ℕ) → position (λ byte. byte == 10) bytes ≡ Some i → LineEnd bytes i
 ends_at bytes i h =
     let first = position-Some (λ byte. byte == 10) bytes i 0 h in
     let here : get_or bytes i 0 ≡ 10 = eqb-true (get_or bytes i 0) 10 first.1 in
@@ -64,13 +64,13 @@ ends_at bytes i h =
     record {
       within = first.0;
       split = sym (take-append-drop i bytes) ∙ ap (λ (x : List ℕ). take i bytes ++ x) tail;
-      front = λ k d lt.
+      prefix = λ k d lt.
           let below : k < i = omega (arith, length-take i bytes) in
           let before = (position-Some (λ byte. byte == 10) bytes i d h).2 k below in
           rw (get_or-take i bytes k d below) (eqb-false (get_or bytes k d) 10 before);
     }
 
-no_end_by : (bytes : List ℕ) → length bytes ≤ position_or_len (λ byte. byte == 10) bytes → HasNoEnd bytes
+no_end_by : (bytes : List ℕ) → length bytes ≤ position_or_len (λ byte. byte == 10) bytes → HasNoLf bytes
 no_end_by [] h = All-nil IsNoEnd
 no_end_by (b ∷ bytes) h =
     elim (cases_eq b 10) [
@@ -84,7 +84,7 @@ no_end_by (b ∷ bytes) h =
           All-cons IsNoEnd b bytes other (no_end_by bytes (omega (arith, more, h)))
     ]
 
-pub no_end : (bytes : List ℕ) → position (λ byte. byte == 10) bytes ≡ None → HasNoEnd bytes
+pub no_end : (bytes : List ℕ) → position (λ byte. byte == 10) bytes ≡ None → HasNoLf bytes
 no_end bytes h =
     elim (cases_lt (position_or_len (λ byte. byte == 10) bytes) (length bytes)) [
       | inl lt ↦ absurd (none-some (position_or_len (λ byte. byte == 10) bytes) (sym h ∙ rw (lt-ltb _ _ lt) refl))

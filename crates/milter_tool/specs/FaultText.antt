@@ -5,12 +5,13 @@ use Rattle.milter_tool.specs.declared.direction.Direction.TheVariants.{ToFilter,
 use Rattle.milter_tool.specs.PacketText.{mark_of}
 
 -- the line of one direction
-abbrev pub end_text : Direction → ℕ → List ℕ
-end_text direction bytes = codes "end: " ++ mark_of direction ∷ codes " truncated " ++ decimal bytes ++ codes " bytes"
+abbrev pub truncated_line : Direction → ℕ → List ℕ
+truncated_line direction bytes =
+    codes "end: " ++ mark_of direction ∷ codes " truncated " ++ decimal bytes ++ codes " bytes"
 
 -- a line for each direction in which it ends so
-abbrev pub ends_text : ℕ → ℕ → List ℕ
-ends_text to_filter to_mta =
-    if to_mta == 0 then end_text ToFilter to_filter
-    else if to_filter == 0 then end_text ToMta to_mta
-    else (end_text ToFilter to_filter ++ 10 ∷ end_text ToMta to_mta)
+abbrev pub truncated_lines : ℕ → ℕ → List ℕ
+truncated_lines to_filter to_mta =
+    if to_mta == 0 then truncated_line ToFilter to_filter
+    else if to_filter == 0 then truncated_line ToMta to_mta
+    else (truncated_line ToFilter to_filter ++ 10 ∷ truncated_line ToMta to_mta)

@@ -2,25 +2,25 @@
 use Rattle.std.specs.Prelude.{◌≡◌, ℕ, Bool, true, false, List, [], ◌∷◌, ◌++◌, map, codes, length, decimal, Option, Some, None, Result, Ok, Err}
 use Rattle.std.specs.List.{flat_map}
 use Rattle.hex.specs.Hex.{encode_lower}
-use Rattle.milter_wire.specs.declared.fault.WireFault.{WireFault}
-use Rattle.milter_wire.specs.declared.fault.WireFault.TheVariants.{ZeroLength, TooLong, UnknownCode, Malformed, Truncated, NoMemory}
+use Rattle.milter_stream.specs.declared.fault.WireFault.{WireFault}
+use Rattle.milter_stream.specs.declared.fault.WireFault.TheVariants.{ZeroLength, TooLong, UnknownCode, Malformed, Truncated, NoMemory}
 use Rattle.milter_wire.specs.declared.client.Client.{Client}
 use Rattle.milter_wire.specs.declared.client.Origin.{Origin}
 use Rattle.milter_wire.specs.declared.client.Origin.TheVariants as origins
 use Rattle.milter_wire.specs.declared.header.Header.{Header}
-use Rattle.milter_wire.specs.declared.options.Options.{Options}
+use Rattle.milter_options.specs.declared.options.Options.{Options}
 use Rattle.milter_wire.specs.declared.pair.Pair.{Pair}
 use Rattle.milter_wire.specs.declared.path.Path.{Path}
 use Rattle.milter_wire.specs.declared.command.Command.{Command}
 use Rattle.milter_wire.specs.declared.command.Command.TheVariants as commands
 use Rattle.milter_wire.specs.declared.reply.Reply.{Reply}
 use Rattle.milter_wire.specs.declared.reply.Reply.TheVariants as replies
-use Rattle.milter_wire.specs.Code.{code_text}
+use Rattle.milter_stream.specs.Code.{code_text}
 use Rattle.milter_wire.specs.Command as of_commands
-use Rattle.milter_wire.specs.Field.{number}
+use Rattle.milter_stream.specs.Number.{number}
 use Rattle.milter_wire.specs.Reply as of_replies
-use Rattle.milter_wire.specs.Stream.{Frame}
-use Rattle.milter_mail.specs.Quoting.{quoted}
+use Rattle.milter_stream.specs.Stream.{Frame}
+use Rattle.milter_text.specs.Quoting.{quoted}
 use Rattle.milter_tool.specs.declared.direction.Direction.{Direction}
 use Rattle.milter_tool.specs.declared.direction.Direction.TheVariants.{ToFilter, ToMta}
 
@@ -37,7 +37,8 @@ hex8 n = encode_lower (number n)
 
 -- each of the three numbers after its name: the version in decimal, the sets of bits in hexadecimal
 abbrev pub options_fields : Options → List (List ℕ)
-options_fields o = codes "version" ∷ decimal o.version ∷ codes "actions" ∷ hex8 o.actions.0 ∷ codes "protocol" ∷ hex8 o.protocol.0 ∷ []
+options_fields o =
+    codes "version" ∷ decimal o.version ∷ codes "actions" ∷ hex8 o.actions.0 ∷ codes "protocol" ∷ hex8 o.protocol.0 ∷ []
 
 -- the family, and then the port and the address where it is known
 abbrev pub origin_fields : Origin → List (List ℕ)
@@ -123,15 +124,17 @@ read_text direction code fields true (Some value) = Ok (line_text direction code
 
 -- the line of a packet, or its fault
 abbrev pub packet_text : Direction → Frame → Result (List ℕ) WireFault
-packet_text ToFilter f = read_text ToFilter f.code command_fields (of_commands.is_code f.code) (of_commands.command_in f.code f.payload)
-packet_text ToMta f = read_text ToMta f.code reply_fields (of_replies.is_code f.code) (of_replies.reply_in f.code f.payload)
+packet_text ToFilter f =
+    read_text ToFilter f.code command_fields (of_commands.is_code f.code) (of_commands.command_in f.code f.payload)
+packet_text ToMta f =
+    read_text ToMta f.code reply_fields (of_replies.is_code f.code) (of_replies.reply_in f.code f.payload)
 
--- The text was appended, or its fault told and nothing appended, unless memory was refused.
-abbrev pub Shows : Result (List ℕ) WireFault → List ℕ → List ℕ → Result Unit WireFault → Type 0
-Shows text old new (Ok u) = (t : List ℕ) × (text ≡ Ok t) × (new ≡ old ++ t)
-Shows text old new (Err ZeroLength) = ⊥
-Shows text old new (Err (TooLong n)) = ⊥
-Shows text old new (Err (UnknownCode code)) = (text ≡ Err (UnknownCode code)) × (new ≡ old)
-Shows text old new (Err (Malformed code)) = (text ≡ Err (Malformed code)) × (new ≡ old)
-Shows text old new (Err (Truncated n)) = ⊥
-Shows text old new (Err NoMemory) = Unit {0}
+-- The text was appended, or the result is its fault and nothing was appended, unless memory was refused.
+abbrev pub AppendsText : Result (List ℕ) WireFault → List ℕ → List ℕ → Result Unit WireFault → Type 0
+AppendsText text old new (Ok u) = (t : List ℕ) × (text ≡ Ok t) × (new ≡ old ++ t)
+AppendsText text old new (Err ZeroLength) = ⊥
+AppendsText text old new (Err (TooLong n)) = ⊥
+AppendsText text old new (Err (UnknownCode code)) = (text ≡ Err (UnknownCode code)) × (new ≡ old)
+AppendsText text old new (Err (Malformed code)) = (text ≡ Err (Malformed code)) × (new ≡ old)
+AppendsText text old new (Err (Truncated n)) = ⊥
+AppendsText text old new (Err NoMemory) = Unit {0}

@@ -5,7 +5,7 @@ ghost use Rattle.milter_tool.specs.PacketText.{mark_of};
 
 use std::fmt;
 
-/// Which end a packet goes to. Source: own.
+/// Which end a packet goes to.
 #[derive(Clone, Copy, Debug, PartialEq, Eq)]
 pub enum Direction {
     /// From the mail server (MTA) to the filter, printed as `>`.

@@ -2,7 +2,7 @@
 
 ghost use Rattle.milter_tool.specs.declared.fault.TraceFault.TheVariants as faults;
 ghost use Rattle.milter_tool.specs.declared.direction.Direction.TheVariants.{ToFilter, ToMta};
-ghost use Rattle.milter_tool.specs.FaultText.{end_text, ends_text};
+ghost use Rattle.milter_tool.specs.FaultText.{truncated_line, truncated_lines};
 ghost use Rattle.std.specs.Prelude.{◌≡◌, Some};
 
 use crate::direction::Direction;
@@ -11,8 +11,8 @@ use std::alloc::{AllocError, AllocFailed};
 use std::fmt;
 use thiserror::Error;
 
-/// Why a trace ended. After the first three, the text up to the fault was written; after the others, a beginning of
-/// it. Lines are numbered from 1. The text of each but `Truncated` is its fault line. Source: own.
+/// Why a trace ended. After the first three, the text up to the fault was written; after the others, a prefix of
+/// it. Lines are numbered from 1. The text of each but `Truncated` is its fault line.
 #[derive(Clone, Copy, Debug, PartialEq, Eq, Error)]
 pub enum TraceFault {
     /// The line with this number is none of a trace.
@@ -29,7 +29,7 @@ pub enum TraceFault {
         fault: WireFault,
     },
     /// The input ended with so many bytes of packets that aren't whole, in one direction at least.
-    #[error("{}", Ends {to_filter: *.to_filter, to_mta: *.to_mta})]
+    #[error("{}", TruncatedStreams {to_filter: *.to_filter, to_mta: *.to_mta})]
     Truncated {
         /// The bytes to the filter.
         to_filter: usize,
@@ -52,49 +52,49 @@ pub enum TraceFault {
 
 /// The fault line of an input that ended in a packet of this direction, with so many bytes of it.
 #[derive(Drop)]
-struct End {
+struct TruncatedStream {
     direction: Direction,
     bytes: usize,
 }
 
-impl fmt::Display for End {
-    ghost output = { λ end. Some (end_text end.direction end.bytes) };
+impl fmt::Display for TruncatedStream {
+    ghost output = { λ end. Some (truncated_line end.direction end.bytes) };
 
     fn fmt<W: fmt::Write>(&self, f: &mut fmt::Formatter<W>) -> fmt::Result {
-        let End { direction, bytes } = *self;
+        let TruncatedStream { direction, bytes } = *self;
         write!(f, "end: {direction} truncated {bytes} bytes")
     }
 }
 
 /// The fault lines of an input that ended too early: one for each direction in which it did, and it did in one.
 #[derive(Drop)]
-struct Ends {
+struct TruncatedStreams {
     to_filter: usize,
     to_mta: usize,
 }
 
-impl Ends {
-    fn to_filter(&self) -> End
+impl TruncatedStreams {
+    fn to_filter(&self) -> TruncatedStream
         ensures { (result.direction ≡ ToFilter) × (result.bytes ≡ self.now.to_filter) }
     {
-        End {
+        TruncatedStream {
             direction: Direction::ToFilter,
             bytes: self.to_filter,
         }
     }
 
-    fn to_mta(&self) -> End
+    fn to_mta(&self) -> TruncatedStream
         ensures { (result.direction ≡ ToMta) × (result.bytes ≡ self.now.to_mta) }
     {
-        End {
+        TruncatedStream {
             direction: Direction::ToMta,
             bytes: self.to_mta,
         }
     }
 }
 
-impl fmt::Display for Ends {
-    ghost output = { λ ends. Some (ends_text ends.to_filter ends.to_mta) };
+impl fmt::Display for TruncatedStreams {
+    ghost output = { λ ends. Some (truncated_lines ends.to_filter ends.to_mta) };
 
     fn fmt<W: fmt::Write>(&self, f: &mut fmt::Formatter<W>) -> fmt::Result {
         if self.to_mta == 0 {

@@ -2,12 +2,12 @@
 
 ghost use Rattle.std.specs.Prelude.{◌≡◌, ◌++◌, ◌∷◌, [], OnOk, decimal, map};
 ghost use Rattle.std.specs.List.{flat_map};
-ghost use Rattle.milter_wire.specs.Code.{code_text};
-ghost use Rattle.milter_mail.specs.Quoting.{quoted};
+ghost use Rattle.milter_stream.specs.Code.{code_text};
+ghost use Rattle.milter_text.specs.Quoting.{quoted};
 ghost use Rattle.milter_tool.specs.PacketText.{arguments_fields, body_fields, client_fields, command_fields, fields_text, header_fields, hex8, options_fields, origin_fields, pair_fields, path_fields, reply_fields};
 
 use itoa::Buffer;
-use milter_mail::quote;
+use milter_text::quote;
 use milter_wire::{
     Client, CodeName, Command, Header, NoMemory, Options, Origin, Pair, Path, Reply, Text,
 };
@@ -66,7 +66,8 @@ fn put_options(text: &mut Vec<u8>, options: &Options) -> Result<(), NoMemory>
 
 /// Appends the command that the macros are for, and their names and values.
 fn put_macro(alloc: Global, text: &mut Vec<u8>, command: u8, pairs: &[Pair]) -> Result<(), NoMemory>
-    ensures { OnOk result (text.new.items ≡ text.old.items ++ fields_text (code_text command ∷ flat_map pair_fields pairs.now)) }
+    ensures { OnOk result (text.new.items ≡ text.old.items ++ fields_text (code_text command
+        ∷ flat_map pair_fields pairs.now)) }
 {
     text.push(b' ')?;
     put_code(alloc, text, command)?;
@@ -86,21 +87,22 @@ fn put_client(alloc: Global, text: &mut Vec<u8>, client: &Client) -> Result<(), 
             text.extend_from_slice(b" U")?;
             Ok(())
         }
-        Origin::Unix { port, address } => put_place(alloc, text, b'L', *port, address),
-        Origin::Inet { port, address } => put_place(alloc, text, b'4', *port, address),
-        Origin::Inet6 { port, address } => put_place(alloc, text, b'6', *port, address),
+        Origin::Unix { port, address } => put_endpoint(alloc, text, b'L', *port, address),
+        Origin::Inet { port, address } => put_endpoint(alloc, text, b'4', *port, address),
+        Origin::Inet6 { port, address } => put_endpoint(alloc, text, b'6', *port, address),
     }
 }
 
 /// Appends a family, a port and an address.
-fn put_place(
+fn put_endpoint(
     alloc: Global,
     text: &mut Vec<u8>,
     family: u8,
     port: u16,
     address: &Text,
 ) -> Result<(), NoMemory>
-    ensures { OnOk result (text.new.items ≡ text.old.items ++ fields_text ((family ∷ []) ∷ decimal port ∷ quoted address.now ∷ [])) }
+    ensures { OnOk result (text.new.items ≡ text.old.items ++ fields_text ((family ∷ []) ∷ decimal port
+        ∷ quoted address.now ∷ [])) }
 {
     text.push(b' ')?;
     text.push(family)?;
@@ -125,7 +127,8 @@ fn put_addressed(
     address: &Text,
     arguments: &Option<Text>,
 ) -> Result<(), NoMemory>
-    ensures { OnOk result (text.new.items ≡ text.old.items ++ fields_text (quoted address.now ∷ arguments_fields arguments.now)) }
+    ensures { OnOk result (text.new.items ≡ text.old.items ++ fields_text (quoted address.now
+        ∷ arguments_fields arguments.now)) }
 {
     put_text(alloc, text, address)?;
     match arguments {
@@ -178,7 +181,7 @@ fn put_number(text: &mut Vec<u8>, number: u64) -> Result<(), NoMemory>
 }
 
 /// Appends a set of bits in eight hexadecimal digits, letters in lower case.
-#[tactic(auto, unfolding(milter_wire::specs::Field::number))]
+#[tactic(auto, unfolding(milter_stream::specs::Number::number))]
 fn put_hex8(text: &mut Vec<u8>, number: u32) -> Result<(), NoMemory>
     ensures { OnOk result (text.new.items ≡ text.old.items ++ fields_text (hex8 number ∷ [])) }
 {

@@ -8,19 +8,23 @@ mod command_line;
 mod direction;
 mod fault;
 mod fields;
-mod line;
+mod line_assembler;
 mod packet_line;
-mod packets;
-mod printer;
+mod packet_stream;
+mod session_error;
+mod session_run;
 #[cfg(test)]
 mod tests;
 mod trace;
-mod tracer;
+mod trace_line;
+mod trace_printer;
 
 use command_line::Request;
+use session_error::SessionError;
 use std::env::{self, Env};
-use std::io;
 use std::process::ExitCode;
+use std::rt::Files;
+use std::{fs, io};
 
 /// Prints the packets of the trace on standard input.
 fn print_trace<R: Input + Print + Eprint + AllocGlobal>(rt: &R) -> ExitCode {
@@ -35,7 +39,22 @@ fn print_trace<R: Input + Print + Eprint + AllocGlobal>(rt: &R) -> ExitCode {
     }
 }
 
-fn run<R: Input + Print + Eprint + Env + AllocGlobal>(rt: &R) -> io::Result<ExitCode> {
+/// Prints the session of the file at this path, in canonical form.
+fn print_session_file<R: Files + Print + Eprint + AllocGlobal>(rt: &R, path: &str) -> ExitCode {
+    let ended = match fs::open(rt, path) {
+        Ok(file) => session_run::print_session(rt.alloc(), file, &mut io::writer(rt)),
+        Err(_) => Err(SessionError::Read),
+    };
+    match ended {
+        Ok(()) => ExitCode::SUCCESS,
+        Err(error) => {
+            let _ = eprintln!(rt; "{error}");
+            ExitCode::FAILURE
+        }
+    }
+}
+
+fn run<R: Input + Files + Print + Eprint + Env + AllocGlobal>(rt: &R) -> io::Result<ExitCode> {
     let words: Vec<String> = env::args(rt)?.collect(rt.alloc())?;
     let matches = match command_line::parse(rt.alloc(), words.as_slice()) {
         Ok(matches) => matches,
@@ -46,6 +65,7 @@ fn run<R: Input + Print + Eprint + Env + AllocGlobal>(rt: &R) -> io::Result<Exit
     };
     match command_line::request_of(&matches) {
         Some(Request::Trace) => Ok(print_trace(rt)),
+        Some(Request::Session { file }) => Ok(print_session_file(rt, file)),
         None => Ok(ExitCode::FAILURE),
     }
 }

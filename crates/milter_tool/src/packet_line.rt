@@ -2,10 +2,10 @@
 
 ghost use Rattle.std.specs.Prelude.{◌≡◌, ◌++◌, ◌∷◌, [], OnOk};
 ghost use Rattle.milter_tool.specs.declared.direction.Direction.TheVariants.{ToFilter, ToMta};
-ghost use Rattle.milter_wire.specs.Code.{code_text};
-ghost use Rattle.milter_wire.specs.Packet.{IsPayload};
-ghost use Rattle.milter_wire.specs.Splitter.{frame_of};
-ghost use Rattle.milter_tool.specs.PacketText.{Shows, command_fields, line_text, mark_of, packet_text, reply_fields};
+ghost use Rattle.milter_stream.specs.Code.{code_text};
+ghost use Rattle.milter_stream.specs.Packet.{IsPayload};
+ghost use Rattle.milter_stream.specs.Splitter.{frame_of};
+ghost use Rattle.milter_tool.specs.PacketText.{AppendsText, command_fields, line_text, mark_of, packet_text, reply_fields};
 
 use crate::direction::Direction;
 use crate::fields::{put_code, put_command, put_reply};
@@ -22,7 +22,7 @@ pub(crate) fn put_packet(
     text: &mut Vec<u8>,
 ) -> Result<(), WireFault>
     requires { IsPayload packet.now.payload.items }
-    ensures { Shows (packet_text direction (frame_of packet.now)) text.old.items text.new.items result }
+    ensures { AppendsText (packet_text direction (frame_of packet.now)) text.old.items text.new.items result }
 {
     let payload = packet.payload.as_slice();
     match direction {
@@ -39,7 +39,8 @@ fn put_command_packet(
     text: &mut Vec<u8>,
 ) -> Result<(), WireFault>
     requires { IsPayload payload.now }
-    ensures { Shows (packet_text ToFilter (record { code = code; payload = payload.now })) text.old.items text.new.items result }
+    ensures { AppendsText (packet_text ToFilter (record { code = code; payload = payload.now })) text.old.items
+        text.new.items result }
 {
     let command = Command::decode(alloc, code, payload)?;
     let written = put_command_line(alloc, code, &command, text);
@@ -69,7 +70,8 @@ fn put_reply_packet(
     text: &mut Vec<u8>,
 ) -> Result<(), WireFault>
     requires { IsPayload payload.now }
-    ensures { Shows (packet_text ToMta (record { code = code; payload = payload.now })) text.old.items text.new.items result }
+    ensures { AppendsText (packet_text ToMta (record { code = code; payload = payload.now })) text.old.items
+        text.new.items result }
 {
     let reply = Reply::decode(alloc, code, payload)?;
     let written = put_reply_line(alloc, code, &reply, text);

@@ -1,53 +1,24 @@
--- What is read from the fields of a payload was written, and what was written is read.
+-- What is decoded from the fields of a payload was encoded so, and what is encoded is decoded.
 use Rattle.std.proofs.Common.{◌≡◌, ℕ, ◌<◌, ◌^◌, List, [], ◌∷◌, ◌++◌, Some, refl, sym, ap, subst, ◌∙◌, append_assoc, append-nil}
 use Rattle.std.proofs.lemmas.Option.{same_Some}
 use Rattle.std.proofs.lemmas.List.Elements.{All-head, All-tail}
-use Rattle.milter_wire.specs.declared.options.Options.{Options}
-use Rattle.milter_wire.specs.Field.{number, port}
+use Rattle.milter_options.specs.declared.options.Options.{Options}
+use Rattle.milter_stream.specs.Number.{number}
+use Rattle.milter_wire.specs.Field.{port}
 use Rattle.milter_wire.specs.Layout.{options, OptionsFit}
-use Rattle.milter_wire.specs.Reading.{◌>>=◌, number_of, number_at, port_of, port_at, ended, options_in}
-use Rattle.milter_wire.proofs.Numbers.{four_bytes, number-number_of, number_of-lt, two_bytes, port-port_of, port_of-lt}
-use Rattle.milter_wire.proofs.Division.{IsBytes}
-use Rattle.milter_wire.proofs.Steps.{bind_some, ended_takes}
-
--- ---- numbers
-
-pub number_at-number : (n : ℕ) (rest : List ℕ) → n < 2 ^ 32 → number_at (number n ++ rest) ≡ Some (n, rest)
-number_at-number n rest lt = let k = four_bytes n lt in rw (k.spelled, k.value) refl
-
-pub record Takes (bytes : List ℕ) (n : ℕ) (rest : List ℕ) : Type 0 where
-  pub bytes_are : bytes ≡ number n ++ rest
-  pub fits : n < 2 ^ 32
-  pub rest_bytes : IsBytes rest
-
-pub number_takes : (bytes : List ℕ) (n : ℕ) (rest : List ℕ) → IsBytes bytes → number_at bytes ≡ Some (n, rest) → Takes bytes n rest
-number_takes (a ∷ b ∷ c ∷ d ∷ body) n rest bytes h =
-    let P : ℕ → Type 0 = λ x. x < 2 ^ 8 in
-    let after_a = All-tail P a (b ∷ c ∷ d ∷ body) bytes in
-    let after_b = All-tail P b (c ∷ d ∷ body) after_a in
-    let after_c = All-tail P c (d ∷ body) after_b in
-    let ha = All-head P a (b ∷ c ∷ d ∷ body) bytes in
-    let hb = All-head P b (c ∷ d ∷ body) after_a in
-    let hc = All-head P c (d ∷ body) after_b in
-    let hd = All-head P d body after_c in
-    let same = same_Some (number_of a b c d, body) (n, rest) h in
-    let n_is : number_of a b c d ≡ n = ap (λ (x : ℕ × List ℕ). x.0) same in
-    let rest_is : body ≡ rest = ap (λ (x : ℕ × List ℕ). x.1) same in
-    let cells = number-number_of a b c d ha hb hc hd in
-    record {
-      bytes_are = sym (ap (λ (x : ℕ). number x ++ rest) (sym n_is) ∙ ap (λ (x : List ℕ). x ++ rest) cells ∙ ap (λ (x : List ℕ). a ∷ b ∷ c ∷ d ∷ x) (sym rest_is));
-      fits = subst (λ (x : ℕ). x < 2 ^ 32) n_is (number_of-lt a b c d ha hb hc hd);
-      rest_bytes = subst IsBytes rest_is (All-tail P d body after_c);
-    }
-number_takes [] n rest bytes h = absurd cc
-number_takes (a ∷ []) n rest bytes h = absurd cc
-number_takes (a ∷ b ∷ []) n rest bytes h = absurd cc
-number_takes (a ∷ b ∷ c ∷ []) n rest bytes h = absurd cc
+use Rattle.milter_options.specs.Bind.{◌>>=◌}
+use Rattle.milter_stream.specs.Number.{number_from_bytes, number_at}
+use Rattle.milter_wire.specs.Decoding.{port_of, port_at, ended, options_in}
+use Rattle.milter_stream.proofs.StreamLaws.{number_at-number, number_takes}
+use Rattle.milter_wire.proofs.Ports.{two_bytes, port-port_of, port_of-lt}
+use Rattle.milter_stream.specs.Number.{IsBytes}
+use Rattle.milter_options.proofs.Binds.{bind_some}
+use Rattle.milter_wire.proofs.Steps.{ended_takes}
 
 -- ---- ports
 
 pub port_at-port : (n : ℕ) (rest : List ℕ) → n < 2 ^ 16 → port_at (port n ++ rest) ≡ Some (n, rest)
-port_at-port n rest lt = let k = two_bytes n lt in rw (k.spelled, k.value) refl
+port_at-port n rest lt = let k = two_bytes n lt in rw (k.encoded, k.value) refl
 
 pub record TakesPort (bytes : List ℕ) (n : ℕ) (rest : List ℕ) : Type 0 where
   pub bytes_are : bytes ≡ port n ++ rest

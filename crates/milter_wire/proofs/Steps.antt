@@ -1,11 +1,8 @@
--- Steps of a reading.
+-- Steps of a decoding.
 use Rattle.std.proofs.Common.{◌≡◌, ℕ, Bool, true, false, List, [], ◌∷◌, Option, Some, None, refl, ◌⊎◌, inl, inr}
 use Rattle.std.specs.Prelude.{if◌then◌else◌}
-use Rattle.milter_wire.specs.Reading.{◌>>=◌, ended}
-
-pub bind_some : {A B : Type 0} (o : Option A) (f : A → Option B) (y : B) → (o >>= f) ≡ Some y → (x : A) × (o ≡ Some x) × (f x ≡ Some y)
-bind_some (Some x) f y e = (x, refl, e)
-bind_some None f y e = absurd cc
+use Rattle.milter_options.specs.Bind.{◌>>=◌}
+use Rattle.milter_wire.specs.Decoding.{ended}
 
 pub ended_takes : {A : Type 0} (x : A) (rest : List ℕ) (y : A) → ended x rest ≡ Some y → (rest ≡ []) × (x ≡ y)
 ended_takes x [] y e = (refl, cc)

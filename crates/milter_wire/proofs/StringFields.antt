@@ -1,4 +1,4 @@
--- A string that is read was written, and a string that was written is read.
+-- A string that is decoded was encoded so, and a string that is encoded is decoded.
 use Rattle.std.proofs.Common.{◌≡◌, ◌≢◌, ℕ, zero, suc, ◌+◌, ◌<◌, ◌≤◌, false, ltb, List, [], ◌∷◌, ◌++◌, length, take, drop, Some, None, refl, sym, ap, subst, ◌∙◌, arith, inl, inr, add-one, append-nil, length-append}
 use Rattle.std.specs.Prelude.{◌==◌, position}
 use Rattle.std.specs.List.{position_or_len}
@@ -6,8 +6,9 @@ use Rattle.std.proofs.lemmas.Bool.{cases_lt, lt-ltb, ltb-true, ne_eqb}
 use Rattle.std.proofs.lemmas.Option.{cond_some, none-some, same_Some}
 use Rattle.std.proofs.lemmas.List.Elements.{All-nil, All-cons, All-head, All-tail}
 use Rattle.milter_wire.specs.Field.{string, HasNoNul}
-use Rattle.milter_wire.specs.Reading.{ended, string_at, string_in}
-use Rattle.milter_wire.proofs.Steps.{bind_some, ended_takes}
+use Rattle.milter_wire.specs.Decoding.{ended, string_at, string_in}
+use Rattle.milter_options.proofs.Binds.{bind_some}
+use Rattle.milter_wire.proofs.Steps.{ended_takes}
 
 -- ---- the first NUL, as the code finds it
 
@@ -44,7 +45,7 @@ string_at-nul bytes n h =
     let g = cond_some (ltb (end_of bytes) (length bytes)) (end_of bytes) n h in
     rw (← g.1) (found bytes (ltb-true _ _ g.0))
 
--- ---- a string in front
+-- ---- a string at the start
 
 pub record TakesString (bytes text rest : List ℕ) : Type 0 where
   pub bytes_are : bytes ≡ string text ++ rest

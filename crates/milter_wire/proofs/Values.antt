@@ -1,4 +1,4 @@
--- The values that are read from payloads were spelled so, and values that are spelled are read.
+-- The values that are decoded from payloads were encoded so, and values that are encoded are decoded.
 use Rattle.std.proofs.Common.{◌≡◌, ℕ, ◌<◌, ◌^◌, true, List, [], ◌∷◌, ◌++◌, All, Option, Some, None, refl, sym, ap, subst, ◌∙◌, inl, inr, append-nil}
 use Rattle.std.specs.Prelude.{◌==◌, if◌then◌else◌}
 use Rattle.std.specs.List.{flat_map}
@@ -11,14 +11,19 @@ use Rattle.milter_wire.specs.declared.client.Origin.TheVariants.{Unknown, Unix, 
 use Rattle.milter_wire.specs.declared.header.Header.{Header}
 use Rattle.milter_wire.specs.declared.pair.Pair.{Pair}
 use Rattle.milter_wire.specs.declared.path.Path.{Path}
-use Rattle.milter_wire.specs.Field.{number, port, string, HasNoNul}
-use Rattle.milter_wire.specs.Layout.{pair, PairFits, origin, OriginFits, PlaceFits, client, ClientFits, path, PathFits, header, HeaderFits, IndexedFits, arguments, ArgumentsFit, AddressedFits, is_reply_code, ReplyCodeFits}
-use Rattle.milter_wire.specs.Reading.{◌>>=◌, ended, number_at, port_at, string_at, string_in, header_in, indexed_in, strings_in, pairs_in, macro_in, path_in, place_in, origin_in, client_in, arguments_in, addressed_in, reply_code_in}
-use Rattle.milter_wire.proofs.Division.{IsBytes}
-use Rattle.milter_wire.proofs.Steps.{bind_some, chosen, ended_takes}
+use Rattle.milter_stream.specs.Number.{number}
+use Rattle.milter_wire.specs.Field.{port, string, HasNoNul}
+use Rattle.milter_wire.specs.Layout.{pair, PairFits, origin, OriginFits, EndpointFits, client, ClientFits, path, PathFits, header, HeaderFits, IndexedFits, arguments, ArgumentsFit, AddressedFits, is_reply_code, ReplyCodeFits}
+use Rattle.milter_options.specs.Bind.{◌>>=◌}
+use Rattle.milter_wire.specs.Decoding.{ended, port_at, string_at, string_in, header_in, indexed_in, strings_in, pairs_in, macro_in, path_in, endpoint_in, origin_in, client_in, arguments_in, addressed_in, reply_code_in}
+use Rattle.milter_stream.specs.Number.{number_at}
+use Rattle.milter_stream.specs.Number.{IsBytes}
+use Rattle.milter_options.proofs.Binds.{bind_some}
+use Rattle.milter_wire.proofs.Steps.{chosen, ended_takes}
 use Rattle.milter_wire.proofs.StringFields.{string_takes, string_at-string, one_string_takes, string_in-string}
-use Rattle.milter_wire.proofs.InARow.{strings_take, strings_in-strings, pairs_take, pairs_in-pairs}
-use Rattle.milter_wire.proofs.Layouts.{number_takes, number_at-number, port_takes, port_at-port}
+use Rattle.milter_wire.proofs.SequenceLaws.{strings_take, strings_in-strings, pairs_take, pairs_in-pairs}
+use Rattle.milter_stream.proofs.StreamLaws.{number_takes, number_at-number}
+use Rattle.milter_wire.proofs.Layouts.{port_takes, port_at-port}
 
 -- ---- header fields
 
@@ -88,29 +93,29 @@ path_in-path p fits = rw (string_at-string p.address (flat_map string p.params) 
 
 -- ---- clients
 
-place_takes : (bytes : List ℕ) (x : ℕ × List ℕ) → IsBytes bytes → place_in bytes ≡ Some x → (bytes ≡ port x.0 ++ string x.1) × PlaceFits x.0 x.1
-unfolding place_in
-place_takes bytes x b e =
+endpoint_takes : (bytes : List ℕ) (x : ℕ × List ℕ) → IsBytes bytes → endpoint_in bytes ≡ Some x → (bytes ≡ port x.0 ++ string x.1) × EndpointFits x.0 x.1
+unfolding endpoint_in
+endpoint_takes bytes x b e =
     let p = bind_some (port_at bytes) (λ p. string_in p.1 >>= λ a. Some (p.0, a)) x e in
     let a = bind_some (string_in p.0.1) (λ a. Some (p.0.0, a)) x p.2 in
     let t = port_takes bytes p.0.0 p.0.1 b p.1 in
     let u = one_string_takes p.0.1 a.0 a.1 in
-    subst (λ (x : ℕ × List ℕ). (bytes ≡ port x.0 ++ string x.1) × PlaceFits x.0 x.1) (same_Some (p.0.0, a.0) x a.2)
+    subst (λ (x : ℕ × List ℕ). (bytes ≡ port x.0 ++ string x.1) × EndpointFits x.0 x.1) (same_Some (p.0.0, a.0) x a.2)
     (t.bytes_are ∙ ap (λ (z : List ℕ). port p.0.0 ++ z) u.bytes_are, record { in_range = t.fits; no_nul = u.no_nul })
 
-place_in-place : (at : ℕ) (address : List ℕ) → PlaceFits at address → place_in (port at ++ string address) ≡ Some (at, address)
-unfolding place_in
-place_in-place at address fits = rw (port_at-port at (string address) fits.in_range, string_in-string address fits.no_nul) refl
+endpoint_in-endpoint : (at : ℕ) (address : List ℕ) → EndpointFits at address → endpoint_in (port at ++ string address) ≡ Some (at, address)
+unfolding endpoint_in
+endpoint_in-endpoint at address fits = rw (port_at-port at (string address) fits.in_range, string_in-string address fits.no_nul) refl
 
 -- a family of addresses
 inet_takes : (family : ℕ) (make : ℕ → List ℕ → Origin) → ((at : ℕ) (address : List ℕ) → origin (make at address) ≡ family ∷ (port at ++ string address))
-    → ((at : ℕ) (address : List ℕ) → PlaceFits at address → OriginFits (make at address)) → (n : ℕ) (rest : List ℕ) (o : Origin) → (n == family) ≡ true → IsBytes rest
-    → (place_in rest >>= λ place. Some (make place.0 place.1)) ≡ Some o → (n ∷ rest ≡ origin o) × OriginFits o
-inet_takes family make spelled fit n rest o same b e =
-    let p = bind_some (place_in rest) (λ place. Some (make place.0 place.1)) o e in
-    let t = place_takes rest p.0 b p.1 in
+    → ((at : ℕ) (address : List ℕ) → EndpointFits at address → OriginFits (make at address)) → (n : ℕ) (rest : List ℕ) (o : Origin) → (n == family) ≡ true → IsBytes rest
+    → (endpoint_in rest >>= λ endpoint. Some (make endpoint.0 endpoint.1)) ≡ Some o → (n ∷ rest ≡ origin o) × OriginFits o
+inet_takes family make encoded fit n rest o same b e =
+    let p = bind_some (endpoint_in rest) (λ endpoint. Some (make endpoint.0 endpoint.1)) o e in
+    let t = endpoint_takes rest p.0 b p.1 in
     subst (λ (o : Origin). (n ∷ rest ≡ origin o) × OriginFits o) (same_Some (make p.0.0 p.0.1) o p.2)
-    (ap (λ (x : ℕ). x ∷ rest) (eqb-true n family same) ∙ ap (λ (z : List ℕ). family ∷ z) t.0 ∙ sym (spelled p.0.0 p.0.1), fit p.0.0 p.0.1 t.1)
+    (ap (λ (x : ℕ). x ∷ rest) (eqb-true n family same) ∙ ap (λ (z : List ℕ). family ∷ z) t.0 ∙ sym (encoded p.0.0 p.0.1), fit p.0.0 p.0.1 t.1)
 
 unknown_takes : (n : ℕ) (rest : List ℕ) (o : Origin) → (n == 85) ≡ true → ended Unknown rest ≡ Some o → (n ∷ rest ≡ origin o) × OriginFits o
 unknown_takes n rest o same e =
@@ -139,13 +144,13 @@ origin_takes (n ∷ rest) o b e =
 origin_in-origin : (o : Origin) → OriginFits o → origin_in (origin o) ≡ Some o
 unfolding origin_in
 origin_in-origin Unknown fits = refl
-origin_in-origin (Unix at address) fits = rw (place_in-place at address fits) refl
-origin_in-origin (Inet at address) fits = rw (place_in-place at address fits) refl
-origin_in-origin (Inet6 at address) fits = rw (place_in-place at address fits) refl
+origin_in-origin (Unix at address) fits = rw (endpoint_in-endpoint at address fits) refl
+origin_in-origin (Inet at address) fits = rw (endpoint_in-endpoint at address fits) refl
+origin_in-origin (Inet6 at address) fits = rw (endpoint_in-endpoint at address fits) refl
 
-bytes_after : (front rest : List ℕ) → IsBytes (front ++ rest) → IsBytes rest
+bytes_after : (before rest : List ℕ) → IsBytes (before ++ rest) → IsBytes rest
 bytes_after [] rest b = b
-bytes_after (x ∷ front) rest b = bytes_after front rest (All-tail (λ x. x < 2 ^ 8) x (front ++ rest) b)
+bytes_after (x ∷ before) rest b = bytes_after before rest (All-tail (λ x. x < 2 ^ 8) x (before ++ rest) b)
 
 pub client_takes : (bytes : List ℕ) (c : Client) → IsBytes bytes → client_in bytes ≡ Some c → (bytes ≡ client c) × ClientFits c
 unfolding client_in

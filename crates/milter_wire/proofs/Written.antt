@@ -1,7 +1,7 @@
--- What was written before stays.
+-- What was appended before stays.
 use Rattle.std.proofs.Common.{◌≡◌, ◌≤◌, ℕ, List, ◌++◌, length, take, refl, sym, ap, ◌∙◌, arith, length-append}
 use Rattle.std.proofs.lemmas.List.{take-take, take_at}
-use Rattle.milter_wire.specs.Field.{Extends}
+use Rattle.milter_stream.specs.Appending.{Extends}
 
 pub extends_more : (old more middle new : List ℕ) → middle ≡ old ++ more → Extends middle new → Extends old new
 extends_more old more middle new m e =

@@ -1,33 +1,34 @@
--- The spelling of each command, by one case for each row of the table of commands, and its reading.
+-- The encoding of each command, by one case for each row of the table of commands, and its decoding.
 use Rattle.std.specs.Prelude.{◌≡◌, ℕ, Bool, ◌==◌, List, [], ◌∷◌, length, All, codes, Option, None, Some}
 use Rattle.std.specs.List.{flat_map, list_any}
 use Rattle.std.specs.Option.{option_map}
+use Rattle.milter_wire.specs.declared.codes.TheConstants.{SMFIC_ABORT, SMFIC_BODY, SMFIC_BODYEOB, SMFIC_CONNECT, SMFIC_DATA, SMFIC_EOH, SMFIC_HEADER, SMFIC_HELO, SMFIC_MACRO, SMFIC_MAIL, SMFIC_OPTNEG, SMFIC_QUIT, SMFIC_QUIT_NC, SMFIC_RCPT, SMFIC_UNKNOWN}
 use Rattle.milter_wire.specs.declared.command.Command.{Command}
 use Rattle.milter_wire.specs.declared.command.Command.TheVariants.{Options, Macro, Connect, Helo, Mail, Rcpt, DataCmd, Header, Eoh, Body, Eob, Unknown, Abort, Quit, QuitNew}
 use Rattle.milter_wire.specs.Field.{string, HasNoNul}
 use Rattle.milter_wire.specs.Layout.{options, OptionsFit, pair, PairFits, client, ClientFits, path, PathFits, header, HeaderFits}
-use Rattle.milter_wire.specs.Packet.{packet, IsPayload}
-use Rattle.milter_wire.specs.Reading.{Row, read_by, ended, options_in, macro_in, client_in, string_in, path_in, header_in}
+use Rattle.milter_stream.specs.Packet.{packet, IsPayload}
+use Rattle.milter_wire.specs.Decoding.{Row, read_by, ended, options_in, macro_in, client_in, string_in, path_in, header_in}
 
 -- ---- the table
 
 -- the code, in ASCII
 abbrev pub code_of : Command → ℕ
-code_of Abort = 65
-code_of (Body bytes) = 66
-code_of (Connect c) = 67
-code_of (Macro command pairs) = 68
-code_of (Eob bytes) = 69
-code_of (Helo name) = 72
-code_of QuitNew = 75
-code_of (Header h) = 76
-code_of (Mail sender) = 77
-code_of Eoh = 78
-code_of (Options o) = 79
-code_of Quit = 81
-code_of (Rcpt recipient) = 82
-code_of DataCmd = 84
-code_of (Unknown text) = 85
+code_of Abort = SMFIC_ABORT
+code_of (Body bytes) = SMFIC_BODY
+code_of (Connect c) = SMFIC_CONNECT
+code_of (Macro command pairs) = SMFIC_MACRO
+code_of (Eob bytes) = SMFIC_BODYEOB
+code_of (Helo name) = SMFIC_HELO
+code_of QuitNew = SMFIC_QUIT_NC
+code_of (Header h) = SMFIC_HEADER
+code_of (Mail sender) = SMFIC_MAIL
+code_of Eoh = SMFIC_EOH
+code_of (Options o) = SMFIC_OPTNEG
+code_of Quit = SMFIC_QUIT
+code_of (Rcpt recipient) = SMFIC_RCPT
+code_of DataCmd = SMFIC_DATA
+code_of (Unknown text) = SMFIC_UNKNOWN
 
 -- the payload
 abbrev pub payload_of : Command → List ℕ
@@ -69,7 +70,7 @@ FieldsFit (Unknown text) = HasNoNul text
 unfoldable pub is_code : ℕ → Bool
 is_code code = list_any (λ known. known == code) (codes "ABCDEHKLMNOQRTU")
 
--- ---- spelling
+-- ---- encoding
 
 -- a command that a packet has room for, whose fields are as the table asks
 pub record Fits (c : Command) : Type 0 where
@@ -77,41 +78,41 @@ pub record Fits (c : Command) : Type 0 where
   pub payload : IsPayload (payload_of c)
 
 -- the packet of a command
-abbrev pub spelling : Command → List ℕ
-spelling c = packet (code_of c) (payload_of c)
+abbrev pub encoding : Command → List ℕ
+encoding c = packet (code_of c) (payload_of c)
 
--- these bytes spell the command
-pub record Spells (c : Command) (bytes : List ℕ) : Type 0 where
+-- the command is encoded as these bytes
+pub record IsEncodedAs (c : Command) (bytes : List ℕ) : Type 0 where
   pub fits : Fits c
-  pub bytes_are : bytes ≡ spelling c
+  pub bytes_are : bytes ≡ encoding c
 
 -- a number, where a packet can be of the command: that of its bytes
 abbrev pub PacketLen : Command → Option ℕ → Type 0
 PacketLen c None = ¬ Fits c
-PacketLen c (Some n) = Fits c × (n ≡ length (spelling c))
+PacketLen c (Some n) = Fits c × (n ≡ length (encoding c))
 
--- ---- reading
+-- ---- decoding
 
--- how the payload of each code is read
+-- how the payload of each code is decoded
 abbrev pub rows : List (Row Command)
 rows =
-    (65, ended Abort)
-    ∷ (66, λ payload. Some (Body payload))
-    ∷ (67, λ payload. option_map Connect (client_in payload))
-    ∷ (68, λ payload. option_map (λ m. Macro m.0 m.1) (macro_in payload))
-    ∷ (69, λ payload. Some (Eob payload))
-    ∷ (72, λ payload. option_map Helo (string_in payload))
-    ∷ (75, ended QuitNew)
-    ∷ (76, λ payload. option_map Header (header_in payload))
-    ∷ (77, λ payload. option_map Mail (path_in payload))
-    ∷ (78, ended Eoh)
-    ∷ (79, λ payload. option_map Options (options_in payload))
-    ∷ (81, ended Quit)
-    ∷ (82, λ payload. option_map Rcpt (path_in payload))
-    ∷ (84, ended DataCmd)
-    ∷ (85, λ payload. option_map Unknown (string_in payload))
+    (SMFIC_ABORT, ended Abort)
+    ∷ (SMFIC_BODY, λ payload. Some (Body payload))
+    ∷ (SMFIC_CONNECT, λ payload. option_map Connect (client_in payload))
+    ∷ (SMFIC_MACRO, λ payload. option_map (λ m. Macro m.0 m.1) (macro_in payload))
+    ∷ (SMFIC_BODYEOB, λ payload. Some (Eob payload))
+    ∷ (SMFIC_HELO, λ payload. option_map Helo (string_in payload))
+    ∷ (SMFIC_QUIT_NC, ended QuitNew)
+    ∷ (SMFIC_HEADER, λ payload. option_map Header (header_in payload))
+    ∷ (SMFIC_MAIL, λ payload. option_map Mail (path_in payload))
+    ∷ (SMFIC_EOH, ended Eoh)
+    ∷ (SMFIC_OPTNEG, λ payload. option_map Options (options_in payload))
+    ∷ (SMFIC_QUIT, ended Quit)
+    ∷ (SMFIC_RCPT, λ payload. option_map Rcpt (path_in payload))
+    ∷ (SMFIC_DATA, ended DataCmd)
+    ∷ (SMFIC_UNKNOWN, λ payload. option_map Unknown (string_in payload))
     ∷ []
 
--- the command that a code and a payload spell, if there is one
+-- the command that a code and a payload encode, if there is one
 unfoldable pub command_in : ℕ → List ℕ → Option Command
 command_in code payload = read_by rows code payload

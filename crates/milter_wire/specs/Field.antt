@@ -1,10 +1,6 @@
 -- The fields that payloads are made of.
-use Rattle.std.specs.Prelude.{◌≡◌, ◌≢◌, ℕ, List, [], ◌∷◌, ◌++◌, length, take, All}
-use Rattle.std.specs.Int.{w16, w32, to_be_bytes}
-
--- a number in four bytes, the highest first
-unfoldable pub number : ℕ → List ℕ
-number n = to_be_bytes w32 n
+use Rattle.std.specs.Prelude.{◌≢◌, ℕ, List, [], ◌∷◌, ◌++◌, All}
+use Rattle.std.specs.Int.{w16, to_be_bytes}
 
 -- a port in two bytes, the higher first
 unfoldable pub port : ℕ → List ℕ
@@ -17,7 +13,3 @@ string text = text ++ 0 ∷ []
 -- a text that a string can carry
 unfoldable pub HasNoNul : List ℕ → Type 0
 HasNoNul text = All (λ byte. byte ≢ 0) text
-
--- the new bytes begin with the old ones
-abbrev pub Extends : List ℕ → List ℕ → Type 0
-Extends old new = take (length old) new ≡ old

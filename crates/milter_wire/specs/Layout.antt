@@ -1,5 +1,5 @@
--- How the values that packets carry are spelled, and what is asked of them: each number is in its range, and no string
--- holds a NUL.
+-- How the values that packets carry are encoded, and what is asked of them: each number is in its range, and no string
+-- has a NUL.
 use Rattle.std.specs.Prelude.{◌≡◌, ℕ, Bool, true, false, ◌<◌, ◌^◌, ◌==◌, ◌&&◌, ◌||◌, List, [], ◌∷◌, ◌++◌, All, Option, None, Some}
 use Rattle.std.specs.List.{flat_map}
 use Rattle.std.specs.Char.{is_ascii_digit}
@@ -7,10 +7,11 @@ use Rattle.milter_wire.specs.declared.client.Client.{Client}
 use Rattle.milter_wire.specs.declared.client.Origin.{Origin}
 use Rattle.milter_wire.specs.declared.client.Origin.TheVariants.{Unknown, Unix, Inet, Inet6}
 use Rattle.milter_wire.specs.declared.header.Header.{Header}
-use Rattle.milter_wire.specs.declared.options.Options.{Options}
+use Rattle.milter_options.specs.declared.options.Options.{Options}
 use Rattle.milter_wire.specs.declared.pair.Pair.{Pair}
 use Rattle.milter_wire.specs.declared.path.Path.{Path}
-use Rattle.milter_wire.specs.Field.{number, port, string, HasNoNul}
+use Rattle.milter_stream.specs.Number.{number}
+use Rattle.milter_wire.specs.Field.{port, string, HasNoNul}
 
 -- ---- options: three numbers
 
@@ -39,15 +40,15 @@ origin (Unix at address) = 76 ∷ (port at ++ string address)
 origin (Inet at address) = 52 ∷ (port at ++ string address)
 origin (Inet6 at address) = 54 ∷ (port at ++ string address)
 
-pub record PlaceFits (at : ℕ) (address : List ℕ) : Type 0 where
+pub record EndpointFits (at : ℕ) (address : List ℕ) : Type 0 where
   pub in_range : at < 2 ^ 16
   pub no_nul : HasNoNul address
 
 abbrev pub OriginFits : Origin → Type 0
 OriginFits Unknown = Unit {0}
-OriginFits (Unix at address) = PlaceFits at address
-OriginFits (Inet at address) = PlaceFits at address
-OriginFits (Inet6 at address) = PlaceFits at address
+OriginFits (Unix at address) = EndpointFits at address
+OriginFits (Inet at address) = EndpointFits at address
+OriginFits (Inet6 at address) = EndpointFits at address
 
 abbrev pub client : Client → List ℕ
 client c = string c.host ++ origin c.origin
@@ -74,7 +75,7 @@ pub record HeaderFits (h : Header) : Type 0 where
   pub name : HasNoNul h.name
   pub value : HasNoNul h.value
 
--- a place among the headers, and a header field
+-- an index among the header fields, and a header field
 pub record IndexedFits (index : ℕ) (h : Header) : Type 0 where
   pub in_range : index < 2 ^ 32
   pub header : HeaderFits h
@@ -97,7 +98,8 @@ pub record AddressedFits (address : List ℕ) (args : Option (List ℕ)) : Type 
 -- ---- reply codes: `4` or `5`, two digits, and anything after them
 
 abbrev pub is_reply_code : List ℕ → Bool
-is_reply_code (class ∷ second ∷ third ∷ rest) = (class == 52 || class == 53) && (is_ascii_digit second && is_ascii_digit third)
+is_reply_code (class ∷ second ∷ third ∷ rest) =
+    (class == 52 || class == 53) && (is_ascii_digit second && is_ascii_digit third)
 is_reply_code _ = false
 
 pub record ReplyCodeFits (text : List ℕ) : Type 0 where

@@ -9,4 +9,5 @@ abbrev pub same_pair : Pair → Pair → Bool
 same_pair p q = pointwise nat_eq p.name q.name && pointwise nat_eq p.value q.value
 
 pub same_pair_equiv : IsEquivalence same_pair
-same_pair_equiv = and_equiv (on_equiv (λ (p : Pair). p.name) nat_list_eq_equiv) (on_equiv (λ (p : Pair). p.value) nat_list_eq_equiv)
+same_pair_equiv =
+    and_equiv (on_equiv (λ (p : Pair). p.name) nat_list_eq_equiv) (on_equiv (λ (p : Pair). p.value) nat_list_eq_equiv)

@@ -1,36 +1,38 @@
--- The spelling of each reply, by one case for each row of the table of replies, and its reading.
+-- The encoding of each reply, by one case for each row of the table of replies, and its decoding.
 use Rattle.std.specs.Prelude.{◌≡◌, ℕ, Bool, ◌==◌, List, [], ◌∷◌, ◌++◌, codes, Option, Some}
 use Rattle.std.specs.List.{list_any}
 use Rattle.std.specs.Option.{option_map}
+use Rattle.milter_wire.specs.declared.codes.TheConstants.{SMFIC_OPTNEG, SMFIR_ACCEPT, SMFIR_ADDHEADER, SMFIR_ADDRCPT, SMFIR_ADDRCPT_PAR, SMFIR_CHGFROM, SMFIR_CHGHEADER, SMFIR_CONTINUE, SMFIR_DELRCPT, SMFIR_DISCARD, SMFIR_INSHEADER, SMFIR_PROGRESS, SMFIR_QUARANTINE, SMFIR_REJECT, SMFIR_REPLBODY, SMFIR_REPLYCODE, SMFIR_SKIP, SMFIR_TEMPFAIL}
 use Rattle.milter_wire.specs.declared.reply.Reply.{Reply}
 use Rattle.milter_wire.specs.declared.reply.Reply.TheVariants.{Options, AddRcpt, DelRcpt, AddRcptPar, Accept, ReplaceBody, Continue, Discard, ChangeFrom, AddHeader, InsertHeader, ChangeHeader, Progress, Quarantine, Reject, Skip, Tempfail, Code}
-use Rattle.milter_wire.specs.Field.{number, string, HasNoNul}
+use Rattle.milter_stream.specs.Number.{number}
+use Rattle.milter_wire.specs.Field.{string, HasNoNul}
 use Rattle.milter_wire.specs.Layout.{options, OptionsFit, header, HeaderFits, IndexedFits, arguments, AddressedFits, ReplyCodeFits}
-use Rattle.milter_wire.specs.Packet.{packet, IsPayload}
-use Rattle.milter_wire.specs.Reading.{Row, read_by, ended, options_in, string_in, header_in, indexed_in, addressed_in, reply_code_in}
+use Rattle.milter_stream.specs.Packet.{packet, IsPayload}
+use Rattle.milter_wire.specs.Decoding.{Row, read_by, ended, options_in, string_in, header_in, indexed_in, addressed_in, reply_code_in}
 
 -- ---- the table
 
 -- the code, in ASCII
 abbrev pub code_of : Reply → ℕ
-code_of (AddRcpt address) = 43
-code_of (DelRcpt address) = 45
-code_of (AddRcptPar address args) = 50
-code_of (Options o) = 79
-code_of Accept = 97
-code_of (ReplaceBody bytes) = 98
-code_of Continue = 99
-code_of Discard = 100
-code_of (ChangeFrom address args) = 101
-code_of (AddHeader h) = 104
-code_of (InsertHeader index h) = 105
-code_of (ChangeHeader index h) = 109
-code_of Progress = 112
-code_of (Quarantine reason) = 113
-code_of Reject = 114
-code_of Skip = 115
-code_of Tempfail = 116
-code_of (Code text) = 121
+code_of (AddRcpt address) = SMFIR_ADDRCPT
+code_of (DelRcpt address) = SMFIR_DELRCPT
+code_of (AddRcptPar address args) = SMFIR_ADDRCPT_PAR
+code_of (Options o) = SMFIC_OPTNEG
+code_of Accept = SMFIR_ACCEPT
+code_of (ReplaceBody bytes) = SMFIR_REPLBODY
+code_of Continue = SMFIR_CONTINUE
+code_of Discard = SMFIR_DISCARD
+code_of (ChangeFrom address args) = SMFIR_CHGFROM
+code_of (AddHeader h) = SMFIR_ADDHEADER
+code_of (InsertHeader index h) = SMFIR_INSHEADER
+code_of (ChangeHeader index h) = SMFIR_CHGHEADER
+code_of Progress = SMFIR_PROGRESS
+code_of (Quarantine reason) = SMFIR_QUARANTINE
+code_of Reject = SMFIR_REJECT
+code_of Skip = SMFIR_SKIP
+code_of Tempfail = SMFIR_TEMPFAIL
+code_of (Code text) = SMFIR_REPLYCODE
 
 -- the payload
 abbrev pub payload_of : Reply → List ℕ
@@ -78,7 +80,7 @@ FieldsFit (Code text) = ReplyCodeFits text
 unfoldable pub is_code : ℕ → Bool
 is_code code = list_any (λ known. known == code) (codes "+-2Oabcdehimpqrsty")
 
--- ---- spelling
+-- ---- encoding
 
 -- a reply that a packet has room for, whose fields are as the table asks
 pub record Fits (r : Reply) : Type 0 where
@@ -86,39 +88,39 @@ pub record Fits (r : Reply) : Type 0 where
   pub payload : IsPayload (payload_of r)
 
 -- the packet of a reply
-abbrev pub spelling : Reply → List ℕ
-spelling r = packet (code_of r) (payload_of r)
+abbrev pub encoding : Reply → List ℕ
+encoding r = packet (code_of r) (payload_of r)
 
--- these bytes spell the reply
-pub record Spells (r : Reply) (bytes : List ℕ) : Type 0 where
+-- the reply is encoded as these bytes
+pub record IsEncodedAs (r : Reply) (bytes : List ℕ) : Type 0 where
   pub fits : Fits r
-  pub bytes_are : bytes ≡ spelling r
+  pub bytes_are : bytes ≡ encoding r
 
--- ---- reading
+-- ---- decoding
 
--- how the payload of each code is read
+-- how the payload of each code is decoded
 abbrev pub rows : List (Row Reply)
 rows =
-    (43, λ payload. option_map AddRcpt (string_in payload))
-    ∷ (45, λ payload. option_map DelRcpt (string_in payload))
-    ∷ (50, λ payload. option_map (λ a. AddRcptPar a.0 a.1) (addressed_in payload))
-    ∷ (79, λ payload. option_map Options (options_in payload))
-    ∷ (97, ended Accept)
-    ∷ (98, λ payload. Some (ReplaceBody payload))
-    ∷ (99, ended Continue)
-    ∷ (100, ended Discard)
-    ∷ (101, λ payload. option_map (λ a. ChangeFrom a.0 a.1) (addressed_in payload))
-    ∷ (104, λ payload. option_map AddHeader (header_in payload))
-    ∷ (105, λ payload. option_map (λ i. InsertHeader i.0 i.1) (indexed_in payload))
-    ∷ (109, λ payload. option_map (λ i. ChangeHeader i.0 i.1) (indexed_in payload))
-    ∷ (112, ended Progress)
-    ∷ (113, λ payload. option_map Quarantine (string_in payload))
-    ∷ (114, ended Reject)
-    ∷ (115, ended Skip)
-    ∷ (116, ended Tempfail)
-    ∷ (121, λ payload. option_map Code (reply_code_in payload))
+    (SMFIR_ADDRCPT, λ payload. option_map AddRcpt (string_in payload))
+    ∷ (SMFIR_DELRCPT, λ payload. option_map DelRcpt (string_in payload))
+    ∷ (SMFIR_ADDRCPT_PAR, λ payload. option_map (λ a. AddRcptPar a.0 a.1) (addressed_in payload))
+    ∷ (SMFIC_OPTNEG, λ payload. option_map Options (options_in payload))
+    ∷ (SMFIR_ACCEPT, ended Accept)
+    ∷ (SMFIR_REPLBODY, λ payload. Some (ReplaceBody payload))
+    ∷ (SMFIR_CONTINUE, ended Continue)
+    ∷ (SMFIR_DISCARD, ended Discard)
+    ∷ (SMFIR_CHGFROM, λ payload. option_map (λ a. ChangeFrom a.0 a.1) (addressed_in payload))
+    ∷ (SMFIR_ADDHEADER, λ payload. option_map AddHeader (header_in payload))
+    ∷ (SMFIR_INSHEADER, λ payload. option_map (λ i. InsertHeader i.0 i.1) (indexed_in payload))
+    ∷ (SMFIR_CHGHEADER, λ payload. option_map (λ i. ChangeHeader i.0 i.1) (indexed_in payload))
+    ∷ (SMFIR_PROGRESS, ended Progress)
+    ∷ (SMFIR_QUARANTINE, λ payload. option_map Quarantine (string_in payload))
+    ∷ (SMFIR_REJECT, ended Reject)
+    ∷ (SMFIR_SKIP, ended Skip)
+    ∷ (SMFIR_TEMPFAIL, ended Tempfail)
+    ∷ (SMFIR_REPLYCODE, λ payload. option_map Code (reply_code_in payload))
     ∷ []
 
--- the reply that a code and a payload spell, if there is one
+-- the reply that a code and a payload encode, if there is one
 unfoldable pub reply_in : ℕ → List ℕ → Option Reply
 reply_in code payload = read_by rows code payload

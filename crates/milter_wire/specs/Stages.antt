@@ -1,22 +1,23 @@
 -- What the protocol knows of the stages of a connection and of its messages.
 use Rattle.std.specs.Prelude.{ℕ, Option, None, Some}
+use Rattle.milter_options.specs.declared.options.Protocol.{Protocol}
+use Rattle.milter_wire.specs.declared.codes.TheConstants.{SMFIC_BODYEOB, SMFIC_CONNECT, SMFIC_DATA, SMFIC_EOH, SMFIC_HELO, SMFIC_MAIL, SMFIC_RCPT}
 use Rattle.milter_wire.specs.declared.command.Command.{Command}
 use Rattle.milter_wire.specs.declared.command.Command.TheVariants as commands
-use Rattle.milter_wire.specs.declared.options.Protocol.{Protocol}
 use Rattle.milter_wire.specs.declared.stage.Stage.{Stage}
 use Rattle.milter_wire.specs.declared.stage.Stage.TheVariants.{Connect, Helo, Mail, Rcpt, DataCmd, Header, Eoh, Body, Eob}
 
 -- the command byte of a stage's macro packet, in ASCII: the code of the stage's own command
 abbrev pub macro_command_of : Stage → Option ℕ
-macro_command_of Connect = Some 67
-macro_command_of Helo = Some 72
-macro_command_of Mail = Some 77
-macro_command_of Rcpt = Some 82
-macro_command_of DataCmd = Some 84
+macro_command_of Connect = Some SMFIC_CONNECT
+macro_command_of Helo = Some SMFIC_HELO
+macro_command_of Mail = Some SMFIC_MAIL
+macro_command_of Rcpt = Some SMFIC_RCPT
+macro_command_of DataCmd = Some SMFIC_DATA
 macro_command_of Header = None
-macro_command_of Eoh = Some 78
+macro_command_of Eoh = Some SMFIC_EOH
 macro_command_of Body = None
-macro_command_of Eob = Some 69
+macro_command_of Eob = Some SMFIC_BODYEOB
 
 -- a bit of the protocol
 abbrev bit : ℕ → Option Protocol

@@ -7,7 +7,7 @@ use Rattle.milter_wire.specs.declared.stage.Stage.TheVariants as stages
 use Rattle.milter_wire.specs.declared.verdict.Verdict.{Verdict}
 use Rattle.milter_wire.specs.declared.verdict.Verdict.TheVariants.{Continue, Accept, Reject, Tempfail, Discard, Skip, Code}
 
--- the reply that tells a verdict
+-- the reply that carries a verdict
 abbrev pub reply_of : Verdict → Reply
 reply_of Continue = replies.Continue
 reply_of Accept = replies.Accept
@@ -17,7 +17,7 @@ reply_of Discard = replies.Discard
 reply_of Skip = replies.Skip
 reply_of (Code text) = replies.Code text
 
--- the verdict that a reply tells, or the reply itself
+-- the verdict that a reply carries, or the reply itself
 abbrev pub verdict_of : Reply → Result Verdict Reply
 verdict_of replies.Continue = Ok Continue
 verdict_of replies.Accept = Ok Accept

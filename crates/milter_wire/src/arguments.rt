@@ -1,16 +1,17 @@
 //! An address with the arguments that may follow it, a string each; no arguments are not the empty ones.
 
 ghost use Rattle.std.specs.Prelude.{◌≡◌, ◌++◌, ◌↔◌, IsTrue, OnOk, length, option_map};
-ghost use Rattle.milter_wire.specs.Field.{Extends, string};
+ghost use Rattle.milter_stream.specs.Appending.{Extends};
+ghost use Rattle.milter_wire.specs.Field.{string};
 ghost use Rattle.milter_wire.specs.Layout.{arguments, ArgumentsFit};
-ghost use Rattle.milter_wire.specs.Reading.{Takes, addressed_in, arguments_in};
+ghost use Rattle.milter_wire.specs.Decoding.{DecodesOptional, addressed_in, arguments_in};
 
-use crate::fault::NoMemory;
-use crate::strings::{has_no_nul, one_string, owned, put_string, string_len, take_string};
+use crate::strings::{has_no_nul, one_string, put_string, string_len, take_string};
 use crate::text::Text;
+use milter_stream::NoMemory;
 use std::alloc::Global;
 
-/// Whether the arguments, if there are any, hold no NUL.
+/// Whether the arguments, if there are any, have no NUL.
 pub(crate) fn arguments_fit(value: &Option<Text>) -> bool
     ensures { IsTrue result ↔ ArgumentsFit value.now }
 {
@@ -20,8 +21,8 @@ pub(crate) fn arguments_fit(value: &Option<Text>) -> bool
     }
 }
 
-/// The number of bytes of the arguments.
-pub(crate) fn arguments_len(value: &Option<Text>) -> usize
+/// The number of bytes of the arguments in a packet: of one string, or none. No memory is taken.
+pub fn arguments_len(value: &Option<Text>) -> usize
     ensures { result ≡ length (arguments value.now) }
 {
     match value {
@@ -55,7 +56,7 @@ pub(crate) fn put_addressed(
 }
 
 /// No arguments, where no byte is there, or the one string that these bytes are, all of the bytes.
-#[tactic(auto, unfolding(crate::specs::Reading::arguments_in))]
+#[tactic(auto, unfolding(crate::specs::Decoding::arguments_in))]
 fn find_arguments(bytes: &[u8]) -> Option<Option<&[u8]>>
     ensures { option_map (λ found. option_map (λ text. text.now) found) result ≡ arguments_in bytes.now }
 {
@@ -66,13 +67,13 @@ fn find_arguments(bytes: &[u8]) -> Option<Option<&[u8]>>
     Some(Some(text))
 }
 
-/// The address, and the arguments if there are any, that these bytes spell, all of the bytes.
-#[tactic(auto, unfolding(crate::specs::Reading::addressed_in))]
+/// The address, and the arguments if there are any, that these bytes encode, all of the bytes.
+#[tactic(auto, unfolding(crate::specs::Decoding::addressed_in))]
 pub(crate) fn take_addressed(
     alloc: Global,
     bytes: &[u8],
 ) -> Result<Option<(Text, Option<Text>)>, NoMemory>
-    ensures { Takes (addressed_in bytes.now) result }
+    ensures { DecodesOptional (addressed_in bytes.now) result }
 {
     let Some((address, rest)) = take_string(bytes) else {
         return Ok(None);
@@ -80,9 +81,9 @@ pub(crate) fn take_addressed(
     let Some(found) = find_arguments(rest) else {
         return Ok(None);
     };
-    let address = owned(alloc, address)?;
+    let address = Text::copy_of(alloc, address)?;
     match found {
-        Some(text) => Ok(Some((address, Some(owned(alloc, text)?)))),
+        Some(text) => Ok(Some((address, Some(Text::copy_of(alloc, text)?)))),
         None => Ok(Some((address, None))),
     }
 }

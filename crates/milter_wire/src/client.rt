@@ -1,15 +1,16 @@
-//! Clients that connect to the mail server, and their spelling: the host, a byte for the family of the address, and for
+//! Clients that connect to the mail server, and their encoding: the host, a byte for the family of the address, and for
 //! a known family the port and the address.
 
 ghost use Rattle.std.specs.Prelude.{◌≡◌, ◌+◌, ◌-◌, ◌^◌, ◌∷◌, ◌++◌, ◌↔◌, IsTrue, OnOk, length, min, option_map};
-ghost use Rattle.milter_wire.specs.Field.{Extends, port, string};
+ghost use Rattle.milter_stream.specs.Appending.{Extends};
+ghost use Rattle.milter_wire.specs.Field.{port, string};
 ghost use Rattle.milter_wire.specs.Layout.{client, origin, ClientFits, OriginFits};
-ghost use Rattle.milter_wire.specs.Reading.{Takes, client_in, origin_in, place_in};
+ghost use Rattle.milter_wire.specs.Decoding.{DecodesOptional, client_in, origin_in, endpoint_in};
 
-use crate::fault::NoMemory;
 use crate::field::{put_port, take_port};
-use crate::strings::{has_no_nul, one_string, owned, put_string, string_len, take_string};
+use crate::strings::{has_no_nul, one_string, put_string, string_len, take_string};
 use crate::text::Text;
+use milter_stream::NoMemory;
 use std::alloc::Global;
 
 /// A client of the mail server. Source: the libmilter callback documentation (xxfi_connect).
@@ -50,7 +51,7 @@ pub enum Origin {
     },
 }
 
-/// Whether no string holds a NUL.
+/// Whether no string has a NUL.
 pub(crate) fn client_fits(value: &Client) -> bool
     ensures { IsTrue result ↔ ClientFits value.now }
 {
@@ -65,14 +66,14 @@ fn origin_fits(value: &Origin) -> bool
         Origin::Unix { port, address }
         | Origin::Inet { port, address }
         | Origin::Inet6 { port, address } => {
-            // Each port is in its range, since its type says so.
+            // Each port is in its range, by its type.
             let _port = *port;
             has_no_nul(address)
         }
     }
 }
 
-/// The number of bytes of its spelling, or the greatest `usize`.
+/// The number of bytes of its encoding, or the greatest `usize`.
 pub(crate) fn client_len(value: &Client) -> usize
     ensures { result ≡ min (length (client value.now)) (2 ^ 64 - 1) }
 {
@@ -109,13 +110,13 @@ fn put_origin(out: &mut Vec<u8>, value: &Origin) -> Result<(), NoMemory>
             out.push(b'U')?;
             Ok(())
         }
-        Origin::Unix { port, address } => put_place(out, b'L', *port, address),
-        Origin::Inet { port, address } => put_place(out, b'4', *port, address),
-        Origin::Inet6 { port, address } => put_place(out, b'6', *port, address),
+        Origin::Unix { port, address } => put_endpoint(out, b'L', *port, address),
+        Origin::Inet { port, address } => put_endpoint(out, b'4', *port, address),
+        Origin::Inet6 { port, address } => put_endpoint(out, b'6', *port, address),
     }
 }
 
-fn put_place(out: &mut Vec<u8>, family: u8, at: u16, address: &Text) -> Result<(), NoMemory>
+fn put_endpoint(out: &mut Vec<u8>, family: u8, at: u16, address: &Text) -> Result<(), NoMemory>
     ensures ok { OnOk result (out.new.items ≡ out.old.items ++ family ∷ (port at ++ string address.now)) }
     ensures extends { Extends out.old.items out.new.items }
 {
@@ -124,10 +125,10 @@ fn put_place(out: &mut Vec<u8>, family: u8, at: u16, address: &Text) -> Result<(
     put_string(out, address)
 }
 
-/// The port and the address that these bytes spell, all of the bytes.
-#[tactic(auto, unfolding(crate::specs::Reading::place_in))]
-fn take_place(alloc: Global, bytes: &[u8]) -> Result<Option<(u16, Text)>, NoMemory>
-    ensures { Takes (place_in bytes.now) result }
+/// The port and the address that these bytes encode, all of the bytes.
+#[tactic(auto, unfolding(crate::specs::Decoding::endpoint_in))]
+fn take_endpoint(alloc: Global, bytes: &[u8]) -> Result<Option<(u16, Text)>, NoMemory>
+    ensures { DecodesOptional (endpoint_in bytes.now) result }
 {
     let Some((port, rest)) = take_port(bytes) else {
         return Ok(None);
@@ -135,30 +136,39 @@ fn take_place(alloc: Global, bytes: &[u8]) -> Result<Option<(u16, Text)>, NoMemo
     let Some(address) = one_string(rest) else {
         return Ok(None);
     };
-    Ok(Some((port, owned(alloc, address)?)))
+    Ok(Some((port, Text::copy_of(alloc, address)?)))
 }
 
-/// The origin that these bytes spell, all of the bytes.
-#[tactic(auto, unfolding(crate::specs::Reading::origin_in))]
+/// The origin that these bytes encode, all of the bytes.
+#[tactic(auto, unfolding(crate::specs::Decoding::origin_in))]
 fn take_origin(alloc: Global, bytes: &[u8]) -> Result<Option<Origin>, NoMemory>
-    ensures { Takes (origin_in bytes.now) result }
+    ensures { DecodesOptional (origin_in bytes.now) result }
 {
     let [family, rest @ ..] = bytes else {
         return Ok(None);
     };
     match *family {
         b'U' => Ok(rest.is_empty().then_some(Origin::Unknown)),
-        b'L' => Ok(take_place(alloc, rest)?.map(|(port, address)| Origin::Unix { port, address })),
-        b'4' => Ok(take_place(alloc, rest)?.map(|(port, address)| Origin::Inet { port, address })),
-        b'6' => Ok(take_place(alloc, rest)?.map(|(port, address)| Origin::Inet6 { port, address })),
+        b'L' => Ok(take_endpoint(alloc, rest)?.map(|(port, address)| Origin::Unix {
+            port,
+            address,
+        })),
+        b'4' => Ok(take_endpoint(alloc, rest)?.map(|(port, address)| Origin::Inet {
+            port,
+            address,
+        })),
+        b'6' => Ok(take_endpoint(alloc, rest)?.map(|(port, address)| Origin::Inet6 {
+            port,
+            address,
+        })),
         _ => Ok(None),
     }
 }
 
-/// The client that these bytes spell, all of the bytes.
-#[tactic(auto, unfolding(crate::specs::Reading::client_in))]
+/// The client that these bytes encode, all of the bytes.
+#[tactic(auto, unfolding(crate::specs::Decoding::client_in))]
 pub(crate) fn take_client(alloc: Global, bytes: &[u8]) -> Result<Option<Client>, NoMemory>
-    ensures { Takes (client_in bytes.now) result }
+    ensures { DecodesOptional (client_in bytes.now) result }
 {
     let Some((host, rest)) = take_string(bytes) else {
         return Ok(None);
@@ -166,6 +176,6 @@ pub(crate) fn take_client(alloc: Global, bytes: &[u8]) -> Result<Option<Client>,
     let Some(origin) = take_origin(alloc, rest)? else {
         return Ok(None);
     };
-    let host = owned(alloc, host)?;
+    let host = Text::copy_of(alloc, host)?;
     Ok(Some(Client { host, origin }))
 }

@@ -3,23 +3,30 @@
 ghost use Rattle.std.specs.Prelude.{◌≡◌, ◌≤◌, ◌-◌, ◌^◌, ◌∷◌, ◌++◌, ◌↔◌, length, min, IsTrue, OnOk, OnErr, IfOk, IsErrOf, MatchResult, option_map};
 ghost use Rattle.std.specs.List.{flat_map};
 ghost use Rattle.milter_wire.specs.declared.command.Command.{Command};
-ghost use Rattle.milter_wire.specs.Field.{Extends};
+ghost use Rattle.milter_wire.specs.Stages.{stage_of};
+ghost use Rattle.milter_stream.specs.Appending.{Extends};
 ghost use Rattle.milter_wire.specs.Layout.{pair};
-ghost use Rattle.milter_wire.specs.Packet.{packet};
-ghost use Rattle.milter_wire.specs.Command.{code_of, payload_of, is_code, Fits, FieldsFit, Spells, spelling, command_in};
-ghost use Rattle.milter_wire.specs.Reading.{Decodes, Takes, macro_in};
+ghost use Rattle.milter_stream.specs.Packet.{packet};
+ghost use Rattle.milter_wire.specs.Command.{code_of, payload_of, is_code, Fits, FieldsFit, IsEncodedAs, encoding, command_in};
+ghost use Rattle.milter_wire.specs.Decoding.{Decodes, DecodesOptional, macro_in};
 
 use crate::client::{Client, client_fits, client_len, put_client, take_client};
-use crate::fault::{NoMemory, WireFault};
-use crate::field::{PAYLOAD_MAX, put_head};
+use crate::codes::{
+    SMFIC_ABORT, SMFIC_BODY, SMFIC_BODYEOB, SMFIC_CONNECT, SMFIC_DATA, SMFIC_EOH, SMFIC_HEADER,
+    SMFIC_HELO, SMFIC_MACRO, SMFIC_MAIL, SMFIC_OPTNEG, SMFIC_QUIT, SMFIC_QUIT_NC, SMFIC_RCPT,
+    SMFIC_UNKNOWN,
+};
 use crate::header::{Header, header_fits, header_len, put_header, take_header};
 use crate::lists::Pairs;
-use crate::options::{OPTIONS_LEN, Options, options_fit, put_options, take_options};
+use crate::options::{OPTIONS_LEN, options_fit, put_options, take_options};
 use crate::pair::{pairs_fit, pairs_len, put_pairs};
 use crate::path::{Path, path_fits, path_len, put_path, take_path};
 use crate::sequences::take_pairs;
-use crate::strings::{has_no_nul, owned, put_bytes, put_string, string_len, take_text};
+use crate::stage::Stage;
+use crate::strings::{has_no_nul, put_bytes, put_string, string_len, take_text};
 use crate::text::Text;
+use milter_options::Options;
+use milter_stream::{NoMemory, PAYLOAD_MAX, WireFault, put_head};
 use std::alloc::Global;
 
 /// A packet that an MTA sends to a filter. Source: mfdef.h (the codes SMFIC_), and the layouts that libmilter reads.
@@ -36,13 +43,13 @@ pub enum Command {
     },
     /// `C`: a client has connected.
     Connect(Client),
-    /// `H`: the client has said HELO or EHLO, with this name.
+    /// `H`: the client has sent HELO or EHLO, with this name.
     Helo(Text),
     /// `M`: the sender of a message.
     Mail(Path),
     /// `R`: a recipient of the message.
     Rcpt(Path),
-    /// `T`: the client has said DATA.
+    /// `T`: the client has sent DATA.
     DataCmd,
     /// `L`: a header field of the message.
     Header(Header),
@@ -52,7 +59,7 @@ pub enum Command {
     Body(Text),
     /// `E`: the message has ended, perhaps with a last piece of the body.
     Eob(Text),
-    /// `U`: the client has said something that the MTA doesn't know.
+    /// `U`: the client has sent a command that the MTA doesn't know.
     Unknown(Text),
     /// `A`: the message is given up; the connection goes on.
     Abort,
@@ -63,8 +70,8 @@ pub enum Command {
 }
 
 impl Command {
-    /// Whether the command has a spelling: its code and payload have at most 65,536 bytes, and no string in it holds a
-    /// NUL. No memory is taken. Source: own.
+    /// Whether the command has an encoding: its code and payload have at most 65,536 bytes, and no string in it holds a
+    /// NUL. No memory is taken.
     pub fn fits(&self) -> bool
         ensures { IsTrue result ↔ Fits self.now }
     {
@@ -75,7 +82,7 @@ impl Command {
     /// Source: mfdef.h.
     pub fn encode(&self, _alloc: Global, out: &mut Vec<u8>) -> Result<(), NoMemory>
         requires { Fits self.now }
-        ensures ok { OnOk result (out.new.items ≡ out.old.items ++ spelling self.now) }
+        ensures ok { OnOk result (out.new.items ≡ out.old.items ++ encoding self.now) }
         ensures err { OnErr result (out.new.items ≡ out.old.items) }
     {
         let start = out.len();
@@ -86,29 +93,48 @@ impl Command {
         written
     }
 
-    /// The command that a packet's code and payload spell. The payload has at most 65,535 bytes. The fault is
+    /// The command that a packet's code and payload encode. The payload has at most 65,535 bytes. The fault is
     /// `UnknownCode(code)` where no command has the code, `Malformed(code)` where one has it and the payload isn't in
     /// its layout, and `NoMemory` only where the payload is in its layout. Source: mfdef.h, and the layouts that
     /// libmilter reads.
     pub fn decode(alloc: Global, code: u8, payload: &[u8]) -> Result<Command, WireFault>
-        requires { length payload.now ≤ 65535 }
-        // What is read is spelled so, each byte of it.
-        ensures found { IfOk result (λ c. Spells c (packet code payload.now)) }
-        // What is spelled so is read, unless memory is refused.
-        ensures only { (c : Command) → Spells c (packet code payload.now) →
+        requires { length payload.now ≤ PAYLOAD_MAX }
+        // What is decoded is encoded so, each byte of it.
+        ensures found { IfOk result (λ c. IsEncodedAs c (packet code payload.now)) }
+        // What is encoded so is decoded, unless memory is refused.
+        ensures only { (c : Command) → IsEncodedAs c (packet code payload.now) →
             MatchResult result (λ d. d ≡ c) (λ e. e ≡ WireFault.NoMemory) }
         ensures unknown { IsErrOf result (WireFault.UnknownCode code) ↔ ¬ IsTrue (is_code code) }
         ensures malformed { IsErrOf result (WireFault.Malformed code)
-            ↔ (IsTrue (is_code code) × ((c : Command) → ¬ Spells c (packet code payload.now))) }
-        ensures memory { IsErrOf result WireFault.NoMemory → (c : Command) × Spells c (packet code payload.now) }
+            ↔ (IsTrue (is_code code) × ((c : Command) → ¬ IsEncodedAs c (packet code payload.now))) }
+        ensures memory { IsErrOf result WireFault.NoMemory → (c : Command) × IsEncodedAs c (packet code payload.now) }
         // The same in words that compute.
         ensures reading { Decodes code (is_code code) (command_in code payload.now) result }
     {
         take_command(alloc, code, payload)
     }
+
+    /// The stage that the command is, if it is one: options, macros, unknown commands and what ends a message or a
+    /// connection are none. Source: the libmilter callback documentation.
+    pub fn stage(&self) -> Option<Stage>
+        ensures { result ≡ stage_of self.now }
+    {
+        match self {
+            Command::Connect(_) => Some(Stage::Connect),
+            Command::Helo(_) => Some(Stage::Helo),
+            Command::Mail(_) => Some(Stage::Mail),
+            Command::Rcpt(_) => Some(Stage::Rcpt),
+            Command::DataCmd => Some(Stage::DataCmd),
+            Command::Header(_) => Some(Stage::Header),
+            Command::Eoh => Some(Stage::Eoh),
+            Command::Body(_) => Some(Stage::Body),
+            Command::Eob(_) => Some(Stage::Eob),
+            _ => None,
+        }
+    }
 }
 
-/// Whether no string in it holds a NUL.
+/// Whether no string in it has a NUL.
 fn fields_fit(command: &Command) -> bool
     ensures { IsTrue result ↔ FieldsFit command.now }
 {
@@ -126,7 +152,7 @@ fn fields_fit(command: &Command) -> bool
 
 fn put_command(out: &mut Vec<u8>, command: &Command) -> Result<(), NoMemory>
     requires { Fits command.now }
-    ensures ok { OnOk result (out.new.items ≡ out.old.items ++ spelling command.now) }
+    ensures ok { OnOk result (out.new.items ≡ out.old.items ++ encoding command.now) }
     ensures extends { Extends out.old.items out.new.items }
 {
     put_head(out, code(command), payload_len(command))?;
@@ -137,26 +163,26 @@ fn code(command: &Command) -> u8
     ensures { result ≡ code_of command.now }
 {
     match command {
-        Command::Options(_) => b'O',
-        Command::Macro { .. } => b'D',
-        Command::Connect(_) => b'C',
-        Command::Helo(_) => b'H',
-        Command::Mail(_) => b'M',
-        Command::Rcpt(_) => b'R',
-        Command::DataCmd => b'T',
-        Command::Header(_) => b'L',
-        Command::Eoh => b'N',
-        Command::Body(_) => b'B',
-        Command::Eob(_) => b'E',
-        Command::Unknown(_) => b'U',
-        Command::Abort => b'A',
-        Command::Quit => b'Q',
-        Command::QuitNew => b'K',
+        Command::Options(_) => SMFIC_OPTNEG,
+        Command::Macro { .. } => SMFIC_MACRO,
+        Command::Connect(_) => SMFIC_CONNECT,
+        Command::Helo(_) => SMFIC_HELO,
+        Command::Mail(_) => SMFIC_MAIL,
+        Command::Rcpt(_) => SMFIC_RCPT,
+        Command::DataCmd => SMFIC_DATA,
+        Command::Header(_) => SMFIC_HEADER,
+        Command::Eoh => SMFIC_EOH,
+        Command::Body(_) => SMFIC_BODY,
+        Command::Eob(_) => SMFIC_BODYEOB,
+        Command::Unknown(_) => SMFIC_UNKNOWN,
+        Command::Abort => SMFIC_ABORT,
+        Command::Quit => SMFIC_QUIT,
+        Command::QuitNew => SMFIC_QUIT_NC,
     }
 }
 
 /// The number of bytes of the payload, or the greatest `usize`.
-#[tactic(auto, unfolding(crate::specs::Field::number))]
+#[tactic(auto, unfolding(milter_stream::specs::Number::number))]
 fn payload_len(command: &Command) -> usize
     ensures { result ≡ min (length (payload_of command.now)) (2 ^ 64 - 1) }
 {
@@ -218,36 +244,36 @@ fn take_command(alloc: Global, code: u8, payload: &[u8]) -> Result<Command, Wire
     }
 }
 
-/// What the payload of this code says, where it is in its layout.
+/// The command of this code and payload, where it is in its layout.
 #[tactic(auto, unfolding(crate::specs::Command::command_in))]
 fn take_payload(alloc: Global, code: u8, payload: &[u8]) -> Result<Option<Command>, NoMemory>
-    ensures { Takes (command_in code payload.now) result }
+    ensures { DecodesOptional (command_in code payload.now) result }
 {
     let nothing = payload.is_empty();
     match code {
-        b'A' => Ok(nothing.then_some(Command::Abort)),
-        b'B' => Ok(Some(Command::Body(owned(alloc, payload)?))),
-        b'C' => Ok(take_client(alloc, payload)?.map(Command::Connect)),
-        b'D' => take_macro(alloc, payload),
-        b'E' => Ok(Some(Command::Eob(owned(alloc, payload)?))),
-        b'H' => Ok(take_text(alloc, payload)?.map(Command::Helo)),
-        b'K' => Ok(nothing.then_some(Command::QuitNew)),
-        b'L' => Ok(take_header(alloc, payload)?.map(Command::Header)),
-        b'M' => Ok(take_path(alloc, payload)?.map(Command::Mail)),
-        b'N' => Ok(nothing.then_some(Command::Eoh)),
-        b'O' => Ok(take_options(payload).map(Command::Options)),
-        b'Q' => Ok(nothing.then_some(Command::Quit)),
-        b'R' => Ok(take_path(alloc, payload)?.map(Command::Rcpt)),
-        b'T' => Ok(nothing.then_some(Command::DataCmd)),
-        b'U' => Ok(take_text(alloc, payload)?.map(Command::Unknown)),
+        SMFIC_ABORT => Ok(nothing.then_some(Command::Abort)),
+        SMFIC_BODY => Ok(Some(Command::Body(Text::copy_of(alloc, payload)?))),
+        SMFIC_CONNECT => Ok(take_client(alloc, payload)?.map(Command::Connect)),
+        SMFIC_MACRO => take_macro(alloc, payload),
+        SMFIC_BODYEOB => Ok(Some(Command::Eob(Text::copy_of(alloc, payload)?))),
+        SMFIC_HELO => Ok(take_text(alloc, payload)?.map(Command::Helo)),
+        SMFIC_QUIT_NC => Ok(nothing.then_some(Command::QuitNew)),
+        SMFIC_HEADER => Ok(take_header(alloc, payload)?.map(Command::Header)),
+        SMFIC_MAIL => Ok(take_path(alloc, payload)?.map(Command::Mail)),
+        SMFIC_EOH => Ok(nothing.then_some(Command::Eoh)),
+        SMFIC_OPTNEG => Ok(take_options(payload).map(Command::Options)),
+        SMFIC_QUIT => Ok(nothing.then_some(Command::Quit)),
+        SMFIC_RCPT => Ok(take_path(alloc, payload)?.map(Command::Rcpt)),
+        SMFIC_DATA => Ok(nothing.then_some(Command::DataCmd)),
+        SMFIC_UNKNOWN => Ok(take_text(alloc, payload)?.map(Command::Unknown)),
         _ => Ok(None),
     }
 }
 
-/// The macros that these bytes spell, all of the bytes, and the code before them.
-#[tactic(auto, unfolding(crate::specs::Reading::macro_in))]
+/// The macros that these bytes encode, all of the bytes, and the code before them.
+#[tactic(auto, unfolding(crate::specs::Decoding::macro_in))]
 fn take_macro(alloc: Global, bytes: &[u8]) -> Result<Option<Command>, NoMemory>
-    ensures { Takes (option_map (λ m. Command.Macro m.0 m.1) (macro_in bytes.now)) result }
+    ensures { DecodesOptional (option_map (λ m. Command.Macro m.0 m.1) (macro_in bytes.now)) result }
 {
     let [command, rest @ ..] = bytes else {
         return Ok(None);

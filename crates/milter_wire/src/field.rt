@@ -1,53 +1,11 @@
-//! The fields that payloads are made of: how each is read from the front of some bytes, and appended to others.
+//! Ports in two bytes, the higher first.
 
-ghost use Rattle.std.specs.Prelude.{◌≡◌, ◌+◌, ◌≤◌, ◌∷◌, ◌++◌, [], OnOk, option_map};
-ghost use Rattle.milter_wire.specs.Field.{Extends, number, port};
-ghost use Rattle.milter_wire.specs.Reading.{number_at, number_of, port_at, port_of};
+ghost use Rattle.std.specs.Prelude.{◌≡◌, ◌++◌, OnOk, option_map};
+ghost use Rattle.milter_stream.specs.Appending.{Extends};
+ghost use Rattle.milter_wire.specs.Field.{port};
+ghost use Rattle.milter_wire.specs.Decoding.{port_at, port_of};
 
-use crate::fault::NoMemory;
-
-/// The most bytes that a payload has.
-pub(crate) const PAYLOAD_MAX: usize = 65_535;
-
-/// Appends a number in four bytes, the highest first.
-#[tactic(auto, unfolding(crate::specs::Field::number))]
-pub(crate) fn put_number(out: &mut Vec<u8>, value: u32) -> Result<(), NoMemory>
-    ensures ok { OnOk result (out.new.items ≡ out.old.items ++ number value) }
-    ensures extends { Extends out.old.items out.new.items }
-{
-    out.extend_from_slice(&value.to_be_bytes())?;
-    Ok(())
-}
-
-/// The number that four bytes spell, the highest first.
-#[tactic(auto, unfolding(crate::specs::Reading::number_of))]
-pub(crate) fn number_of(a: u8, b: u8, c: u8, d: u8) -> u32
-    ensures { result ≡ number_of a b c d }
-{
-    u32::from_be_bytes([a, b, c, d])
-}
-
-/// The number in the first four bytes, and the bytes after it.
-pub(crate) fn take_number(bytes: &[u8]) -> Option<(u32, &[u8])>
-    ensures { option_map (λ x. (x.0, x.1.now)) result ≡ number_at bytes.now }
-{
-    match bytes {
-        [a, b, c, d, rest @ ..] => Some((number_of(*a, *b, *c, *d), rest)),
-        _ => None,
-    }
-}
-
-/// Appends what stands before a payload of this length: the length of code and payload, and the code.
-pub(crate) fn put_head(out: &mut Vec<u8>, code: u8, payload_len: usize) -> Result<(), NoMemory>
-    requires { payload_len ≤ 65535 }
-    ensures ok { OnOk result (out.new.items ≡ out.old.items ++ (number (payload_len + 1) ++ code ∷ [])) }
-    ensures extends { Extends out.old.items out.new.items }
-{
-    put_number(out, payload_len as u32 + 1)?;
-    out.push(code)?;
-    Ok(())
-}
-
+use milter_stream::NoMemory;
 /// Appends a port in two bytes, the higher first.
 #[tactic(auto, unfolding(crate::specs::Field::port))]
 pub(crate) fn put_port(out: &mut Vec<u8>, value: u16) -> Result<(), NoMemory>
@@ -58,8 +16,8 @@ pub(crate) fn put_port(out: &mut Vec<u8>, value: u16) -> Result<(), NoMemory>
     Ok(())
 }
 
-/// The port that two bytes spell, the higher first.
-#[tactic(auto, unfolding(crate::specs::Reading::port_of))]
+/// The port that two bytes encode, the higher first.
+#[tactic(auto, unfolding(crate::specs::Decoding::port_of))]
 fn port_of(a: u8, b: u8) -> u16
     ensures { result ≡ port_of a b }
 {

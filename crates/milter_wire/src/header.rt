@@ -1,14 +1,14 @@
-//! Header fields of a message, and their spelling: the name and the value, a string each.
+//! Header fields of a message, and their encoding: the name and the value, a string each.
 
 ghost use Rattle.std.specs.Prelude.{◌≡◌, ◌-◌, ◌^◌, ◌++◌, ◌↔◌, IsTrue, OnOk, length, min, option_map};
-ghost use Rattle.milter_wire.specs.Field.{Extends, number};
+ghost use Rattle.milter_stream.specs.Appending.{Extends};
+ghost use Rattle.milter_stream.specs.Number.{number};
 ghost use Rattle.milter_wire.specs.Layout.{header, HeaderFits};
-ghost use Rattle.milter_wire.specs.Reading.{Takes, header_in, indexed_in};
+ghost use Rattle.milter_wire.specs.Decoding.{DecodesOptional, header_in, indexed_in};
 
-use crate::fault::NoMemory;
-use crate::field::{put_number, take_number};
-use crate::strings::{has_no_nul, owned, put_string, string_len, take_string};
+use crate::strings::{has_no_nul, put_string, string_len, take_string};
 use crate::text::Text;
+use milter_stream::{NoMemory, put_number, take_number};
 use std::alloc::Global;
 
 /// A header field of a message. Source: the libmilter callback documentation (xxfi_header).
@@ -16,19 +16,20 @@ use std::alloc::Global;
 pub struct Header {
     /// The name, without the colon.
     pub name: Text,
-    /// The value as it stands in the message; it may hold line ends.
+    /// The value as it is in the message; it may have line ends.
     pub value: Text,
 }
 
-/// Whether neither string holds a NUL.
+/// Whether neither string has a NUL.
 pub(crate) fn header_fits(value: &Header) -> bool
     ensures { IsTrue result ↔ HeaderFits value.now }
 {
     has_no_nul(&value.name) && has_no_nul(&value.value)
 }
 
-/// The number of bytes of the two strings, or the greatest `usize`.
-pub(crate) fn header_len(value: &Header) -> usize
+/// The number of bytes of the two strings in a packet, or the greatest `usize` where there are more. No memory is
+/// taken.
+pub fn header_len(value: &Header) -> usize
     ensures { result ≡ min (length (header value.now)) (2 ^ 64 - 1) }
 {
     string_len(&value.name).saturating_add(string_len(&value.value))
@@ -53,7 +54,7 @@ pub(crate) fn put_indexed(out: &mut Vec<u8>, index: u32, value: &Header) -> Resu
 }
 
 /// The two strings that these bytes are, all of the bytes.
-#[tactic(auto, unfolding(crate::specs::Reading::header_in))]
+#[tactic(auto, unfolding(crate::specs::Decoding::header_in))]
 fn two_strings(bytes: &[u8]) -> Option<(&[u8], &[u8])>
     ensures { option_map (λ x. record { name = x.0.now; value = x.1.now }) result ≡ header_in bytes.now }
 {
@@ -65,22 +66,22 @@ fn two_strings(bytes: &[u8]) -> Option<(&[u8], &[u8])>
     Some((name, value))
 }
 
-/// The header field that these bytes spell, all of the bytes.
+/// The header field that these bytes encode, all of the bytes.
 pub(crate) fn take_header(alloc: Global, bytes: &[u8]) -> Result<Option<Header>, NoMemory>
-    ensures { Takes (header_in bytes.now) result }
+    ensures { DecodesOptional (header_in bytes.now) result }
 {
     let Some((name, value)) = two_strings(bytes) else {
         return Ok(None);
     };
-    let name = owned(alloc, name)?;
-    let value = owned(alloc, value)?;
+    let name = Text::copy_of(alloc, name)?;
+    let value = Text::copy_of(alloc, value)?;
     Ok(Some(Header { name, value }))
 }
 
-/// The number and the header field that these bytes spell, all of the bytes.
-#[tactic(auto, unfolding(crate::specs::Reading::indexed_in))]
+/// The number and the header field that these bytes encode, all of the bytes.
+#[tactic(auto, unfolding(crate::specs::Decoding::indexed_in))]
 pub(crate) fn take_indexed(alloc: Global, bytes: &[u8]) -> Result<Option<(u32, Header)>, NoMemory>
-    ensures { Takes (indexed_in bytes.now) result }
+    ensures { DecodesOptional (indexed_in bytes.now) result }
 {
     let Some((index, rest)) = take_number(bytes) else {
         return Ok(None);

@@ -1,23 +1,22 @@
-//! The lengths of packets, told from what they carry: whoever counts bytes needs no command for it.
+//! The lengths of packets by what they carry, without making a command of it.
 
 ghost use Rattle.std.specs.Prelude.{◌≡◌, ◌≤◌, ◌<◌, ◌+◌, ℕ, None, Some};
 ghost use Rattle.milter_wire.specs.declared.command.Command.{Command};
 ghost use Rattle.milter_wire.specs.Command.{PacketLen};
 
 use crate::client::{Client, client_fits, client_len};
-use crate::field::PAYLOAD_MAX;
 use crate::header::{Header, header_fits, header_len};
 use crate::lists::Pairs;
 use crate::pair::{pairs_fit, pairs_len};
 use crate::path::{Path, path_fits, path_len};
-
-/// The bytes of a packet before its payload: the length and the code.
-const HEAD_LEN: usize = 5;
+use crate::strings::{has_no_nul, string_len};
+use crate::text::Text;
+use milter_stream::{HEAD_LEN, PAYLOAD_MAX};
 
 impl Client {
-    /// The number of bytes of the packet that tells of the client, from 8 to 65,540, its length field among them; or
-    /// none, where no packet does: a string holds a NUL, or they have too many bytes. No memory is taken. Source: own.
-    #[tactic(auto, unfolding(crate::specs::Field::number))]
+    /// The number of bytes of the packet of the client, from 8 to 65,540, its length field among them; or
+    /// none, where there is no such packet: a string has a NUL, or they have too many bytes. No memory is taken.
+    #[tactic(auto, unfolding(milter_stream::specs::Number::number))]
     pub fn packet_len(&self) -> Option<usize>
         ensures { PacketLen (Command.Connect self.now) result }
     {
@@ -29,10 +28,9 @@ impl Client {
 }
 
 impl Path {
-    /// The number of bytes of the packet that tells of the sender or the recipient, from 6 to 65,540, its length field
-    /// among them; or none, where no packet does: a string holds a NUL, or they have too many bytes. No memory is
-    /// taken. Source: own.
-    #[tactic(auto, unfolding(crate::specs::Field::number))]
+    /// The number of bytes of the packet of the sender or the recipient, from 6 to 65,540, its length field among them;
+    /// or none, where there is no such packet: a string has a NUL, or they have too many bytes. No memory is taken.
+    #[tactic(auto, unfolding(milter_stream::specs::Number::number))]
     pub fn packet_len(&self) -> Option<usize>
         ensures mail { PacketLen (Command.Mail self.now) result }
         ensures rcpt { PacketLen (Command.Rcpt self.now) result }
@@ -45,10 +43,9 @@ impl Path {
 }
 
 impl Header {
-    /// The number of bytes of the packet that tells of the header field, from 7 to 65,540, its length field among them;
-    /// or none, where no packet does: a string holds a NUL, or they have too many bytes. No memory is taken. Source:
-    /// own.
-    #[tactic(auto, unfolding(crate::specs::Field::number))]
+    /// The number of bytes of the packet of the header field, from 7 to 65,540, its length field among them;
+    /// or none, where there is no such packet: a string has a NUL, or they have too many bytes. No memory is taken.
+    #[tactic(auto, unfolding(milter_stream::specs::Number::number))]
     pub fn packet_len(&self) -> Option<usize>
         ensures { PacketLen (Command.Header self.now) result }
     {
@@ -61,8 +58,8 @@ impl Header {
 
 impl Pairs {
     /// The number of bytes of a packet with these macros, from 6 to 65,540, its length field among them; or none, where
-    /// no packet has them: a string holds a NUL, or they have too many bytes. No memory is taken. Source: own.
-    #[tactic(auto, unfolding(crate::specs::Field::number))]
+    /// no packet has them: a string has a NUL, or they have too many bytes. No memory is taken.
+    #[tactic(auto, unfolding(milter_stream::specs::Number::number))]
     pub fn packet_len(&self) -> Option<usize>
         ensures { (command : ℕ) → PacketLen (Command.Macro command self.now) result }
     {
@@ -73,10 +70,22 @@ impl Pairs {
     }
 }
 
+/// The number of bytes of the packet with a client's greeting, from 6 to 65,540, its length field among them; or none,
+/// where no packet has the name: it has a NUL, or has too many bytes. No memory is taken.
+#[tactic(auto, unfolding(milter_stream::specs::Number::number))]
+pub fn helo_packet_len(name: &Text) -> Option<usize>
+    ensures { PacketLen (Command.Helo name.now) result }
+{
+    if !has_no_nul(name) {
+        return None;
+    }
+    with_head(string_len(name))
+}
+
 /// The number of bytes of a packet whose payload has so many, where a packet has room for it.
 fn with_head(payload_len: usize) -> Option<usize>
-    ensures some { payload_len ≤ 65535 → result ≡ Some (payload_len + 5) }
-    ensures none { 65535 < payload_len → result ≡ None }
+    ensures some { payload_len ≤ PAYLOAD_MAX → result ≡ Some (payload_len + HEAD_LEN) }
+    ensures none { PAYLOAD_MAX < payload_len → result ≡ None }
 {
     if payload_len > PAYLOAD_MAX {
         return None;

@@ -23,14 +23,14 @@ impl Model for Params {
 }
 
 impl Params {
-    /// The parameters that these texts are. They aren't copied, and no memory is taken. Source: own.
+    /// The parameters that these texts are. They aren't copied, and no memory is taken.
     pub fn new(texts: Vec<Text>) -> Self
         ensures { result ≡ texts.items }
     {
         Params { texts }
     }
 
-    /// The parameters, in order. No memory is taken. Source: own.
+    /// The parameters, in order. No memory is taken.
     pub fn as_slice(&self) -> &[Text]
         ensures { result.now ≡ self.now }
     {
@@ -77,14 +77,14 @@ impl Model for Pairs {
 }
 
 impl Pairs {
-    /// The macros that these pairs are. They aren't copied, and no memory is taken. Source: own.
+    /// The macros that these pairs are. They aren't copied, and no memory is taken.
     pub fn new(pairs: Vec<Pair>) -> Self
         ensures { result ≡ pairs.items }
     {
         Pairs { pairs }
     }
 
-    /// The macros, in order. No memory is taken. Source: own.
+    /// The macros, in order. No memory is taken.
     pub fn as_slice(&self) -> &[Pair]
         ensures { result.now ≡ self.now }
     {

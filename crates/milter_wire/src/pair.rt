@@ -1,13 +1,13 @@
-//! Macros, and their spelling: the names and the values, a string each.
+//! Macros, and their encoding: the names and the values, a string each.
 
 ghost use Rattle.std.specs.Prelude.{◌≡◌, ◌-◌, ◌^◌, ◌++◌, ◌↔◌, All, IsTrue, OnOk, length, min};
 ghost use Rattle.std.specs.List.{flat_map};
-ghost use Rattle.milter_wire.specs.Field.{Extends};
+ghost use Rattle.milter_stream.specs.Appending.{Extends};
 ghost use Rattle.milter_wire.specs.Layout.{pair, PairFits};
 
-use crate::fault::NoMemory;
 use crate::strings::{has_no_nul, put_string, string_len};
 use crate::text::Text;
+use milter_stream::NoMemory;
 
 /// A macro of the mail server: its name and its value. Source: the libmilter documentation (smfi_getsymval).
 #[derive(Clone, Debug, PartialEq, Eq, Drop)]
@@ -18,22 +18,23 @@ pub struct Pair {
     pub value: Text,
 }
 
-/// Whether neither string holds a NUL.
+/// Whether neither string has a NUL.
 fn pair_fits(value: &Pair) -> bool
     ensures { IsTrue result ↔ PairFits value.now }
 {
     has_no_nul(&value.name) && has_no_nul(&value.value)
 }
 
-/// Whether no string of them holds a NUL.
+/// Whether no string of them has a NUL.
 pub(crate) fn pairs_fit(pairs: &[Pair]) -> bool
     ensures { IsTrue result ↔ All PairFits pairs.now }
 {
     pairs.iter().all(|value| pair_fits(value))
 }
 
-/// The number of bytes of the two strings, or the greatest `usize`.
-fn pair_len(value: &Pair) -> usize
+/// The number of bytes of the two strings in a packet, or the greatest `usize` where there are more. No memory is
+/// taken.
+pub fn pair_len(value: &Pair) -> usize
     ensures { result ≡ min (length (pair value.now)) (2 ^ 64 - 1) }
 {
     string_len(&value.name).saturating_add(string_len(&value.value))

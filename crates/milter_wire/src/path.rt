@@ -1,15 +1,15 @@
-//! Senders and recipients, and their spelling: the address and the parameters, a string each.
+//! Senders and recipients, and their encoding: the address and the parameters, a string each.
 
 ghost use Rattle.std.specs.Prelude.{◌≡◌, ◌-◌, ◌^◌, ◌++◌, ◌↔◌, IsTrue, OnOk, length, min};
-ghost use Rattle.milter_wire.specs.Field.{Extends};
+ghost use Rattle.milter_stream.specs.Appending.{Extends};
 ghost use Rattle.milter_wire.specs.Layout.{path, PathFits};
-ghost use Rattle.milter_wire.specs.Reading.{Takes, path_in};
+ghost use Rattle.milter_wire.specs.Decoding.{DecodesOptional, path_in};
 
-use crate::fault::NoMemory;
 use crate::lists::Params;
 use crate::sequences::{have_no_nul, put_strings, strings_len, take_strings};
-use crate::strings::{has_no_nul, owned, put_string, string_len, take_string};
+use crate::strings::{has_no_nul, put_string, string_len, take_string};
 use crate::text::Text;
+use milter_stream::NoMemory;
 use std::alloc::Global;
 
 /// The sender or a recipient of a message, with its ESMTP parameters. Source: the libmilter callback documentation
@@ -22,7 +22,7 @@ pub struct Path {
     pub params: Params,
 }
 
-/// Whether no string holds a NUL.
+/// Whether no string has a NUL.
 pub(crate) fn path_fits(value: &Path) -> bool
     ensures { IsTrue result ↔ PathFits value.now }
 {
@@ -45,10 +45,10 @@ pub(crate) fn put_path(out: &mut Vec<u8>, value: &Path) -> Result<(), NoMemory>
     put_strings(out, value.params.as_slice())
 }
 
-/// The path that these bytes spell, all of the bytes.
-#[tactic(auto, unfolding(crate::specs::Reading::path_in))]
+/// The path that these bytes encode, all of the bytes.
+#[tactic(auto, unfolding(crate::specs::Decoding::path_in))]
 pub(crate) fn take_path(alloc: Global, bytes: &[u8]) -> Result<Option<Path>, NoMemory>
-    ensures { Takes (path_in bytes.now) result }
+    ensures { DecodesOptional (path_in bytes.now) result }
 {
     let Some((address, rest)) = take_string(bytes) else {
         return Ok(None);
@@ -56,6 +56,6 @@ pub(crate) fn take_path(alloc: Global, bytes: &[u8]) -> Result<Option<Path>, NoM
     let Some(params) = take_strings(alloc, rest)? else {
         return Ok(None);
     };
-    let address = owned(alloc, address)?;
+    let address = Text::copy_of(alloc, address)?;
     Ok(Some(Path { address, params }))
 }

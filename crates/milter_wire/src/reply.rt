@@ -2,21 +2,26 @@
 
 ghost use Rattle.std.specs.Prelude.{◌≡◌, ◌≤◌, ◌-◌, ◌^◌, ◌++◌, ◌↔◌, length, min, IsTrue, OnOk, OnErr, IfOk, IsErrOf, MatchResult};
 ghost use Rattle.milter_wire.specs.declared.reply.Reply.{Reply};
-ghost use Rattle.milter_wire.specs.Field.{Extends};
-ghost use Rattle.milter_wire.specs.Packet.{packet};
-ghost use Rattle.milter_wire.specs.Reply.{code_of, payload_of, is_code, Fits, FieldsFit, Spells, spelling, reply_in};
-ghost use Rattle.milter_wire.specs.Reading.{Decodes, Takes};
+ghost use Rattle.milter_stream.specs.Appending.{Extends};
+ghost use Rattle.milter_stream.specs.Packet.{packet};
+ghost use Rattle.milter_wire.specs.Reply.{code_of, payload_of, is_code, Fits, FieldsFit, IsEncodedAs, encoding, reply_in};
+ghost use Rattle.milter_wire.specs.Decoding.{Decodes, DecodesOptional};
 
 use crate::arguments::{arguments_fit, arguments_len, put_addressed, take_addressed};
-use crate::fault::{NoMemory, WireFault};
-use crate::field::{PAYLOAD_MAX, put_head};
+use crate::codes::{
+    SMFIC_OPTNEG, SMFIR_ACCEPT, SMFIR_ADDHEADER, SMFIR_ADDRCPT, SMFIR_ADDRCPT_PAR, SMFIR_CHGFROM,
+    SMFIR_CHGHEADER, SMFIR_CONTINUE, SMFIR_DELRCPT, SMFIR_DISCARD, SMFIR_INSHEADER, SMFIR_PROGRESS,
+    SMFIR_QUARANTINE, SMFIR_REJECT, SMFIR_REPLBODY, SMFIR_REPLYCODE, SMFIR_SKIP, SMFIR_TEMPFAIL,
+};
 use crate::header::{
     Header, header_fits, header_len, put_header, put_indexed, take_header, take_indexed,
 };
-use crate::options::{OPTIONS_LEN, Options, options_fit, put_options, take_options};
+use crate::options::{OPTIONS_LEN, options_fit, put_options, take_options};
 use crate::reply_code::{is_reply_code, take_reply_code};
-use crate::strings::{has_no_nul, owned, put_bytes, put_string, string_len, take_text};
+use crate::strings::{has_no_nul, put_bytes, put_string, string_len, take_text};
 use crate::text::Text;
+use milter_options::Options;
+use milter_stream::{NoMemory, PAYLOAD_MAX, WireFault, put_head};
 use std::alloc::Global;
 
 /// A packet that a filter sends to an MTA. Source: mfdef.h (the codes SMFIR_), and the layouts that libmilter writes.
@@ -52,9 +57,9 @@ pub enum Reply {
     },
     /// `h`: the message gets this header field as its last.
     AddHeader(Header),
-    /// `i`: the message gets this header field at a place.
+    /// `i`: the message gets this header field at an index.
     InsertHeader {
-        /// The place, from 0 at the top.
+        /// The index, from 0 at the top.
         index: u32,
         /// The header field.
         header: Header,
@@ -68,7 +73,7 @@ pub enum Reply {
     },
     /// `p`: the filter is still at work.
     Progress,
-    /// `q`: the message is held, for this reason.
+    /// `q`: the message goes into quarantine, for this reason.
     Quarantine(Text),
     /// `r`: what was asked about is refused for good.
     Reject,
@@ -81,8 +86,8 @@ pub enum Reply {
 }
 
 impl Reply {
-    /// Whether the reply has a spelling: its code and payload have at most 65,536 bytes, no string in it holds a NUL, and
-    /// a reply code begins with `4` or `5` and two digits. No memory is taken. Source: own.
+    /// Whether the reply has an encoding: its code and payload have at most 65,536 bytes, no string in it has a NUL,
+    /// and a reply code begins with `4` or `5` and two digits. No memory is taken.
     pub fn fits(&self) -> bool
         ensures { IsTrue result ↔ Fits self.now }
     {
@@ -93,7 +98,7 @@ impl Reply {
     /// Source: mfdef.h.
     pub fn encode(&self, _alloc: Global, out: &mut Vec<u8>) -> Result<(), NoMemory>
         requires { Fits self.now }
-        ensures ok { OnOk result (out.new.items ≡ out.old.items ++ spelling self.now) }
+        ensures ok { OnOk result (out.new.items ≡ out.old.items ++ encoding self.now) }
         ensures err { OnErr result (out.new.items ≡ out.old.items) }
     {
         let start = out.len();
@@ -104,21 +109,21 @@ impl Reply {
         written
     }
 
-    /// The reply that a packet's code and payload spell. The payload has at most 65,535 bytes. The fault is
+    /// The reply that a packet's code and payload encode. The payload has at most 65,535 bytes. The fault is
     /// `UnknownCode(code)` where no reply has the code, `Malformed(code)` where one has it and the payload isn't in
     /// its layout, and `NoMemory` only where the payload is in its layout. Source: mfdef.h, and the layouts that
     /// libmilter writes.
     pub fn decode(alloc: Global, code: u8, payload: &[u8]) -> Result<Reply, WireFault>
-        requires { length payload.now ≤ 65535 }
-        // What is read is spelled so, each byte of it.
-        ensures found { IfOk result (λ r. Spells r (packet code payload.now)) }
-        // What is spelled so is read, unless memory is refused.
-        ensures only { (r : Reply) → Spells r (packet code payload.now) →
+        requires { length payload.now ≤ PAYLOAD_MAX }
+        // What is decoded is encoded so, each byte of it.
+        ensures found { IfOk result (λ r. IsEncodedAs r (packet code payload.now)) }
+        // What is encoded so is decoded, unless memory is refused.
+        ensures only { (r : Reply) → IsEncodedAs r (packet code payload.now) →
             MatchResult result (λ s. s ≡ r) (λ e. e ≡ WireFault.NoMemory) }
         ensures unknown { IsErrOf result (WireFault.UnknownCode code) ↔ ¬ IsTrue (is_code code) }
         ensures malformed { IsErrOf result (WireFault.Malformed code)
-            ↔ (IsTrue (is_code code) × ((r : Reply) → ¬ Spells r (packet code payload.now))) }
-        ensures memory { IsErrOf result WireFault.NoMemory → (r : Reply) × Spells r (packet code payload.now) }
+            ↔ (IsTrue (is_code code) × ((r : Reply) → ¬ IsEncodedAs r (packet code payload.now))) }
+        ensures memory { IsErrOf result WireFault.NoMemory → (r : Reply) × IsEncodedAs r (packet code payload.now) }
         // The same in words that compute.
         ensures reading { Decodes code (is_code code) (reply_in code payload.now) result }
     {
@@ -126,7 +131,7 @@ impl Reply {
     }
 }
 
-/// Whether no string in it holds a NUL, and a reply code has its form.
+/// Whether no string in it has a NUL, and a reply code has its form.
 fn fields_fit(reply: &Reply) -> bool
     ensures { IsTrue result ↔ FieldsFit reply.now }
 {
@@ -149,7 +154,7 @@ fn fields_fit(reply: &Reply) -> bool
 
 fn put_reply(out: &mut Vec<u8>, reply: &Reply) -> Result<(), NoMemory>
     requires { Fits reply.now }
-    ensures ok { OnOk result (out.new.items ≡ out.old.items ++ spelling reply.now) }
+    ensures ok { OnOk result (out.new.items ≡ out.old.items ++ encoding reply.now) }
     ensures extends { Extends out.old.items out.new.items }
 {
     put_head(out, code(reply), payload_len(reply))?;
@@ -160,29 +165,29 @@ fn code(reply: &Reply) -> u8
     ensures { result ≡ code_of reply.now }
 {
     match reply {
-        Reply::Options(_) => b'O',
-        Reply::AddRcpt(_) => b'+',
-        Reply::DelRcpt(_) => b'-',
-        Reply::AddRcptPar { .. } => b'2',
-        Reply::Accept => b'a',
-        Reply::ReplaceBody(_) => b'b',
-        Reply::Continue => b'c',
-        Reply::Discard => b'd',
-        Reply::ChangeFrom { .. } => b'e',
-        Reply::AddHeader(_) => b'h',
-        Reply::InsertHeader { .. } => b'i',
-        Reply::ChangeHeader { .. } => b'm',
-        Reply::Progress => b'p',
-        Reply::Quarantine(_) => b'q',
-        Reply::Reject => b'r',
-        Reply::Skip => b's',
-        Reply::Tempfail => b't',
-        Reply::Code(_) => b'y',
+        Reply::Options(_) => SMFIC_OPTNEG,
+        Reply::AddRcpt(_) => SMFIR_ADDRCPT,
+        Reply::DelRcpt(_) => SMFIR_DELRCPT,
+        Reply::AddRcptPar { .. } => SMFIR_ADDRCPT_PAR,
+        Reply::Accept => SMFIR_ACCEPT,
+        Reply::ReplaceBody(_) => SMFIR_REPLBODY,
+        Reply::Continue => SMFIR_CONTINUE,
+        Reply::Discard => SMFIR_DISCARD,
+        Reply::ChangeFrom { .. } => SMFIR_CHGFROM,
+        Reply::AddHeader(_) => SMFIR_ADDHEADER,
+        Reply::InsertHeader { .. } => SMFIR_INSHEADER,
+        Reply::ChangeHeader { .. } => SMFIR_CHGHEADER,
+        Reply::Progress => SMFIR_PROGRESS,
+        Reply::Quarantine(_) => SMFIR_QUARANTINE,
+        Reply::Reject => SMFIR_REJECT,
+        Reply::Skip => SMFIR_SKIP,
+        Reply::Tempfail => SMFIR_TEMPFAIL,
+        Reply::Code(_) => SMFIR_REPLYCODE,
     }
 }
 
 /// The number of bytes of the payload, or the greatest `usize`.
-#[tactic(auto, unfolding(crate::specs::Field::number))]
+#[tactic(auto, unfolding(milter_stream::specs::Number::number))]
 fn payload_len(reply: &Reply) -> usize
     ensures { result ≡ min (length (payload_of reply.now)) (2 ^ 64 - 1) }
 {
@@ -243,43 +248,43 @@ fn take_reply(alloc: Global, code: u8, payload: &[u8]) -> Result<Reply, WireFaul
     }
 }
 
-/// What the payload of this code says, where it is in its layout.
+/// The reply of this code and payload, where it is in its layout.
 #[tactic(auto, unfolding(crate::specs::Reply::reply_in))]
 fn take_payload(alloc: Global, code: u8, payload: &[u8]) -> Result<Option<Reply>, NoMemory>
-    ensures { Takes (reply_in code payload.now) result }
+    ensures { DecodesOptional (reply_in code payload.now) result }
 {
     let nothing = payload.is_empty();
     match code {
-        b'+' => Ok(take_text(alloc, payload)?.map(Reply::AddRcpt)),
-        b'-' => Ok(take_text(alloc, payload)?.map(Reply::DelRcpt)),
-        b'2' => Ok(take_addressed(alloc, payload)?.map(|(address, arguments)| Reply::AddRcptPar {
+        SMFIR_ADDRCPT => Ok(take_text(alloc, payload)?.map(Reply::AddRcpt)),
+        SMFIR_DELRCPT => Ok(take_text(alloc, payload)?.map(Reply::DelRcpt)),
+        SMFIR_ADDRCPT_PAR => Ok(take_addressed(alloc, payload)?.map(|(
             address,
             arguments,
-        })),
-        b'O' => Ok(take_options(payload).map(Reply::Options)),
-        b'a' => Ok(nothing.then_some(Reply::Accept)),
-        b'b' => Ok(Some(Reply::ReplaceBody(owned(alloc, payload)?))),
-        b'c' => Ok(nothing.then_some(Reply::Continue)),
-        b'd' => Ok(nothing.then_some(Reply::Discard)),
-        b'e' => Ok(take_addressed(alloc, payload)?.map(|(address, arguments)| Reply::ChangeFrom {
+        )| Reply::AddRcptPar { address, arguments })),
+        SMFIC_OPTNEG => Ok(take_options(payload).map(Reply::Options)),
+        SMFIR_ACCEPT => Ok(nothing.then_some(Reply::Accept)),
+        SMFIR_REPLBODY => Ok(Some(Reply::ReplaceBody(Text::copy_of(alloc, payload)?))),
+        SMFIR_CONTINUE => Ok(nothing.then_some(Reply::Continue)),
+        SMFIR_DISCARD => Ok(nothing.then_some(Reply::Discard)),
+        SMFIR_CHGFROM => Ok(take_addressed(alloc, payload)?.map(|(
             address,
             arguments,
-        })),
-        b'h' => Ok(take_header(alloc, payload)?.map(Reply::AddHeader)),
-        b'i' => Ok(take_indexed(alloc, payload)?.map(|(index, header)| Reply::InsertHeader {
+        )| Reply::ChangeFrom { address, arguments })),
+        SMFIR_ADDHEADER => Ok(take_header(alloc, payload)?.map(Reply::AddHeader)),
+        SMFIR_INSHEADER => Ok(take_indexed(alloc, payload)?.map(|(
             index,
             header,
-        })),
-        b'm' => Ok(take_indexed(alloc, payload)?.map(|(index, header)| Reply::ChangeHeader {
+        )| Reply::InsertHeader { index, header })),
+        SMFIR_CHGHEADER => Ok(take_indexed(alloc, payload)?.map(|(
             index,
             header,
-        })),
-        b'p' => Ok(nothing.then_some(Reply::Progress)),
-        b'q' => Ok(take_text(alloc, payload)?.map(Reply::Quarantine)),
-        b'r' => Ok(nothing.then_some(Reply::Reject)),
-        b's' => Ok(nothing.then_some(Reply::Skip)),
-        b't' => Ok(nothing.then_some(Reply::Tempfail)),
-        b'y' => Ok(take_reply_code(alloc, payload)?.map(Reply::Code)),
+        )| Reply::ChangeHeader { index, header })),
+        SMFIR_PROGRESS => Ok(nothing.then_some(Reply::Progress)),
+        SMFIR_QUARANTINE => Ok(take_text(alloc, payload)?.map(Reply::Quarantine)),
+        SMFIR_REJECT => Ok(nothing.then_some(Reply::Reject)),
+        SMFIR_SKIP => Ok(nothing.then_some(Reply::Skip)),
+        SMFIR_TEMPFAIL => Ok(nothing.then_some(Reply::Tempfail)),
+        SMFIR_REPLYCODE => Ok(take_reply_code(alloc, payload)?.map(Reply::Code)),
         _ => Ok(None),
     }
 }

@@ -2,11 +2,11 @@
 
 ghost use Rattle.std.specs.Prelude.{◌≡◌};
 ghost use Rattle.milter_wire.specs.Layout.{is_reply_code};
-ghost use Rattle.milter_wire.specs.Reading.{Takes, reply_code_in};
+ghost use Rattle.milter_wire.specs.Decoding.{DecodesOptional, reply_code_in};
 
-use crate::fault::NoMemory;
-use crate::strings::{one_string, owned};
+use crate::strings::one_string;
 use crate::text::Text;
+use milter_stream::NoMemory;
 use std::alloc::Global;
 
 /// Whether a text has the form of a reply code: `4` or `5`, two digits, and anything after them.
@@ -21,10 +21,10 @@ pub(crate) fn is_reply_code(text: &[u8]) -> bool
     }
 }
 
-/// The reply code that these bytes spell, all of the bytes.
-#[tactic(auto, unfolding(crate::specs::Reading::reply_code_in))]
+/// The reply code that these bytes encode, all of the bytes.
+#[tactic(auto, unfolding(crate::specs::Decoding::reply_code_in))]
 pub(crate) fn take_reply_code(alloc: Global, bytes: &[u8]) -> Result<Option<Text>, NoMemory>
-    ensures { Takes (reply_code_in bytes.now) result }
+    ensures { DecodesOptional (reply_code_in bytes.now) result }
 {
     let Some(text) = one_string(bytes) else {
         return Ok(None);
@@ -32,5 +32,5 @@ pub(crate) fn take_reply_code(alloc: Global, bytes: &[u8]) -> Result<Option<Text
     if !is_reply_code(text) {
         return Ok(None);
     }
-    Ok(Some(owned(alloc, text)?))
+    Ok(Some(Text::copy_of(alloc, text)?))
 }

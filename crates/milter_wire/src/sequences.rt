@@ -2,14 +2,15 @@
 
 ghost use Rattle.std.specs.Prelude.{◌≡◌, ◌-◌, ◌^◌, ◌++◌, ◌↔◌, All, IsTrue, OnOk, is_some, length, min};
 ghost use Rattle.std.specs.List.{flat_map};
-ghost use Rattle.milter_wire.specs.Field.{Extends, HasNoNul, string};
-ghost use Rattle.milter_wire.specs.Reading.{Takes, pairs_in, strings_in};
+ghost use Rattle.milter_stream.specs.Appending.{Extends};
+ghost use Rattle.milter_wire.specs.Field.{HasNoNul, string};
+ghost use Rattle.milter_wire.specs.Decoding.{DecodesOptional, pairs_in, strings_in};
 
-use crate::fault::NoMemory;
 use crate::lists::{Pairs, Params};
 use crate::pair::Pair;
-use crate::strings::{has_no_nul, owned, put_string, string_len, take_string};
+use crate::strings::{has_no_nul, put_string, string_len, take_string};
 use crate::text::Text;
+use milter_stream::NoMemory;
 use std::alloc::Global;
 
 /// Whether strings can carry the texts.
@@ -57,7 +58,7 @@ fn are_strings(bytes: &[u8]) -> bool
 
 /// The strings that the bytes are, up to the end.
 pub(crate) fn take_strings(alloc: Global, bytes: &[u8]) -> Result<Option<Params>, NoMemory>
-    ensures { Takes (strings_in bytes.now) result }
+    ensures { DecodesOptional (strings_in bytes.now) result }
 {
     if !are_strings(bytes) {
         return Ok(None);
@@ -68,7 +69,7 @@ pub(crate) fn take_strings(alloc: Global, bytes: &[u8]) -> Result<Option<Params>
         let Some((text, after)) = take_string(rest) else {
             return Ok(None);
         };
-        texts.push(owned(alloc, text)?)?;
+        texts.push(Text::copy_of(alloc, text)?)?;
         rest = after;
     }
     Ok(Some(Params::new(texts)))
@@ -93,7 +94,7 @@ fn are_pairs(bytes: &[u8]) -> bool
 
 /// The pairs of strings that the bytes are, up to the end.
 pub(crate) fn take_pairs(alloc: Global, bytes: &[u8]) -> Result<Option<Pairs>, NoMemory>
-    ensures { Takes (pairs_in bytes.now) result }
+    ensures { DecodesOptional (pairs_in bytes.now) result }
 {
     if !are_pairs(bytes) {
         return Ok(None);
@@ -107,8 +108,8 @@ pub(crate) fn take_pairs(alloc: Global, bytes: &[u8]) -> Result<Option<Pairs>, N
         let Some((value, after)) = take_string(middle) else {
             return Ok(None);
         };
-        let name = owned(alloc, name)?;
-        let value = owned(alloc, value)?;
+        let name = Text::copy_of(alloc, name)?;
+        let value = Text::copy_of(alloc, value)?;
         pairs.push(Pair { name, value })?;
         rest = after;
     }

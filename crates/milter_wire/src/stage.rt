@@ -1,10 +1,12 @@
 //! The stages of a connection and of its messages, and what the protocol knows of each.
 
 ghost use Rattle.std.specs.Prelude.{◌≡◌};
-ghost use Rattle.milter_wire.specs.Stages.{macro_command_of, not_answered_of, not_sent_of, stage_of};
+ghost use Rattle.milter_wire.specs.Stages.{macro_command_of, not_answered_of, not_sent_of};
 
-use crate::command::Command;
-use crate::options::Protocol;
+use crate::codes::{
+    SMFIC_BODYEOB, SMFIC_CONNECT, SMFIC_DATA, SMFIC_EOH, SMFIC_HELO, SMFIC_MAIL, SMFIC_RCPT,
+};
+use milter_options::Protocol;
 
 /// A stage at which a filter is asked, in the order of a connection and of each of its messages. Source: the libmilter
 /// callback documentation (order of callbacks).
@@ -12,13 +14,13 @@ use crate::options::Protocol;
 pub enum Stage {
     /// A client has connected.
     Connect,
-    /// The client has said HELO or EHLO.
+    /// The client has sent HELO or EHLO.
     Helo,
     /// The sender of a message.
     Mail,
     /// A recipient of the message.
     Rcpt,
-    /// The client has said DATA.
+    /// The client has sent DATA.
     DataCmd,
     /// A header field of the message.
     Header,
@@ -46,18 +48,38 @@ fn row_of(stage: Stage) -> Row
 {
     let (macro_command, not_sent, not_answered) = match stage {
         Stage::Connect => (
-            Some(b'C'),
+            Some(SMFIC_CONNECT),
             Some(Protocol::NOCONNECT),
             Some(Protocol::NR_CONN),
         ),
-        Stage::Helo => (Some(b'H'), Some(Protocol::NOHELO), Some(Protocol::NR_HELO)),
-        Stage::Mail => (Some(b'M'), Some(Protocol::NOMAIL), Some(Protocol::NR_MAIL)),
-        Stage::Rcpt => (Some(b'R'), Some(Protocol::NORCPT), Some(Protocol::NR_RCPT)),
-        Stage::DataCmd => (Some(b'T'), Some(Protocol::NODATA), Some(Protocol::NR_DATA)),
+        Stage::Helo => (
+            Some(SMFIC_HELO),
+            Some(Protocol::NOHELO),
+            Some(Protocol::NR_HELO),
+        ),
+        Stage::Mail => (
+            Some(SMFIC_MAIL),
+            Some(Protocol::NOMAIL),
+            Some(Protocol::NR_MAIL),
+        ),
+        Stage::Rcpt => (
+            Some(SMFIC_RCPT),
+            Some(Protocol::NORCPT),
+            Some(Protocol::NR_RCPT),
+        ),
+        Stage::DataCmd => (
+            Some(SMFIC_DATA),
+            Some(Protocol::NODATA),
+            Some(Protocol::NR_DATA),
+        ),
         Stage::Header => (None, Some(Protocol::NOHDRS), Some(Protocol::NR_HDR)),
-        Stage::Eoh => (Some(b'N'), Some(Protocol::NOEOH), Some(Protocol::NR_EOH)),
+        Stage::Eoh => (
+            Some(SMFIC_EOH),
+            Some(Protocol::NOEOH),
+            Some(Protocol::NR_EOH),
+        ),
         Stage::Body => (None, Some(Protocol::NOBODY), Some(Protocol::NR_BODY)),
-        Stage::Eob => (Some(b'E'), None, None),
+        Stage::Eob => (Some(SMFIC_BODYEOB), None, None),
     };
     Row {
         macro_command,
@@ -67,8 +89,8 @@ fn row_of(stage: Stage) -> Row
 }
 
 impl Stage {
-    /// The command byte of the macro packet that stands before the stage: the code of the stage's own command. A header
-    /// field and a piece of the body have none. Source: mfapi.h (SMFIM_CONNECT and its kin).
+    /// The command byte of the macro packet that precedes the stage: the code of the stage's own command. A header
+    /// field and a piece of the body have none. Source: mfapi.h (SMFIM_CONNECT and those after it).
     pub fn macro_command(self) -> Option<u8>
         ensures { result ≡ macro_command_of self }
     {
@@ -84,31 +106,10 @@ impl Stage {
     }
 
     /// The bit by which the stage isn't answered; the end of a message is always answered. Source: mfdef.h
-    /// (SMFIP_NR_CONN and its kin).
+    /// (SMFIP_NR_CONN and those after it).
     pub fn not_answered(self) -> Option<Protocol>
         ensures { result ≡ not_answered_of self }
     {
         row_of(self).not_answered
-    }
-}
-
-impl Command {
-    /// The stage that the command is, if it is one: options, macros, unknown commands and what ends a message or a
-    /// connection are none. Source: the libmilter callback documentation.
-    pub fn stage(&self) -> Option<Stage>
-        ensures { result ≡ stage_of self.now }
-    {
-        match self {
-            Command::Connect(_) => Some(Stage::Connect),
-            Command::Helo(_) => Some(Stage::Helo),
-            Command::Mail(_) => Some(Stage::Mail),
-            Command::Rcpt(_) => Some(Stage::Rcpt),
-            Command::DataCmd => Some(Stage::DataCmd),
-            Command::Header(_) => Some(Stage::Header),
-            Command::Eoh => Some(Stage::Eoh),
-            Command::Body(_) => Some(Stage::Body),
-            Command::Eob(_) => Some(Stage::Eob),
-            _ => None,
-        }
     }
 }

@@ -1,23 +1,24 @@
 //! Strings: a text, and the NUL that ends it.
 
-ghost use Rattle.std.specs.Prelude.{◌≡◌, ◌==◌, ◌++◌, ◌↔◌, IfOk, IsTrue, OnOk, length, option_map, position};
-ghost use Rattle.milter_wire.specs.Field.{Extends, HasNoNul, string};
-ghost use Rattle.milter_wire.specs.Reading.{Takes, string_at, string_in};
+ghost use Rattle.std.specs.Prelude.{◌≡◌, ◌==◌, ◌++◌, ◌↔◌, IsTrue, OnOk, length, option_map, position};
+ghost use Rattle.milter_stream.specs.Appending.{Extends};
+ghost use Rattle.milter_wire.specs.Field.{HasNoNul, string};
+ghost use Rattle.milter_wire.specs.Decoding.{DecodesOptional, string_at, string_in};
 
-use crate::fault::NoMemory;
 use crate::text::Text;
+use milter_stream::NoMemory;
 use std::alloc::Global;
 
-/// Whether a string can carry the text: no byte of it is a NUL.
+/// Whether a string can carry the text: no byte of it is a NUL. No memory is taken.
 #[tactic(auto, unfolding(crate::specs::Field::HasNoNul))]
-pub(crate) fn has_no_nul(text: &Text) -> bool
+pub fn has_no_nul(text: &Text) -> bool
     ensures { IsTrue result ↔ HasNoNul text.now }
 {
     text.as_slice().iter().all(|byte| *byte != 0)
 }
 
-/// The number of bytes of the string.
-pub(crate) fn string_len(text: &Text) -> usize
+/// The number of bytes of the string that carries the text: those of the text, and a NUL. No memory is taken.
+pub fn string_len(text: &Text) -> usize
     ensures { result ≡ length (string text.now) }
 {
     text.as_slice().len() + 1
@@ -42,7 +43,7 @@ pub(crate) fn put_bytes(out: &mut Vec<u8>, bytes: &[u8]) -> Result<(), NoMemory>
     Ok(())
 }
 
-/// The place of the first NUL.
+/// The index of the first NUL.
 fn first_nul(bytes: &[u8]) -> Option<usize>
     ensures { result ≡ position (λ byte. byte == 0) bytes.now }
 {
@@ -58,7 +59,7 @@ pub(crate) fn take_string(bytes: &[u8]) -> Option<(&[u8], &[u8])>
 }
 
 /// The text of the one string that these bytes are, all of the bytes.
-#[tactic(auto, unfolding(crate::specs::Reading::string_in))]
+#[tactic(auto, unfolding(crate::specs::Decoding::string_in))]
 pub(crate) fn one_string(bytes: &[u8]) -> Option<&[u8]>
     ensures { option_map (λ text. text.now) result ≡ string_in bytes.now }
 {
@@ -71,17 +72,10 @@ pub(crate) fn one_string(bytes: &[u8]) -> Option<&[u8]>
 
 /// The one string that these bytes are, all of the bytes.
 pub(crate) fn take_text(alloc: Global, bytes: &[u8]) -> Result<Option<Text>, NoMemory>
-    ensures { Takes (string_in bytes.now) result }
+    ensures { DecodesOptional (string_in bytes.now) result }
 {
     let Some(text) = one_string(bytes) else {
         return Ok(None);
     };
-    Ok(Some(owned(alloc, text)?))
-}
-
-/// A text of its own with these bytes.
-pub(crate) fn owned(alloc: Global, bytes: &[u8]) -> Result<Text, NoMemory>
-    ensures { IfOk result (λ text. text ≡ bytes.now) }
-{
-    Ok(Text::new(Vec::from_slice(alloc, bytes)?))
+    Ok(Some(Text::copy_of(alloc, text)?))
 }

@@ -1,14 +1,16 @@
 //! Texts as the protocol carries them: bytes in no particular encoding.
 
-ghost use Rattle.std.specs.Prelude.{◌≡◌, List, ℕ, nat_eq};
+ghost use Rattle.std.specs.Prelude.{◌≡◌, IfOk, List, ℕ, nat_eq};
 ghost use Rattle.std.specs.Cmp.{partial_equiv_from_equiv};
 ghost use Rattle.std.specs.Cmp.Lexicographic.{pointwise, nat_list_eq_equiv};
 
+use milter_stream::NoMemory;
+use std::alloc::Global;
 use std::convert::AsSlice;
 use std::marker::Model;
 
 /// The bytes of a name, an address or a value, from none to the most that a packet has room for. Nothing is read into
-/// them: they may be in any encoding, or in none. Source: own.
+/// them: they may be in any encoding, or in none.
 #[derive(Clone, Debug, Drop)]
 pub struct Text {
     bytes: Vec<u8>,
@@ -21,14 +23,23 @@ impl Model for Text {
 }
 
 impl Text {
-    /// The text of these bytes. They aren't copied, and no memory is taken. Source: own.
+    /// The text of these bytes. They aren't copied, and no memory is taken.
     pub fn new(bytes: Vec<u8>) -> Self
         ensures { result ≡ bytes.items }
     {
         Text { bytes }
     }
 
-    /// The bytes of the text. No memory is taken. Source: own.
+    /// The text of a copy of these bytes.
+    pub fn copy_of(alloc: Global, bytes: &[u8]) -> Result<Self, NoMemory>
+        ensures { IfOk result (λ text. text ≡ bytes.now) }
+    {
+        Ok(Text {
+            bytes: Vec::from_slice(alloc, bytes)?,
+        })
+    }
+
+    /// The bytes of the text. No memory is taken.
     pub fn as_slice(&self) -> &[u8]
         ensures { result.now ≡ self.now }
     {

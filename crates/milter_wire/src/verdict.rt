@@ -7,8 +7,8 @@ use crate::reply::Reply;
 use crate::stage::Stage;
 use crate::text::Text;
 
-/// A filter's answer to a stage. Source: mfdef.h (SMFIR_CONTINUE and its kin), and the libmilter callback documentation
-/// (return values).
+/// A filter's answer to a stage. Source: mfdef.h (SMFIR_CONTINUE and those after it), and the libmilter callback
+/// documentation (return values).
 #[derive(Clone, Debug, PartialEq, Eq, Drop)]
 pub enum Verdict {
     /// The MTA goes on.
@@ -28,8 +28,9 @@ pub enum Verdict {
 }
 
 impl Verdict {
-    /// Whether the verdict is an answer to the stage: only a piece of the body can be skipped, and nothing can be thrown
-    /// away before there is a message. No memory is taken. Source: the libmilter callback documentation (return values).
+    /// Whether the verdict is an answer to the stage: only a piece of the body can be skipped, and nothing can be
+    /// thrown away before there is a message. No memory is taken. Source: the libmilter callback documentation (return
+    /// values).
     pub fn is_given_at(&self, stage: Stage) -> bool
         ensures { result ≡ given_at self.now stage }
     {
@@ -40,7 +41,7 @@ impl Verdict {
         }
     }
 
-    /// The reply that tells the verdict. No memory is taken. Source: mfdef.h.
+    /// The reply that carries the verdict. No memory is taken. Source: mfdef.h.
     pub fn into_reply(self) -> Reply
         ensures { result ≡ reply_of self }
     {
@@ -55,8 +56,8 @@ impl Verdict {
         }
     }
 
-    /// The verdict that a reply tells. A reply that tells none comes back: options, an edit of the message, or progress.
-    /// No memory is taken. Source: mfdef.h.
+    /// The verdict that a reply carries. A reply that carries none comes back: options, an edit of the message, or
+    /// progress. No memory is taken. Source: mfdef.h.
     pub fn from_reply(reply: Reply) -> Result<Verdict, Reply>
         ensures { result ≡ verdict_of reply }
     {

@@ -1,4 +1,4 @@
-use Rattle.milter_mail.proofs.Folds.{IsPieced}
+use Rattle.milter_mail.proofs.EditFolds.{IsPieced}
 use Rattle.milter_mail.proofs.application.body_after.Given as goal
 
 -- the pieces of the edits so far

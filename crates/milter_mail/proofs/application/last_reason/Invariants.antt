@@ -1,6 +1,6 @@
 use Rattle.std.proofs.Common.{◌≡◌, None, drop, option_map}
 use Rattle.std.specs.List.{filter_map, last_or}
-use Rattle.milter_mail.specs.Edited.{new_reason}
+use Rattle.milter_mail.specs.EditedMessage.{new_reason}
 use Rattle.milter_mail.proofs.application.last_reason.Given as goal
 
 -- the last of the rest, or else the last so far

@@ -2,7 +2,7 @@ use Rattle.std.proofs.Common.{All, subst}
 use Rattle.milter_wire.specs.declared.command.Command.TheVariants as commands
 use Rattle.milter_wire.specs.Command.{Fits}
 use Rattle.milter_mail.specs.MailObject.{IsMessage}
-use Rattle.milter_mail.proofs.Kept.{edited_is_message}
+use Rattle.milter_mail.proofs.EditsFit.{edited_is_message}
 use Rattle.milter_mail.proofs.application.message_after.Goals as goal
 
 pub from_parts-requires : goal.from_parts-requires

@@ -1,5 +1,5 @@
 use Rattle.std.proofs.Common.{◌≡◌, drop}
-use Rattle.milter_mail.specs.Edited.{headers_after}
+use Rattle.milter_mail.specs.EditedMessage.{headers_after}
 use Rattle.milter_mail.proofs.header_edits.headers_after.Given as goal
 
 -- the rest of the edits makes of these fields what all make of the first

@@ -1,5 +1,5 @@
 use Rattle.std.proofs.Common.{◌≡◌, drop}
-use Rattle.milter_mail.specs.Edited.{recipients_after}
+use Rattle.milter_mail.specs.EditedMessage.{recipients_after}
 use Rattle.milter_mail.proofs.recipient_edits.recipients_after.Given as goal
 
 -- the rest of the edits makes of these recipients what all make of the first

@@ -1,6 +1,6 @@
 use Rattle.std.proofs.Common.{◌≡◌, ◌++◌, ◌∷◌, take}
 use Rattle.std.specs.List.{flat_map}
-use Rattle.milter_wire.specs.Code.{code_text}
+use Rattle.milter_stream.specs.Code.{code_text}
 use Rattle.milter_tool.specs.PacketText.{fields_text, pair_fields}
 use Rattle.milter_tool.proofs.fields.put_macro.Given as goal
 

@@ -1,6 +1,6 @@
 use Rattle.std.proofs.Common.{◌≡◌, length}
 use Rattle.std.specs.Prelude.{is_some}
-use Rattle.milter_wire.specs.Reading.{pairs_in}
+use Rattle.milter_wire.specs.Decoding.{pairs_in}
 use Rattle.milter_wire.proofs.sequences.are_pairs.Given as goal
 
 abbrev pub invariant-loop-rest : goal.invariant-loop-rest

@@ -1,18 +1,18 @@
 use Rattle.std.proofs.Common.{sym, arith}
 use Rattle.std.proofs.lemmas.Bool.{eqb-true, eqb-false}
 use Rattle.milter_wire.proofs.StringFields.{string_at-shorter}
-use Rattle.milter_wire.proofs.InARow.{pairs_in-first, pairs_in-unended, pairs_in-odd, pairs_in-nil, front_step, front_none, front_end}
+use Rattle.milter_wire.proofs.SequenceLaws.{pairs_in-first, pairs_in-unended, pairs_in-odd, pairs_in-nil, prefix_step, prefix_none, prefix_end}
 use Rattle.milter_wire.proofs.sequences.take_pairs.Goals as goal
 
 pub returns-in_default : goal.returns-in_default
 returns-in_default c =
     let none = pairs_in-unended c.loop-rest.rest.now (eqb-false _ _ (sym c.loop-rest-test.ensures)) (sym c.in_default.ensures) in
-    sym (front_none _ _ _ none c.loop-rest.invariant)
+    sym (prefix_none _ _ _ none c.loop-rest.invariant)
 
 pub returns-in_default-take_string : goal.returns-in_default-take_string
 returns-in_default-take_string c =
     let none = pairs_in-odd c.loop-rest.rest.now _ c.in-Some.middle.now (sym c.in-Some.ensures) (sym c.in_default-take_string.ensures) in
-    sym (front_none _ _ _ none c.loop-rest.invariant)
+    sym (prefix_none _ _ _ none c.loop-rest.invariant)
 
 pub loop-rest-smaller : goal.loop-rest-smaller
 loop-rest-smaller c =
@@ -23,7 +23,7 @@ loop-rest-smaller c =
 pub loop-rest-preserved : goal.loop-rest-preserved
 loop-rest-preserved c =
     rw (c.in_ok-push.ensures.items, c.in_ok-name.ensures, c.in_ok-value.ensures)
-    (front_step _ _ _ _ _ (pairs_in-first c.loop-rest.rest.now _ _ _ _ (sym c.in-Some.ensures) (sym c.in-Some-take_string.ensures)) c.loop-rest.invariant)
+    (prefix_step _ _ _ _ _ (pairs_in-first c.loop-rest.rest.now _ _ _ _ (sym c.in-Some.ensures) (sym c.in-Some-take_string.ensures)) c.loop-rest.invariant)
 
 pub returns : goal.returns
-returns c = rw c.new.ensures (sym (front_end _ _ _ (pairs_in-nil c.loop-rest.rest.now (eqb-true _ _ (sym c.loop-rest-test.ensures))) c.loop-rest.invariant))
+returns c = rw c.new.ensures (sym (prefix_end _ _ _ (pairs_in-nil c.loop-rest.rest.now (eqb-true _ _ (sym c.loop-rest-test.ensures))) c.loop-rest.invariant))

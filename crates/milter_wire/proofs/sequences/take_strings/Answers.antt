@@ -1,20 +1,20 @@
 use Rattle.std.proofs.Common.{sym}
 use Rattle.std.proofs.lemmas.Bool.{eqb-true, eqb-false}
 use Rattle.milter_wire.proofs.StringFields.{string_at-shorter}
-use Rattle.milter_wire.proofs.InARow.{strings_in-first, strings_in-unended, strings_in-nil, front_step, front_none, front_end}
+use Rattle.milter_wire.proofs.SequenceLaws.{strings_in-first, strings_in-unended, strings_in-nil, prefix_step, prefix_none, prefix_end}
 use Rattle.milter_wire.proofs.sequences.take_strings.Goals as goal
 
 pub returns-in_default : goal.returns-in_default
 returns-in_default c =
     let none = strings_in-unended c.loop-rest.rest.now (eqb-false _ _ (sym c.loop-rest-test.ensures)) (sym c.in_default.ensures) in
-    sym (front_none _ _ _ none c.loop-rest.invariant)
+    sym (prefix_none _ _ _ none c.loop-rest.invariant)
 
 pub loop-rest-smaller : goal.loop-rest-smaller
 loop-rest-smaller c = string_at-shorter c.loop-rest.rest.now _ _ (sym c.in-Some.ensures)
 
 pub loop-rest-preserved : goal.loop-rest-preserved
 loop-rest-preserved c =
-    rw (c.in_ok-push.ensures.items, c.in_ok-owned.ensures) (front_step _ _ _ _ _ (strings_in-first c.loop-rest.rest.now _ _ (sym c.in-Some.ensures)) c.loop-rest.invariant)
+    rw (c.in_ok-push.ensures.items, c.in_ok-copy_of.ensures) (prefix_step _ _ _ _ _ (strings_in-first c.loop-rest.rest.now _ _ (sym c.in-Some.ensures)) c.loop-rest.invariant)
 
 pub returns : goal.returns
-returns c = rw c.new.ensures (sym (front_end _ _ _ (strings_in-nil c.loop-rest.rest.now (eqb-true _ _ (sym c.loop-rest-test.ensures))) c.loop-rest.invariant))
+returns c = rw c.new.ensures (sym (prefix_end _ _ _ (strings_in-nil c.loop-rest.rest.now (eqb-true _ _ (sym c.loop-rest-test.ensures))) c.loop-rest.invariant))

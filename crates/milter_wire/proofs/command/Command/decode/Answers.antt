@@ -1,4 +1,4 @@
--- What is read is what is spelled (CommandGrammar), so the clauses are those of any such reading (Grammar).
+-- What is read is what is encoded (CommandGrammar), so the clauses are those of any such reading (Grammar).
 use Rattle.std.proofs.Common.{arith}
 use Rattle.milter_wire.proofs.Grammar.{is_found, is_only, is_memory, is_unknown, is_malformed}
 use Rattle.milter_wire.proofs.CommandGrammar.{commands_read}

@@ -1,5 +1,0 @@
-use Rattle.milter_mail.proofs.Weights.{weight-sum}
-use Rattle.milter_mail.proofs.edit_laws.weights_of_parts.Goals as goal
-
-pub returns : goal.returns
-returns c client helo macros m = weight-sum client helo macros m

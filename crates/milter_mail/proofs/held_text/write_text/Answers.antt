@@ -1,6 +1,0 @@
-use Rattle.std.proofs.lemmas.List.{take_rest}
-use Rattle.milter_mail.proofs.Telling.{Told-more}
-use Rattle.milter_mail.proofs.held_text.write_text.Goals as goal
-
-pub loop-rest-preserved : goal.loop-rest-preserved
-loop-rest-preserved g c = rw take_rest (Told-more _ _ _ _ _ c.in-Ok.count c.loop-rest.invariant c.in-Ok.ensures.bytes)

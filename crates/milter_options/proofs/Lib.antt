@@ -1,0 +1,3 @@
+pub mod Binds
+pub mod Names
+pub mod SetLaws

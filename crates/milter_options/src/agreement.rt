@@ -1,0 +1,18 @@
+//! What the two ends agree on.
+
+ghost use Rattle.std.specs.Prelude.{◌≡◌};
+ghost use Rattle.milter_options.specs.Agreement.{agree};
+
+use crate::options::{Actions, Options, Protocol};
+
+/// What both ends have: the smaller of the two versions, and the actions and the protocol bits that are in both. No
+/// memory is taken. Source: the libmilter callback documentation (xxfi_negotiate).
+pub fn agree(offer: Options, wants: Options) -> Options
+    ensures { result ≡ agree offer wants }
+{
+    Options {
+        version: offer.version.min(wants.version),
+        actions: Actions(offer.actions.0 & wants.actions.0),
+        protocol: Protocol(offer.protocol.0 & wants.protocol.0),
+    }
+}

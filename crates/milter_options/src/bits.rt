@@ -1,0 +1,152 @@
+//! The names of the bits of options.
+
+ghost use Rattle.std.specs.Prelude.{◌≡◌, ⊤, option_map};
+ghost use Rattle.milter_options.specs.Bits.{actions_table, bits_named, protocol_table};
+
+use crate::options::{Actions, Protocol};
+use bitflags::{Flag, Flags, bitflag_items};
+
+bitflag_items! {
+    impl Actions: u32 {
+        /// Headers may be added and inserted. Source: mfapi.h (SMFIF_ADDHDRS).
+        const ADDHDRS = 0x01;
+        /// The body may be replaced. Source: mfapi.h (SMFIF_CHGBODY).
+        const CHGBODY = 0x02;
+        /// Recipients may be added. Source: mfapi.h (SMFIF_ADDRCPT).
+        const ADDRCPT = 0x04;
+        /// Recipients may be deleted. Source: mfapi.h (SMFIF_DELRCPT).
+        const DELRCPT = 0x08;
+        /// Headers may be changed and deleted. Source: mfapi.h (SMFIF_CHGHDRS).
+        const CHGHDRS = 0x10;
+        /// The message may be quarantined. Source: mfapi.h (SMFIF_QUARANTINE).
+        const QUARANTINE = 0x20;
+        /// The sender may be changed. Source: mfapi.h (SMFIF_CHGFROM).
+        const CHGFROM = 0x40;
+        /// Recipients may be added with arguments. Source: mfapi.h (SMFIF_ADDRCPT_PAR).
+        const ADDRCPT_PAR = 0x80;
+    }
+}
+
+bitflag_items! {
+    impl Protocol: u32 {
+        /// Connections aren't sent. Source: mfdef.h (SMFIP_NOCONNECT).
+        const NOCONNECT = 0x01;
+        /// Greetings aren't sent. Source: mfdef.h (SMFIP_NOHELO).
+        const NOHELO = 0x02;
+        /// Senders aren't sent. Source: mfdef.h (SMFIP_NOMAIL).
+        const NOMAIL = 0x04;
+        /// Recipients aren't sent. Source: mfdef.h (SMFIP_NORCPT).
+        const NORCPT = 0x08;
+        /// Bodies aren't sent. Source: mfdef.h (SMFIP_NOBODY).
+        const NOBODY = 0x10;
+        /// Headers aren't sent. Source: mfdef.h (SMFIP_NOHDRS).
+        const NOHDRS = 0x20;
+        /// The end of headers isn't sent. Source: mfdef.h (SMFIP_NOEOH).
+        const NOEOH = 0x40;
+        /// Headers aren't answered. Source: mfdef.h (SMFIP_NR_HDR).
+        const NR_HDR = 0x80;
+        /// Unknown commands of the client aren't sent. Source: mfdef.h (SMFIP_NOUNKNOWN).
+        const NOUNKNOWN = 0x100;
+        /// The beginning of data isn't sent. Source: mfdef.h (SMFIP_NODATA).
+        const NODATA = 0x200;
+        /// The filter may skip the rest of a body. Source: mfdef.h (SMFIP_SKIP).
+        const SKIP = 0x400;
+        /// Connections aren't answered. Source: mfdef.h (SMFIP_NR_CONN).
+        const NR_CONN = 0x1000;
+        /// Greetings aren't answered. Source: mfdef.h (SMFIP_NR_HELO).
+        const NR_HELO = 0x2000;
+        /// Senders aren't answered. Source: mfdef.h (SMFIP_NR_MAIL).
+        const NR_MAIL = 0x4000;
+        /// Recipients aren't answered. Source: mfdef.h (SMFIP_NR_RCPT).
+        const NR_RCPT = 0x8000;
+        /// The beginning of data isn't answered. Source: mfdef.h (SMFIP_NR_DATA).
+        const NR_DATA = 0x1_0000;
+        /// Unknown commands of the client aren't answered. Source: mfdef.h (SMFIP_NR_UNKN).
+        const NR_UNKN = 0x2_0000;
+        /// The end of headers isn't answered. Source: mfdef.h (SMFIP_NR_EOH).
+        const NR_EOH = 0x4_0000;
+        /// Pieces of a body aren't answered. Source: mfdef.h (SMFIP_NR_BODY).
+        const NR_BODY = 0x8_0000;
+    }
+}
+
+impl Flags for Actions {
+    type Bits = u32;
+
+    ghost exact = { ⊤ };
+
+    ghost table = { actions_table };
+
+    ghost set_of = { λ actions. actions.0 };
+
+    fn flags<'a>() -> &'a [Flag<Actions>] {
+        Actions::FLAGS
+    }
+
+    fn bits(&self) -> u32 {
+        self.0
+    }
+
+    fn from_bits_retain(bits: u32) -> Actions {
+        Actions(bits)
+    }
+}
+
+impl Flags for Protocol {
+    type Bits = u32;
+
+    ghost exact = { ⊤ };
+
+    ghost table = { protocol_table };
+
+    ghost set_of = { λ protocol. protocol.0 };
+
+    fn flags<'a>() -> &'a [Flag<Protocol>] {
+        Protocol::FLAGS
+    }
+
+    fn bits(&self) -> u32 {
+        self.0
+    }
+
+    fn from_bits_retain(bits: u32) -> Protocol {
+        Protocol(bits)
+    }
+}
+
+impl Actions {
+    /// The actions that a text names: their names joined by `|`, with no blanks, in any order and repeated or not, or
+    /// the word `none`. Names are matched exactly. It is `None` where a name is no action's.
+    pub fn from_names(text: &str) -> Option<Actions>
+        ensures { option_map (λ actions. actions.0) result ≡ bits_named actions_table text.now }
+    {
+        named::<Actions>(text)
+    }
+}
+
+impl Protocol {
+    /// The protocol bits that a text names: their names joined by `|`, with no blanks, in any order and repeated or
+    /// not, or the word `none`. Names are matched exactly. It is `None` where a name is no protocol bit's.
+    pub fn from_names(text: &str) -> Option<Protocol>
+        ensures { option_map (λ protocol. protocol.0) result ≡ bits_named protocol_table text.now }
+    {
+        named::<Protocol>(text)
+    }
+}
+
+/// The set that a text names.
+fn named<F: Flags>(text: &str) -> Option<F>
+    ensures { F.exact → option_map F.set_of result ≡ bits_named F.table text.now }
+{
+    let mut set = F::empty();
+    if text == "none" {
+        return Some(set);
+    }
+    let mut rest = text;
+    while let Some((name, more)) = rest.split_once('|') {
+        set.insert(F::from_name(name)?);
+        rest = more;
+    }
+    set.insert(F::from_name(rest)?);
+    Some(set)
+}

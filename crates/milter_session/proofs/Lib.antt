@@ -1,0 +1,7 @@
+pub mod Paths
+pub mod FirstLine
+pub mod FirstWord
+pub mod LineRuns
+pub mod Macros
+pub mod MessageRuns
+pub mod SessionParts

@@ -1,0 +1,8 @@
+use Rattle.std.proofs.Common.{◌∙◌, ◌++◌, ap}
+use Rattle.milter_session.proofs.LineRuns.{concat_more}
+use Rattle.milter_session.proofs.message_groups.BodyLineGroup.add.Goals as goal
+
+pub returns-clause-found : goal.returns-clause-found
+returns-clause-found c = λ items made.
+    let piece = c.in_ok-piece_in.field-0.now in
+    (piece, c.in_ok-piece_in.ensures.found, c.in_ok-extend_from_slice.ensures.items ∙ ap (λ l. l ++ piece) made ∙ concat_more items piece)

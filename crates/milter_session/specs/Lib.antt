@@ -1,0 +1,9 @@
+pub mod LineValues
+pub mod ClientOrigin
+pub mod SessionFile
+pub mod SessionFault
+pub mod LineCursor
+pub mod MessageLines
+pub mod MacroLists
+pub mod Openings
+pub mod SessionText

@@ -1,0 +1,183 @@
+//! The client in its line of a session file. A fault is the first of these that holds: the words don't have the line's
+//! form, a text holds a NUL, or the packet would be too long.
+
+ghost use Rattle.std.specs.Prelude.{◌≡◌, ◌↔◌, ◌-◌, ◌^◌, min, IfErr, IfOk, IsTrue, List, None, Some, ℕ, if◌then◌else◌};
+ghost use Rattle.std.specs.Prelude.{option_map};
+ghost use Rattle.std.specs.Char.{is_ascii_digit};
+ghost use Rattle.std.specs.List.{list_all};
+ghost use Rattle.milter_wire.specs.declared.command.Command.TheVariants as commands;
+ghost use Rattle.milter_wire.specs.Command.{Fits};
+ghost use Rattle.milter_wire.specs.Layout.{OriginFits};
+ghost use Rattle.milter_session.specs.ClientOrigin.{endpoint_origin, origin_with};
+ghost use Rattle.milter_session.specs.LineValues.{client_of, decimal, is_number, is_port, origin_of};
+ghost use Rattle.milter_session.specs.SessionFault.{IsAt, Reads};
+
+use crate::line_cursor::FileLine;
+use crate::line_values::{is_keyword, text_in};
+use crate::session_fault::SessionFault;
+use milter_text::Word;
+use milter_wire::{Client, NoMemory, Origin, Text, has_no_nul};
+use std::alloc::Global;
+
+/// A family of addresses with ports.
+#[derive(Clone, Copy)]
+pub(crate) enum Family {
+    Unix,
+    Inet,
+    Inet6,
+}
+
+/// The address and the port that a client connects from.
+#[derive(Clone, Copy)]
+pub(crate) struct Endpoint<'a> {
+    pub(crate) family: Family,
+    pub(crate) port: u16,
+    pub(crate) address: &'a Text,
+}
+
+/// The client in the line.
+pub(crate) fn client_in(alloc: Global, line: &FileLine) -> Result<Client, SessionFault>
+    ensures reads { Reads (client_of line.now.words.items) (λ client. Fits (commands.Connect client)) result }
+    ensures at { IfErr result (λ e. IsAt line.now.number e) }
+{
+    let Some((host, endpoint)) = client_parts(line.words.as_slice()) else {
+        return Err(SessionFault::BadClient(line.number));
+    };
+    if !has_no_nul(host) || !endpoint_has_no_nul(endpoint) {
+        return Err(SessionFault::Nul(line.number));
+    }
+    let host = Text::copy_of(alloc, host.as_slice())?;
+    let origin = copy_origin(alloc, endpoint)?;
+    sized_client(Client { host, origin }, line.number)
+}
+
+/// The host and the endpoint in the words of a client's line; an unknown client has no endpoint.
+fn client_parts(words: &[Word]) -> Option<(&Text, Option<Endpoint<'_>>)>
+    ensures { option_map (λ x. record { host = x.0.now; origin = endpoint_origin x.1 }) result ≡ client_of words.now }
+{
+    match words {
+        [first, family, host] => {
+            if !is_keyword(b"client", first) || !is_keyword(b"U", family) {
+                return None;
+            }
+            Some((text_in(host)?, None))
+        }
+        [first, family, host, port, address] => {
+            if !is_keyword(b"client", first) {
+                return None;
+            }
+            let host = text_in(host)?;
+            let port = port_in(port)?;
+            let address = text_in(address)?;
+            let family = family_in(family)?;
+            Some((
+                host,
+                Some(Endpoint {
+                    family,
+                    port,
+                    address,
+                }),
+            ))
+        }
+        _ => None,
+    }
+}
+
+/// The family that has addresses, by its word.
+fn family_in(word: &Word) -> Option<Family>
+    ensures { (port : ℕ) (address : List ℕ) →
+        option_map (λ family. origin_with family port address) result ≡ origin_of word.now port address }
+{
+    if is_keyword(b"L", word) {
+        Some(Family::Unix)
+    } else if is_keyword(b"4", word) {
+        Some(Family::Inet)
+    } else if is_keyword(b"6", word) {
+        Some(Family::Inet6)
+    } else {
+        None
+    }
+}
+
+/// The port that the word is.
+fn port_in(word: &Word) -> Option<u16>
+    ensures { result ≡ (if is_port word.now then Some (decimal word.now.text) else None) }
+{
+    if !is_number(word) {
+        return None;
+    }
+    u16::try_from(decimal(word.text.as_slice())).ok()
+}
+
+/// Whether the word is a number: one to ten digits.
+fn is_number(word: &Word) -> bool
+    ensures { result ≡ is_number word.now }
+{
+    let digits = word.text.as_slice();
+    if word.quoted || digits.is_empty() || digits.len() > 10 {
+        return false;
+    }
+    are_digits(digits)
+}
+
+/// Whether each of the bytes is a digit.
+fn are_digits(bytes: &[u8]) -> bool
+    ensures { result ≡ list_all is_ascii_digit bytes.now }
+{
+    bytes.iter().all(|byte| byte.is_ascii_digit())
+}
+
+/// The number that the digits are, or the greatest `u64`.
+fn decimal(digits: &[u8]) -> u64
+    ensures { result ≡ min (decimal digits.now) (2 ^ 64 - 1) }
+{
+    let mut number: u64 = 0;
+    for digit in digits {
+        let value = u64::from(digit.saturating_sub(b'0'));
+        number = number.saturating_mul(10).saturating_add(value);
+    }
+    number
+}
+
+/// Whether there is no endpoint, or one whose address has no NUL.
+fn endpoint_has_no_nul(endpoint: Option<Endpoint<'_>>) -> bool
+    ensures { IsTrue result ↔ OriginFits (endpoint_origin endpoint.entry) }
+{
+    match endpoint {
+        None => true,
+        Some(endpoint) => has_no_nul(endpoint.address),
+    }
+}
+
+/// The origin of a client with this endpoint.
+fn copy_origin(alloc: Global, endpoint: Option<Endpoint<'_>>) -> Result<Origin, NoMemory>
+    ensures { IfOk result (λ origin. origin ≡ endpoint_origin endpoint.entry) }
+{
+    let Some(
+        Endpoint {
+            family,
+            port,
+            address,
+        },
+    ) = endpoint
+    else {
+        return Ok(Origin::Unknown);
+    };
+    let address = Text::copy_of(alloc, address.as_slice())?;
+    Ok(match family {
+        Family::Unix => Origin::Unix { port, address },
+        Family::Inet => Origin::Inet { port, address },
+        Family::Inet6 => Origin::Inet6 { port, address },
+    })
+}
+
+/// The client, unless its packet would be too long.
+fn sized_client(client: Client, number: u64) -> Result<Client, SessionFault>
+    ensures reads { Reads (Some client) (λ client. Fits (commands.Connect client)) result }
+    ensures at { IfErr result (λ e. IsAt number e) }
+{
+    match client.packet_len() {
+        Some(_) => Ok(client),
+        None => Err(SessionFault::TooLarge(number)),
+    }
+}

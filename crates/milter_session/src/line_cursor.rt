@@ -1,0 +1,205 @@
+//! A cursor over the lines of a session file: one line at a time becomes words.
+
+ghost use Rattle.std.specs.Prelude.{◌≡◌, ◌≢◌, ◌↔◌, ◌==◌, ◌<◌, ◌≤◌, ◌+◌, ◌∷◌, [], not, IfErr, IfOk, IfSome, IsTrue};
+ghost use Rattle.std.specs.Prelude.{List, false, true, ℕ, length, position};
+ghost use Rattle.std.specs.Option.{MatchOption};
+ghost use Rattle.milter_text.specs.declared.word.Word.{Word};
+ghost use Rattle.milter_text.specs.Lines.{contents, lines_of};
+ghost use Rattle.milter_text.specs.Unquoting.{past_blanks};
+ghost use Rattle.milter_text.specs.Words.{HasWords, IsAfterWord};
+ghost use Rattle.milter_session.specs.declared.session_fault.SessionFault.TheVariants as faults;
+ghost use Rattle.milter_session.specs.LineCursor.{HasNoNext, IsNextLine, NextHasWords, all_contents, is_plain_word};
+ghost use Rattle.milter_session.specs.LineValues.{begins};
+ghost use Rattle.milter_session.specs.SessionFault.{IsAt, IsWithin};
+
+use crate::session_fault::SessionFault;
+use milter_text::{Word, WordFault, is_skipped, line_content, words};
+use std::alloc::Global;
+use std::marker::Model;
+
+/// A line that isn't skipped. Lines are numbered from 1, the skipped ones too.
+#[derive(Drop)]
+pub(crate) struct FileLine {
+    pub(crate) number: u64,
+    pub(crate) words: Vec<Word>,
+}
+
+/// The lines of a file that aren't skipped, from the one at the cursor on. Skipped are blank lines, and lines that
+/// begin with a `#` after any number of blanks. A line ends before its LF, and one CR before that doesn't count; the
+/// last line may have no LF.
+#[derive(Drop)]
+pub(crate) struct LineCursor<'a> {
+    /// The content of the line at the cursor; none at the end of the file.
+    line: Option<&'a [u8]>,
+    /// The number of lines before the one at the cursor, or before the end of the file.
+    before: u64,
+    /// The bytes after the line at the cursor.
+    rest: &'a [u8],
+}
+
+impl<'a> Model for LineCursor<'a> {
+    ghost use Rattle.std.specs.Prelude.{option_map};
+    ghost use Rattle.milter_session.specs.LineCursor.{LinesAhead, lines_ahead};
+
+    ghost Value = { LinesAhead };
+
+    ghost view = { λ cursor. lines_ahead (option_map (λ line. line.now) cursor.line) cursor.before cursor.rest.now };
+}
+
+impl<'a> LineCursor<'a> {
+    /// A cursor at the first line of these bytes.
+    pub(crate) fn new(bytes: &'a [u8]) -> Self
+        ensures lines { result.lines ≡ contents bytes.now }
+        ensures end { result.end ≤ length (lines_of bytes.now) + 1 }
+    {
+        first_unskipped(bytes, 0)
+    }
+
+    /// The number of the line at the cursor; at the end of the file that of the line after the last one.
+    pub(crate) fn number(&self) -> u64
+        ensures from { 1 ≤ result }
+        ensures to { result ≤ self.now.end }
+    {
+        self.before.saturating_add(1)
+    }
+
+    /// Whether no line is left.
+    pub(crate) fn is_at_end(&self) -> bool
+        ensures some { result ≡ false → self.now.lines ≢ [] }
+        ensures none { result ≡ true → self.now.lines ≡ [] }
+    {
+        self.line.is_none()
+    }
+
+    /// The words of the line at the cursor, which moves behind it; none at the end of the file. The fault is
+    /// `UnknownLine` where the line is not in words, and then the cursor stays.
+    pub(crate) fn next(&mut self, alloc: Global) -> Result<Option<FileLine>, SessionFault>
+        ensures found { IfOk result (λ found. MatchOption found (self.old.lines ≡ [])
+            (λ line. IsNextLine self.old line.number line.words.items self.new)) }
+        ensures only { NextHasWords self.old.lines → IfErr result (λ e. e ≡ faults.NoMemory) }
+        ensures end { self.new.end ≤ self.old.end }
+        ensures within { IfErr result (IsWithin self.old.end) }
+    {
+        let Some(line) = self.line else {
+            return Ok(None);
+        };
+        let number = self.before.saturating_add(1);
+        let words = words_in(alloc, line, number)?;
+        *self = first_unskipped(self.rest, number);
+        Ok(Some(FileLine { number, words }))
+    }
+
+    /// As [`next`](LineCursor::next), where the first word of the line is this keyword; none where it is another, and
+    /// then the cursor stays.
+    pub(crate) fn next_if(
+        &mut self,
+        alloc: Global,
+        keyword: &[u8],
+    ) -> Result<Option<FileLine>, SessionFault>
+        requires { is_plain_word keyword.now ≡ true }
+        ensures found { IfOk result (λ found. MatchOption found
+            (HasNoNext keyword.now self.old.lines × (self.new ≡ self.old))
+            (λ line. IsNextLine self.old line.number line.words.items self.new
+            × (begins keyword.now line.words.items ≡ true))) }
+        ensures only { NextHasWords self.old.lines → IfErr result (λ e. e ≡ faults.NoMemory) }
+        ensures end { self.new.end ≤ self.old.end }
+        ensures within { IfErr result (IsWithin self.old.end) }
+    {
+        match self.line {
+            Some(line) if begins(keyword, line) => self.next(alloc),
+            _ => Ok(None),
+        }
+    }
+}
+
+/// A cursor at the first line of these bytes that isn't skipped, where there are as many lines before the bytes.
+fn first_unskipped(bytes: &[u8], before: u64) -> LineCursor<'_>
+    ensures lines { result.lines ≡ contents bytes.now }
+    ensures end { result.end ≤ before + length (lines_of bytes.now) + 1 }
+{
+    let mut rest = bytes;
+    let mut skipped = before;
+    while let Some((line, after)) = first_line(rest) {
+        if !is_skipped(line) {
+            return LineCursor {
+                line: Some(line),
+                before: skipped,
+                rest: after,
+            };
+        }
+        rest = after;
+        skipped = skipped.saturating_add(1);
+    }
+    LineCursor {
+        line: None,
+        before: skipped,
+        rest,
+    }
+}
+
+/// The content of the first line, and the bytes after the line; none where there are no bytes.
+fn first_line(bytes: &[u8]) -> Option<(&[u8], &[u8])>
+    ensures line { MatchOption result (bytes.now ≡ []) (λ x. all_contents bytes.now ≡ x.0.now ∷ all_contents x.1.now) }
+    ensures shorter { IfSome result (λ x. length x.1.now < length bytes.now) }
+{
+    if let Some(end) = first_end(bytes) {
+        return Some((line_content(&bytes[..end], true), &bytes[end + 1..]));
+    }
+    if bytes.is_empty() {
+        return None;
+    }
+    Some((bytes, &[]))
+}
+
+/// The index of the first LF.
+fn first_end(bytes: &[u8]) -> Option<usize>
+    ensures { result ≡ position (λ byte. byte == 10) bytes.now }
+{
+    bytes.iter().position(|byte| *byte == b'\n')
+}
+
+/// The words of the line with this number.
+fn words_in(alloc: Global, line: &[u8], number: u64) -> Result<Vec<Word>, SessionFault>
+    ensures found { IfOk result (λ words. HasWords line.now words.items) }
+    ensures only { (words : List Word) → HasWords line.now words → IfErr result (λ e. e ≡ faults.NoMemory) }
+    ensures at { IfErr result (λ e. IsAt number e) }
+{
+    match words(alloc, line) {
+        Ok(words) => Ok(words),
+        Err(WordFault::BadWord) => Err(SessionFault::UnknownLine(number)),
+        Err(WordFault::NoMemory) => Err(SessionFault::NoMemory),
+    }
+}
+
+/// Whether the first word of the line is the keyword.
+fn begins(keyword: &[u8], line: &[u8]) -> bool
+    requires { is_plain_word keyword.now ≡ true }
+    ensures { (words : List Word) → HasWords line.now words → result ≡ begins keyword.now words }
+{
+    match after_blanks(line).strip_prefix(keyword) {
+        Some(rest) => ends_word(rest),
+        None => false,
+    }
+}
+
+/// The bytes after the blanks that these begin with.
+fn after_blanks(bytes: &[u8]) -> &[u8]
+    ensures { result.now ≡ past_blanks bytes.now }
+{
+    let start = first_non_blank(bytes).unwrap_or(bytes.len());
+    &bytes[start..]
+}
+
+/// The index of the first byte that is no blank.
+fn first_non_blank(bytes: &[u8]) -> Option<usize>
+    ensures { result ≡ position (λ byte. not (byte == 32)) bytes.now }
+{
+    bytes.iter().position(|byte| *byte != b' ')
+}
+
+/// Whether a word may end before these bytes.
+fn ends_word(bytes: &[u8]) -> bool
+    ensures { IsTrue result ↔ IsAfterWord bytes.now }
+{
+    matches!(bytes, [] | [b' ', ..])
+}

@@ -1,0 +1,237 @@
+//! The macros of a session file.
+
+ghost use Rattle.std.specs.Prelude.{◌≡◌, ◌-◌, ◌^◌, ◌++◌, ◌∷◌, [], codes, IfErr, OnOk, ℕ, length, min, option_map};
+ghost use Rattle.milter_wire.specs.declared.command.Command.TheVariants as commands;
+ghost use Rattle.milter_wire.specs.Command.{Fits};
+ghost use Rattle.milter_wire.specs.Layout.{PairFits, pair};
+ghost use Rattle.milter_mail.specs.MailSession.{MacrosFit};
+ghost use Rattle.milter_session.specs.declared.session_fault.SessionFault.TheVariants as faults;
+ghost use Rattle.milter_session.specs.LineValues.{macro_of, macro_with, stage_of};
+ghost use Rattle.milter_session.specs.MacroLists.{macros_of, with_macro};
+ghost use Rattle.milter_session.specs.SessionFault.{IsAt, Reads};
+ghost use Rattle.milter_session.specs.SessionFile.{macros_of_lines};
+ghost use Rattle.milter_session.specs.Openings.{macro_begins};
+
+use crate::line_cursor::FileLine;
+use crate::line_group::LineGroup;
+use crate::line_values::{is_keyword, text_in};
+use crate::session_fault::SessionFault;
+use milter_mail::Macros;
+use milter_text::Word;
+use milter_wire::{PAYLOAD_MAX, Pair, Pairs, Text, has_no_nul, pair_len};
+use std::alloc::Global;
+use std::marker::Model;
+
+/// A stage that has macros. Source: mfapi.h (`SMFIM_CONNECT` and the others).
+#[derive(Clone, Copy)]
+pub(crate) enum MacroStage {
+    Connect,
+    Helo,
+    Mail,
+    Rcpt,
+    DataCmd,
+    Eom,
+    Eoh,
+}
+
+/// A macro, and the stage that has it.
+#[derive(Drop)]
+pub(crate) struct MacroLine {
+    pub(crate) stage: MacroStage,
+    pub(crate) pair: Pair,
+}
+
+/// Macros that fit one packet, and the bytes of its payload: the command's code and the strings.
+#[derive(Drop)]
+pub(crate) struct StageMacros {
+    pairs: Vec<Pair>,
+    len: usize,
+}
+
+impl Model for StageMacros {
+    ghost use Rattle.std.specs.Prelude.{◌≡◌, ◌+◌, ◌≤◌, All, List, length};
+    ghost use Rattle.std.specs.List.{flat_map};
+    ghost use Rattle.milter_wire.specs.declared.pair.Pair.{Pair};
+    ghost use Rattle.milter_wire.specs.Layout.{PairFits, pair};
+
+    ghost Value = { List Pair };
+
+    ghost view = { λ m. m.pairs.items };
+
+    ghost invariant = { λ m. All PairFits m.pairs.items × (m.len ≡ length (flat_map pair m.pairs.items) + 1)
+        × m.len ≤ 65535 };
+}
+
+impl StageMacros {
+    /// No macros.
+    pub(crate) fn new(alloc: Global) -> Self
+        ensures { result ≡ [] }
+    {
+        StageMacros {
+            pairs: Vec::new(alloc),
+            len: 1,
+        }
+    }
+
+    /// Adds a macro, which is in the line with this number; the fault is `TooLarge` where the packet would be too long.
+    pub(crate) fn push(&mut self, pair: Pair, line: u64) -> Result<(), SessionFault>
+        requires { PairFits pair }
+        ensures ok { OnOk result (self.new ≡ self.old ++ pair ∷ []) }
+        ensures err { (command : ℕ) → Fits (commands.Macro command (self.old ++ pair ∷ [])) →
+            IfErr result (λ e. e ≡ faults.NoMemory) }
+        ensures at { IfErr result (λ e. IsAt line e) }
+    {
+        let len = self.len.saturating_add(pair_len(&pair));
+        if len > PAYLOAD_MAX {
+            drop(pair);
+            return Err(SessionFault::TooLarge(line));
+        }
+        self.pairs.push(pair)?;
+        self.len = len;
+        Ok(())
+    }
+
+    /// The macros as a list.
+    pub(crate) fn into_pairs(self) -> Pairs
+        ensures pairs { result ≡ self }
+        ensures fit { (command : ℕ) → Fits (commands.Macro command result) }
+    {
+        Pairs::new(self.pairs)
+    }
+}
+
+/// The macros of each stage that were read so far.
+#[derive(Drop)]
+pub(crate) struct MacroLists {
+    connect: StageMacros,
+    helo: StageMacros,
+    mail: StageMacros,
+    rcpt: StageMacros,
+    data_cmd: StageMacros,
+    eom: StageMacros,
+    eoh: StageMacros,
+}
+
+impl MacroLists {
+    /// Adds a macro of a stage, which is in the line with this number.
+    fn push(&mut self, stage: MacroStage, pair: Pair, line: u64) -> Result<(), SessionFault>
+        requires { PairFits pair }
+        ensures ok { OnOk result (macros_of self.new ≡ with_macro stage pair (macros_of self.old)) }
+        ensures err { MacrosFit (with_macro stage pair (macros_of self.old)) → IfErr result (λ e. e ≡ faults.NoMemory) }
+        ensures at { IfErr result (λ e. IsAt line e) }
+    {
+        match stage {
+            MacroStage::Connect => self.connect.push(pair, line),
+            MacroStage::Helo => self.helo.push(pair, line),
+            MacroStage::Mail => self.mail.push(pair, line),
+            MacroStage::Rcpt => self.rcpt.push(pair, line),
+            MacroStage::DataCmd => self.data_cmd.push(pair, line),
+            MacroStage::Eom => self.eom.push(pair, line),
+            MacroStage::Eoh => self.eoh.push(pair, line),
+        }
+    }
+
+    /// The macros, each stage's as a list.
+    pub(crate) fn into_macros(self) -> Macros
+        ensures macros { result ≡ macros_of self }
+        ensures fit { MacrosFit result }
+    {
+        Macros {
+            connect: self.connect.into_pairs(),
+            helo: self.helo.into_pairs(),
+            mail: self.mail.into_pairs(),
+            rcpt: self.rcpt.into_pairs(),
+            data_cmd: self.data_cmd.into_pairs(),
+            eom: self.eom.into_pairs(),
+            eoh: self.eoh.into_pairs(),
+        }
+    }
+}
+
+impl LineGroup for MacroLists {
+    type Item = MacroLine;
+
+    ghost text = { codes "macro" };
+
+    ghost value_of = { macro_of };
+
+    ghost IsMadeOf = { λ lists lines. macros_of lists ≡ macros_of_lines lines };
+
+    ghost CanBe = { λ lines. MacrosFit (macros_of_lines lines) };
+
+    fn keyword() -> &'static [u8] {
+        b"macro"
+    }
+
+    fn empty(alloc: Global) -> Self {
+        MacroLists {
+            connect: StageMacros::new(alloc),
+            helo: StageMacros::new(alloc),
+            mail: StageMacros::new(alloc),
+            rcpt: StageMacros::new(alloc),
+            data_cmd: StageMacros::new(alloc),
+            eom: StageMacros::new(alloc),
+            eoh: StageMacros::new(alloc),
+        }
+    }
+
+    fn add(&mut self, alloc: Global, line: &FileLine) -> Result<(), SessionFault> {
+        let MacroLine { stage, pair } = macro_in(alloc, line)?;
+        self.push(stage, pair, line.number)
+    }
+
+    ghost opens = { macro_begins };
+}
+
+/// The macro in the line.
+fn macro_in(alloc: Global, line: &FileLine) -> Result<MacroLine, SessionFault>
+    ensures reads { Reads (macro_of line.now.words.items) (λ x. PairFits x.pair) result }
+    ensures at { IfErr result (λ e. IsAt line.now.number e) }
+{
+    let Some((stage, name, value)) = macro_parts(line.words.as_slice()) else {
+        return Err(SessionFault::UnknownLine(line.number));
+    };
+    if !has_no_nul(name) || !has_no_nul(value) {
+        return Err(SessionFault::Nul(line.number));
+    }
+    let name = Text::copy_of(alloc, name.as_slice())?;
+    let value = Text::copy_of(alloc, value.as_slice())?;
+    let pair = Pair { name, value };
+    Ok(MacroLine { stage, pair })
+}
+
+/// The stage, the name and the value in the words of a macro's line.
+fn macro_parts(words: &[Word]) -> Option<(MacroStage, &Text, &Text)>
+    ensures { option_map (λ x. macro_with x.1.now x.2.now x.0) result ≡ macro_of words.now }
+{
+    let [first, stage, name, value] = words else {
+        return None;
+    };
+    if !is_keyword(b"macro", first) {
+        return None;
+    }
+    Some((stage_in(stage)?, text_in(name)?, text_in(value)?))
+}
+
+/// The stage that has macros, by its word.
+fn stage_in(word: &Word) -> Option<MacroStage>
+    ensures { result ≡ stage_of word.now }
+{
+    if is_keyword(b"connect", word) {
+        Some(MacroStage::Connect)
+    } else if is_keyword(b"helo", word) {
+        Some(MacroStage::Helo)
+    } else if is_keyword(b"mail", word) {
+        Some(MacroStage::Mail)
+    } else if is_keyword(b"rcpt", word) {
+        Some(MacroStage::Rcpt)
+    } else if is_keyword(b"data", word) {
+        Some(MacroStage::DataCmd)
+    } else if is_keyword(b"eom", word) {
+        Some(MacroStage::Eom)
+    } else if is_keyword(b"eoh", word) {
+        Some(MacroStage::Eoh)
+    } else {
+        None
+    }
+}

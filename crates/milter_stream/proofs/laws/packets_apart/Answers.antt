@@ -1,0 +1,8 @@
+use Rattle.milter_stream.proofs.PacketLaws.{packet-same, packet-whole}
+use Rattle.milter_stream.proofs.laws.packets_apart.Goals as goal
+
+pub returns-clause-same : goal.returns-clause-same
+returns-clause-same c = packet-same
+
+pub returns-clause-whole : goal.returns-clause-whole
+returns-clause-whole c = packet-whole

@@ -1,0 +1,86 @@
+//! The first packet of a stream, as far as it has come.
+
+ghost use Rattle.std.specs.Prelude.{◌≡◌, ◌≢◌, ◌<◌, ◌≤◌, ◌-◌, ◌++◌, ◌↔◌, Ok, None, Some, length, min, take, IfOk, IfSome, OnErr, IsErrOf};
+ghost use Rattle.milter_stream.specs.Packet.{packet, IsPayload};
+ghost use Rattle.milter_stream.specs.Stream.{IsUnfinished, fault_of, length_fault};
+ghost use Rattle.milter_stream.specs.FirstPacket.{IsAtMostOnePacket, first_packet_end};
+
+use crate::fault::{NoMemory, WireFault};
+use crate::number::{LENGTH_MAX, number_from_bytes};
+
+/// The fault of a length that no packet has.
+fn fault_of(stated: u32) -> Option<WireFault>
+    ensures { result ≡ fault_of stated }
+{
+    if stated == 0 {
+        Some(WireFault::ZeroLength)
+    } else if LENGTH_MAX < stated {
+        Some(WireFault::TooLong(stated))
+    } else {
+        None
+    }
+}
+
+/// The fault of the length field that the bytes begin with, if it is whole and has one.
+pub(crate) fn length_fault(bytes: &[u8]) -> Option<WireFault>
+    ensures { result ≡ length_fault bytes.now }
+{
+    match bytes {
+        [a, b, c, d, ..] => fault_of(number_from_bytes(*a, *b, *c, *d)),
+        _ => None,
+    }
+}
+
+/// The index after the first packet, or after the length field that no packet has; 4 while the length field is
+/// incomplete.
+#[tactic(auto, unfolding(crate::specs::FirstPacket::first_packet_end))]
+fn first_packet_end(bytes: &[u8]) -> usize
+    ensures { result ≡ first_packet_end bytes.now }
+{
+    match bytes {
+        [a, b, c, d, ..] => {
+            let stated = number_from_bytes(*a, *b, *c, *d);
+            if fault_of(stated).is_some() {
+                4
+            } else {
+                stated as usize + 4
+            }
+        }
+        _ => 4,
+    }
+}
+
+/// Appends bytes of a piece, up to the end of the first packet as far as it is known before. Two such steps append all
+/// that belongs to it: the first one completes its length field.
+pub(crate) fn fill(first: &mut Vec<u8>, piece: &[u8]) -> Result<usize, NoMemory>
+    requires { IsAtMostOnePacket first.old.items }
+    ensures count { IfOk result (λ n.
+        n ≡ min (first_packet_end first.old.items - length first.old.items) (length piece.now)) }
+    ensures ok { IfOk result (λ n. first.new.items ≡ first.old.items ++ take n piece.now) }
+    ensures err { OnErr result (first.new.items ≡ first.old.items) }
+{
+    let missing = first_packet_end(first.as_slice()) - first.len();
+    let count = missing.min(piece.len());
+    first.extend_from_slice(&piece[..count])?;
+    Ok(count)
+}
+
+/// The code and the payload of the first packet, where it is whole.
+pub(crate) fn whole_packet(bytes: &[u8]) -> Result<Option<(u8, &[u8])>, WireFault>
+    requires { IsAtMostOnePacket bytes.now }
+    ensures found { IfOk result (λ found. IfSome found (λ p. (bytes.now ≡ packet p.0 p.1.now) × IsPayload p.1.now)) }
+    ensures none { (result ≡ Ok None) ↔ IsUnfinished bytes.now }
+    ensures fault { (f : WireFault) → IsErrOf result f ↔ (length_fault bytes.now ≡ Some f) }
+{
+    let [a, b, c, d, body @ ..] = bytes else {
+        return Ok(None);
+    };
+    let stated = number_from_bytes(*a, *b, *c, *d);
+    if let Some(fault) = fault_of(stated) {
+        return Err(fault);
+    }
+    if body.len() < stated as usize {
+        return Ok(None);
+    }
+    Ok(Some((body[0], &body[1..])))
+}

@@ -1,0 +1,5 @@
+pub mod QuotedBytes
+pub mod WordBounds
+pub mod WordLaws
+pub mod RoundTrip
+pub mod Writing

@@ -1,0 +1,22 @@
+use Rattle.std.proofs.Common.{◌≡◌, refl, ◌++◌, [], List, ℕ, ◌∷◌}
+use Rattle.std.specs.List.{flat_map}
+use Rattle.milter_text.specs.Quoting.{quoted, quoted_byte}
+use Rattle.milter_text.proofs.Writing.{Progress-fail, Progress-last, Progress-next, Progress-none}
+use Rattle.milter_text.proofs.text_writer.TextWriter.put_quoted.Goals as goal
+
+pub returns-in_err-put-clause-puts : goal.returns-in_err-put-clause-puts
+unfolding quoted
+returns-in_err-put-clause-puts g c = Progress-fail _ _ _ (34 ∷ []) (flat_map quoted_byte c.args.text.now ++ 34 ∷ []) Progress-none c.in_err-put.ensures.puts c.from_residual.ensures.0 refl
+
+pub returns-in_err-put_escaped-clause-puts : goal.returns-in_err-put_escaped-clause-puts
+unfolding quoted
+returns-in_err-put_escaped-clause-puts g c =
+    let opened = Progress-next (34 ∷ []) (flat_map quoted_byte c.args.text.now ++ 34 ∷ []) Progress-none c.in_ok-put.ensures.puts refl in
+    Progress-fail _ _ _ _ (34 ∷ []) opened c.in_err-put_escaped.ensures.puts c.from_residual-in_err-put_escaped.ensures.0 refl
+
+pub returns-clause-puts : goal.returns-clause-puts
+unfolding quoted
+returns-clause-puts g c =
+    let opened = Progress-next (34 ∷ []) (flat_map quoted_byte c.args.text.now ++ 34 ∷ []) Progress-none c.in_ok-put.ensures.puts refl in
+    let escaped = Progress-next _ (34 ∷ []) opened c.in_ok-put_escaped.ensures.puts refl in
+    Progress-last _ _ (34 ∷ []) escaped c.put-2.ensures.puts refl

@@ -1,0 +1,23 @@
+//! Texts as files have them: the lines of a text, the words of a line, and texts in quotes.
+//!
+//! Session files, rule files and traces are lines. A line of the first two is words: a word is plain or stands in
+//! quotes, and in quotes it may have any byte. [`words`] reads the words of a line, and [`quote`] writes a text so that
+//! it is read back as it was.
+#![tactic(auto)]
+
+mod escapes;
+mod laws;
+mod line_words;
+mod lines;
+mod quoting;
+mod text_fault;
+mod text_writer;
+mod word;
+
+pub use laws::{lines_of_words, quoted_texts};
+pub use line_words::words;
+pub use lines::{is_skipped, line_content};
+pub use quoting::{put_escaped, quote};
+pub use text_fault::TextFault;
+pub use text_writer::{TextWriter, write_text};
+pub use word::{Word, WordFault};

@@ -1,0 +1,64 @@
+//! Texts in quotes.
+
+ghost use Rattle.std.specs.Prelude.{◌≡◌, ◌<◌, ◌++◌, OnOk, OnErr};
+ghost use Rattle.std.specs.List.{flat_map};
+ghost use Rattle.milter_stream.specs.Appending.{Extends};
+ghost use Rattle.milter_text.specs.Quoting.{quoted, quoted_byte};
+
+use milter_stream::hex_digit;
+use milter_wire::NoMemory;
+use std::alloc::Global;
+
+/// Appends the text in quotes, in its canonical form: a visible ASCII character and the blank as itself, but
+/// `\"`, `\\`, `\n`, `\r` and `\t` for the quote, the backslash, LF, CR and TAB, and `\xhh` with lower-case digits for
+/// any other byte. That takes at most four bytes for each one, and two more. After `NoMemory`, `out` is as it was.
+pub fn quote(_alloc: Global, text: &[u8], out: &mut Vec<u8>) -> Result<(), NoMemory>
+    ensures ok { OnOk result (out.new.items ≡ out.old.items ++ quoted text.now) }
+    ensures err { OnErr result (out.new.items ≡ out.old.items) }
+{
+    let start = out.len();
+    let written = put_quoted(out, text);
+    if written.is_err() {
+        out.truncate(start);
+    }
+    written
+}
+
+#[tactic(auto, unfolding(crate::specs::Quoting::quoted))]
+fn put_quoted(out: &mut Vec<u8>, text: &[u8]) -> Result<(), NoMemory>
+    ensures ok { OnOk result (out.new.items ≡ out.old.items ++ quoted text.now) }
+    ensures extends { Extends out.old.items out.new.items }
+{
+    out.push(b'"')?;
+    put_escaped(out, text)?;
+    out.push(b'"')?;
+    Ok(())
+}
+
+/// Appends the bytes as they are written between quotes. After `NoMemory` a prefix of that may have been appended.
+pub fn put_escaped(out: &mut Vec<u8>, bytes: &[u8]) -> Result<(), NoMemory>
+    ensures ok { OnOk result (out.new.items ≡ out.old.items ++ flat_map quoted_byte bytes.now) }
+    ensures extends { Extends out.old.items out.new.items }
+{
+    for byte in bytes {
+        put_byte(out, *byte)?;
+    }
+    Ok(())
+}
+
+/// Appends a byte as it is written between quotes.
+fn put_byte(out: &mut Vec<u8>, byte: u8) -> Result<(), NoMemory>
+    ensures ok { OnOk result (out.new.items ≡ out.old.items ++ quoted_byte byte) }
+    ensures err { OnErr result (out.new.items ≡ out.old.items) }
+{
+    match byte {
+        b'"' => out.extend_from_slice(b"\\\"")?,
+        b'\\' => out.extend_from_slice(b"\\\\")?,
+        b'\n' => out.extend_from_slice(b"\\n")?,
+        b'\r' => out.extend_from_slice(b"\\r")?,
+        b'\t' => out.extend_from_slice(b"\\t")?,
+        b' '..=b'~' => out.push(byte)?,
+        _ => out.extend_from_slice(&[b'\\', b'x', hex_digit(byte / 16), hex_digit(byte % 16)])?,
+    }
+    Ok(())
+}

@@ -1,0 +1,127 @@
+#!/usr/bin/env python3
+"""Plays the rows of the tables cases/*.table on milter_tool as both compilers build it.
+
+cases/README.md has the format of the tables. The programs are those that `rt ci` leaves, or the one that the first
+argument names. The last line is 'N passed, M failed'; the status is 1 where a row failed or a table can't be read.
+"""
+import os
+import re
+import subprocess
+import sys
+import tempfile
+
+TOP = os.path.dirname(os.path.dirname(os.path.abspath(__file__)))
+BUILT = os.path.join(TOP, 'crates', 'milter_tool', 'out', 'milter_tool')
+TABLES = [
+    'trace_commands', 'trace_replies', 'trace_streams', 'session_faults', 'session_sizes', 'session_values']
+SPECIAL = re.compile(rb'\{([0-9a-f]{2}|[^{}]\*[0-9]+|code)\}')
+NO_LF = b'{no LF}'
+
+
+def byte_of(code):
+    """The byte of a code as it is printed."""
+    return int(code[2:], 16) if len(code) == 4 else ord(code)
+
+
+def name_of(byte):
+    """A code as it is printed."""
+    return chr(byte) if 0x21 <= byte <= 0x7e else '\\x%02x' % byte
+
+
+def codes_of(text):
+    """The codes of a `*` line: codes and ranges of them, with blanks between."""
+    for word in text.decode().split():
+        first, _, last = word.partition('..')
+        for byte in range(byte_of(first), byte_of(last or first) + 1):
+            yield byte
+
+
+def expanded(text, code, printed):
+    """The text with its `{..}` written out; `{code}` is the code's name where the text is printed, else its byte."""
+
+    def special(found):
+        what = found[1]
+        if what == b'code':
+            return name_of(code).encode() if printed else bytes([code])
+        return what[:1] * int(what[2:]) if what[1:2] == b'*' else bytes([int(what, 16)])
+
+    return SPECIAL.sub(special, text)
+
+
+def ended(text, code, printed):
+    """A line of the input or of the output."""
+    no_lf = text.endswith(NO_LF)
+    return expanded(text.removesuffix(NO_LF), code, printed) + (b'' if no_lf else b'\n')
+
+
+def packet_line(mark, text, code):
+    """A line of a trace with one packet: a code, and after a blank its payload."""
+    packet = expanded(text, code, False)
+    packet = packet[:1] + packet[2:]
+    return b'%s %08x%s\n' % (mark, len(packet), packet.hex().encode())
+
+
+def play(command, lines, code, program, folder):
+    """Plays the row of these lines once, and answers what was wrong, or None."""
+    given, out, err = b'', b'', b''
+    for mark, text in lines:
+        if mark in b'|^':
+            given += ended(text, code, False)
+        elif mark in b'<>':
+            given += packet_line(mark, text, code)
+        elif mark == b'=':
+            out += ended(text, code, True)
+        elif mark == b'!':
+            err += ended(text, code, True)
+    path = os.path.join(folder, 'input')
+    with open(path, 'wb') as file:
+        file.write(given)
+    words = [program, command] + ([path] if command == 'session' else [])
+    with open(path, 'rb') as file:
+        ran = subprocess.run(words, stdin=file, capture_output=True, check=False)
+    if (ran.returncode, ran.stdout, ran.stderr) == (1 if err else 0, out, err):
+        return None
+    return 'status %d, printed %r and %r' % (ran.returncode, ran.stdout[:200], ran.stderr[:200])
+
+
+def rows_of(path):
+    """The rows of a table: of each its line, its lines as marks and texts, and its codes."""
+    beginning, row, start = [], [], 0
+    with open(path, 'rb') as file:
+        lines = file.read().split(b'\n')
+    for number, line in enumerate(lines + [b''], 1):
+        mark, text = line[:1], line[2:]
+        if line and (mark not in b'|^<>=!*#' or line[1:2] not in (b'', b' ')):
+            sys.exit('%s:%d: no line of a table' % (path, number))
+        if line and mark != b'#':
+            start = start or number
+            row.append((mark, text))
+        elif not line and row:
+            if all(mark == b'^' for mark, _ in row):
+                beginning = [part for part in row if part[1]]
+            else:
+                codes = [code for mark, text in row if mark == b'*' for code in codes_of(text)]
+                yield start, beginning + row, codes or [None]
+            row, start = [], 0
+
+
+def main():
+    programs = sys.argv[1:] or [BUILT, BUILT + '.by-rattle']
+    passed = failed = 0
+    with tempfile.TemporaryDirectory() as folder:
+        for table in TABLES:
+            command = table.partition('_')[0]
+            path = os.path.join(TOP, 'cases', table + '.table')
+            for line, row, codes in rows_of(path):
+                for program in programs:
+                    for code in codes:
+                        wrong = play(command, row, code, program, folder)
+                        passed, failed = passed + (wrong is None), failed + (wrong is not None)
+                        if wrong is not None:
+                            print('FAILED: %s.table:%d on %s: %s' % (table, line, os.path.basename(program), wrong))
+    print('%d passed, %d failed' % (passed, failed))
+    return 1 if failed or not passed else 0
+
+
+if __name__ == '__main__':
+    sys.exit(main())
