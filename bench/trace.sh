@@ -60,9 +60,9 @@ row() { # row NAME MEBIBYTES NANOSECONDS
 }
 
 status=0
-held() { # held NAME FIGURE BOUND
+bound() { # bound NAME FIGURE BOUND
     if awk -v figure="$2" -v bound="$3" 'BEGIN { exit !(figure <= bound) }'; then
-        echo "$1: $2, at most $3: held"
+        echo "$1: $2, at most $3: within"
     else
         echo "$1: $2, at most $3: MISSED"
         status=1
@@ -82,8 +82,8 @@ for width in 65536 32; do
             beside=$plain
         fi
     done
-    held "64 MiB over 1 MiB, lines of $width" "$(awk -v a="$long" -v b="$took" 'BEGIN { printf "%.1f", a / b }')" 70
-    held "trace over xxd, lines of $width" "$(awk -v a="$long" -v b="$beside" 'BEGIN { printf "%.2f", a / b }')" 1
+    bound "64 MiB over 1 MiB, lines of $width" "$(awk -v a="$long" -v b="$took" 'BEGIN { printf "%.1f", a / b }')" 70
+    bound "trace over xxd, lines of $width" "$(awk -v a="$long" -v b="$beside" 'BEGIN { printf "%.2f", a / b }')" 1
 done
 for mebibytes in 64 1; do
     headers "$mebibytes" | lines 65536 >"$work/input"
@@ -91,5 +91,5 @@ for mebibytes in 64 1; do
     row "trace, header fields of 60 bytes" "$mebibytes" "$took"
     if [ "$mebibytes" = 64 ]; then long=$took; fi
 done
-held "64 MiB over 1 MiB, header fields" "$(awk -v a="$long" -v b="$took" 'BEGIN { printf "%.1f", a / b }')" 70
+bound "64 MiB over 1 MiB, header fields" "$(awk -v a="$long" -v b="$took" 'BEGIN { printf "%.1f", a / b }')" 70
 exit "$status"

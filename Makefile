@@ -1,0 +1,27 @@
+# The one entry: `make` builds the proved program, `make check` proves what changed and what stands on it, `make test` is
+# the whole test command, `make bench` measures, and `make install PREFIX=/usr/local` puts the proved program in place.
+
+PREFIX ?= /usr/local
+PROGRAM := crates/milter_tool/out/milter_tool
+
+.PHONY: all check test bench install clean
+
+all:
+	@./milter_tool --version
+
+check:
+	rt all check
+
+test:
+	bash .ci/run
+
+bench:
+	bash bench/trace.sh
+	bash bench/sessions.sh
+
+install: all
+	install -d $(DESTDIR)$(PREFIX)/bin
+	install -m 755 $(PROGRAM) $(DESTDIR)$(PREFIX)/bin/milter_tool
+
+clean:
+	rm -rf crates/*/out
