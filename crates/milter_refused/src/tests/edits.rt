@@ -29,7 +29,7 @@ fn is_text_after(
 ) -> Result<bool, SampleFault> {
     let edits = edits_of(alloc, packets)?;
     let held = apply(alloc, message, &edits)?;
-    let mut out = Vec::new(alloc);
+    let mut out = Vec::with_capacity(alloc, text.len())?;
     Ok(match write_message(alloc, &mut out, &held) {
         Ok(()) => out.as_slice() == text,
         Err(fault) => fault == TextFault::NoMemory && text.starts_with(&out),
