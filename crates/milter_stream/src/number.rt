@@ -1,7 +1,7 @@
 //! Numbers in four bytes, the highest first, and the head of a packet.
 
 ghost use Rattle.std.specs.Prelude.{◌≡◌, ◌+◌, ◌≤◌, ◌∷◌, ◌++◌, [], OnOk, option_map};
-ghost use Rattle.milter_stream.specs.Appending.{Extends};
+ghost use Rattle.milter_stream.specs.Appending.{PutsBytes};
 ghost use Rattle.milter_stream.specs.Number.{number, number_at, number_from_bytes};
 
 use crate::fault::NoMemory;
@@ -21,8 +21,7 @@ pub const HEAD_LEN: usize = 5;
 /// Appends a number in four bytes, the highest first. After `NoMemory` a prefix of them may have been appended.
 #[tactic(auto, unfolding(crate::specs::Number::number))]
 pub fn put_number(out: &mut Vec<u8>, value: u32) -> Result<(), NoMemory>
-    ensures ok { OnOk result (out.new.items ≡ out.old.items ++ number value) }
-    ensures extends { Extends out.old.items out.new.items }
+    ensures { PutsBytes (number value) out.old.items out.new.items result }
 {
     out.extend_from_slice(&value.to_be_bytes())?;
     Ok(())
@@ -51,8 +50,7 @@ pub fn take_number(bytes: &[u8]) -> Option<(u32, &[u8])>
 /// bytes, and the code. After `NoMemory` a prefix of it may have been appended. Source: mfdef.h.
 pub fn put_head(out: &mut Vec<u8>, code: u8, payload_len: usize) -> Result<(), NoMemory>
     requires { payload_len ≤ PAYLOAD_MAX }
-    ensures ok { OnOk result (out.new.items ≡ out.old.items ++ (number (payload_len + 1) ++ code ∷ [])) }
-    ensures extends { Extends out.old.items out.new.items }
+    ensures { PutsBytes (number (payload_len + 1) ++ code ∷ []) out.old.items out.new.items result }
 {
     put_number(out, payload_len as u32 + 1)?;
     out.push(code)?;

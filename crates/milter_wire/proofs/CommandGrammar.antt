@@ -75,7 +75,7 @@ encoded_is_decoded code payload c s =
     let same = packet-same code (code_of c) payload (payload_of c) s.bytes_are in
     ap (λ (n : ℕ). command_in n payload) same.0 ∙ ap (command_in (code_of c)) same.1 ∙ command_again c s.fits.fields
 
-command_known : (c : Command) → is_code (code_of c) ≡ true
+pub command_known : (c : Command) → is_code (code_of c) ≡ true
 unfolding is_code
 command_known Abort = refl
 command_known (Body bytes) = refl

@@ -1,6 +1,6 @@
 -- What `decode` answers, from a decoding that is the encoding's inverse. Both directions use it.
 use Rattle.std.proofs.Common.{◌≡◌, ℕ, Bool, true, false, List, [], ◌∷◌, ◌++◌, Option, Some, None, Result, Ok, Err, refl, sym, ap, subst, ◌∙◌, append-nil, inl, inr}
-use Rattle.std.specs.Prelude.{◌==◌, IsSome, IsTrue, IfOk, MatchResult, ◌↔◌}
+use Rattle.std.specs.Prelude.{◌==◌, ◌||◌, ◌⊎◌, IsSome, IsTrue, IfOk, MatchResult, ◌↔◌}
 use Rattle.std.specs.Option.{option_map}
 use Rattle.std.proofs.lemmas.Bool.{eqb-true}
 use Rattle.std.proofs.lemmas.Option.{none-some, same_Some}
@@ -8,7 +8,7 @@ use Rattle.milter_stream.specs.declared.fault.WireFault.{WireFault}
 use Rattle.milter_stream.specs.declared.fault.WireFault.TheVariants.{ZeroLength, TooLong, UnknownCode, Malformed, Truncated, NoMemory}
 use Rattle.milter_stream.specs.Number.{number}
 use Rattle.milter_stream.specs.Packet.{packet, IsPayload}
-use Rattle.milter_wire.specs.Decoding.{Decodes, Row, ended, read_by}
+use Rattle.milter_wire.specs.Decoding.{Decodes, Row, ended, has_row, read_by}
 use Rattle.milter_stream.specs.Stream.{Frame, first_frame}
 use Rattle.milter_stream.proofs.Frames.{first_frame-packet}
 use Rattle.milter_options.proofs.Binds.{some_value}
@@ -32,6 +32,24 @@ row_relates Relates (row ∷ rows) code payload v each e =
     elim (chosen (code == row.0) (row.1 payload) (read_by rows code payload) (Some v) e) [
       | inl at ↦ subst (λ (n : ℕ). Relates v n payload) (sym (eqb-true code row.0 at.0)) (each.0 v at.1)
       | inr others ↦ row_relates Relates rows code payload v each.1 others.1
+    ]
+
+-- a value for each row's code
+abbrev pub EachCode : {V : Type 0} → (ℕ → Type 0) → List (Row V) → Type 0
+EachCode HasValue [] = Unit {0}
+EachCode HasValue (row ∷ rows) = HasValue row.0 × EachCode HasValue rows
+
+either : (b c : Bool) → (b || c) ≡ true → (b ≡ true) ⊎ (c ≡ true)
+either true c e = inl refl
+either false c e = inr e
+
+pub row_has_value : {V : Type 0} (HasValue : ℕ → Type 0) (rows : List (Row V)) (code : ℕ)
+    → EachCode HasValue rows → has_row rows code ≡ true → HasValue code
+row_has_value HasValue [] code each e = absurd cc
+row_has_value HasValue (row ∷ rows) code each e =
+    elim (either (row.0 == code) (has_row rows code) e) [
+      | inl at ↦ subst HasValue (eqb-true row.0 code at) each.0
+      | inr others ↦ row_has_value HasValue rows code each.1 others
     ]
 
 -- a row whose payload is one field

@@ -6,5 +6,6 @@ pub mod SequenceLaws
 pub mod Layouts
 pub mod Values
 pub mod Grammar
+mod KnownCodes
 pub mod CommandGrammar
 pub mod ReplyGrammar

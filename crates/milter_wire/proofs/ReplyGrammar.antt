@@ -74,7 +74,7 @@ encoded_is_decoded code payload r s =
     let same = packet-same code (code_of r) payload (payload_of r) s.bytes_are in
     ap (λ (n : ℕ). reply_in n payload) same.0 ∙ ap (reply_in (code_of r)) same.1 ∙ reply_again r s.fits.fields
 
-reply_known : (r : Reply) → is_code (code_of r) ≡ true
+pub reply_known : (r : Reply) → is_code (code_of r) ≡ true
 unfolding is_code
 reply_known (AddRcpt address) = refl
 reply_known (DelRcpt address) = refl

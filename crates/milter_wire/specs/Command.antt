@@ -1,6 +1,6 @@
 -- The encoding of each command, by one case for each row of the table of commands, and its decoding.
-use Rattle.std.specs.Prelude.{◌≡◌, ℕ, Bool, ◌==◌, List, [], ◌∷◌, length, All, codes, Option, None, Some}
-use Rattle.std.specs.List.{flat_map, list_any}
+use Rattle.std.specs.Prelude.{◌≡◌, ℕ, Bool, List, [], ◌∷◌, length, All, codes, Option, None, Some}
+use Rattle.std.specs.List.{flat_map}
 use Rattle.std.specs.Option.{option_map}
 use Rattle.milter_wire.specs.declared.codes.TheConstants.{SMFIC_ABORT, SMFIC_BODY, SMFIC_BODYEOB, SMFIC_CONNECT, SMFIC_DATA, SMFIC_EOH, SMFIC_HEADER, SMFIC_HELO, SMFIC_MACRO, SMFIC_MAIL, SMFIC_OPTNEG, SMFIC_QUIT, SMFIC_QUIT_NC, SMFIC_RCPT, SMFIC_UNKNOWN}
 use Rattle.milter_wire.specs.declared.command.Command.{Command}
@@ -8,7 +8,7 @@ use Rattle.milter_wire.specs.declared.command.Command.TheVariants.{Options, Macr
 use Rattle.milter_wire.specs.Field.{string, HasNoNul}
 use Rattle.milter_wire.specs.Layout.{options, OptionsFit, pair, PairFits, client, ClientFits, path, PathFits, header, HeaderFits}
 use Rattle.milter_stream.specs.Packet.{packet, IsPayload}
-use Rattle.milter_wire.specs.Decoding.{Row, read_by, ended, options_in, macro_in, client_in, string_in, path_in, header_in}
+use Rattle.milter_wire.specs.Decoding.{Row, has_row, read_by, ended, options_in, macro_in, client_in, string_in, path_in, header_in}
 
 -- ---- the table
 
@@ -66,16 +66,16 @@ FieldsFit (Rcpt recipient) = PathFits recipient
 FieldsFit DataCmd = Unit {0}
 FieldsFit (Unknown text) = HasNoNul text
 
--- a code of the table
-unfoldable pub is_code : ℕ → Bool
-is_code code = list_any (λ known. known == code) (codes "ABCDEHKLMNOQRTU")
-
 -- ---- encoding
 
 -- a command that a packet has room for, whose fields are as the table asks
 pub record Fits (c : Command) : Type 0 where
   pub fields : FieldsFit c
   pub payload : IsPayload (payload_of c)
+
+-- some command that a packet has room for has this code
+abbrev pub IsCodeOfSome : ℕ → Type 0
+IsCodeOfSome code = (c : Command) × Fits c × (code_of c ≡ code)
 
 -- the packet of a command
 abbrev pub encoding : Command → List ℕ
@@ -112,6 +112,10 @@ rows =
     ∷ (SMFIC_DATA, ended DataCmd)
     ∷ (SMFIC_UNKNOWN, λ payload. option_map Unknown (string_in payload))
     ∷ []
+
+-- whether the table has this code
+unfoldable pub is_code : ℕ → Bool
+is_code code = has_row rows code
 
 -- the command that a code and a payload encode, if there is one
 unfoldable pub command_in : ℕ → List ℕ → Option Command

@@ -1,6 +1,7 @@
 -- The decoding of fields and payloads, from left to right; `None` where the bytes aren't in the layout.
 use Rattle.std.specs.Prelude.{◌≡◌, ℕ, zero, suc, Bool, true, false, ◌==◌, List, [], ◌∷◌, Option, Some, None, IsSome, Result, Ok, Err, if◌then◌else◌}
 use Rattle.std.specs.Int.{w16, from_be_bytes}
+use Rattle.std.specs.List.{list_any}
 use Rattle.milter_wire.specs.declared.client.Client.{Client}
 use Rattle.milter_wire.specs.declared.client.Origin.{Origin}
 use Rattle.milter_wire.specs.declared.client.Origin.TheVariants.{Unknown, Unix, Inet, Inet6}
@@ -156,6 +157,10 @@ reply_code_in bytes = do
 -- a code, and how its payload is decoded
 abbrev pub Row : Type 0 → Type 0
 Row V = ℕ × (List ℕ → Option V)
+
+-- whether a row has this code
+abbrev pub has_row : {V : Type 0} → List (Row V) → ℕ → Bool
+has_row rows code = list_any (λ row. row.0 == code) rows
 
 -- the row with this code reads the payload
 abbrev pub read_by : {V : Type 0} → List (Row V) → ℕ → List ℕ → Option V

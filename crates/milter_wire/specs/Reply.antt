@@ -1,6 +1,5 @@
 -- The encoding of each reply, by one case for each row of the table of replies, and its decoding.
-use Rattle.std.specs.Prelude.{◌≡◌, ℕ, Bool, ◌==◌, List, [], ◌∷◌, ◌++◌, codes, Option, Some}
-use Rattle.std.specs.List.{list_any}
+use Rattle.std.specs.Prelude.{◌≡◌, ℕ, Bool, List, [], ◌∷◌, ◌++◌, codes, Option, Some}
 use Rattle.std.specs.Option.{option_map}
 use Rattle.milter_wire.specs.declared.codes.TheConstants.{SMFIC_OPTNEG, SMFIR_ACCEPT, SMFIR_ADDHEADER, SMFIR_ADDRCPT, SMFIR_ADDRCPT_PAR, SMFIR_CHGFROM, SMFIR_CHGHEADER, SMFIR_CONTINUE, SMFIR_DELRCPT, SMFIR_DISCARD, SMFIR_INSHEADER, SMFIR_PROGRESS, SMFIR_QUARANTINE, SMFIR_REJECT, SMFIR_REPLBODY, SMFIR_REPLYCODE, SMFIR_SKIP, SMFIR_TEMPFAIL}
 use Rattle.milter_wire.specs.declared.reply.Reply.{Reply}
@@ -9,7 +8,7 @@ use Rattle.milter_stream.specs.Number.{number}
 use Rattle.milter_wire.specs.Field.{string, HasNoNul}
 use Rattle.milter_wire.specs.Layout.{options, OptionsFit, header, HeaderFits, IndexedFits, arguments, AddressedFits, ReplyCodeFits}
 use Rattle.milter_stream.specs.Packet.{packet, IsPayload}
-use Rattle.milter_wire.specs.Decoding.{Row, read_by, ended, options_in, string_in, header_in, indexed_in, addressed_in, reply_code_in}
+use Rattle.milter_wire.specs.Decoding.{Row, has_row, read_by, ended, options_in, string_in, header_in, indexed_in, addressed_in, reply_code_in}
 
 -- ---- the table
 
@@ -76,16 +75,16 @@ FieldsFit Skip = Unit {0}
 FieldsFit Tempfail = Unit {0}
 FieldsFit (Code text) = ReplyCodeFits text
 
--- a code of the table
-unfoldable pub is_code : ℕ → Bool
-is_code code = list_any (λ known. known == code) (codes "+-2Oabcdehimpqrsty")
-
 -- ---- encoding
 
 -- a reply that a packet has room for, whose fields are as the table asks
 pub record Fits (r : Reply) : Type 0 where
   pub fields : FieldsFit r
   pub payload : IsPayload (payload_of r)
+
+-- some reply that a packet has room for has this code
+abbrev pub IsCodeOfSome : ℕ → Type 0
+IsCodeOfSome code = (r : Reply) × Fits r × (code_of r ≡ code)
 
 -- the packet of a reply
 abbrev pub encoding : Reply → List ℕ
@@ -120,6 +119,10 @@ rows =
     ∷ (SMFIR_TEMPFAIL, ended Tempfail)
     ∷ (SMFIR_REPLYCODE, λ payload. option_map Code (reply_code_in payload))
     ∷ []
+
+-- whether the table has this code
+unfoldable pub is_code : ℕ → Bool
+is_code code = has_row rows code
 
 -- the reply that a code and a payload encode, if there is one
 unfoldable pub reply_in : ℕ → List ℕ → Option Reply

@@ -1,7 +1,7 @@
 //! An address with the arguments that may follow it, a string each; no arguments are not the empty ones.
 
 ghost use Rattle.std.specs.Prelude.{◌≡◌, ◌++◌, ◌↔◌, IsTrue, OnOk, length, option_map};
-ghost use Rattle.milter_stream.specs.Appending.{Extends};
+ghost use Rattle.milter_stream.specs.Appending.{PutsBytes};
 ghost use Rattle.milter_wire.specs.Field.{string};
 ghost use Rattle.milter_wire.specs.Layout.{arguments, ArgumentsFit};
 ghost use Rattle.milter_wire.specs.Decoding.{DecodesOptional, addressed_in, arguments_in};
@@ -33,8 +33,7 @@ pub fn arguments_len(value: &Option<Text>) -> usize
 
 /// Appends the arguments, if there are any.
 fn put_arguments(out: &mut Vec<u8>, value: &Option<Text>) -> Result<(), NoMemory>
-    ensures ok { OnOk result (out.new.items ≡ out.old.items ++ arguments value.now) }
-    ensures extends { Extends out.old.items out.new.items }
+    ensures { PutsBytes (arguments value.now) out.old.items out.new.items result }
 {
     match value {
         Some(text) => put_string(out, text),
@@ -48,8 +47,7 @@ pub(crate) fn put_addressed(
     address: &Text,
     value: &Option<Text>,
 ) -> Result<(), NoMemory>
-    ensures ok { OnOk result (out.new.items ≡ out.old.items ++ (string address.now ++ arguments value.now)) }
-    ensures extends { Extends out.old.items out.new.items }
+    ensures { PutsBytes (string address.now ++ arguments value.now) out.old.items out.new.items result }
 {
     put_string(out, address)?;
     put_arguments(out, value)

@@ -2,7 +2,7 @@
 //! a known family the port and the address.
 
 ghost use Rattle.std.specs.Prelude.{◌≡◌, ◌+◌, ◌-◌, ◌^◌, ◌∷◌, ◌++◌, ◌↔◌, IsTrue, OnOk, length, min, option_map};
-ghost use Rattle.milter_stream.specs.Appending.{Extends};
+ghost use Rattle.milter_stream.specs.Appending.{PutsBytes};
 ghost use Rattle.milter_wire.specs.Field.{port, string};
 ghost use Rattle.milter_wire.specs.Layout.{client, origin, ClientFits, OriginFits};
 ghost use Rattle.milter_wire.specs.Decoding.{DecodesOptional, client_in, origin_in, endpoint_in};
@@ -22,8 +22,8 @@ pub struct Client {
     pub origin: Origin,
 }
 
-/// Where a client connects from. The addresses are texts that nothing looks into. Source: mfdef.h (SMFIA_UNKNOWN and
-/// its kin).
+/// Where a client connects from. The addresses are texts that nothing looks into. Source: mfdef.h (SMFIA_UNKNOWN
+/// to SMFIA_INET6).
 #[derive(Clone, Debug, PartialEq, Eq, Drop)]
 pub enum Origin {
     /// `U`: nothing is known.
@@ -94,16 +94,14 @@ fn origin_len(value: &Origin) -> usize
 
 /// Appends the host and the origin.
 pub(crate) fn put_client(out: &mut Vec<u8>, value: &Client) -> Result<(), NoMemory>
-    ensures ok { OnOk result (out.new.items ≡ out.old.items ++ client value.now) }
-    ensures extends { Extends out.old.items out.new.items }
+    ensures { PutsBytes (client value.now) out.old.items out.new.items result }
 {
     put_string(out, &value.host)?;
     put_origin(out, &value.origin)
 }
 
 fn put_origin(out: &mut Vec<u8>, value: &Origin) -> Result<(), NoMemory>
-    ensures ok { OnOk result (out.new.items ≡ out.old.items ++ origin value.now) }
-    ensures extends { Extends out.old.items out.new.items }
+    ensures { PutsBytes (origin value.now) out.old.items out.new.items result }
 {
     match value {
         Origin::Unknown => {
@@ -117,8 +115,7 @@ fn put_origin(out: &mut Vec<u8>, value: &Origin) -> Result<(), NoMemory>
 }
 
 fn put_endpoint(out: &mut Vec<u8>, family: u8, at: u16, address: &Text) -> Result<(), NoMemory>
-    ensures ok { OnOk result (out.new.items ≡ out.old.items ++ family ∷ (port at ++ string address.now)) }
-    ensures extends { Extends out.old.items out.new.items }
+    ensures { PutsBytes (family ∷ (port at ++ string address.now)) out.old.items out.new.items result }
 {
     out.push(family)?;
     put_port(out, at)?;

@@ -4,7 +4,7 @@ ghost use Rattle.std.specs.Prelude.{◌≡◌, ◌≤◌, ◌-◌, ◌^◌, ◌�
 ghost use Rattle.std.specs.List.{flat_map};
 ghost use Rattle.milter_wire.specs.declared.command.Command.{Command};
 ghost use Rattle.milter_wire.specs.Stages.{stage_of};
-ghost use Rattle.milter_stream.specs.Appending.{Extends};
+ghost use Rattle.milter_stream.specs.Appending.{PutsBytes};
 ghost use Rattle.milter_wire.specs.Layout.{pair};
 ghost use Rattle.milter_stream.specs.Packet.{packet};
 ghost use Rattle.milter_wire.specs.Command.{code_of, payload_of, is_code, Fits, FieldsFit, IsEncodedAs, encoding, command_in};
@@ -152,8 +152,7 @@ fn fields_fit(command: &Command) -> bool
 
 fn put_command(out: &mut Vec<u8>, command: &Command) -> Result<(), NoMemory>
     requires { Fits command.now }
-    ensures ok { OnOk result (out.new.items ≡ out.old.items ++ encoding command.now) }
-    ensures extends { Extends out.old.items out.new.items }
+    ensures { PutsBytes (encoding command.now) out.old.items out.new.items result }
 {
     put_head(out, code(command), payload_len(command))?;
     put_payload(out, command)
@@ -200,8 +199,7 @@ fn payload_len(command: &Command) -> usize
 }
 
 fn put_payload(out: &mut Vec<u8>, command: &Command) -> Result<(), NoMemory>
-    ensures ok { OnOk result (out.new.items ≡ out.old.items ++ payload_of command.now) }
-    ensures extends { Extends out.old.items out.new.items }
+    ensures { PutsBytes (payload_of command.now) out.old.items out.new.items result }
 {
     match command {
         Command::Options(options) => put_options(out, options),
@@ -218,8 +216,7 @@ fn put_payload(out: &mut Vec<u8>, command: &Command) -> Result<(), NoMemory>
 
 /// Appends the byte of the command and the macros.
 fn put_macro(out: &mut Vec<u8>, command: u8, pairs: &Pairs) -> Result<(), NoMemory>
-    ensures ok { OnOk result (out.new.items ≡ out.old.items ++ (command ∷ flat_map pair pairs.now)) }
-    ensures extends { Extends out.old.items out.new.items }
+    ensures { PutsBytes (command ∷ flat_map pair pairs.now) out.old.items out.new.items result }
 {
     out.push(command)?;
     put_pairs(out, pairs.as_slice())

@@ -1,7 +1,7 @@
 //! Ports in two bytes, the higher first.
 
 ghost use Rattle.std.specs.Prelude.{◌≡◌, ◌++◌, OnOk, option_map};
-ghost use Rattle.milter_stream.specs.Appending.{Extends};
+ghost use Rattle.milter_stream.specs.Appending.{PutsBytes};
 ghost use Rattle.milter_wire.specs.Field.{port};
 ghost use Rattle.milter_wire.specs.Decoding.{port_at, port_of};
 
@@ -9,8 +9,7 @@ use milter_stream::NoMemory;
 /// Appends a port in two bytes, the higher first.
 #[tactic(auto, unfolding(crate::specs::Field::port))]
 pub(crate) fn put_port(out: &mut Vec<u8>, value: u16) -> Result<(), NoMemory>
-    ensures ok { OnOk result (out.new.items ≡ out.old.items ++ port value) }
-    ensures extends { Extends out.old.items out.new.items }
+    ensures { PutsBytes (port value) out.old.items out.new.items result }
 {
     out.extend_from_slice(&value.to_be_bytes())?;
     Ok(())

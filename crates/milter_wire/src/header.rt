@@ -1,7 +1,7 @@
 //! Header fields of a message, and their encoding: the name and the value, a string each.
 
 ghost use Rattle.std.specs.Prelude.{◌≡◌, ◌-◌, ◌^◌, ◌++◌, ◌↔◌, IsTrue, OnOk, length, min, option_map};
-ghost use Rattle.milter_stream.specs.Appending.{Extends};
+ghost use Rattle.milter_stream.specs.Appending.{PutsBytes};
 ghost use Rattle.milter_stream.specs.Number.{number};
 ghost use Rattle.milter_wire.specs.Layout.{header, HeaderFits};
 ghost use Rattle.milter_wire.specs.Decoding.{DecodesOptional, header_in, indexed_in};
@@ -37,8 +37,7 @@ pub fn header_len(value: &Header) -> usize
 
 /// Appends the two strings.
 pub(crate) fn put_header(out: &mut Vec<u8>, value: &Header) -> Result<(), NoMemory>
-    ensures ok { OnOk result (out.new.items ≡ out.old.items ++ header value.now) }
-    ensures extends { Extends out.old.items out.new.items }
+    ensures { PutsBytes (header value.now) out.old.items out.new.items result }
 {
     put_string(out, &value.name)?;
     put_string(out, &value.value)
@@ -46,8 +45,7 @@ pub(crate) fn put_header(out: &mut Vec<u8>, value: &Header) -> Result<(), NoMemo
 
 /// Appends a number and the two strings.
 pub(crate) fn put_indexed(out: &mut Vec<u8>, index: u32, value: &Header) -> Result<(), NoMemory>
-    ensures ok { OnOk result (out.new.items ≡ out.old.items ++ (number index ++ header value.now)) }
-    ensures extends { Extends out.old.items out.new.items }
+    ensures { PutsBytes (number index ++ header value.now) out.old.items out.new.items result }
 {
     put_number(out, index)?;
     put_header(out, value)

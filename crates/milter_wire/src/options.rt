@@ -1,7 +1,7 @@
 //! Options as payloads: three numbers.
 
 ghost use Rattle.std.specs.Prelude.{◌≡◌, ◌++◌, ◌↔◌, IsTrue, OnOk, option_map};
-ghost use Rattle.milter_stream.specs.Appending.{Extends};
+ghost use Rattle.milter_stream.specs.Appending.{PutsBytes};
 ghost use Rattle.milter_wire.specs.Layout.{options, OptionsFit};
 ghost use Rattle.milter_wire.specs.Decoding.{options_in};
 
@@ -22,8 +22,7 @@ pub(crate) fn options_fit(value: &Options) -> bool
 
 /// Appends the three numbers.
 pub(crate) fn put_options(out: &mut Vec<u8>, value: &Options) -> Result<(), NoMemory>
-    ensures ok { OnOk result (out.new.items ≡ out.old.items ++ options value.now) }
-    ensures extends { Extends out.old.items out.new.items }
+    ensures { PutsBytes (options value.now) out.old.items out.new.items result }
 {
     put_number(out, value.version)?;
     put_number(out, value.actions.0)?;

@@ -2,7 +2,7 @@
 
 ghost use Rattle.std.specs.Prelude.{◌≡◌, ◌-◌, ◌^◌, ◌++◌, ◌↔◌, All, IsTrue, OnOk, length, min};
 ghost use Rattle.std.specs.List.{flat_map};
-ghost use Rattle.milter_stream.specs.Appending.{Extends};
+ghost use Rattle.milter_stream.specs.Appending.{PutsBytes};
 ghost use Rattle.milter_wire.specs.Layout.{pair, PairFits};
 
 use crate::strings::{has_no_nul, put_string, string_len};
@@ -53,8 +53,7 @@ pub(crate) fn pairs_len(pairs: &[Pair]) -> usize
 
 /// Appends the two strings.
 fn put_pair(out: &mut Vec<u8>, value: &Pair) -> Result<(), NoMemory>
-    ensures ok { OnOk result (out.new.items ≡ out.old.items ++ pair value.now) }
-    ensures extends { Extends out.old.items out.new.items }
+    ensures { PutsBytes (pair value.now) out.old.items out.new.items result }
 {
     put_string(out, &value.name)?;
     put_string(out, &value.value)
@@ -62,8 +61,7 @@ fn put_pair(out: &mut Vec<u8>, value: &Pair) -> Result<(), NoMemory>
 
 /// Appends the strings of each.
 pub(crate) fn put_pairs(out: &mut Vec<u8>, pairs: &[Pair]) -> Result<(), NoMemory>
-    ensures ok { OnOk result (out.new.items ≡ out.old.items ++ flat_map pair pairs.now) }
-    ensures extends { Extends out.old.items out.new.items }
+    ensures { PutsBytes (flat_map pair pairs.now) out.old.items out.new.items result }
 {
     for value in pairs {
         put_pair(out, value)?;

@@ -1,7 +1,7 @@
 //! Senders and recipients, and their encoding: the address and the parameters, a string each.
 
 ghost use Rattle.std.specs.Prelude.{◌≡◌, ◌-◌, ◌^◌, ◌++◌, ◌↔◌, IsTrue, OnOk, length, min};
-ghost use Rattle.milter_stream.specs.Appending.{Extends};
+ghost use Rattle.milter_stream.specs.Appending.{PutsBytes};
 ghost use Rattle.milter_wire.specs.Layout.{path, PathFits};
 ghost use Rattle.milter_wire.specs.Decoding.{DecodesOptional, path_in};
 
@@ -38,8 +38,7 @@ pub(crate) fn path_len(value: &Path) -> usize
 
 /// Appends the strings.
 pub(crate) fn put_path(out: &mut Vec<u8>, value: &Path) -> Result<(), NoMemory>
-    ensures ok { OnOk result (out.new.items ≡ out.old.items ++ path value.now) }
-    ensures extends { Extends out.old.items out.new.items }
+    ensures { PutsBytes (path value.now) out.old.items out.new.items result }
 {
     put_string(out, &value.address)?;
     put_strings(out, value.params.as_slice())

@@ -2,7 +2,7 @@
 
 ghost use Rattle.std.specs.Prelude.{◌≡◌, ◌≤◌, ◌-◌, ◌^◌, ◌++◌, ◌↔◌, length, min, IsTrue, OnOk, OnErr, IfOk, IsErrOf, MatchResult};
 ghost use Rattle.milter_wire.specs.declared.reply.Reply.{Reply};
-ghost use Rattle.milter_stream.specs.Appending.{Extends};
+ghost use Rattle.milter_stream.specs.Appending.{PutsBytes};
 ghost use Rattle.milter_stream.specs.Packet.{packet};
 ghost use Rattle.milter_wire.specs.Reply.{code_of, payload_of, is_code, Fits, FieldsFit, IsEncodedAs, encoding, reply_in};
 ghost use Rattle.milter_wire.specs.Decoding.{Decodes, DecodesOptional};
@@ -154,8 +154,7 @@ fn fields_fit(reply: &Reply) -> bool
 
 fn put_reply(out: &mut Vec<u8>, reply: &Reply) -> Result<(), NoMemory>
     requires { Fits reply.now }
-    ensures ok { OnOk result (out.new.items ≡ out.old.items ++ encoding reply.now) }
-    ensures extends { Extends out.old.items out.new.items }
+    ensures { PutsBytes (encoding reply.now) out.old.items out.new.items result }
 {
     put_head(out, code(reply), payload_len(reply))?;
     put_payload(out, reply)
@@ -209,8 +208,7 @@ fn payload_len(reply: &Reply) -> usize
 }
 
 fn put_payload(out: &mut Vec<u8>, reply: &Reply) -> Result<(), NoMemory>
-    ensures ok { OnOk result (out.new.items ≡ out.old.items ++ payload_of reply.now) }
-    ensures extends { Extends out.old.items out.new.items }
+    ensures { PutsBytes (payload_of reply.now) out.old.items out.new.items result }
 {
     match reply {
         Reply::Options(options) => put_options(out, options),

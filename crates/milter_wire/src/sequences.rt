@@ -2,7 +2,7 @@
 
 ghost use Rattle.std.specs.Prelude.{◌≡◌, ◌-◌, ◌^◌, ◌++◌, ◌↔◌, All, IsTrue, OnOk, is_some, length, min};
 ghost use Rattle.std.specs.List.{flat_map};
-ghost use Rattle.milter_stream.specs.Appending.{Extends};
+ghost use Rattle.milter_stream.specs.Appending.{PutsBytes};
 ghost use Rattle.milter_wire.specs.Field.{HasNoNul, string};
 ghost use Rattle.milter_wire.specs.Decoding.{DecodesOptional, pairs_in, strings_in};
 
@@ -33,8 +33,7 @@ pub(crate) fn strings_len(texts: &[Text]) -> usize
 
 /// Appends the strings.
 pub(crate) fn put_strings(out: &mut Vec<u8>, texts: &[Text]) -> Result<(), NoMemory>
-    ensures ok { OnOk result (out.new.items ≡ out.old.items ++ flat_map string texts.now) }
-    ensures extends { Extends out.old.items out.new.items }
+    ensures { PutsBytes (flat_map string texts.now) out.old.items out.new.items result }
 {
     for text in texts {
         put_string(out, text)?;

@@ -97,8 +97,8 @@ impl Stage {
         row_of(self).macro_command
     }
 
-    /// The bit by which the stage isn't sent; the end of a message is always sent. Source: mfdef.h (SMFIP_NOCONNECT and
-    /// its kin).
+    /// The bit by which the stage isn't sent; the end of a message is always sent. Source: mfdef.h (SMFIP_NOCONNECT
+    /// to SMFIP_NOEOH, and SMFIP_NODATA).
     pub fn not_sent(self) -> Option<Protocol>
         ensures { result ≡ not_sent_of self }
     {

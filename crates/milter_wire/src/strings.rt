@@ -1,7 +1,7 @@
 //! Strings: a text, and the NUL that ends it.
 
 ghost use Rattle.std.specs.Prelude.{◌≡◌, ◌==◌, ◌++◌, ◌↔◌, IsTrue, OnOk, length, option_map, position};
-ghost use Rattle.milter_stream.specs.Appending.{Extends};
+ghost use Rattle.milter_stream.specs.Appending.{PutsBytes};
 ghost use Rattle.milter_wire.specs.Field.{HasNoNul, string};
 ghost use Rattle.milter_wire.specs.Decoding.{DecodesOptional, string_at, string_in};
 
@@ -26,8 +26,7 @@ pub fn string_len(text: &Text) -> usize
 
 /// Appends the string.
 pub(crate) fn put_string(out: &mut Vec<u8>, text: &Text) -> Result<(), NoMemory>
-    ensures ok { OnOk result (out.new.items ≡ out.old.items ++ string text.now) }
-    ensures extends { Extends out.old.items out.new.items }
+    ensures { PutsBytes (string text.now) out.old.items out.new.items result }
 {
     put_bytes(out, text.as_slice())?;
     out.push(0)?;
@@ -36,8 +35,7 @@ pub(crate) fn put_string(out: &mut Vec<u8>, text: &Text) -> Result<(), NoMemory>
 
 /// Appends bytes as they are.
 pub(crate) fn put_bytes(out: &mut Vec<u8>, bytes: &[u8]) -> Result<(), NoMemory>
-    ensures ok { OnOk result (out.new.items ≡ out.old.items ++ bytes.now) }
-    ensures extends { Extends out.old.items out.new.items }
+    ensures { PutsBytes bytes.now out.old.items out.new.items result }
 {
     out.extend_from_slice(bytes)?;
     Ok(())
