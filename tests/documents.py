@@ -1,0 +1,67 @@
+#!/usr/bin/env python3
+"""Checks the documents against the repository: each block of code in README.md is lines of the example's program, each
+link between documents leads to a file, and each crate and clause that docs/PROOFS.md names is there.
+
+The last line is 'N passed, M failed'; the status is 1 where something failed.
+"""
+import glob
+import os
+import re
+import sys
+
+TOP = os.path.dirname(os.path.dirname(os.path.abspath(__file__)))
+EXAMPLE = 'crates/milter_example/src/main.rt'
+DOCUMENTS = ['README.md', 'CHANGELOG.md', 'SECURITY.md', 'cases/README.md'] + sorted(
+    os.path.relpath(path, TOP) for path in glob.glob(os.path.join(TOP, 'docs', '*.md')))
+
+
+def text_of(path):
+    """The text of a file of the repository."""
+    with open(os.path.join(TOP, path), encoding='utf-8') as file:
+        return file.read()
+
+
+def blocks():
+    """Whether each block of code of the README is in the example."""
+    example = text_of(EXAMPLE)
+    for block in re.findall(r'```rust\n(.*?)```', text_of('README.md'), re.DOTALL):
+        yield 'README.md: ' + block.strip().splitlines()[0], block in example
+
+
+def links():
+    """Whether each link leads to a file."""
+    for document in DOCUMENTS:
+        for target in re.findall(r'\]\(([^)#:]+)(?:#[^)]*)?\)', text_of(document)):
+            path = os.path.join(TOP, os.path.dirname(document), target)
+            yield '%s: %s' % (document, target), os.path.exists(path)
+
+
+def clauses():
+    """Whether each clause of a table of docs/PROOFS.md stands in the section's crate."""
+    crate, source = None, ''
+    for line in text_of('docs/PROOFS.md').splitlines():
+        if line.startswith('## '):
+            crate = line[3:].split(',')[0]
+            files = glob.glob(os.path.join(TOP, 'crates', crate, 'src', '**', '*.rt'), recursive=True)
+            source = '\n'.join(text_of(file) for file in files)
+            yield 'docs/PROOFS.md: ' + crate, bool(files)
+        cells = line.split(' | ')
+        if line.startswith('| `') and len(cells) == 3:
+            for name in re.findall(r'`(\w+)`', cells[2]):
+                found = re.search(r'ensures\*? %s \{' % re.escape(name), source) is not None
+                yield 'docs/PROOFS.md: %s: clause %s' % (crate, name), found
+
+
+def main():
+    passed = failed = 0
+    for check in (blocks, links, clauses):
+        for what, is_well in check():
+            passed, failed = passed + is_well, failed + (not is_well)
+            if not is_well:
+                print('FAILED: ' + what)
+    print('%d passed, %d failed' % (passed, failed))
+    return 1 if failed or not passed else 0
+
+
+if __name__ == '__main__':
+    sys.exit(main())
