@@ -1,11 +1,21 @@
 -- The macros of all stages, one more at a time.
-use Rattle.std.specs.Prelude.{[], ◌∷◌, ◌++◌}
+use Rattle.std.specs.Prelude.{List, [], ◌∷◌, ◌++◌}
 use Rattle.milter_wire.specs.declared.pair.Pair.{Pair}
 use Rattle.milter_mail.specs.declared.macros.Macros.{Macros}
 use Rattle.milter_session.specs.declared.session_macros.MacroStage.{MacroStage}
 use Rattle.milter_session.specs.declared.session_macros.MacroStage.TheVariants.{Connect, Helo, Mail, Rcpt, DataCmd, Eom}
 use Rattle.milter_session.specs.declared.session_macros.MacroStage.TheVariants.{Eoh}
 use Rattle.milter_session.specs.declared.session_macros.MacroLists.{MacroLists}
+
+-- the macros of a stage
+abbrev pub macros_at : Macros → MacroStage → List Pair
+macros_at m Connect = m.connect
+macros_at m Helo = m.helo
+macros_at m Mail = m.mail
+macros_at m Rcpt = m.rcpt
+macros_at m DataCmd = m.data_cmd
+macros_at m Eom = m.eom
+macros_at m Eoh = m.eoh
 
 abbrev pub macros_of : MacroLists → Macros
 macros_of lists =
