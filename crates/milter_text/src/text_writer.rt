@@ -58,7 +58,7 @@ impl<'w, W: Write> TextWriter<'w, W> {
         self.put(b"\"")
     }
 
-    /// Puts the bytes as they stand between quotes, chunk by chunk.
+    /// Puts the bytes as they are written between quotes, chunk by chunk.
     fn put_escaped(&mut self, bytes: &[u8]) -> Result<(), TextFault>
         ensures { Puts W.contents (flat_map quoted_byte bytes.now) self.old self.new result }
     {
@@ -71,7 +71,7 @@ impl<'w, W: Write> TextWriter<'w, W> {
         Ok(())
     }
 
-    /// Puts the bytes as they stand between quotes.
+    /// Puts the bytes as they are written between quotes.
     #[tactic(auto, unfolding(crate::specs::TextWriter::Advances))]
     fn put_chunk(&mut self, chunk: &[u8]) -> Result<(), TextFault>
         ensures { Puts W.contents (flat_map quoted_byte chunk.now) self.old self.new result }
