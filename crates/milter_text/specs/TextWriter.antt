@@ -23,8 +23,8 @@ pub record WritesAllBut (text rest : List ℕ) (before after : Option (List ℕ)
   pub whole : written ++ rest ≡ text
   pub appended : Appends before after written
 
--- What was in the buffer and the text are written but for what is in the buffer now, or a prefix of them is written where
--- the result is an error.
+-- What was in the buffer and the text are written but for what is in the buffer now, or a prefix of them is written
+-- where the result is an error.
 unfoldable pub Advances : {W : Type 0} → (W → Option (List ℕ)) → List ℕ → TextWriter W → TextWriter W
     → Result Unit TextFault → Type 0
 Advances contents text old new (Ok u) =
