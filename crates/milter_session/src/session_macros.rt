@@ -149,7 +149,8 @@ impl MacroLists {
     fn push(&mut self, stage: MacroStage, pair: Pair, line: u64) -> Result<(), SessionFault>
         requires { PairFits pair }
         ensures ok { OnOk result (macros_of self.new ≡ with_macro stage pair (macros_of self.old)) }
-        ensures err { MacrosFit (with_macro stage pair (macros_of self.old)) → IfErr result (λ e. e ≡ faults.NoMemory) }
+        ensures err { MacrosFit (with_macro stage pair (macros_of self.old)) →
+            IfErr result (λ e. e ≡ faults.NoMemory) }
         ensures at { IfErr result (λ e. IsAt line e) }
     {
         match stage {

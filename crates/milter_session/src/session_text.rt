@@ -52,10 +52,7 @@ pub fn write_session<W: Write>(
 }
 
 /// Puts the lines of a session.
-fn put_session<W: Write>(
-    output: &mut TextWriter<'_, W>,
-    session: &Session,
-) -> Result<(), TextFault>
+fn put_session<W: Write>(output: &mut TextWriter<'_, W>, session: &Session) -> Result<(), TextFault>
     ensures { Puts W.contents (session_text session.now) output.old output.new result }
 {
     put_opening(output, session)?;
@@ -87,10 +84,7 @@ fn put_file_message<W: Write>(
 }
 
 /// Puts the lines of the client, of its greeting and of the macros.
-fn put_opening<W: Write>(
-    output: &mut TextWriter<'_, W>,
-    session: &Session,
-) -> Result<(), TextFault>
+fn put_opening<W: Write>(output: &mut TextWriter<'_, W>, session: &Session) -> Result<(), TextFault>
     ensures { Puts W.contents (opening_text session.now) output.old output.new result }
 {
     put_client(output, session.client())?;
@@ -162,5 +156,10 @@ fn put_macro<W: Write>(
     ensures { Puts W.contents (macro_line stage.now pair.now) output.old output.new result }
 {
     output.put(b"macro ")?;
-    put_line(output, stage, pair.name.as_slice(), slice::from_ref(&pair.value))
+    put_line(
+        output,
+        stage,
+        pair.name.as_slice(),
+        slice::from_ref(&pair.value),
+    )
 }
