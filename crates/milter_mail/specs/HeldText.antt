@@ -40,6 +40,10 @@ abbrev pub content_lines : MailObject → List ℕ
 content_lines message =
     flat_map header_line message.headers ++ (line_of (codes "body") (message.body ∷ []) ++ line_of (codes "end") [])
 
--- the quarantine, the sender, the recipients, the header fields, the body and the end, a line each
+-- the sender, the recipients, the header fields, the body and the end, a line each
+abbrev pub message_lines : MailObject → List ℕ
+message_lines message = envelope_lines message ++ content_lines message
+
+-- the quarantine, and the lines of the message
 unfoldable pub held_text : Held → List ℕ
-held_text held = reason_line held.quarantine ++ (envelope_lines held.message ++ content_lines held.message)
+held_text held = reason_line held.quarantine ++ message_lines held.message

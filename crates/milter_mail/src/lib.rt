@@ -13,6 +13,7 @@ mod held_text;
 mod laws;
 mod macros;
 mod message;
+mod message_lines;
 mod recipient_edits;
 mod session;
 mod weight;
@@ -25,6 +26,7 @@ pub use laws::{
 };
 pub use macros::Macros;
 pub use message::{Held, Message};
+pub use message_lines::{put_line, put_message, put_text};
 pub use milter_text::{TextFault, Word, WordFault, quote, words};
 pub use session::Session;
 pub use weight::{Overhead, WEIGHT_MAX};

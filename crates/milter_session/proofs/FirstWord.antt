@@ -59,7 +59,7 @@ either_past false [] bytes rest h = absurd (h.some refl)
 either_past false (byte ∷ text) bytes rest h = rw (h.bytes_are, plain_is_no_blank byte (All-head (λ x. is_plain x ≡ true) byte text h.plain)) refl
 either_past true text bytes rest h = rw h.bytes_are refl
 
--- the first of the words stands after the blanks
+-- the first of the words comes after the blanks
 first_word : (line : List ℕ) (word : Word) (words : List Word) (h : HasWords line (word ∷ words)) → BeginsWith word h.2 (past_blanks line)
 first_word line word words h =
     let b = h.5 in

@@ -1,8 +1,8 @@
 -- Macros of session files, one more at a time, and what the first of them have of what all of them have.
-use Rattle.std.proofs.Common.{◌≡◌, ℕ, ◌+◌, ◌≤◌, true, false, List, [], ◌∷◌, ◌++◌, length, All, codes, refl, sym, ap}
+use Rattle.std.proofs.Common.{◌≡◌, ℕ, ◌+◌, ◌≤◌, Bool, true, false, List, [], ◌∷◌, ◌++◌, length, All, refl, sym, ap}
+use Rattle.std.specs.Prelude.{if◌then◌else◌}
 use Rattle.std.proofs.Common.{subst, ◌∙◌, append_assoc, arith}
 use Rattle.std.specs.List.{filter_map, flat_map}
-use Rattle.std.specs.Str.{bytes_eq}
 use Rattle.std.proofs.lemmas.Grind.{flat_map-append}
 use Rattle.std.proofs.lemmas.List.{append-nil, length-append}
 use Rattle.std.proofs.lemmas.List.Elements.{All-nil, All-cons, All-head, All-tail, filter_map-append}
@@ -16,97 +16,43 @@ use Rattle.milter_session.specs.declared.session_macros.MacroLine.{MacroLine}
 use Rattle.milter_session.specs.declared.session_macros.MacroStage.{MacroStage}
 use Rattle.milter_session.specs.declared.session_macros.MacroStage.TheVariants.{Connect, Helo, Mail, Rcpt, DataCmd, Eom}
 use Rattle.milter_session.specs.declared.session_macros.MacroStage.TheVariants.{Eoh}
-use Rattle.milter_session.specs.LineValues.{stage_word}
-use Rattle.milter_session.specs.MacroLists.{with_macro}
+use Rattle.milter_session.specs.MacroLists.{by_stage, is_stage, macros_at, with_macro}
 use Rattle.milter_session.specs.SessionFile.{macros_of_lines, of_stage}
 
 -- ---- one more macro
 
-same_stage : (word : List ℕ) (lines : List MacroLine) (line : MacroLine) → bytes_eq (stage_word line.stage) word ≡ true
-    → filter_map (of_stage word) (lines ++ line ∷ []) ≡ filter_map (of_stage word) lines ++ line.pair ∷ []
-same_stage word lines line e = filter_map-append (of_stage word) lines (line ∷ []) ∙ rw e refl
+by_stage-same : (f g : MacroStage → List Pair) → ((stage : MacroStage) → f stage ≡ g stage) → by_stage f ≡ by_stage g
+by_stage-same f g same = rw (same Connect, same Helo, same Mail, same Rcpt, same DataCmd, same Eom, same Eoh) refl
 
-other_stage : (word : List ℕ) (lines : List MacroLine) (line : MacroLine) → bytes_eq (stage_word line.stage) word ≡ false
-    → filter_map (of_stage word) (lines ++ line ∷ []) ≡ filter_map (of_stage word) lines
-other_stage word lines line e = filter_map-append (of_stage word) lines (line ∷ []) ∙ rw e (append-nil (filter_map (of_stage word) lines))
+macros_at-by : (f : MacroStage → List Pair) (stage : MacroStage) → macros_at (by_stage f) stage ≡ f stage
+macros_at-by f Connect = refl
+macros_at-by f Helo = refl
+macros_at-by f Mail = refl
+macros_at-by f Rcpt = refl
+macros_at-by f DataCmd = refl
+macros_at-by f Eom = refl
+macros_at-by f Eoh = refl
 
-abbrev macro_at : MacroStage → Pair → MacroLine
-macro_at stage pair = record { stage = stage; pair = pair }
+more_if : (stage : MacroStage) (lines : List MacroLine) (line : MacroLine) (same : Bool) → is_stage line.stage stage ≡ same
+    → filter_map (of_stage stage) (lines ++ line ∷ []) ≡ (if same then filter_map (of_stage stage) lines ++ line.pair ∷ [] else filter_map (of_stage stage) lines)
+more_if stage lines line true e = filter_map-append (of_stage stage) lines (line ∷ []) ∙ rw e refl
+more_if stage lines line false e = filter_map-append (of_stage stage) lines (line ∷ []) ∙ rw e (append-nil (filter_map (of_stage stage) lines))
 
-more_by_stage : (lines : List MacroLine) (stage : MacroStage) (pair : Pair) → macros_of_lines (lines ++ macro_at stage pair ∷ []) ≡ with_macro stage pair (macros_of_lines lines)
-more_by_stage lines Connect pair =
-    rw (
-      same_stage (codes "connect") lines (macro_at Connect pair) refl,
-      other_stage (codes "helo") lines (macro_at Connect pair) refl,
-      other_stage (codes "mail") lines (macro_at Connect pair) refl,
-      other_stage (codes "rcpt") lines (macro_at Connect pair) refl,
-      other_stage (codes "data") lines (macro_at Connect pair) refl,
-      other_stage (codes "eom") lines (macro_at Connect pair) refl,
-      other_stage (codes "eoh") lines (macro_at Connect pair) refl,
-    ) refl
-more_by_stage lines Helo pair =
-    rw (
-      other_stage (codes "connect") lines (macro_at Helo pair) refl,
-      same_stage (codes "helo") lines (macro_at Helo pair) refl,
-      other_stage (codes "mail") lines (macro_at Helo pair) refl,
-      other_stage (codes "rcpt") lines (macro_at Helo pair) refl,
-      other_stage (codes "data") lines (macro_at Helo pair) refl,
-      other_stage (codes "eom") lines (macro_at Helo pair) refl,
-      other_stage (codes "eoh") lines (macro_at Helo pair) refl,
-    ) refl
-more_by_stage lines Mail pair =
-    rw (
-      other_stage (codes "connect") lines (macro_at Mail pair) refl,
-      other_stage (codes "helo") lines (macro_at Mail pair) refl,
-      same_stage (codes "mail") lines (macro_at Mail pair) refl,
-      other_stage (codes "rcpt") lines (macro_at Mail pair) refl,
-      other_stage (codes "data") lines (macro_at Mail pair) refl,
-      other_stage (codes "eom") lines (macro_at Mail pair) refl,
-      other_stage (codes "eoh") lines (macro_at Mail pair) refl,
-    ) refl
-more_by_stage lines Rcpt pair =
-    rw (
-      other_stage (codes "connect") lines (macro_at Rcpt pair) refl,
-      other_stage (codes "helo") lines (macro_at Rcpt pair) refl,
-      other_stage (codes "mail") lines (macro_at Rcpt pair) refl,
-      same_stage (codes "rcpt") lines (macro_at Rcpt pair) refl,
-      other_stage (codes "data") lines (macro_at Rcpt pair) refl,
-      other_stage (codes "eom") lines (macro_at Rcpt pair) refl,
-      other_stage (codes "eoh") lines (macro_at Rcpt pair) refl,
-    ) refl
-more_by_stage lines DataCmd pair =
-    rw (
-      other_stage (codes "connect") lines (macro_at DataCmd pair) refl,
-      other_stage (codes "helo") lines (macro_at DataCmd pair) refl,
-      other_stage (codes "mail") lines (macro_at DataCmd pair) refl,
-      other_stage (codes "rcpt") lines (macro_at DataCmd pair) refl,
-      same_stage (codes "data") lines (macro_at DataCmd pair) refl,
-      other_stage (codes "eom") lines (macro_at DataCmd pair) refl,
-      other_stage (codes "eoh") lines (macro_at DataCmd pair) refl,
-    ) refl
-more_by_stage lines Eom pair =
-    rw (
-      other_stage (codes "connect") lines (macro_at Eom pair) refl,
-      other_stage (codes "helo") lines (macro_at Eom pair) refl,
-      other_stage (codes "mail") lines (macro_at Eom pair) refl,
-      other_stage (codes "rcpt") lines (macro_at Eom pair) refl,
-      other_stage (codes "data") lines (macro_at Eom pair) refl,
-      same_stage (codes "eom") lines (macro_at Eom pair) refl,
-      other_stage (codes "eoh") lines (macro_at Eom pair) refl,
-    ) refl
-more_by_stage lines Eoh pair =
-    rw (
-      other_stage (codes "connect") lines (macro_at Eoh pair) refl,
-      other_stage (codes "helo") lines (macro_at Eoh pair) refl,
-      other_stage (codes "mail") lines (macro_at Eoh pair) refl,
-      other_stage (codes "rcpt") lines (macro_at Eoh pair) refl,
-      other_stage (codes "data") lines (macro_at Eoh pair) refl,
-      other_stage (codes "eom") lines (macro_at Eoh pair) refl,
-      same_stage (codes "eoh") lines (macro_at Eoh pair) refl,
-    ) refl
+abbrev pairs_by : List MacroLine → MacroStage → List Pair
+pairs_by lines stage = filter_map (of_stage stage) lines
+
+more_at : (lines : List MacroLine) (line : MacroLine) (stage : MacroStage)
+    → pairs_by (lines ++ line ∷ []) stage
+    ≡ (if is_stage line.stage stage then macros_at (macros_of_lines lines) stage ++ line.pair ∷ [] else macros_at (macros_of_lines lines) stage)
+more_at lines line stage =
+    more_if stage lines line (is_stage line.stage stage) refl
+    ∙ ap (λ (pairs : List Pair). if is_stage line.stage stage then pairs ++ line.pair ∷ [] else pairs) (sym (macros_at-by (pairs_by lines) stage))
 
 pub macros_more : (lines : List MacroLine) (line : MacroLine) → macros_of_lines (lines ++ line ∷ []) ≡ with_macro line.stage line.pair (macros_of_lines lines)
-macros_more lines line = more_by_stage lines line.stage line.pair
+macros_more lines line =
+    by_stage-same (pairs_by (lines ++ line ∷ []))
+    (λ stage. if is_stage line.stage stage then macros_at (macros_of_lines lines) stage ++ line.pair ∷ [] else macros_at (macros_of_lines lines) stage)
+    (more_at lines line)
 
 -- ---- the first macros fit where all do
 
@@ -126,22 +72,22 @@ fits_prefix command xs ys h =
     let sum : length (flat_map pair (xs ++ ys)) ≡ length (flat_map pair xs) + length (flat_map pair ys) = ap length both ∙ len in
     record { fields = all_prefix PairFits xs ys h.fields; payload = omega (arith, whole, sum) }
 
-stage_prefix : (command : ℕ) (word : List ℕ) (lines more : List MacroLine) → Fits (commands.Macro command (filter_map (of_stage word) (lines ++ more)))
-    → Fits (commands.Macro command (filter_map (of_stage word) lines))
-stage_prefix command word lines more h =
-    fits_prefix command (filter_map (of_stage word) lines) (filter_map (of_stage word) more)
-    (subst (λ pairs. Fits (commands.Macro command pairs)) (filter_map-append (of_stage word) lines more) h)
+stage_prefix : (command : ℕ) (stage : MacroStage) (lines more : List MacroLine) → Fits (commands.Macro command (pairs_by (lines ++ more) stage))
+    → Fits (commands.Macro command (pairs_by lines stage))
+stage_prefix command stage lines more h =
+    fits_prefix command (pairs_by lines stage) (pairs_by more stage)
+    (subst (λ pairs. Fits (commands.Macro command pairs)) (filter_map-append (of_stage stage) lines more) h)
 
 macros_prefix : (lines more : List MacroLine) → MacrosFit (macros_of_lines (lines ++ more)) → MacrosFit (macros_of_lines lines)
 macros_prefix lines more h =
     record {
-      connect = stage_prefix 67 (codes "connect") lines more h.connect;
-      helo = stage_prefix 72 (codes "helo") lines more h.helo;
-      mail = stage_prefix 77 (codes "mail") lines more h.mail;
-      rcpt = stage_prefix 82 (codes "rcpt") lines more h.rcpt;
-      data_cmd = stage_prefix 84 (codes "data") lines more h.data_cmd;
-      eoh = stage_prefix 78 (codes "eoh") lines more h.eoh;
-      eom = stage_prefix 69 (codes "eom") lines more h.eom;
+      connect = stage_prefix 67 Connect lines more h.connect;
+      helo = stage_prefix 72 Helo lines more h.helo;
+      mail = stage_prefix 77 Mail lines more h.mail;
+      rcpt = stage_prefix 82 Rcpt lines more h.rcpt;
+      data_cmd = stage_prefix 84 DataCmd lines more h.data_cmd;
+      eoh = stage_prefix 78 Eoh lines more h.eoh;
+      eom = stage_prefix 69 Eom lines more h.eom;
     }
 
 -- ---- the macro that comes next fits

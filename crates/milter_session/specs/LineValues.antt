@@ -137,7 +137,7 @@ path_of text (first ∷ words) = if is_keyword text first then path_with (texts_
 abbrev pub is_name : List ℕ → Bool
 is_name name = nat_lt 0 (length name) && list_all (λ byte. nat_le 33 byte && (nat_le byte 126 && not (byte == 58))) name
 
--- a header field, if its name may stand in a session file
+-- a header field, if its name may be in a session file
 abbrev pub if_named : Option Header → Option Header
 if_named None = None
 if_named (Some header) = if is_name header.name then Some header else None

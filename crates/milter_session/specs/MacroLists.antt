@@ -1,11 +1,44 @@
--- The macros of all stages, one more at a time.
-use Rattle.std.specs.Prelude.{[], ◌∷◌, ◌++◌}
+-- The macros of all stages, by the stage.
+use Rattle.std.specs.Prelude.{Bool, List, [], ◌∷◌, ◌++◌, if◌then◌else◌}
+use Rattle.std.specs.Str.{bytes_eq}
 use Rattle.milter_wire.specs.declared.pair.Pair.{Pair}
 use Rattle.milter_mail.specs.declared.macros.Macros.{Macros}
 use Rattle.milter_session.specs.declared.session_macros.MacroStage.{MacroStage}
 use Rattle.milter_session.specs.declared.session_macros.MacroStage.TheVariants.{Connect, Helo, Mail, Rcpt, DataCmd, Eom}
 use Rattle.milter_session.specs.declared.session_macros.MacroStage.TheVariants.{Eoh}
 use Rattle.milter_session.specs.declared.session_macros.MacroLists.{MacroLists}
+use Rattle.milter_session.specs.LineValues.{stage_word}
+
+-- the macros of a stage
+abbrev pub macros_at : Macros → MacroStage → List Pair
+macros_at m Connect = m.connect
+macros_at m Helo = m.helo
+macros_at m Mail = m.mail
+macros_at m Rcpt = m.rcpt
+macros_at m DataCmd = m.data_cmd
+macros_at m Eom = m.eom
+macros_at m Eoh = m.eoh
+
+-- the macros of all stages, by those of each
+abbrev pub by_stage : (MacroStage → List Pair) → Macros
+by_stage pairs =
+    record {
+      connect = pairs Connect;
+      helo = pairs Helo;
+      mail = pairs Mail;
+      rcpt = pairs Rcpt;
+      data_cmd = pairs DataCmd;
+      eom = pairs Eom;
+      eoh = pairs Eoh;
+    }
+
+abbrev pub is_stage : MacroStage → MacroStage → Bool
+is_stage stage other = bytes_eq (stage_word stage) (stage_word other)
+
+-- one more macro of a stage, as its last
+abbrev pub with_macro : MacroStage → Pair → Macros → Macros
+with_macro stage pair m =
+    by_stage (λ other. if is_stage stage other then macros_at m other ++ pair ∷ [] else macros_at m other)
 
 abbrev pub macros_of : MacroLists → Macros
 macros_of lists =
@@ -17,77 +50,4 @@ macros_of lists =
       data_cmd = lists.data_cmd;
       eom = lists.eom;
       eoh = lists.eoh;
-    }
-
--- one more macro of a stage, as its last
-abbrev pub with_macro : MacroStage → Pair → Macros → Macros
-with_macro Connect pair m =
-    record {
-      connect = m.connect ++ pair ∷ [];
-      helo = m.helo;
-      mail = m.mail;
-      rcpt = m.rcpt;
-      data_cmd = m.data_cmd;
-      eom = m.eom;
-      eoh = m.eoh;
-    }
-with_macro Helo pair m =
-    record {
-      connect = m.connect;
-      helo = m.helo ++ pair ∷ [];
-      mail = m.mail;
-      rcpt = m.rcpt;
-      data_cmd = m.data_cmd;
-      eom = m.eom;
-      eoh = m.eoh;
-    }
-with_macro Mail pair m =
-    record {
-      connect = m.connect;
-      helo = m.helo;
-      mail = m.mail ++ pair ∷ [];
-      rcpt = m.rcpt;
-      data_cmd = m.data_cmd;
-      eom = m.eom;
-      eoh = m.eoh;
-    }
-with_macro Rcpt pair m =
-    record {
-      connect = m.connect;
-      helo = m.helo;
-      mail = m.mail;
-      rcpt = m.rcpt ++ pair ∷ [];
-      data_cmd = m.data_cmd;
-      eom = m.eom;
-      eoh = m.eoh;
-    }
-with_macro DataCmd pair m =
-    record {
-      connect = m.connect;
-      helo = m.helo;
-      mail = m.mail;
-      rcpt = m.rcpt;
-      data_cmd = m.data_cmd ++ pair ∷ [];
-      eom = m.eom;
-      eoh = m.eoh;
-    }
-with_macro Eom pair m =
-    record {
-      connect = m.connect;
-      helo = m.helo;
-      mail = m.mail;
-      rcpt = m.rcpt;
-      data_cmd = m.data_cmd;
-      eom = m.eom ++ pair ∷ [];
-      eoh = m.eoh;
-    }
-with_macro Eoh pair m =
-    record {
-      connect = m.connect;
-      helo = m.helo;
-      mail = m.mail;
-      rcpt = m.rcpt;
-      data_cmd = m.data_cmd;
-      eom = m.eom;
-      eoh = m.eoh ++ pair ∷ [];
     }

@@ -20,7 +20,8 @@ pub path_begins : (text : List ℕ) (words : List Word) (x : Path) → path_of t
 path_begins text [] x e = absurd cc
 path_begins text (first ∷ words) x e = begins_if (is_keyword text first) (path_with (texts_of words)) x e
 
-pub header_begins : (words : List Word) (x : Header) → header_of words ≡ Some x → begins (codes "header") words ≡ true
+pub header_begins : (words : List Word) (x : Header) → header_of words ≡ Some x
+    → begins (codes "header") words ≡ true
 header_begins (first ∷ name ∷ value ∷ []) x e =
     (and_parts (is_keyword (codes "header") first) (name.quoted && (value.quoted && is_name name.text))
     (begins_if (is_keyword (codes "header") first && (name.quoted && (value.quoted && is_name name.text)))
@@ -31,7 +32,8 @@ pub piece_begins : (words : List Word) (x : List ℕ) → piece_of words ≡ Som
 piece_begins (first ∷ text ∷ []) x e = begins_if (is_keyword (codes "body") first) (text_of text) x e
 piece_begins _ x e = absurd cc
 
-pub macro_begins : (words : List Word) (x : MacroLine) → macro_of words ≡ Some x → begins (codes "macro") words ≡ true
+pub macro_begins : (words : List Word) (x : MacroLine) → macro_of words ≡ Some x
+    → begins (codes "macro") words ≡ true
 macro_begins (first ∷ stage ∷ name ∷ value ∷ []) x e =
     (and_parts (is_keyword (codes "macro") first) (name.quoted && value.quoted)
     (begins_if (is_keyword (codes "macro") first && (name.quoted && value.quoted))

@@ -2,7 +2,6 @@
 -- of its bytes here.
 use Rattle.std.specs.Prelude.{◌≡◌, ℕ, List, [], ◌∷◌, ◌++◌, codes, Option, None, Some, if◌then◌else◌}
 use Rattle.std.specs.List.{AllZip, concat, filter_map}
-use Rattle.std.specs.Str.{bytes_eq}
 use Rattle.milter_wire.specs.declared.pair.Pair.{Pair}
 use Rattle.milter_mail.specs.declared.macros.Macros.{Macros}
 use Rattle.milter_text.specs.declared.word.Word.{Word}
@@ -10,8 +9,10 @@ use Rattle.milter_text.specs.Lines.{contents}
 use Rattle.milter_mail.specs.MailObject.{MailObject}
 use Rattle.milter_mail.specs.MailSession.{IsSession, MailSession}
 use Rattle.milter_session.specs.declared.session_macros.MacroLine.{MacroLine}
+use Rattle.milter_session.specs.declared.session_macros.MacroStage.{MacroStage}
 use Rattle.milter_session.specs.LineValues.{client_of, end_line, header_of, helo_of, macro_of, message_line, path_of}
-use Rattle.milter_session.specs.LineValues.{piece_of, stage_word}
+use Rattle.milter_session.specs.LineValues.{piece_of}
+use Rattle.milter_session.specs.MacroLists.{by_stage, is_stage}
 use Rattle.milter_text.specs.Words.{HasWords}
 
 -- the line is in words, and their value is this one
@@ -26,21 +27,13 @@ AllHaveValues value_of lines values = AllZip (LineHasValue value_of) lines value
 
 -- ---- macros
 
--- the macros of a stage, in order
-abbrev pub of_stage : List ℕ → MacroLine → Option Pair
-of_stage stage line = if bytes_eq (stage_word line.stage) stage then Some line.pair else None
+-- the macro of a line, if it is one of the stage
+abbrev pub of_stage : MacroStage → MacroLine → Option Pair
+of_stage stage line = if is_stage line.stage stage then Some line.pair else None
 
+-- the macros of each stage, in the order of their lines
 abbrev pub macros_of_lines : List MacroLine → Macros
-macros_of_lines lines =
-    record {
-      connect = filter_map (of_stage (codes "connect")) lines;
-      helo = filter_map (of_stage (codes "helo")) lines;
-      mail = filter_map (of_stage (codes "mail")) lines;
-      rcpt = filter_map (of_stage (codes "rcpt")) lines;
-      data_cmd = filter_map (of_stage (codes "data")) lines;
-      eom = filter_map (of_stage (codes "eom")) lines;
-      eoh = filter_map (of_stage (codes "eoh")) lines;
-    }
+macros_of_lines lines = by_stage (λ stage. filter_map (of_stage stage) lines)
 
 -- ---- messages and sessions
 

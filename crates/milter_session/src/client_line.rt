@@ -1,5 +1,5 @@
-//! The client in its line of a session file. A fault is the first of these that holds: the words don't have the line's
-//! form, a text holds a NUL, or the packet would be too long.
+//! The client in its line of a session file. A fault is the first of these that is so: the words don't have the line's
+//! form, a text has a NUL, or the packet would be too long.
 
 ghost use Rattle.std.specs.Prelude.{◌≡◌, ◌↔◌, ◌-◌, ◌^◌, min, IfErr, IfOk, IsTrue, List, None, Some, ℕ, if◌then◌else◌};
 ghost use Rattle.std.specs.Prelude.{option_map};

@@ -139,7 +139,8 @@ fn first_unskipped(bytes: &[u8], before: u64) -> LineCursor<'_>
 
 /// The content of the first line, and the bytes after the line; none where there are no bytes.
 fn first_line(bytes: &[u8]) -> Option<(&[u8], &[u8])>
-    ensures line { MatchOption result (bytes.now ≡ []) (λ x. all_contents bytes.now ≡ x.0.now ∷ all_contents x.1.now) }
+    ensures line { MatchOption result (bytes.now ≡ [])
+        (λ x. all_contents bytes.now ≡ x.0.now ∷ all_contents x.1.now) }
     ensures shorter { IfSome result (λ x. length x.1.now < length bytes.now) }
 {
     if let Some(end) = first_end(bytes) {

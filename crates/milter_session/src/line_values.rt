@@ -1,5 +1,5 @@
-//! The values of the lines of a session file, each alone. A fault is the first of these that holds: the words don't
-//! have the line's form, a text holds a NUL, a header field has no name, or the packet would be too long.
+//! The values of the lines of a session file, each alone. A fault is the first of these that is so: the words don't
+//! have the line's form, a text has a NUL, a header field has no name, or the packet would be too long.
 
 ghost use Rattle.std.specs.Prelude.{◌≡◌, ◌↔◌, ◌==◌, ◌&&◌, nat_le, not, All, IfErr, IfOk, IsTrue, List, MatchResult};
 ghost use Rattle.std.specs.Prelude.{None, Some, ℕ, map, option_map};
@@ -86,7 +86,7 @@ fn are_quoted(words: &[Word]) -> bool
     words.iter().all(|word| word.quoted)
 }
 
-/// Whether no text of the words holds a NUL.
+/// Whether no text of the words has a NUL.
 fn have_no_nul(words: &[Word]) -> bool
     ensures { IsTrue result ↔ All (λ word. HasNoNul word.text) words.now }
 {
@@ -157,14 +157,14 @@ fn is_name(name: &Text) -> bool
     }
 }
 
-/// Whether each of the bytes may stand in the name of a header field.
+/// Whether each of the bytes may be in the name of a header field.
 fn are_name_bytes(bytes: &[u8]) -> bool
     ensures { result ≡ list_all (λ byte. nat_le 33 byte && (nat_le byte 126 && not (byte == 58))) bytes.now }
 {
     bytes.iter().all(|byte| is_name_byte(*byte))
 }
 
-/// Whether it may stand in the name of a header field.
+/// Whether it may be in the name of a header field.
 fn is_name_byte(byte: u8) -> bool
     ensures { result ≡ (nat_le 33 byte && (nat_le byte 126 && not (byte == 58))) }
 {

@@ -30,7 +30,7 @@ pub enum SessionFault {
     /// A packet would be too long, or a message that ends here weighs too much.
     #[error("line {0}: too large")]
     TooLarge(u64),
-    /// A text holds a NUL, and isn't one of a body.
+    /// A text has a NUL, and isn't one of a body.
     #[error("line {0}: NUL")]
     Nul(u64),
     /// The memory that was asked for was refused.

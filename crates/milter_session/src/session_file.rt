@@ -27,7 +27,7 @@ use std::alloc::Global;
 /// Its lines are words. In this order: `client U HOST` or `client F HOST PORT ADDRESS` with the family `L`, `4` or `6`;
 /// `helo NAME`; any number of `macro STAGE NAME VALUE`; any number of messages. A message is the lines `message`;
 /// `sender ADDRESS PARAMETER ..`; any number of `recipient ADDRESS PARAMETER ..`, of `header NAME VALUE` and of
-/// `body TEXT`, whose texts are joined; and `end`. Texts stand in quotes, and all else is plain.
+/// `body TEXT`, whose texts are joined; and `end`. Texts are in quotes, and all else is plain.
 ///
 /// The fault is at the first line that isn't of this form, or by which the session would be none: out of memory aside,
 /// there is one exactly where the file is parsed as no session. Its line is one of the file, or the one after the last.

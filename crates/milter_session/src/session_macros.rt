@@ -6,8 +6,8 @@ ghost use Rattle.milter_wire.specs.Command.{Fits};
 ghost use Rattle.milter_wire.specs.Layout.{PairFits, pair};
 ghost use Rattle.milter_mail.specs.MailSession.{MacrosFit};
 ghost use Rattle.milter_session.specs.declared.session_fault.SessionFault.TheVariants as faults;
-ghost use Rattle.milter_session.specs.LineValues.{macro_of, macro_with, stage_of};
-ghost use Rattle.milter_session.specs.MacroLists.{macros_of, with_macro};
+ghost use Rattle.milter_session.specs.LineValues.{macro_of, macro_with, stage_of, stage_word};
+ghost use Rattle.milter_session.specs.MacroLists.{macros_at, macros_of, with_macro};
 ghost use Rattle.milter_session.specs.SessionFault.{IsAt, Reads};
 ghost use Rattle.milter_session.specs.SessionFile.{macros_of_lines};
 ghost use Rattle.milter_session.specs.Openings.{macro_begins};
@@ -32,6 +32,38 @@ pub(crate) enum MacroStage {
     DataCmd,
     Eom,
     Eoh,
+}
+
+impl MacroStage {
+    /// The word of the stage in a session file.
+    pub(crate) fn word(self) -> &'static [u8]
+        ensures { result.now ≡ stage_word self }
+    {
+        match self {
+            MacroStage::Connect => b"connect",
+            MacroStage::Helo => b"helo",
+            MacroStage::Mail => b"mail",
+            MacroStage::Rcpt => b"rcpt",
+            MacroStage::DataCmd => b"data",
+            MacroStage::Eom => b"eom",
+            MacroStage::Eoh => b"eoh",
+        }
+    }
+
+    /// The macros of the stage.
+    pub(crate) fn pairs_of(self, macros: &Macros) -> &[Pair]
+        ensures { result.now ≡ macros_at macros.now self }
+    {
+        match self {
+            MacroStage::Connect => macros.connect.as_slice(),
+            MacroStage::Helo => macros.helo.as_slice(),
+            MacroStage::Mail => macros.mail.as_slice(),
+            MacroStage::Rcpt => macros.rcpt.as_slice(),
+            MacroStage::DataCmd => macros.data_cmd.as_slice(),
+            MacroStage::Eom => macros.eom.as_slice(),
+            MacroStage::Eoh => macros.eoh.as_slice(),
+        }
+    }
 }
 
 /// A macro, and the stage that has it.
@@ -117,7 +149,8 @@ impl MacroLists {
     fn push(&mut self, stage: MacroStage, pair: Pair, line: u64) -> Result<(), SessionFault>
         requires { PairFits pair }
         ensures ok { OnOk result (macros_of self.new ≡ with_macro stage pair (macros_of self.old)) }
-        ensures err { MacrosFit (with_macro stage pair (macros_of self.old)) → IfErr result (λ e. e ≡ faults.NoMemory) }
+        ensures err { MacrosFit (with_macro stage pair (macros_of self.old)) →
+            IfErr result (λ e. e ≡ faults.NoMemory) }
         ensures at { IfErr result (λ e. IsAt line e) }
     {
         match stage {

@@ -3,3 +3,4 @@ pub mod WordBounds
 pub mod WordLaws
 pub mod RoundTrip
 pub mod Writing
+pub mod LineLaws

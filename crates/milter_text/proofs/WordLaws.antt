@@ -120,7 +120,7 @@ begins-shorter word rest bytes h =
 
 -- ---- a line
 
--- the first of the words stands behind the blanks
+-- the first of the words comes after the blanks
 first_word : (line : List ℕ) (word : Word) (words : List Word) (h : HasWords line (word ∷ words)) → BeginsWith word h.2 (past_blanks line)
 first_word line word words h =
     let same : past_blanks line ≡ h.1 = ap past_blanks h.4 ∙ past_blanks-append h.0 h.1 h.3 ∙ begins_past word h.2 h.1 h.5 in

@@ -8,7 +8,7 @@ use Rattle.std.specs.Io.KnownBytes.{Appends, Keeps}
 use Rattle.std.proofs.KnownBytes.{Appends-kept, Appends-nil, Appends-trans}
 use Rattle.milter_text.specs.Writing.{WritesPrefix}
 use Rattle.milter_text.specs.declared.text_fault.TextFault.{TextFault}
-use Rattle.milter_text.specs.TextWriter.{Puts, WritesAllBut, buffered, written_bytes}
+use Rattle.milter_text.specs.TextWriter.{Advances, Puts, WritesAllBut, buffered, written_bytes}
 use Rattle.milter_text.specs.declared.text_writer.TextWriter.{TextWriter}
 
 pub WritesAllBut-none : (text : List ℕ) (w : Option (List ℕ)) → WritesAllBut text text w w
@@ -31,20 +31,20 @@ WritesPrefix-kept text rest w v u s k = record { written = s.written; unwritten 
 -- ---- one text after the other
 
 none_put : {W : Type 0} (contents : W → Option (List ℕ)) (t : TextWriter W) → Puts contents [] t t (Ok tt)
-unfolding Puts
-none_put contents t = record { written = []; whole = sym (append-nil (buffered t)); appended = Appends-nil (written_bytes contents t) }
+unfolding Advances
+none_put contents t = (refl, record { written = []; whole = sym (append-nil (buffered t)); appended = Appends-nil (written_bytes contents t) })
 
-both_put : {W : Type 0} (contents : W → Option (List ℕ)) (old mid new : TextWriter W) (r : Result Unit TextFault) (first second : List ℕ)
-    → Puts contents first old mid (Ok tt) → Puts contents second mid new r → Puts contents (first ++ second) old new r
-unfolding Puts
-both_put contents old mid new (Ok u) first second p q = record {
+both_advance : {W : Type 0} (contents : W → Option (List ℕ)) (old mid new : TextWriter W) (r : Result Unit TextFault) (first second : List ℕ)
+    → Advances contents first old mid (Ok tt) → Advances contents second mid new r → Advances contents (first ++ second) old new r
+unfolding Advances
+both_advance contents old mid new (Ok u) first second p q = record {
   written = p.written ++ q.written;
   whole =
       append_assoc p.written q.written (buffered new) ∙ ap (λ (x : List ℕ). p.written ++ x) q.whole ∙ sym (append_assoc p.written (buffered mid) second)
       ∙ ap (λ (x : List ℕ). x ++ second) p.whole ∙ append_assoc (buffered old) first second;
   appended = Appends-trans (written_bytes contents old) (written_bytes contents mid) (written_bytes contents new) p.written q.written p.appended q.appended;
 }
-both_put contents old mid new (Err e) first second p q = record {
+both_advance contents old mid new (Err e) first second p q = record {
   written = p.written ++ q.written;
   unwritten = q.unwritten;
   whole =
@@ -53,16 +53,24 @@ both_put contents old mid new (Err e) first second p q = record {
   appended = Appends-trans (written_bytes contents old) (written_bytes contents mid) (written_bytes contents new) p.written q.written p.appended q.appended;
 }
 
-first_fails : {W : Type 0} (contents : W → Option (List ℕ)) (old new : TextWriter W) (r : Result Unit TextFault) (e : TextFault) (first rest : List ℕ)
-    → IsErr r → Puts contents first old new (Err e) → Puts contents (first ++ rest) old new r
-unfolding Puts
-first_fails contents old new (Ok u) e first rest fails p = absurd (cc)
-first_fails contents old new (Err f) e first rest fails p = record {
+first_stops : {W : Type 0} (contents : W → Option (List ℕ)) (old new : TextWriter W) (r : Result Unit TextFault) (e : TextFault) (first rest : List ℕ)
+    → IsErr r → Advances contents first old new (Err e) → Advances contents (first ++ rest) old new r
+unfolding Advances
+first_stops contents old new (Ok u) e first rest fails p = absurd (cc)
+first_stops contents old new (Err f) e first rest fails p = record {
   written = p.written;
   unwritten = p.unwritten ++ rest;
   whole = sym (append_assoc p.written p.unwritten rest) ∙ ap (λ (x : List ℕ). x ++ rest) p.whole ∙ append_assoc (buffered old) first rest;
   appended = p.appended;
 }
+
+both_put : {W : Type 0} (contents : W → Option (List ℕ)) (old mid new : TextWriter W) (r : Result Unit TextFault) (first second : List ℕ)
+    → Puts contents first old mid (Ok tt) → Puts contents second mid new r → Puts contents (first ++ second) old new r
+both_put contents old mid new r first second p q = (q.0 ∙ p.0, both_advance contents old mid new r first second p.1 q.1)
+
+first_fails : {W : Type 0} (contents : W → Option (List ℕ)) (old new : TextWriter W) (r : Result Unit TextFault) (e : TextFault) (first rest : List ℕ)
+    → IsErr r → Puts contents first old new (Err e) → Puts contents (first ++ rest) old new r
+first_fails contents old new r e first rest fails p = (p.0, first_stops contents old new r e first rest fails p.1)
 
 -- ---- a text that is put part by part
 
@@ -104,30 +112,38 @@ Progress-all {contents} {old} {new} p none =
 
 -- ---- a text that is put where the buffer is empty
 
-pub Puts-appends : {W : Type 0} (contents : W → Option (List ℕ)) (text : List ℕ) (old new : TextWriter W) (r : Result Unit TextFault) → Puts contents text old new r
+all_advance : {W : Type 0} (contents : W → Option (List ℕ)) (text : List ℕ) (old new : TextWriter W) (r : Result Unit TextFault) → Advances contents text old new r
     → buffered old ≡ [] → OnOk r (buffered new ≡ []) → OnOk r (Appends (written_bytes contents old) (written_bytes contents new) text)
-unfolding Puts
-Puts-appends contents text old new (Ok u) p empty flushed =
+unfolding Advances
+all_advance contents text old new (Ok u) p empty flushed =
     let all : p.written ≡ text = sym (append-nil p.written) ∙ ap (λ (x : List ℕ). p.written ++ x) (sym flushed) ∙ p.whole ∙ ap (λ (x : List ℕ). x ++ text) empty in
     subst (Appends (written_bytes contents old) (written_bytes contents new)) all p.appended
-Puts-appends contents text old new (Err e) p empty flushed = tt
+all_advance contents text old new (Err e) p empty flushed = tt
 
-pub Puts-prefix : {W : Type 0} (contents : W → Option (List ℕ)) (text : List ℕ) (old new : TextWriter W) (r : Result Unit TextFault) → Puts contents text old new r
+prefix_advances : {W : Type 0} (contents : W → Option (List ℕ)) (text : List ℕ) (old new : TextWriter W) (r : Result Unit TextFault) → Advances contents text old new r
     → buffered old ≡ [] → OnErr r (WritesPrefix text (written_bytes contents old) (written_bytes contents new))
-unfolding Puts
-Puts-prefix contents text old new (Ok u) p empty = tt
-Puts-prefix contents text old new (Err e) p empty = record {
+unfolding Advances
+prefix_advances contents text old new (Ok u) p empty = tt
+prefix_advances contents text old new (Err e) p empty = record {
   written = p.written;
   unwritten = p.unwritten;
   whole = p.whole ∙ ap (λ (x : List ℕ). x ++ text) empty;
   appended = p.appended;
 }
 
+pub Puts-appends : {W : Type 0} (contents : W → Option (List ℕ)) (text : List ℕ) (old new : TextWriter W) (r : Result Unit TextFault) → Puts contents text old new r
+    → buffered old ≡ [] → OnOk r (buffered new ≡ []) → OnOk r (Appends (written_bytes contents old) (written_bytes contents new) text)
+Puts-appends contents text old new r p empty flushed = all_advance contents text old new r p.1 empty flushed
+
+pub Puts-prefix : {W : Type 0} (contents : W → Option (List ℕ)) (text : List ℕ) (old new : TextWriter W) (r : Result Unit TextFault) → Puts contents text old new r
+    → buffered old ≡ [] → OnErr r (WritesPrefix text (written_bytes contents old) (written_bytes contents new))
+Puts-prefix contents text old new r p empty = prefix_advances contents text old new r p.1 empty
+
 -- ---- the parts of a text
 
 -- a list that is cut in two
-pub flat_map-cut : {X : Type 0} (f : X → List ℕ) (n : ℕ) (xs front back : List X) → front ≡ take n xs → back ≡ drop n xs → flat_map f xs ≡ flat_map f front ++ flat_map f back
-flat_map-cut f n xs front back is_front is_back = rw (is_front, is_back) (ap (flat_map f) (sym (take-append-drop n xs)) ∙ flat_map-append f (take n xs) (drop n xs))
+pub flat_map-cut : {X : Type 0} (f : X → List ℕ) (n : ℕ) (xs first rest : List X) → first ≡ take n xs → rest ≡ drop n xs → flat_map f xs ≡ flat_map f first ++ flat_map f rest
+flat_map-cut f n xs first rest is_first is_rest = rw (is_first, is_rest) (ap (flat_map f) (sym (take-append-drop n xs)) ∙ flat_map-append f (take n xs) (drop n xs))
 
 -- the next element of a list
 pub flat_map-next : {X : Type 0} (f : X → List ℕ) (xs : List X) (i : ℕ) (x : X) → i < length xs → x ≡ get_or xs i x → flat_map f (drop i xs) ≡ f x ++ flat_map f (drop (i + 1) xs)

@@ -23,11 +23,16 @@ pub record WritesAllBut (text rest : List ℕ) (before after : Option (List ℕ)
   pub whole : written ++ rest ≡ text
   pub appended : Appends before after written
 
--- The text was put: what was in the buffer and the text are written but for what is in the buffer now, or a prefix of
--- them is written where the result is an error.
-unfoldable pub Puts : {W : Type 0} → (W → Option (List ℕ)) → List ℕ → TextWriter W → TextWriter W
+-- What was in the buffer and the text are written but for what is in the buffer now, or a prefix of them is written
+-- where the result is an error.
+unfoldable pub Advances : {W : Type 0} → (W → Option (List ℕ)) → List ℕ → TextWriter W → TextWriter W
     → Result Unit TextFault → Type 0
-Puts contents text old new (Ok u) =
+Advances contents text old new (Ok u) =
     WritesAllBut (buffered old ++ text) (buffered new) (written_bytes contents old) (written_bytes contents new)
-Puts contents text old new (Err e) =
+Advances contents text old new (Err e) =
     WritesPrefix (buffered old ++ text) (written_bytes contents old) (written_bytes contents new)
+
+-- the text was put, and the text writer has the same writer below as before
+abbrev pub Puts : {W : Type 0} → (W → Option (List ℕ)) → List ℕ → TextWriter W → TextWriter W → Result Unit TextFault
+    → Type 0
+Puts contents text old new result = (writer_name new ≡ writer_name old) × Advances contents text old new result

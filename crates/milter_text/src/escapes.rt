@@ -19,7 +19,7 @@ pub(crate) fn take_byte(bytes: &[u8]) -> Option<(u8, &[u8])>
     }
 }
 
-/// The byte that a backslash and this character stand for.
+/// The byte that a backslash and this character encode.
 fn escape_of(character: u8) -> Option<u8>
     ensures { result ≡ escape_of character }
 {

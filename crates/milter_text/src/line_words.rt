@@ -14,9 +14,9 @@ use std::alloc::Global;
 /// The words of a line, which has no LF. They are plain or quoted, with one or more blanks (0x20) between
 /// them; blanks at both ends are ignored. A plain word is one or more of the bytes 0x21 to 0x7E but for `"`. A quoted
 /// word is a `"`, a body and a `"`, and a blank or the end of the line follows. In its body the bytes 0x20 to 0x7E but
-/// for `"` and `\`, and 0x80 to 0xFF, stand for themselves, and `\"`, `\\`, `\n`, `\r`, `\t` and `\xHH`, with two
-/// hexadecimal digits of either case, for a byte. The fault is `BadWord` where the line is of any other form, and then
-/// a word before may have taken memory.
+/// for `"` and `\`, and 0x80 to 0xFF, are written as themselves, and `\"`, `\\`, `\n`, `\r`, `\t` and `\xHH`, with
+/// two hexadecimal digits of either case, encode a byte. The fault is `BadWord` where the line is of any other form,
+/// and then a word before may have taken memory.
 pub fn words(alloc: Global, line: &[u8]) -> Result<Vec<Word>, WordFault>
     // What is read are the words that the line has.
     ensures found { IfOk result (λ words. HasWords line.now words.items) }
@@ -100,7 +100,7 @@ fn first_blank(bytes: &[u8]) -> Option<usize>
     bytes.iter().position(|byte| *byte == b' ')
 }
 
-/// Whether each of the bytes may stand in a plain word.
+/// Whether each of the bytes may be in a plain word.
 fn are_plain(bytes: &[u8]) -> bool
     ensures { result ≡ list_all is_plain bytes.now }
 {
@@ -130,14 +130,14 @@ fn take_quoted(alloc: Global, body: &[u8]) -> Result<(Word, &[u8]), WordFault>
     Ok((word, after))
 }
 
-/// Whether a word may stand before these bytes.
+/// Whether a word may end before these bytes.
 fn is_after_word(bytes: &[u8]) -> bool
     ensures { IsTrue result ↔ IsAfterWord bytes.now }
 {
     matches!(bytes, [] | [b' ', ..])
 }
 
-/// Whether the byte may stand in a plain word.
+/// Whether the byte may be in a plain word.
 fn is_plain(byte: u8) -> bool
     ensures { result ≡ is_plain byte }
 {

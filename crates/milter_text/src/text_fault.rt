@@ -2,7 +2,7 @@
 
 ghost use Rattle.std.specs.Prelude.{◌≡◌};
 ghost use Rattle.milter_text.specs.declared.text_fault.TextFault.TheVariants as faults;
-ghost use Rattle.milter_text.specs.TextFault.{number_of};
+ghost use Rattle.milter_text.specs.TextFault.{text_fault_number};
 
 use milter_wire::NoMemory;
 use std::alloc::AllocError;
@@ -23,7 +23,7 @@ pub enum TextFault {
 impl TextFault {
     /// The fault's number: 1 for `Write`, 2 for `NoMemory`.
     pub fn number(&self) -> u8
-        ensures { result ≡ number_of self.now }
+        ensures { result ≡ text_fault_number self.now }
     {
         match self {
             TextFault::Write => 1,

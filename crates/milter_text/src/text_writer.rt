@@ -41,10 +41,9 @@ impl<'w, W: Write> TextWriter<'w, W> {
     }
 
     /// Puts these bytes.
-    #[tactic(auto, unfolding(crate::specs::TextWriter::Puts))]
+    #[tactic(auto, unfolding(crate::specs::TextWriter::Advances))]
     pub fn put(&mut self, bytes: &[u8]) -> Result<(), TextFault>
-        ensures puts { Puts W.contents bytes.now self.old self.new result }
-        ensures same_writer { writer_name self.new ≡ writer_name self.old }
+        ensures { Puts W.contents bytes.now self.old self.new result }
     {
         self.buffer.extend_from_slice(bytes)?;
         self.flush_if_full()
@@ -52,18 +51,16 @@ impl<'w, W: Write> TextWriter<'w, W> {
 
     /// Puts the text in quotes, as [`quote`](crate::quote) writes it.
     pub fn put_quoted(&mut self, text: &[u8]) -> Result<(), TextFault>
-        ensures puts { Puts W.contents (quoted text.now) self.old self.new result }
-        ensures same_writer { writer_name self.new ≡ writer_name self.old }
+        ensures { Puts W.contents (quoted text.now) self.old self.new result }
     {
         self.put(b"\"")?;
         self.put_escaped(text)?;
         self.put(b"\"")
     }
 
-    /// Puts the bytes as they stand between quotes, chunk by chunk.
+    /// Puts the bytes as they are written between quotes, chunk by chunk.
     fn put_escaped(&mut self, bytes: &[u8]) -> Result<(), TextFault>
-        ensures puts { Puts W.contents (flat_map quoted_byte bytes.now) self.old self.new result }
-        ensures same_writer { writer_name self.new ≡ writer_name self.old }
+        ensures { Puts W.contents (flat_map quoted_byte bytes.now) self.old self.new result }
     {
         let mut rest = bytes;
         while !rest.is_empty() {
@@ -74,21 +71,19 @@ impl<'w, W: Write> TextWriter<'w, W> {
         Ok(())
     }
 
-    /// Puts the bytes as they stand between quotes.
-    #[tactic(auto, unfolding(crate::specs::TextWriter::Puts))]
+    /// Puts the bytes as they are written between quotes.
+    #[tactic(auto, unfolding(crate::specs::TextWriter::Advances))]
     fn put_chunk(&mut self, chunk: &[u8]) -> Result<(), TextFault>
-        ensures puts { Puts W.contents (flat_map quoted_byte chunk.now) self.old self.new result }
-        ensures same_writer { writer_name self.new ≡ writer_name self.old }
+        ensures { Puts W.contents (flat_map quoted_byte chunk.now) self.old self.new result }
     {
         put_escaped(&mut *self.buffer, chunk)?;
         self.flush_if_full()
     }
 
     /// Writes the bytes in the buffer, where there are many.
-    #[tactic(auto, unfolding(crate::specs::TextWriter::Puts))]
+    #[tactic(auto, unfolding(crate::specs::TextWriter::Advances))]
     fn flush_if_full(&mut self) -> Result<(), TextFault>
-        ensures puts { Puts W.contents [] self.old self.new result }
-        ensures same_writer { writer_name self.new ≡ writer_name self.old }
+        ensures { Puts W.contents [] self.old self.new result }
     {
         if self.buffer.len() < BUFFER_SIZE {
             return Ok(());
@@ -97,11 +92,10 @@ impl<'w, W: Write> TextWriter<'w, W> {
     }
 
     /// Writes the bytes in the buffer.
-    #[tactic(auto, unfolding(crate::specs::TextWriter::Puts))]
+    #[tactic(auto, unfolding(crate::specs::TextWriter::Advances))]
     pub fn flush(&mut self) -> Result<(), TextFault>
         ensures puts { Puts W.contents [] self.old self.new result }
         ensures empty { OnOk result (buffered self.new ≡ []) }
-        ensures same_writer { writer_name self.new ≡ writer_name self.old }
     {
         write_text(&mut *self.writer, self.buffer.as_slice())?;
         self.buffer.clear();

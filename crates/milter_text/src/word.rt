@@ -12,9 +12,9 @@ use thiserror::Error;
 #[derive(Clone, Debug, PartialEq, Eq, Drop)]
 pub struct Word {
     /// The text of the word: of a plain word its bytes, of a quoted one the bytes between the quotes, each
-    /// escape as the byte that it stands for.
+    /// escape as the byte that it encodes.
     pub text: Text,
-    /// Whether it stands in quotes. `mail` and `"mail"` are two words.
+    /// Whether it is in quotes. `mail` and `"mail"` are two words.
     pub quoted: bool,
 }
 

@@ -1,9 +1,9 @@
-//! Texts of held messages, written by writers that fail.
+//! Texts of messages and sessions, written by writers that fail.
 
 use super::writers::{FakeWriter, Refusal};
 use milter_mail::{Held, Message, TextFault, apply, write_message};
 use milter_samples::path;
-use milter_session::read_session;
+use milter_session::{read_session, write_session};
 use std::alloc::Global;
 use std::io::ErrorKind;
 
@@ -85,4 +85,23 @@ fn a_long_text_is_written_in_pieces(rt: HostRuntime) {
     assert_eq!(rt; text.len(), 160_025);
     assert!(rt; text.ends_with(b"\\x00\\x00\"\nend\n"));
     assert!(rt; are_calls(rt.alloc(), &held, 131_072, 3));
+}
+
+#[test]
+fn a_failed_write_ends_a_session_file(rt: HostRuntime) {
+    let file =
+        b"client 4 \"h\" 25 \"10.0.0.1\"\nhelo \"h\"\nmacro rcpt \"i\" \"1\"\nmessage\nsender \"a@x\"\n\
+        recipient \"b@y\"\nbody \"\"\nend\n";
+    let session = read_session(rt.alloc(), file).expect(&rt, "the file has a session");
+    let mut writer = FakeWriter {
+        written: Vec::new(rt.alloc()),
+        piece: 7,
+        failure: Some((3, Refusal::TakesNothing)),
+    };
+    let ended = write_session(rt.alloc(), &mut writer, &session);
+    assert_eq!(rt; ended, Err(TextFault::Write));
+    assert_eq!(rt;
+        writer.written.as_slice(),
+        b"client 4 \"h\" 25 \"10.0".as_slice()
+    );
 }

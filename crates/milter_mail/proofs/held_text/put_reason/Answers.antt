@@ -2,5 +2,5 @@ use Rattle.std.proofs.Common.{refl}
 use Rattle.milter_text.proofs.Writing.{Progress-all, Progress-none}
 use Rattle.milter_mail.proofs.held_text.put_reason.Goals as goal
 
-pub returns-in-None-clause-puts : goal.returns-in-None-clause-puts
-returns-in-None-clause-puts g c = rw c.in-None.is (Progress-all Progress-none refl)
+pub returns-in-None : goal.returns-in-None
+returns-in-None g c = rw c.in-None.is (Progress-all Progress-none refl)

@@ -1,18 +1,36 @@
-use Rattle.std.proofs.KnownBytes.{Appends-trans}
-use Rattle.std.proofs.lemmas.Result.{on_ok_weaker}
-use Rattle.std.specs.List.{flat_map}
-use Rattle.milter_session.specs.SessionText.{message_text, opening_text, session_text}
+use Rattle.std.proofs.Common.{◌≡◌, [], ap, append-nil, refl, rules, subst, sym}
+use Rattle.std.specs.Prelude.{OnErr, OnOk}
+use Rattle.std.specs.Io.KnownBytes.{Appends}
+use Rattle.milter_text.specs.Writing.{WritesPrefix}
+use Rattle.milter_session.specs.SessionText.{session_text}
+use Rattle.milter_text.proofs.Writing.{Progress-fail, Progress-last, Progress-next, Progress-none, Puts-appends, Puts-prefix}
 use Rattle.milter_session.proofs.session_text.write_session.Goals as goal
 
-pub returns : goal.returns
-unfolding session_text
-returns g c =
-    let before = g.W.Write.contents c.args.writer.now in
-    let opened = g.W.Write.contents c.write_all.new.writer in
-    let after = g.W.Write.contents c.write_messages.new.writer in
-    let session = c.args.session.now in
-    on_ok_weaker c.write_messages.result
-    (λ written. Appends-trans before opened after (opening_text session) (flat_map message_text session.messages)
-    (rw (c.as_slice.ensures.value, c.in_ok-put_opening.ensures, c.new-opening.ensures.items) at c.in_ok-write_all.ensures)
-    (rw c.messages.ensures.messages at written))
-    c.write_messages.ensures
+pub returns-in_err-put_session-clause-begun : goal.returns-in_err-put_session-clause-begun
+returns-in_err-put_session-clause-begun g c =
+    let contents = g.W.Write.contents in
+    let text = session_text c.args.session.now in
+    let same : c.put_session.new.output.writer.now ≡ c.writer-1.given.0 = search rules in
+    let puts = Progress-fail _ _ _ text [] Progress-none c.in_err-put_session.ensures c.from_residual.ensures.0 (sym (append-nil text)) in
+    let prefix = Puts-prefix contents text _ _ _ puts c.new-output.ensures.empty in
+    rw (c.new-output.ensures.contents, same) at prefix
+
+pub returns-clause-done : goal.returns-clause-done
+returns-clause-done g c =
+    let contents = g.W.Write.contents in
+    let text = session_text c.args.session.now in
+    let same : c.flush.new.self.writer.now ≡ c.writer-2-1.given.0 = search rules in
+    let put = Progress-next text [] Progress-none c.in_ok-put_session.ensures (sym (append-nil text)) in
+    let puts = Progress-last _ _ [] put c.flush.ensures.puts refl in
+    let all = Puts-appends contents text _ _ _ puts c.new-output.ensures.empty c.flush.ensures.empty in
+    rw (c.new-output.ensures.contents, same) at all
+
+pub returns-clause-begun : goal.returns-clause-begun
+returns-clause-begun g c =
+    let contents = g.W.Write.contents in
+    let text = session_text c.args.session.now in
+    let same : c.flush.new.self.writer.now ≡ c.writer-2-1.given.0 = search rules in
+    let put = Progress-next text [] Progress-none c.in_ok-put_session.ensures (sym (append-nil text)) in
+    let puts = Progress-last _ _ [] put c.flush.ensures.puts refl in
+    let prefix = Puts-prefix contents text _ _ _ puts c.new-output.ensures.empty in
+    rw (c.new-output.ensures.contents, same) at prefix

@@ -4,19 +4,19 @@ use Rattle.milter_text.specs.Quoting.{quoted, quoted_byte}
 use Rattle.milter_text.proofs.Writing.{Progress-fail, Progress-last, Progress-next, Progress-none}
 use Rattle.milter_text.proofs.text_writer.TextWriter.put_quoted.Goals as goal
 
-pub returns-in_err-put-clause-puts : goal.returns-in_err-put-clause-puts
+pub returns-in_err-put : goal.returns-in_err-put
 unfolding quoted
-returns-in_err-put-clause-puts g c = Progress-fail _ _ _ (34 ∷ []) (flat_map quoted_byte c.args.text.now ++ 34 ∷ []) Progress-none c.in_err-put.ensures.puts c.from_residual.ensures.0 refl
+returns-in_err-put g c = Progress-fail _ _ _ (34 ∷ []) (flat_map quoted_byte c.args.text.now ++ 34 ∷ []) Progress-none c.in_err-put.ensures c.from_residual.ensures.0 refl
 
-pub returns-in_err-put_escaped-clause-puts : goal.returns-in_err-put_escaped-clause-puts
+pub returns-in_err-put_escaped : goal.returns-in_err-put_escaped
 unfolding quoted
-returns-in_err-put_escaped-clause-puts g c =
-    let opened = Progress-next (34 ∷ []) (flat_map quoted_byte c.args.text.now ++ 34 ∷ []) Progress-none c.in_ok-put.ensures.puts refl in
-    Progress-fail _ _ _ _ (34 ∷ []) opened c.in_err-put_escaped.ensures.puts c.from_residual-in_err-put_escaped.ensures.0 refl
+returns-in_err-put_escaped g c =
+    let opened = Progress-next (34 ∷ []) (flat_map quoted_byte c.args.text.now ++ 34 ∷ []) Progress-none c.in_ok-put.ensures refl in
+    Progress-fail _ _ _ _ (34 ∷ []) opened c.in_err-put_escaped.ensures c.from_residual-in_err-put_escaped.ensures.0 refl
 
-pub returns-clause-puts : goal.returns-clause-puts
+pub returns : goal.returns
 unfolding quoted
-returns-clause-puts g c =
-    let opened = Progress-next (34 ∷ []) (flat_map quoted_byte c.args.text.now ++ 34 ∷ []) Progress-none c.in_ok-put.ensures.puts refl in
-    let escaped = Progress-next _ (34 ∷ []) opened c.in_ok-put_escaped.ensures.puts refl in
-    Progress-last _ _ (34 ∷ []) escaped c.put-2.ensures.puts refl
+returns g c =
+    let opened = Progress-next (34 ∷ []) (flat_map quoted_byte c.args.text.now ++ 34 ∷ []) Progress-none c.in_ok-put.ensures refl in
+    let escaped = Progress-next _ (34 ∷ []) opened c.in_ok-put_escaped.ensures refl in
+    Progress-last _ _ (34 ∷ []) escaped c.put-2.ensures refl
