@@ -1,3 +1,4 @@
+pub mod Digits
 pub mod Paths
 pub mod FirstLine
 pub mod FirstWord

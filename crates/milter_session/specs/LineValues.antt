@@ -1,11 +1,12 @@
 -- The value of each line of a session file, by its words. A keyword, the family of a client and the stage of a macro
 -- are plain words, a TEXT is a quoted one, and a NUMBER is a plain word of digits.
-use Rattle.std.specs.Prelude.{ℕ, ◌+◌, ◌-◌, ◌*◌, Bool, false, not, nat_le, nat_lt, ◌==◌, ◌&&◌, List, [], ◌∷◌, length}
+use Rattle.std.specs.Prelude.{ℕ, Bool, false, not, nat_le, nat_lt, ◌==◌, ◌&&◌, List, [], ◌∷◌, length}
 use Rattle.std.specs.Prelude.{codes, Option, None, Some, if◌then◌else◌}
 use Rattle.std.specs.Char.{is_ascii_digit}
-use Rattle.std.specs.List.{fold, list_all}
+use Rattle.std.specs.List.{list_all}
 use Rattle.std.specs.Option.{option_map}
 use Rattle.std.specs.Str.{bytes_eq}
+use Rattle.std.specs.Str.Parse.{digits_value}
 use Rattle.milter_wire.specs.declared.client.Client.{Client}
 use Rattle.milter_wire.specs.declared.client.Origin.{Origin}
 use Rattle.milter_wire.specs.declared.client.Origin.TheVariants.{Unknown, Unix, Inet, Inet6}
@@ -39,9 +40,6 @@ texts_of [] = Some []
 texts_of (word ∷ words) = if word.quoted then option_map (λ texts. word.text ∷ texts) (texts_of words) else None
 
 -- a number in decimal, of one to ten digits
-abbrev pub decimal : List ℕ → ℕ
-decimal digits = fold (λ n digit. n * 10 + (digit - 48)) 0 digits
-
 abbrev pub is_number : Word → Bool
 is_number word =
     not word.quoted
@@ -49,7 +47,7 @@ is_number word =
 
 -- a number that a port has room for
 abbrev pub is_port : Word → Bool
-is_port word = is_number word && nat_le (decimal word.text) 65535
+is_port word = is_number word && nat_le (digits_value 10 word.text) 65535
 
 -- ---- the connection
 
@@ -71,7 +69,7 @@ client_of (first ∷ family ∷ host ∷ []) =
     else None
 client_of (first ∷ family ∷ host ∷ port ∷ address ∷ []) =
     if is_keyword (codes "client") first && (host.quoted && (is_port port && address.quoted)) then
-    client_at host.text (origin_of family (decimal port.text) address.text)
+    client_at host.text (origin_of family (digits_value 10 port.text) address.text)
     else None
 client_of _ = None
 

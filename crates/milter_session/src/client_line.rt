@@ -5,11 +5,12 @@ ghost use Rattle.std.specs.Prelude.{◌≡◌, ◌↔◌, ◌-◌, ◌^◌, min,
 ghost use Rattle.std.specs.Prelude.{option_map};
 ghost use Rattle.std.specs.Char.{is_ascii_digit};
 ghost use Rattle.std.specs.List.{list_all};
+ghost use Rattle.std.specs.Str.Parse.{digits_value};
 ghost use Rattle.milter_wire.specs.declared.command.Command.TheVariants as commands;
 ghost use Rattle.milter_wire.specs.Command.{Fits};
 ghost use Rattle.milter_wire.specs.Layout.{OriginFits};
 ghost use Rattle.milter_session.specs.ClientOrigin.{endpoint_origin, origin_with};
-ghost use Rattle.milter_session.specs.LineValues.{client_of, decimal, is_number, is_port, origin_of};
+ghost use Rattle.milter_session.specs.LineValues.{client_of, is_number, is_port, origin_of};
 ghost use Rattle.milter_session.specs.SessionFault.{IsAt, Reads};
 
 use crate::line_cursor::FileLine;
@@ -18,6 +19,7 @@ use crate::session_fault::SessionFault;
 use milter_text::Word;
 use milter_wire::{Client, NoMemory, Origin, Text, has_no_nul};
 use std::alloc::Global;
+use std::str;
 
 /// A family of addresses with ports.
 #[derive(Clone, Copy)]
@@ -101,12 +103,13 @@ fn family_in(word: &Word) -> Option<Family>
 
 /// The port that the word is.
 fn port_in(word: &Word) -> Option<u16>
-    ensures { result ≡ (if is_port word.now then Some (decimal word.now.text) else None) }
+    ensures { result ≡ (if is_port word.now then Some (digits_value 10 word.now.text) else None) }
 {
     if !is_number(word) {
         return None;
     }
-    u16::try_from(decimal(word.text.as_slice())).ok()
+    let digits = str::from_utf8(word.text.as_slice()).ok()?;
+    digits.parse().ok()
 }
 
 /// Whether the word is a number: one to ten digits.
@@ -125,18 +128,6 @@ fn are_digits(bytes: &[u8]) -> bool
     ensures { result ≡ list_all is_ascii_digit bytes.now }
 {
     bytes.iter().all(|byte| byte.is_ascii_digit())
-}
-
-/// The number that the digits are, or the greatest `u64`.
-fn decimal(digits: &[u8]) -> u64
-    ensures { result ≡ min (decimal digits.now) (2 ^ 64 - 1) }
-{
-    let mut number: u64 = 0;
-    for digit in digits {
-        let value = u64::from(digit.saturating_sub(b'0'));
-        number = number.saturating_mul(10).saturating_add(value);
-    }
-    number
 }
 
 /// Whether there is no endpoint, or one whose address has no NUL.

@@ -2,7 +2,7 @@
 
 ghost use Rattle.std.specs.Prelude.{◌≡◌, ◌<◌, ◌++◌, OnOk, OnErr};
 ghost use Rattle.std.specs.List.{flat_map};
-ghost use Rattle.milter_stream.specs.Appending.{Extends};
+ghost use Rattle.milter_stream.specs.Appending.{PutsBytes};
 ghost use Rattle.milter_text.specs.Quoting.{quoted, quoted_byte};
 
 use milter_stream::hex_digit;
@@ -26,8 +26,7 @@ pub fn quote(_alloc: Global, text: &[u8], out: &mut Vec<u8>) -> Result<(), NoMem
 
 #[tactic(auto, unfolding(crate::specs::Quoting::quoted))]
 fn put_quoted(out: &mut Vec<u8>, text: &[u8]) -> Result<(), NoMemory>
-    ensures ok { OnOk result (out.new.items ≡ out.old.items ++ quoted text.now) }
-    ensures extends { Extends out.old.items out.new.items }
+    ensures { PutsBytes (quoted text.now) out.old.items out.new.items result }
 {
     out.push(b'"')?;
     put_escaped(out, text)?;
@@ -37,8 +36,7 @@ fn put_quoted(out: &mut Vec<u8>, text: &[u8]) -> Result<(), NoMemory>
 
 /// Appends the bytes as they are written between quotes. After `NoMemory` a prefix of that may have been appended.
 pub fn put_escaped(out: &mut Vec<u8>, bytes: &[u8]) -> Result<(), NoMemory>
-    ensures ok { OnOk result (out.new.items ≡ out.old.items ++ flat_map quoted_byte bytes.now) }
-    ensures extends { Extends out.old.items out.new.items }
+    ensures { PutsBytes (flat_map quoted_byte bytes.now) out.old.items out.new.items result }
 {
     for byte in bytes {
         put_byte(out, *byte)?;
