@@ -15,7 +15,7 @@ use std::io::Write;
 
 /// Writes a held message, a line for each part of it, each ended by LF: `quarantine` and the reason, where there is
 /// one; `sender`, the address and each parameter; `recipient`, the address and each parameter, for each recipient;
-/// `header`, the name and the value, for each header field; `body` and the body; and `end`. Each text stands after one
+/// `header`, the name and the value, for each header field; `body` and the body; and `end`. Each text comes after one
 /// blank, in quotes and in its canonical form, as [`quote`](crate::quote) writes it. The time is linear in the text.
 /// Memory is bounded by a small multiple of 65,536 bytes.
 ///

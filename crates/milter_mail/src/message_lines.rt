@@ -12,7 +12,8 @@ use std::io::Write;
 use std::slice;
 
 /// Puts the lines of a message: `sender`, the address and each parameter; `recipient`, the address and each parameter,
-/// for each recipient; `header`, the name and the value, for each header field; `body` and the body; and `end`.
+/// for each recipient; `header`, the name and the value, for each header field; `body` and the body; and `end`. The
+/// message isn't copied. After either fault a prefix of what was put is written, and nothing else.
 pub fn put_message<W: Write>(
     output: &mut TextWriter<'_, W>,
     message: &Message,
@@ -87,7 +88,8 @@ fn put_path<W: Write>(
     )
 }
 
-/// Puts a line: the keyword, a first text and the others, each in quotes and after a blank, and LF.
+/// Puts a line: the keyword, a first text and the others, each in quotes and after a blank, and LF. After either fault a
+/// prefix of what was put is written, and nothing else.
 pub fn put_line<W: Write>(
     output: &mut TextWriter<'_, W>,
     keyword: &[u8],
@@ -112,7 +114,7 @@ fn put_texts<W: Write>(output: &mut TextWriter<'_, W>, texts: &[Text]) -> Result
     Ok(())
 }
 
-/// Puts a blank, and the text in quotes.
+/// Puts a blank, and the text in quotes. After either fault a prefix of what was put is written, and nothing else.
 pub fn put_text<W: Write>(output: &mut TextWriter<'_, W>, text: &[u8]) -> Result<(), TextFault>
     ensures { Puts W.contents (text_of text.now) output.old output.new result }
 {

@@ -1,7 +1,7 @@
 -- The value of each line of a session file, by its words. A keyword, the family of a client and the stage of a macro
 -- are plain words, a TEXT is a quoted one, and a NUMBER is a plain word of digits.
 use Rattle.std.specs.Prelude.{ℕ, Bool, false, not, nat_le, nat_lt, ◌==◌, ◌&&◌, List, [], ◌∷◌, length}
-use Rattle.std.specs.Prelude.{codes, Option, None, Some, if◌then◌else◌}
+use Rattle.std.specs.Prelude.{codes, find, Option, None, Some, if◌then◌else◌}
 use Rattle.std.specs.Char.{is_ascii_digit}
 use Rattle.std.specs.List.{list_all}
 use Rattle.std.specs.Option.{option_map}
@@ -90,16 +90,13 @@ stage_word stages.DataCmd = codes "data"
 stage_word stages.Eom = codes "eom"
 stage_word stages.Eoh = codes "eoh"
 
+-- all of them, in the order of a session
+abbrev pub macro_stages : List MacroStage
+macro_stages =
+    stages.Connect ∷ stages.Helo ∷ stages.Mail ∷ stages.Rcpt ∷ stages.DataCmd ∷ stages.Eoh ∷ stages.Eom ∷ []
+
 abbrev pub stage_of : Word → Option MacroStage
-stage_of word =
-    if is_keyword (codes "connect") word then Some stages.Connect
-    else if is_keyword (codes "helo") word then Some stages.Helo
-    else if is_keyword (codes "mail") word then Some stages.Mail
-    else if is_keyword (codes "rcpt") word then Some stages.Rcpt
-    else if is_keyword (codes "data") word then Some stages.DataCmd
-    else if is_keyword (codes "eom") word then Some stages.Eom
-    else if is_keyword (codes "eoh") word then Some stages.Eoh
-    else None
+stage_of word = find (λ stage. is_keyword (stage_word stage) word) macro_stages
 
 abbrev pub macro_with : List ℕ → List ℕ → MacroStage → MacroLine
 macro_with name value stage = record { stage = stage; pair = record { name = name; value = value } }

@@ -11,9 +11,7 @@ use Rattle.milter_mail.specs.HeldText.{line_of, message_lines, text_of}
 use Rattle.milter_mail.specs.MailObject.{MailObject}
 use Rattle.milter_mail.specs.MailSession.{MailSession}
 use Rattle.milter_session.specs.declared.session_macros.MacroStage.{MacroStage}
-use Rattle.milter_session.specs.declared.session_macros.MacroStage.TheVariants.{Connect, Helo, Mail, Rcpt, DataCmd, Eom}
-use Rattle.milter_session.specs.declared.session_macros.MacroStage.TheVariants.{Eoh}
-use Rattle.milter_session.specs.LineValues.{stage_word}
+use Rattle.milter_session.specs.LineValues.{macro_stages, stage_word}
 use Rattle.milter_session.specs.MacroLists.{macros_at}
 
 -- the keyword and the family, the host, the port and the address
@@ -38,7 +36,7 @@ macro_lines macros stage = flat_map (macro_line (stage_word stage)) (macros_at m
 
 -- those of each stage, in the order of a session
 abbrev pub all_macro_lines : Macros → List ℕ
-all_macro_lines macros = flat_map (macro_lines macros) (Connect ∷ Helo ∷ Mail ∷ Rcpt ∷ DataCmd ∷ Eoh ∷ Eom ∷ [])
+all_macro_lines macros = flat_map (macro_lines macros) macro_stages
 
 -- the lines before the messages
 unfoldable pub opening_text : MailSession → List ℕ

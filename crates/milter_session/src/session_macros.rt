@@ -34,6 +34,17 @@ pub(crate) enum MacroStage {
     Eoh,
 }
 
+/// The stages that have macros, in the order of a session.
+pub(crate) const STAGES: [MacroStage; 7] = [
+    MacroStage::Connect,
+    MacroStage::Helo,
+    MacroStage::Mail,
+    MacroStage::Rcpt,
+    MacroStage::DataCmd,
+    MacroStage::Eoh,
+    MacroStage::Eom,
+];
+
 impl MacroStage {
     /// The word of the stage in a session file.
     pub(crate) fn word(self) -> &'static [u8]
@@ -250,21 +261,8 @@ fn macro_parts(words: &[Word]) -> Option<(MacroStage, &Text, &Text)>
 fn stage_in(word: &Word) -> Option<MacroStage>
     ensures { result ≡ stage_of word.now }
 {
-    if is_keyword(b"connect", word) {
-        Some(MacroStage::Connect)
-    } else if is_keyword(b"helo", word) {
-        Some(MacroStage::Helo)
-    } else if is_keyword(b"mail", word) {
-        Some(MacroStage::Mail)
-    } else if is_keyword(b"rcpt", word) {
-        Some(MacroStage::Rcpt)
-    } else if is_keyword(b"data", word) {
-        Some(MacroStage::DataCmd)
-    } else if is_keyword(b"eom", word) {
-        Some(MacroStage::Eom)
-    } else if is_keyword(b"eoh", word) {
-        Some(MacroStage::Eoh)
-    } else {
-        None
-    }
+    STAGES
+        .iter()
+        .copied()
+        .find(|stage| is_keyword(stage.word(), word))
 }

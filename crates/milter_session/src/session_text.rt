@@ -8,7 +8,7 @@ ghost use Rattle.milter_text.specs.Writing.{WritesPrefix};
 ghost use Rattle.milter_session.specs.SessionText.{all_macro_lines, client_line, endpoint_line, macro_line, macro_lines};
 ghost use Rattle.milter_session.specs.SessionText.{message_text, opening_text, session_text};
 
-use crate::session_macros::MacroStage;
+use crate::session_macros::STAGES;
 use itoa::Buffer;
 use milter_mail::{Macros, Message, Session, put_line, put_message, put_text};
 use milter_text::{TextFault, TextWriter};
@@ -16,17 +16,6 @@ use milter_wire::{Client, Origin, Pair, Text};
 use std::alloc::Global;
 use std::io::Write;
 use std::slice;
-
-/// The stages, in the order in which their macros are written.
-const STAGES: [MacroStage; 7] = [
-    MacroStage::Connect,
-    MacroStage::Helo,
-    MacroStage::Mail,
-    MacroStage::Rcpt,
-    MacroStage::DataCmd,
-    MacroStage::Eoh,
-    MacroStage::Eom,
-];
 
 /// Writes the session as a session file in canonical form: the lines `client` and `helo`; `macro` for each macro, stage
 /// by stage in the order connect, helo, mail, rcpt, data, eoh, eom; and for each message `message`, `sender`, each

@@ -1,7 +1,4 @@
-use Rattle.std.proofs.Common.{◌≡◌, [], ap, append-nil, refl, rules, subst, sym}
-use Rattle.std.specs.Prelude.{OnErr, OnOk}
-use Rattle.std.specs.Io.KnownBytes.{Appends}
-use Rattle.milter_text.specs.Writing.{WritesPrefix}
+use Rattle.std.proofs.Common.{◌≡◌, [], append-nil, refl, rules, sym}
 use Rattle.milter_mail.specs.HeldText.{held_text}
 use Rattle.milter_text.proofs.Writing.{Progress-fail, Progress-last, Progress-next, Progress-none, Puts-appends, Puts-prefix}
 use Rattle.milter_mail.proofs.held_text.write_message.Goals as goal

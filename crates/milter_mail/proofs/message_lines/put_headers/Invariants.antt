@@ -1,4 +1,4 @@
-use Rattle.std.proofs.Common.{◌≡◌, drop}
+use Rattle.std.proofs.Common.{drop}
 use Rattle.std.specs.List.{flat_map}
 use Rattle.milter_mail.specs.HeldText.{header_line}
 use Rattle.milter_text.proofs.Writing.{Progress}

@@ -1,5 +1,4 @@
-use Rattle.std.proofs.Common.{◌≡◌, refl, ◌∙◌, ap, drop, codes}
-use Rattle.std.specs.List.{flat_map}
+use Rattle.std.proofs.Common.{codes}
 use Rattle.milter_mail.specs.HeldText.{path_line}
 use Rattle.milter_text.proofs.Writing.{Progress-fail, Progress-next, Progress-none, flat_map-next}
 use Rattle.milter_mail.proofs.message_lines.put_recipients.Goals as goal

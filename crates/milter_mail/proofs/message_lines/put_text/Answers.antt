@@ -1,5 +1,4 @@
-use Rattle.std.proofs.Common.{◌≡◌, refl, List, ℕ, [], ◌∷◌, ◌++◌, codes, append_assoc}
-use Rattle.std.specs.List.{flat_map}
+use Rattle.std.proofs.Common.{refl, [], ◌∷◌}
 use Rattle.milter_text.specs.Quoting.{quoted}
 use Rattle.milter_text.proofs.Writing.{Progress-fail, Progress-last, Progress-next, Progress-none}
 use Rattle.milter_mail.proofs.message_lines.put_text.Goals as goal

@@ -1,4 +1,4 @@
-use Rattle.std.proofs.Common.{[], ◌∷◌, append_assoc, codes, refl}
+use Rattle.std.proofs.Common.{[], ◌∷◌, codes, refl}
 use Rattle.milter_mail.specs.HeldText.{line_of}
 use Rattle.milter_text.proofs.Writing.{Progress-fail, Progress-last, Progress-next, Progress-none}
 use Rattle.milter_session.proofs.session_text.put_macro.Goals as goal

@@ -4,7 +4,7 @@ use Rattle.milter_mail.specs.declared.macros.Macros.{Macros}
 use Rattle.milter_session.specs.SessionText.{macro_lines}
 use Rattle.milter_session.specs.declared.session_macros.MacroStage.{MacroStage}
 use Rattle.milter_session.specs.declared.session_macros.MacroStage.TheVariants.{Connect}
-use Rattle.milter_session.specs.declared.session_text.TheConstants.{STAGES}
+use Rattle.milter_session.specs.declared.session_macros.TheConstants.{STAGES}
 use Rattle.milter_text.proofs.Writing.{Progress-fail, Progress-next, Progress-none}
 use Rattle.milter_session.proofs.session_text.put_macros.Goals as goal
 

@@ -1,7 +1,7 @@
 use Rattle.std.proofs.Common.{drop}
 use Rattle.std.specs.List.{flat_map}
 use Rattle.milter_session.specs.SessionText.{all_macro_lines, macro_lines}
-use Rattle.milter_session.specs.declared.session_text.TheConstants.{STAGES}
+use Rattle.milter_session.specs.declared.session_macros.TheConstants.{STAGES}
 use Rattle.milter_text.proofs.Writing.{Progress}
 use Rattle.milter_session.proofs.session_text.put_macros.Given as goal
 

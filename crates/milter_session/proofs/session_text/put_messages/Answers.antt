@@ -1,5 +1,3 @@
-use Rattle.std.proofs.Common.{◌≡◌, refl, ap, drop}
-use Rattle.std.specs.List.{flat_map}
 use Rattle.milter_session.specs.SessionText.{message_text}
 use Rattle.milter_text.proofs.Writing.{Progress-fail, Progress-next, Progress-none, flat_map-next}
 use Rattle.milter_session.proofs.session_text.put_messages.Goals as goal

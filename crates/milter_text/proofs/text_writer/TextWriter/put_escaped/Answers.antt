@@ -1,7 +1,6 @@
-use Rattle.std.proofs.Common.{◌≡◌, refl, ◌∙◌}
 use Rattle.std.specs.List.{flat_map}
 use Rattle.milter_text.specs.Quoting.{quoted_byte}
-use Rattle.milter_text.proofs.Writing.{Progress-all, Progress-fail, Progress-next, Progress-none, flat_map-cut}
+use Rattle.milter_text.proofs.Writing.{Progress-fail, Progress-next, Progress-none, flat_map-cut}
 use Rattle.milter_text.proofs.text_writer.TextWriter.put_escaped.Goals as goal
 
 pub loop-rest-init : goal.loop-rest-init

@@ -1,4 +1,4 @@
-use Rattle.std.proofs.Common.{◌≡◌, refl, ◌++◌, [], List, ℕ, ◌∷◌}
+use Rattle.std.proofs.Common.{refl, ◌++◌, [], ◌∷◌}
 use Rattle.std.specs.List.{flat_map}
 use Rattle.milter_text.specs.Quoting.{quoted, quoted_byte}
 use Rattle.milter_text.proofs.Writing.{Progress-fail, Progress-last, Progress-next, Progress-none}
