@@ -34,7 +34,7 @@ fn sender_of(alloc: Global, splitter: &mut Splitter, piece: &[u8]) -> anyhow::Re
         let Some(packet) = splitter.next()? else {
             continue;
         };
-        if let Command::Mail(path) = Command::decode(alloc, packet.code, &packet.payload)? {
+        if let Command::Mail(path) = Command::decode(alloc, packet.code, packet.payload)? {
             return Ok(Some(path));
         }
     }

@@ -9,6 +9,7 @@ use Rattle.milter_stream.specs.Number.{number}
 use Rattle.milter_stream.specs.Packet.{packet, IsPayload}
 use Rattle.milter_stream.specs.Number.{number_from_bytes}
 use Rattle.milter_stream.specs.Stream.{fault_of, IsUnfinished}
+use Rattle.milter_stream.specs.Splitter.{IsBuffer}
 use Rattle.milter_stream.specs.FirstPacket.{first_packet_end, IsAtMostOnePacket, fed_len}
 use Rattle.milter_stream.proofs.Numbers.{number-number_from_bytes}
 use Rattle.milter_stream.proofs.Frames.{fault_of-none}
@@ -67,6 +68,20 @@ IsAtMostOnePacket-step first piece n is e =
       | inl lt ↦ omega (arith, len, first_packet_end-short first lt, first_packet_end-le (first ++ take n piece))
       | inr le ↦ omega (arith, len, first_packet_end-append first (take n piece) le)
     ]
+
+-- the buffer after a step
+pub filled : (len m : ℕ) (old new piece : List ℕ) → IsBuffer len old → m ≡ min (first_packet_end (take len old) - len) (length piece)
+    → length new ≡ length old → take (len + length (take m piece)) new ≡ take len old ++ take m piece → IsBuffer (len + m) new
+filled len m old new piece h count same bytes =
+    let sized : length (take len old) ≡ len = omega (arith, length-take len old, h.room, h.within) in
+    let took : length (take m piece) ≡ m = omega (arith, length-take m piece, count) in
+    let step = IsAtMostOnePacket-step (take len old) piece m h.one_packet (count ∙ ap (λ (n : ℕ). min (first_packet_end (take len old) - n) (length piece)) (sym sized)) in
+    let most = first_packet_end-most (take len old) in
+    record {
+      room = same ∙ h.room;
+      within = omega (arith, most, count, h.within);
+      one_packet = subst IsAtMostOnePacket (sym bytes ∙ ap (λ (n : ℕ). take (len + n) new) took) step;
+    }
 
 -- what two steps take
 pub record Fed (unread piece new : List ℕ) (n : ℕ) : Type 0 where

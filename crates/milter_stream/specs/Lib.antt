@@ -6,4 +6,3 @@ pub mod Packet
 pub mod Stream
 pub mod FirstPacket
 pub mod Splitter
-pub mod Collected

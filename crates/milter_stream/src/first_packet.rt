@@ -1,12 +1,13 @@
 //! The first packet of a stream, as far as it has come.
 
-ghost use Rattle.std.specs.Prelude.{◌≡◌, ◌≢◌, ◌<◌, ◌≤◌, ◌-◌, ◌++◌, ◌↔◌, Ok, None, Some, length, min, take, IfOk, IfSome, OnErr, IsErrOf};
+ghost use Rattle.std.specs.Prelude.{◌≡◌, ◌≢◌, ◌<◌, ◌≤◌, ◌-◌, ◌+◌, ◌++◌, ◌↔◌, Ok, None, Some, length, min, take, IfOk, IfSome, OnErr, IsErrOf};
 ghost use Rattle.milter_stream.specs.Packet.{packet, IsPayload};
 ghost use Rattle.milter_stream.specs.Stream.{IsUnfinished, fault_of, length_fault};
 ghost use Rattle.milter_stream.specs.FirstPacket.{IsAtMostOnePacket, first_packet_end};
+ghost use Rattle.milter_stream.specs.Splitter.{IsBuffer};
 
-use crate::fault::{NoMemory, WireFault};
-use crate::number::{LENGTH_MAX, number_from_bytes};
+use crate::fault::WireFault;
+use crate::number::{LENGTH_MAX, PACKET_MAX, number_from_bytes};
 
 /// The fault of a length that no packet has.
 fn fault_of(stated: u32) -> Option<WireFault>
@@ -35,7 +36,8 @@ pub(crate) fn length_fault(bytes: &[u8]) -> Option<WireFault>
 /// incomplete.
 #[tactic(auto, unfolding(crate::specs::FirstPacket::first_packet_end))]
 fn first_packet_end(bytes: &[u8]) -> usize
-    ensures { result ≡ first_packet_end bytes.now }
+    ensures end { result ≡ first_packet_end bytes.now }
+    ensures most { result ≤ PACKET_MAX }
 {
     match bytes {
         [a, b, c, d, ..] => {
@@ -50,19 +52,28 @@ fn first_packet_end(bytes: &[u8]) -> usize
     }
 }
 
-/// Appends bytes of a piece, up to the end of the first packet as far as it is known before. Two such steps append all
-/// that belongs to it: the first one completes its length field.
-pub(crate) fn fill(first: &mut Vec<u8>, piece: &[u8]) -> Result<usize, NoMemory>
-    requires { IsAtMostOnePacket first.old.items }
-    ensures count { IfOk result (λ n.
-        n ≡ min (first_packet_end first.old.items - length first.old.items) (length piece.now)) }
-    ensures ok { IfOk result (λ n. first.new.items ≡ first.old.items ++ take n piece.now) }
-    ensures err { OnErr result (first.new.items ≡ first.old.items) }
+/// Puts bytes of a piece after the first `len` of the buffer, up to the end of the first packet as far as it is known
+/// before, and answers how many. Two such steps put all that belongs to it: the first one completes its length field.
+pub(crate) fn fill(buffer: &mut [u8], len: usize, piece: &[u8]) -> usize
+    requires { IsBuffer len buffer.old }
+    ensures count { let unread = take len buffer.old in
+        result ≡ min (first_packet_end unread - length unread) (length piece.now) }
+    ensures bytes { take (len + result) buffer.new ≡ take len buffer.old ++ take result piece.now }
+    ensures buffer { IsBuffer (len + result) buffer.new }
 {
-    let missing = first_packet_end(first.as_slice()) - first.len();
+    let missing = first_packet_end(&buffer[..len]) - len;
     let count = missing.min(piece.len());
-    first.extend_from_slice(&piece[..count])?;
-    Ok(count)
+    put_after(buffer, len, &piece[..count]);
+    count
+}
+
+/// Puts the bytes after the first `len` of the buffer, which has room for them.
+fn put_after(buffer: &mut [u8], len: usize, bytes: &[u8])
+    requires { len + length bytes.now ≤ length buffer.old }
+    ensures room { length buffer.new ≡ length buffer.old }
+    ensures bytes { take (len + length bytes.now) buffer.new ≡ take len buffer.old ++ bytes.now }
+{
+    buffer[len..len + bytes.len()].copy_from_slice(bytes);
 }
 
 /// The code and the payload of the first packet, where it is whole.

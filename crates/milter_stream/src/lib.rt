@@ -7,7 +7,6 @@
 #![tactic(auto)]
 
 mod code_name;
-mod collect;
 mod fault;
 mod first_packet;
 mod laws;
@@ -15,7 +14,6 @@ mod number;
 mod splitter;
 
 pub use code_name::{CodeName, hex_digit};
-pub use collect::packets;
 pub use fault::{NoMemory, WireFault};
 pub use laws::{
     fed_stream, four_byte_numbers, one_division, packets_apart, stream_divides, stream_goes_on,

@@ -1,9 +1,11 @@
 //! A stream of packets, in any pieces.
 
-ghost use Rattle.std.specs.Prelude.{◌≡◌, ◌≢◌, ◌<◌, ◌≤◌, ◌++◌, ◌↔◌, [], Ok, Err, None, Some, length, take, IsSome, IfOk, IfSome, OnOk, OnErr, IsErrOf};
+ghost use Rattle.std.specs.Prelude.{◌≡◌, ◌≢◌, ◌<◌, ◌≤◌, ◌-◌, ◌++◌, ◌↔◌, [], Ok, Err, None, Some, length, min, take, IsSome, IfOk, IfSome, OnOk, OnErr, IsErrOf};
 ghost use Rattle.milter_stream.specs.Stream.{Frame, IsFrame, IsUnfinished, frame_bytes, length_fault};
-ghost use Rattle.milter_stream.specs.FirstPacket.{end_result, fed_len};
-ghost use Rattle.milter_stream.specs.Splitter.{frame_of};
+ghost use Rattle.milter_stream.specs.FirstPacket.{IsAtMostOnePacket, end_result, fed_len, first_packet_end};
+ghost use Rattle.std.specs.Borrow.{sem};
+ghost use Rattle.std.specs.Io.BufRead.{Rests};
+ghost use Rattle.milter_stream.specs.Splitter.{LeavesUnread, frame_of};
 
 use crate::fault::{NoMemory, WireFault};
 use crate::first_packet::{fill, length_fault, whole_packet};
@@ -11,85 +13,98 @@ use crate::number::PACKET_MAX;
 use std::alloc::Global;
 use std::marker::Model;
 
-/// A packet of a stream: what `decode` reads. Source: mfdef.h.
-#[derive(Debug, Drop)]
-pub struct Packet {
+/// A packet of a stream, lent by the splitter that it was taken from: what `decode` reads. Source: mfdef.h.
+#[derive(Clone, Copy, Debug, PartialEq, Eq)]
+pub struct Packet<'a> {
     /// The code of the packet.
     pub code: u8,
     /// What follows the code: at most 65,535 bytes.
-    pub payload: Vec<u8>,
+    pub payload: &'a [u8],
 }
 
 /// Takes a stream in pieces of any size and hands out its packets, one at a time. It keeps at most one packet: 65,540
 /// bytes. To take a whole piece, call `feed` with what is left of it and then `next`, until nothing is left.
 #[derive(Debug, Drop)]
 pub struct Splitter {
-    unread: Vec<u8>,
+    buffer: Vec<u8>,
+    len: usize,
 }
 
 impl Model for Splitter {
-    ghost use Rattle.std.specs.Prelude.{List, ℕ};
-    ghost use Rattle.milter_stream.specs.FirstPacket.{IsAtMostOnePacket};
+    ghost use Rattle.std.specs.Prelude.{List, ℕ, take};
+    ghost use Rattle.milter_stream.specs.Splitter.{IsBuffer};
 
     // The bytes that were taken and not handed out.
     ghost Value = { List ℕ };
 
-    ghost view = { λ s. s.unread.items };
+    ghost view = { λ s. take s.len s.buffer.items };
 
-    ghost invariant = { λ s. IsAtMostOnePacket s.unread.items };
+    ghost invariant = { λ s. IsBuffer s.len s.buffer.items };
 }
 
 impl Splitter {
+    ghost use Rattle.milter_stream.specs.contracts.splitter.Splitter.{the_row};
+
     /// A stream of which nothing has come. It takes room for one packet, 65,540 bytes.
     pub fn new(alloc: Global) -> Result<Self, NoMemory>
         ensures { IfOk result (λ s. s ≡ []) }
     {
-        let unread = Vec::with_capacity(alloc, PACKET_MAX)?;
-        Ok(Splitter { unread })
+        let buffer = vec![in alloc; 0; PACKET_MAX]?;
+        Ok(Splitter { buffer, len: 0 })
     }
 
     /// Takes bytes from the start of a piece of the stream, and answers how many: none where a whole packet or a fault
     /// of length is unread, else those up to the end of the first whole packet or of the length field that is at fault,
-    /// else all of them. After `NoMemory` nothing was taken.
+    /// else all of them. It always answers `Ok`, and takes no memory.
     pub fn feed(&mut self, piece: &[u8]) -> Result<usize, NoMemory>
-        ensures count { IfOk result (λ n. n ≡ fed_len self.old piece.now) }
-        ensures taken { IfOk result (λ n. self.new ≡ self.old ++ take n piece.now) }
-        ensures within { IfOk result (λ n. n ≤ length piece.now) }
+        ensures count { result ≡ Ok (fed_len self.old piece.now) }
+        ensures taken { self.new ≡ self.old ++ take (fed_len self.old piece.now) piece.now }
+        ensures within { fed_len self.old piece.now ≤ length piece.now }
         // Feeding makes progress: with no whole packet and no fault unread, some of a piece is taken.
-        ensures progress { IsUnfinished self.old → piece.now ≢ [] → IfOk result (λ n. 0 < n) }
-        ensures err { OnErr result (self.new ≡ self.old) }
+        ensures progress { IsUnfinished self.old → piece.now ≢ [] → 0 < fed_len self.old piece.now }
     {
-        let unread = self.unread.len();
-        let first = fill(&mut self.unread, piece)?;
-        match fill(&mut self.unread, &piece[first..]) {
-            Ok(second) => Ok(first + second),
-            Err(error) => {
-                self.unread.truncate(unread);
-                Err(error)
+        let first = self.take_known(piece);
+        let second = self.take_known(&piece[first..]);
+        Ok(first + second)
+    }
+
+    /// Takes bytes of a piece, up to the end of the first packet as far as it is known before, and answers how many.
+    fn take_known(&mut self, piece: &[u8]) -> usize
+        ensures count { result ≡ min (first_packet_end self.old - length self.old) (length piece.now) }
+        ensures taken { self.new ≡ self.old ++ take result piece.now }
+        ensures one_packet { IsAtMostOnePacket self.old }
+    {
+        let count = fill(self.buffer.as_mut_slice(), self.len, piece);
+        self.len += count;
+        count
+    }
+
+    /// The packet, where a whole one is unread: it is handed out at once, and nothing is unread then. The fault is
+    /// `ZeroLength` or `TooLong(length)`, from the moment that the four bytes of such a length were taken, and every
+    /// later call answers the same. No memory is taken.
+    pub fn next(&mut self) -> Result<Option<Packet<'_>>, WireFault>
+        ensures packet { IfOk result (λ found. IfSome found (λ p.
+            IsFrame (frame_of p) × (self.old ≡ frame_bytes (frame_of p)))) }
+        ensures none { (result ≡ Ok None) ↔ IsUnfinished self.old }
+        ensures fault { (f : WireFault) → IsErrOf result f ↔ (length_fault self.old ≡ Some f) }
+        ensures* after_borrow { sem 𝓛 (Rests the_row self.entry (λ new. LeavesUnread self.old new result)) }
+    {
+        match whole_packet(&self.buffer[..self.len]) {
+            Ok(Some((code, payload))) => {
+                self.len = 0;
+                Ok(Some(Packet { code, payload }))
             }
+            Ok(None) => Ok(None),
+            Err(fault) => Err(fault),
         }
     }
 
-    /// The packet, where a whole one is unread: it is then handed out, and nothing is unread. The fault is `ZeroLength`
-    /// or `TooLong(length)`, from the moment that the four bytes of such a length were taken, and every later call
-    /// answers the same; after `NoMemory` the packet is still unread.
-    pub fn next(&mut self) -> Result<Option<Packet>, WireFault>
-        ensures packet { IfOk result (λ found. IfSome found (λ p.
-            IsFrame (frame_of p) × (self.old ≡ frame_bytes (frame_of p)) × (self.new ≡ []))) }
-        ensures none { (result ≡ Ok None) ↔ IsUnfinished self.old }
-        ensures fault { (f : WireFault) → f ≢ WireFault.NoMemory →
-            IsErrOf result f ↔ (length_fault self.old ≡ Some f) }
-        ensures memory { IsErrOf result WireFault.NoMemory →
-            (f : Frame) × IsFrame f × (self.old ≡ frame_bytes f) }
-        ensures kept { result ≡ Ok None → self.new ≡ self.old }
-        ensures err { OnErr result (self.new ≡ self.old) }
+    /// Nothing is unread then, and no fault is answered of what came before. No memory is taken.
+    pub fn clear(&mut self)
+        ensures { self.new ≡ [] }
     {
-        let Some((code, payload)) = whole_packet(self.unread.as_slice())? else {
-            return Ok(None);
-        };
-        let payload = Vec::from_slice(*self.unread.allocator(), payload)?;
-        self.unread.clear();
-        Ok(Some(Packet { code, payload }))
+        let Splitter { len, .. } = self;
+        *len = 0;
     }
 
     /// How many bytes were taken and not handed out: at most 65,540, those of the longest packet. No memory is taken.
@@ -97,7 +112,7 @@ impl Splitter {
         ensures unread { result ≡ length self.now }
         ensures bound { result ≤ PACKET_MAX }
     {
-        self.unread.as_slice().len()
+        self.len
     }
 
     /// Whether the stream may end here: `Ok` where no byte is unread, else the fault of the length that the unread
@@ -105,10 +120,10 @@ impl Splitter {
     pub fn at_end(&self) -> Result<(), WireFault>
         ensures { result ≡ end_result self.now }
     {
-        if self.unread.is_empty() {
+        if self.len == 0 {
             return Ok(());
         }
-        let truncated = WireFault::Truncated(self.unread.len());
-        Err(length_fault(self.unread.as_slice()).unwrap_or(truncated))
+        let truncated = WireFault::Truncated(self.len);
+        Err(length_fault(&self.buffer[..self.len]).unwrap_or(truncated))
     }
 }

@@ -18,16 +18,15 @@ use std::alloc::Global;
 pub(crate) fn put_packet(
     alloc: Global,
     direction: Direction,
-    packet: &Packet,
+    packet: &Packet<'_>,
     text: &mut Vec<u8>,
 ) -> Result<(), WireFault>
-    requires { IsPayload packet.now.payload.items }
+    requires { IsPayload packet.now.payload.now }
     ensures { AppendsText (packet_text direction (frame_of packet.now)) text.old.items text.new.items result }
 {
-    let payload = packet.payload.as_slice();
     match direction {
-        Direction::ToFilter => put_command_packet(alloc, packet.code, payload, text),
-        Direction::ToMta => put_reply_packet(alloc, packet.code, payload, text),
+        Direction::ToFilter => put_command_packet(alloc, packet.code, packet.payload, text),
+        Direction::ToMta => put_reply_packet(alloc, packet.code, packet.payload, text),
     }
 }
 

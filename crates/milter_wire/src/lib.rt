@@ -30,12 +30,14 @@ pub use arguments::arguments_len;
 pub use client::{Client, Origin};
 pub use command::Command;
 pub use header::{Header, header_len};
-pub use laws::{command_encodings, commands_apart, replies_apart, reply_encodings};
+pub use laws::{
+    command_codes, command_encodings, commands_apart, replies_apart, reply_codes, reply_encodings,
+};
 pub use lengths::helo_packet_len;
 pub use lists::{Pairs, Params};
 pub use milter_options::{Actions, Options, Protocol, agree};
 pub use milter_stream::{
-    CodeName, HEAD_LEN, NoMemory, PAYLOAD_MAX, Packet, Splitter, WireFault, hex_digit, packets,
+    CodeName, HEAD_LEN, NoMemory, PAYLOAD_MAX, Packet, Splitter, WireFault, hex_digit,
 };
 pub use pair::{Pair, pair_len};
 pub use path::Path;

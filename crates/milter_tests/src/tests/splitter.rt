@@ -10,7 +10,7 @@ fn takes(splitter: &mut Splitter, piece: &[u8], count: usize) -> bool {
 /// Whether the splitter hands out this packet.
 fn hands_out(splitter: &mut Splitter, code: u8, payload: &[u8]) -> bool {
     match splitter.next() {
-        Ok(Some(packet)) => packet.code == code && packet.payload.as_slice() == payload,
+        Ok(Some(packet)) => packet.code == code && packet.payload == payload,
         _ => false,
     }
 }
@@ -73,8 +73,35 @@ fn is_stopped(splitter: &mut Splitter) -> bool {
         && splitter.at_end() == Err(WireFault::ZeroLength)
 }
 
+/// Whether a cleared splitter has no byte and no fault, and takes packets again.
+fn is_cleared(splitter: &mut Splitter) -> bool {
+    splitter.clear();
+    keeps(splitter, 0)
+        && splitter.at_end() == Ok(())
+        && takes(splitter, &TWO[7..], 5)
+        && hands_out(splitter, 0x51, &[])
+}
+
 #[test]
-fn a_length_at_fault_stays(rt: HostRuntime) {
+fn a_length_at_fault_stays_until_it_is_cleared(rt: HostRuntime) {
     let mut splitter = Splitter::new(rt.alloc()).expect(&rt, "there is memory");
     assert!(rt; is_stopped(&mut splitter));
+    assert!(rt; is_cleared(&mut splitter));
+}
+
+/// Whether the splitter takes the longest packet and no byte after it, until the packet is handed out.
+fn takes_the_longest(splitter: &mut Splitter, payload: &[u8]) -> bool {
+    takes(splitter, &[0, 1, 0, 0, 0x42], 5)
+        && takes(splitter, payload, 65_535)
+        && splitter.unread() == 65_540
+        && takes(splitter, &TWO[7..], 0)
+        && hands_out(splitter, 0x42, payload)
+        && takes(splitter, &TWO[7..], 5)
+}
+
+#[test]
+fn the_longest_packet_fills_the_buffer(rt: HostRuntime) {
+    let mut splitter = Splitter::new(rt.alloc()).expect(&rt, "there is memory");
+    let payload = vec![in rt.alloc(); 0x78; 65_535].expect(&rt, "there is memory");
+    assert!(rt; takes_the_longest(&mut splitter, &payload));
 }

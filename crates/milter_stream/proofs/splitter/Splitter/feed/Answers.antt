@@ -1,22 +1,23 @@
-use Rattle.milter_stream.proofs.FirstPackets.{IsAtMostOnePacket-step, fed, takes_some}
+use Rattle.std.proofs.Common.{◌≡◌, ℕ, ◌<◌, ◌++◌, take, ap, subst, Ok, ◌∙◌}
+use Rattle.milter_stream.proofs.FirstPackets.{fed, takes_some}
 use Rattle.milter_stream.proofs.splitter.Splitter.feed.Goals as goal
 
-pub fill-requires-2 : goal.fill-requires-2
-fill-requires-2 c = rw c.in_ok-first.ensures.ok (IsAtMostOnePacket-step _ _ _ c.self.invariant c.in_ok-first.ensures.count)
+pub returns-clause-count : goal.returns-clause-count
+returns-clause-count c =
+    let f = c.take_known-first.ensures in
+    let s = c.take_known-second.ensures in
+    ap (λ (n : ℕ). Ok n) (fed _ c.args.piece.now _ _ _ _ f.one_packet f.count f.taken s.count s.taken).count
 
-pub invariant_of-self-in-Ok : goal.invariant_of-self-in-Ok
-invariant_of-self-in-Ok c =
-    (fed _ c.args.piece.now _ _ _ _ c.self.invariant c.in_ok-first.ensures.count c.in_ok-first.ensures.ok c.in-Ok.ensures.count c.in-Ok.ensures.ok).first
+pub returns-clause-taken : goal.returns-clause-taken
+returns-clause-taken c =
+    let f = c.take_known-first.ensures in
+    let s = c.take_known-second.ensures in
+    let both = fed _ c.args.piece.now _ _ _ _ f.one_packet f.count f.taken s.count s.taken in
+    both.taken ∙ ap (λ (n : ℕ). c.args.self.now ++ take n c.args.piece.now) both.count
 
-pub returns-in-Ok-clause-count : goal.returns-in-Ok-clause-count
-returns-in-Ok-clause-count c =
-    rw (← c.self.view_is) (fed _ c.args.piece.now _ _ _ _ c.self.invariant c.in_ok-first.ensures.count c.in_ok-first.ensures.ok c.in-Ok.ensures.count c.in-Ok.ensures.ok).count
-
-pub returns-in-Ok-clause-taken : goal.returns-in-Ok-clause-taken
-returns-in-Ok-clause-taken c =
-    rw (← c.self.view_is) (fed _ c.args.piece.now _ _ _ _ c.self.invariant c.in_ok-first.ensures.count c.in_ok-first.ensures.ok c.in-Ok.ensures.count c.in-Ok.ensures.ok).taken
-
-pub returns-in-Ok-clause-progress : goal.returns-in-Ok-clause-progress
-returns-in-Ok-clause-progress c = λ unfinished some.
-    let count = (fed _ c.args.piece.now _ _ _ _ c.self.invariant c.in_ok-first.ensures.count c.in_ok-first.ensures.ok c.in-Ok.ensures.count c.in-Ok.ensures.ok).count in
-    takes_some _ c.args.piece.now _ (rw c.self.view_is unfinished) some count
+pub returns-clause-progress : goal.returns-clause-progress
+returns-clause-progress c = λ unfinished some.
+    let f = c.take_known-first.ensures in
+    let s = c.take_known-second.ensures in
+    let count = (fed _ c.args.piece.now _ _ _ _ f.one_packet f.count f.taken s.count s.taken).count in
+    subst (λ (n : ℕ). 0 < n) count (takes_some _ c.args.piece.now _ unfinished some count)
