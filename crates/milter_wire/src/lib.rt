@@ -30,7 +30,9 @@ pub use arguments::arguments_len;
 pub use client::{Client, Origin};
 pub use command::Command;
 pub use header::{Header, header_len};
-pub use laws::{command_encodings, commands_apart, replies_apart, reply_encodings};
+pub use laws::{
+    command_codes, command_encodings, commands_apart, replies_apart, reply_codes, reply_encodings,
+};
 pub use lengths::helo_packet_len;
 pub use lists::{Pairs, Params};
 pub use milter_options::{Actions, Options, Protocol, agree};
