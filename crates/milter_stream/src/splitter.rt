@@ -58,10 +58,10 @@ impl Splitter {
     /// else all of them. It always answers `Ok`, and takes no memory.
     pub fn feed(&mut self, piece: &[u8]) -> Result<usize, NoMemory>
         ensures count { result ≡ Ok (fed_len self.old piece.now) }
-        ensures taken { self.new ≡ self.old ++ take (fed_len self.old piece.now) piece.now }
-        ensures within { fed_len self.old piece.now ≤ length piece.now }
+        ensures taken { IfOk result (λ n. self.new ≡ self.old ++ take n piece.now) }
+        ensures within { IfOk result (λ n. n ≤ length piece.now) }
         // Feeding makes progress: with no whole packet and no fault unread, some of a piece is taken.
-        ensures progress { IsUnfinished self.old → piece.now ≢ [] → 0 < fed_len self.old piece.now }
+        ensures progress { IsUnfinished self.old → piece.now ≢ [] → IfOk result (λ n. 0 < n) }
     {
         let first = self.take_known(piece);
         let second = self.take_known(&piece[first..]);

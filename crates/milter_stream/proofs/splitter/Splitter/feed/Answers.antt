@@ -1,4 +1,4 @@
-use Rattle.std.proofs.Common.{◌≡◌, ℕ, ◌<◌, ◌++◌, take, ap, subst, Ok, ◌∙◌}
+use Rattle.std.proofs.Common.{ℕ, ap, Ok}
 use Rattle.milter_stream.proofs.FirstPackets.{fed, takes_some}
 use Rattle.milter_stream.proofs.splitter.Splitter.feed.Goals as goal
 
@@ -12,12 +12,11 @@ pub returns-clause-taken : goal.returns-clause-taken
 returns-clause-taken c =
     let f = c.take_known-first.ensures in
     let s = c.take_known-second.ensures in
-    let both = fed _ c.args.piece.now _ _ _ _ f.one_packet f.count f.taken s.count s.taken in
-    both.taken ∙ ap (λ (n : ℕ). c.args.self.now ++ take n c.args.piece.now) both.count
+    (fed _ c.args.piece.now _ _ _ _ f.one_packet f.count f.taken s.count s.taken).taken
 
 pub returns-clause-progress : goal.returns-clause-progress
 returns-clause-progress c = λ unfinished some.
     let f = c.take_known-first.ensures in
     let s = c.take_known-second.ensures in
     let count = (fed _ c.args.piece.now _ _ _ _ f.one_packet f.count f.taken s.count s.taken).count in
-    subst (λ (n : ℕ). 0 < n) count (takes_some _ c.args.piece.now _ unfinished some count)
+    takes_some _ c.args.piece.now _ unfinished some count
