@@ -5,3 +5,4 @@ pub mod WriteLaws
 pub mod TraceLaws
 pub mod RunLaws
 pub mod SessionLaws
+pub mod RequestLaws
