@@ -6,3 +6,5 @@ pub mod TraceLaws
 pub mod RunLaws
 pub mod SessionLaws
 pub mod RequestLaws
+pub mod FaultlessRows
+pub mod FaultlessWalk

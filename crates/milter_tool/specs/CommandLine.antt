@@ -1,5 +1,5 @@
 -- The command line as `clap` reads it, and what it asks for.
-use Rattle.std.specs.Prelude.{◌≡◌, List, [], true, false, codes, Option, None, Some, Result, Ok, Err, IfSome, IsSomeAnd}
+use Rattle.std.specs.Prelude.{◌≡◌, ◌≢◌, List, [], true, false, codes, Option, None, Some, Result, Ok, Err, IfSome, IsSomeAnd}
 use Rattle.clap.specs.Words.{App, HasKind, Row, Rule, Text, fault_of, first_of, new_app, new_rule, subcommand_of, subcommand_rows_of, with_rule, with_subcommand}
 use Rattle.clap.specs.declared.builder.action.ArgAction.TheVariants.{Set}
 use Rattle.clap.specs.declared.builder.command.Command.{Command}
@@ -39,10 +39,15 @@ IsAsked (name, values) Trace = name ≡ codes "trace"
 IsAsked (name, values) (Session file) =
     (name ≡ codes "session") × (first_of (codes "file") values ≡ Some file.now)
 
+-- the subcommand of this name, with these values, asks for nothing
+abbrev pub IsUnasked : Text × List Row → Type 0
+IsUnasked (name, values) =
+    (name ≢ codes "trace") × (name ≡ codes "session" → first_of (codes "file") values ≡ None)
+
 -- the request of the subcommand, or that it has none
 abbrev pub IsRequestOf : Option (Text × List Row) → Option Request → Type 0
 IsRequestOf subcommand (Some request) = IsSomeAnd subcommand (λ s. IsAsked s request)
-IsRequestOf subcommand None = IfSome subcommand (λ s. (request : Request) → ¬ IsAsked s request)
+IsRequestOf subcommand None = IfSome subcommand IsUnasked
 
 -- the same of a subcommand named session that has these values
 abbrev pub IsSessionRequest : List Row → Option Request → Type 0
@@ -54,6 +59,6 @@ HasMatches words m = (fault_of tool_app words ≡ []) × (subcommand_rows_of m �
 
 -- Words that are taken have no fault, and ask for what their subcommand does. An error is one of the first fault's kinds,
 -- or memory.
-abbrev pub ParsesAs : List Text → Result (Option Request) Error → Type 0
-ParsesAs words (Ok request) = (fault_of tool_app words ≡ []) × IsRequestOf (subcommand_of tool_app words) request
+abbrev pub ParsesAs : List Text → Result Request Error → Type 0
+ParsesAs words (Ok request) = (fault_of tool_app words ≡ []) × IsRequestOf (subcommand_of tool_app words) (Some request)
 ParsesAs words (Err e) = HasKind (fault_of tool_app words) e

@@ -7,13 +7,12 @@ use Rattle.clap.specs.declared.error.kind.ErrorKind.{ErrorKind}
 use Rattle.clap.specs.declared.error.kind.ErrorKind.TheVariants.{DisplayHelp, DisplayVersion, OutOfMemory}
 use Rattle.milter_tool.specs.FaultText.{fault_text, session_error_text}
 use Rattle.milter_tool.specs.declared.tool_error.ToolError.{ToolError}
-use Rattle.milter_tool.specs.declared.tool_error.ToolError.TheVariants.{Usage, NotUtf8, NoRequest, Trace, Session, Write, NoMemory}
+use Rattle.milter_tool.specs.declared.tool_error.ToolError.TheVariants.{Usage, NotUtf8, Trace, Session, Write, NoMemory}
 
 -- a wrong use of the command line, or a fault
 abbrev pub status_of : ToolError → ℕ
 status_of (Usage error) = 2
 status_of NotUtf8 = 2
-status_of NoRequest = 2
 status_of (Trace fault) = 1
 status_of (Session error) = 1
 status_of Write = 1
@@ -26,7 +25,6 @@ line text = text ++ 10 ∷ []
 abbrev pub error_lines : ToolError → Option (List ℕ)
 error_lines (Usage error) = None
 error_lines NotUtf8 = Some (line (codes "error: invalid UTF-8 was detected in one or more arguments"))
-error_lines NoRequest = Some (line (codes "error: no subcommand was given"))
 error_lines (Trace fault) = option_map line (fault_text fault)
 error_lines (Session error) = Some (line (session_error_text error))
 error_lines Write = Some (line (codes "write fault"))

@@ -26,14 +26,11 @@ pub(crate) enum Request<'a> {
 
 /// What the words of a command line ask for, the program's name first. An error has a text and a kind: a wrong use,
 /// what was asked for (help, the version), or memory that was refused.
-pub(crate) fn parse<'a, S: AsStr>(
-    alloc: Global,
-    words: &'a [S],
-) -> Result<Option<Request<'a>>, Error>
+pub(crate) fn parse<'a, S: AsStr>(alloc: Global, words: &'a [S]) -> Result<Request<'a>, Error>
     ensures { ParsesAs (map S.text words.entry.now) result }
 {
     let matches = parse_matches(alloc, words)?;
-    Ok(request_of(&matches))
+    Ok(request_of(&matches).unwrap())
 }
 
 fn parse_matches<'a, S: AsStr>(alloc: Global, words: &'a [S]) -> Result<ArgMatches<'a>, Error>

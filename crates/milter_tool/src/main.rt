@@ -56,9 +56,8 @@ fn words<R: Env + AllocGlobal>(rt: &R) -> Result<Vec<String>, ToolError> {
 fn run<R: Input + Files + Print + Env + AllocGlobal>(rt: &R) -> Result<(), ToolError> {
     let words = words(rt)?;
     match command_line::parse(rt.alloc(), words.as_slice()) {
-        Ok(Some(Request::Trace)) => print_trace(rt),
-        Ok(Some(Request::Session { file })) => print_session_file(rt, file),
-        Ok(None) => Err(ToolError::NoRequest),
+        Ok(Request::Trace) => print_trace(rt),
+        Ok(Request::Session { file }) => print_session_file(rt, file),
         Err(error) => tool_error::answer(error, &mut io::writer(rt)),
     }
 }

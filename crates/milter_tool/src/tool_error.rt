@@ -20,8 +20,6 @@ pub(crate) enum ToolError {
     Usage(clap::Error),
     /// An argument isn't UTF-8.
     NotUtf8,
-    /// The words have no request.
-    NoRequest,
     /// A trace that ended before its input.
     Trace(TraceFault),
     /// A session that was not printed to its end.
@@ -38,7 +36,7 @@ impl ToolError {
         ensures { exit_status result ≡ status_of self.now }
     {
         ExitCode::from(match self {
-            ToolError::Usage(_) | ToolError::NotUtf8 | ToolError::NoRequest => 2,
+            ToolError::Usage(_) | ToolError::NotUtf8 => 2,
             ToolError::Trace(_) | ToolError::Session(_) | ToolError::Write | ToolError::NoMemory =>
                 1,
         })
@@ -57,7 +55,6 @@ impl fmt::Display for ToolError {
                     "error: invalid UTF-8 was detected in one or more arguments"
                 )
             }
-            ToolError::NoRequest => writeln!(f, "error: no subcommand was given"),
             ToolError::Trace(fault) => writeln!(f, "{fault}"),
             ToolError::Session(error) => writeln!(f, "{error}"),
             ToolError::Write => writeln!(f, "write fault"),

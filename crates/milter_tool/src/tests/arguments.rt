@@ -45,7 +45,7 @@ fn requests_are_parsed(rt: HostRuntime) -> Result<(), Fail> {
         let parsed = parse(rt.alloc(), words)
             .ok()
             .ok_or("the words were refused")?;
-        assert_eq!(rt; parsed, Some(request), "{words:?}");
+        assert_eq!(rt; parsed, request, "{words:?}");
     }
     Ok(())
 }

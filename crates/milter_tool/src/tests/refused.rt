@@ -121,7 +121,7 @@ fn assert_parses_or_is_out_of_memory(
     expected: Result<Request<'_>, ErrorKind>,
 ) {
     match parse(alloc, words) {
-        Ok(request) => assert_eq!(rt; request, expected.ok()),
+        Ok(request) => assert_eq!(rt; Some(request), expected.ok()),
         Err(error) if error.kind() == ErrorKind::OutOfMemory => {}
         Err(error) => assert_eq!(rt; Some(error.kind()), expected.err()),
     }
