@@ -1,5 +1,5 @@
 -- How the program ends where it did not do what it was asked.
-use Rattle.std.specs.Prelude.{◌≡◌, ℕ, List, [], ◌∷◌, ◌++◌, Option, None, Some, Result, Err, IfErr, codes, option_map}
+use Rattle.std.specs.Prelude.{◌≡◌, ℕ, List, [], ◌∷◌, ◌++◌, Option, None, Some, Result, Ok, Err, IfErr, codes, option_map}
 use Rattle.std.specs.declared.io.ErrorKind.{ErrorKind as IoKind}
 use Rattle.std.specs.declared.io.ErrorKind.TheVariants as io
 use Rattle.clap.specs.declared.error.Error.{Error}
@@ -10,13 +10,17 @@ use Rattle.milter_tool.specs.declared.tool_error.ToolError.{ToolError}
 use Rattle.milter_tool.specs.declared.tool_error.ToolError.TheVariants.{Usage, NotUtf8, Trace, Session, Write, NoMemory}
 
 -- a wrong use of the command line, or a fault
-abbrev pub status_of : ToolError → ℕ
-status_of (Usage error) = 2
-status_of NotUtf8 = 2
-status_of (Trace fault) = 1
-status_of (Session error) = 1
-status_of Write = 1
-status_of NoMemory = 1
+abbrev pub error_status : ToolError → ℕ
+error_status (Usage error) = 2
+error_status NotUtf8 = 2
+error_status (Trace fault) = 1
+error_status (Session error) = 1
+error_status Write = 1
+error_status NoMemory = 1
+
+abbrev pub status_of : Result Unit ToolError → ℕ
+status_of (Ok done) = 0
+status_of (Err error) = error_status error
 
 abbrev pub line : List ℕ → List ℕ
 line text = text ++ 10 ∷ []

@@ -63,11 +63,5 @@ fn run<R: Input + Files + Print + Env + AllocGlobal>(rt: &R) -> Result<(), ToolE
 }
 
 fn main(rt: HostRuntime) -> ExitCode {
-    match run(&rt) {
-        Ok(()) => ExitCode::SUCCESS,
-        Err(error) => {
-            let _ = eprint!(&rt; "{error}");
-            error.status()
-        }
-    }
+    tool_error::report(run(&rt), &mut rt.stderr())
 }

@@ -1,6 +1,6 @@
 //! Why the program did not do what it was asked: its lines on standard error, and its status.
 
-ghost use Rattle.std.specs.Prelude.{◌≡◌, ◌≢◌, IfErr};
+ghost use Rattle.std.specs.Prelude.{◌≡◌, OnOk};
 ghost use Rattle.std.specs.Process.{exit_status};
 ghost use Rattle.clap.specs.Words.{kind_of};
 ghost use Rattle.milter_tool.specs.ToolError.{EndsBy, IsShown, argument_error, error_lines, status_of};
@@ -30,19 +30,6 @@ pub(crate) enum ToolError {
     NoMemory,
 }
 
-impl ToolError {
-    /// The status that the program ends with: 2 after a wrong use of the command line, and else 1.
-    pub(crate) fn status(&self) -> ExitCode
-        ensures { exit_status result ≡ status_of self.now }
-    {
-        ExitCode::from(match self {
-            ToolError::Usage(_) | ToolError::NotUtf8 => 2,
-            ToolError::Trace(_) | ToolError::Session(_) | ToolError::Write | ToolError::NoMemory =>
-                1,
-        })
-    }
-}
-
 impl fmt::Display for ToolError {
     ghost output = { error_lines };
 
@@ -64,6 +51,23 @@ impl fmt::Display for ToolError {
 }
 
 impl Error for ToolError {}
+
+/// Ends the program: writes the lines of its error, where it has one, and answers with its status. The status is 0 where
+/// the program did what it was asked, 2 after a wrong use of the command line, and 1 after any other error, also where the
+/// lines are not written.
+pub(crate) fn report<W: Write>(ended: Result<(), ToolError>, errors: &mut W) -> ExitCode
+    ensures status { exit_status result ≡ status_of ended }
+    ensures silent { OnOk ended (W.contents errors.new ≡ W.contents errors.old) }
+{
+    let Err(error) = ended else {
+        return ExitCode::SUCCESS;
+    };
+    let _ = write!(errors, "{error}");
+    ExitCode::from(match error {
+        ToolError::Usage(_) | ToolError::NotUtf8 => 2,
+        ToolError::Trace(_) | ToolError::Session(_) | ToolError::Write | ToolError::NoMemory => 1,
+    })
+}
 
 /// Why the words of the command line are not there: an argument isn't UTF-8, or memory was refused.
 pub(crate) fn argument_error(kind: io::ErrorKind) -> ToolError

@@ -2,7 +2,7 @@
 
 use super::fakes::{FakeWriter, Refusal};
 use crate::command_line::{Request, parse};
-use crate::tool_error::{ToolError, answer, argument_error};
+use crate::tool_error::{ToolError, answer, argument_error, report};
 use clap::error::ErrorKind;
 use std::alloc::{AllocError, Global};
 use std::io;
@@ -13,12 +13,14 @@ use std::test::Fail;
 fn assert_ends(
     rt: &impl Abort,
     alloc: Global,
-    error: &ToolError,
+    error: ToolError,
     lines: &str,
     status: u8,
 ) -> Result<(), AllocError> {
-    assert_eq!(rt; error.to_string(alloc)?.as_str(), lines);
-    let code = format!(in alloc; "{:?}", error.status())?;
+    let mut written = Vec::new(alloc);
+    let ended = report(Err(error), &mut written);
+    assert_eq!(rt; written.as_slice(), lines.as_bytes());
+    let code = format!(in alloc; "{ended:?}")?;
     let expected = format!(in alloc; "ExitCode(unix_exit_status({status}))")?;
     assert_eq!(rt; code, expected, "{lines:?}");
     Ok(())
@@ -79,7 +81,7 @@ fn wrong_words_are_answered_on_standard_error(rt: HostRuntime) -> Result<(), Fai
             .err()
             .ok_or("the words were answered")?;
         assert!(rt; written.is_empty(), "{words:?}");
-        assert_ends(&rt, rt.alloc(), &ended, text.as_str(), 2)?;
+        assert_ends(&rt, rt.alloc(), ended, text.as_str(), 2)?;
     }
     Ok(())
 }
@@ -119,7 +121,7 @@ fn help_that_is_not_written_is_a_fault(rt: HostRuntime) -> Result<(), Fail> {
                 .ok_or("the words were taken")?;
             let mut output = FakeWriter::failing_after(Vec::new(rt.alloc()), 4, 1, refusal);
             let ended = answer(error, &mut output).err().ok_or("all was written")?;
-            assert_ends(&rt, rt.alloc(), &ended, "write fault\n", 1)?;
+            assert_ends(&rt, rt.alloc(), ended, "write fault\n", 1)?;
         }
     }
     Ok(())
@@ -132,9 +134,9 @@ fn refused_memory_has_one_line(rt: HostRuntime) -> Result<(), Fail> {
         .err()
         .ok_or("refused memory was answered")?;
     assert!(rt; written.is_empty());
-    assert_ends(&rt, rt.alloc(), &ended, "out of memory\n", 1)?;
+    assert_ends(&rt, rt.alloc(), ended, "out of memory\n", 1)?;
     let ended = argument_error(io::ErrorKind::OutOfMemory);
-    assert_ends(&rt, rt.alloc(), &ended, "out of memory\n", 1)?;
+    assert_ends(&rt, rt.alloc(), ended, "out of memory\n", 1)?;
     Ok(())
 }
 
@@ -142,6 +144,6 @@ fn refused_memory_has_one_line(rt: HostRuntime) -> Result<(), Fail> {
 fn arguments_are_utf8(rt: HostRuntime) -> Result<(), Fail> {
     let line = "error: invalid UTF-8 was detected in one or more arguments\n";
     let ended = argument_error(io::ErrorKind::InvalidData);
-    assert_ends(&rt, rt.alloc(), &ended, line, 2)?;
+    assert_ends(&rt, rt.alloc(), ended, line, 2)?;
     Ok(())
 }
