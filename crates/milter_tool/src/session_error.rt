@@ -10,8 +10,8 @@ use std::error::Error;
 use std::fmt;
 use std::io::ErrorKind;
 
-/// Why a session was not printed to its end. The text of each is its fault line, without the LF. After `Write` and `NoMemory` a prefix
-/// of the session may have been printed, after the others nothing was.
+/// Why a session was not printed to its end. The text of each is its fault line, without the LF. After `Write` and
+/// `NoMemory` a prefix of the session may have been printed, after the others nothing was.
 #[derive(Clone, Copy, Debug, PartialEq, Eq)]
 pub(crate) enum SessionError {
     /// The file couldn't be read, or has more than 134,217,728 bytes.

@@ -52,9 +52,9 @@ impl fmt::Display for ToolError {
 
 impl Error for ToolError {}
 
-/// Ends the program: writes the lines of its error, where it has one, and answers with its status. The status is 0 where
-/// the program did what it was asked, 2 after a wrong use of the command line, and 1 after any other error, also where the
-/// lines are not written.
+/// Ends the program: writes the lines of its error, where it has one, and answers with its status. That is 0 where the
+/// program did what it was asked, 2 after a wrong use of the command line, and 1 after any other error, also where
+/// the lines are not written.
 pub(crate) fn report<W: Write>(ended: Result<(), ToolError>, errors: &mut W) -> ExitCode
     ensures status { exit_status result ≡ status_of ended }
     ensures silent { OnOk ended (W.contents errors.new ≡ W.contents errors.old) }
