@@ -1,6 +1,7 @@
 -- The command line as `clap` reads it, and what it asks for.
 use Rattle.std.specs.Prelude.{◌≡◌, ◌≢◌, List, [], true, false, codes, Option, None, Some, Result, Ok, Err, IfSome, IsSomeAnd}
-use Rattle.clap.specs.Words.{App, HasKind, Row, Rule, Text, fault_of, first_of, new_app, new_rule, subcommand_of, subcommand_rows_of, with_rule, with_subcommand}
+use Rattle.clap.specs.Words.{App, HasKind, Row, Rule, Text, fault_of, first_of, new_app, new_rule, subcommand_of}
+use Rattle.clap.specs.Words.{subcommand_rows_of, with_rule, with_subcommand}
 use Rattle.clap.specs.declared.builder.action.ArgAction.TheVariants.{Set}
 use Rattle.clap.specs.declared.builder.command.Command.{Command}
 use Rattle.clap.specs.declared.builder.command.Command.TheViews.{out-Command}
@@ -57,8 +58,8 @@ IsSessionRequest values = IsRequestOf (Some (codes "session", values))
 abbrev pub HasMatches : List Text → ArgMatches → Type 0
 HasMatches words m = (fault_of tool_app words ≡ []) × (subcommand_rows_of m ≡ subcommand_of tool_app words)
 
--- Words that are taken have no fault, and ask for what their subcommand does. An error is one of the first fault's kinds,
--- or memory.
+-- Words that are taken have no fault, and ask for what their subcommand does. An error is one of the first fault's
+-- kinds, or memory.
 abbrev pub ParsesAs : List Text → Result Request Error → Type 0
 ParsesAs words (Ok request) = (fault_of tool_app words ≡ []) × IsRequestOf (subcommand_of tool_app words) (Some request)
 ParsesAs words (Err e) = HasKind (fault_of tool_app words) e
