@@ -1,8 +1,9 @@
 #!/usr/bin/env bash
 # Plays each case of cases/ on milter_tool as both compilers build it, and then the rows of the tables there. A case is a
 # folder with `args` (one word a line), `stdin`, `stdout`, `stderr` and `status`; a file that isn't there is empty, and a
-# status that isn't there is 0. A word of `args` may name a file of the repository. The programs are those that `rt ci`
-# leaves. The last line is 'N passed, M failed'.
+# status that isn't there is 0. A word of `args` may name a file of the repository. In place of `args` a case may have
+# `run`: a command of bash, which runs "$program" with words or streams that `args` can't name. The programs are those
+# that `rt ci` leaves. The last line is 'N passed, M failed'.
 set -u
 cd "$(dirname "${BASH_SOURCE[0]}")/.."
 work=$(mktemp -d)
@@ -20,7 +21,9 @@ for compiler in '' .by-rattle; do
         done
         expected=0
         [ -f "$case/status" ] && expected=$(cat "$case/status")
-        "$program" ${words[@]+"${words[@]}"} <"$work/stdin" >"$work/out" 2>"$work/err"
+        command=("$program" ${words[@]+"${words[@]}"})
+        [ -f "$case/run" ] && command=(env program="$program" bash "$case/run")
+        "${command[@]}" <"$work/stdin" >"$work/out" 2>"$work/err"
         status=$?
         if [ "$status" = "$expected" ] && cmp -s "$work/out" "$work/stdout" && cmp -s "$work/err" "$work/stderr"; then
             passed=$((passed + 1))

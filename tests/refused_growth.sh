@@ -4,9 +4,10 @@
 #
 # Each such test accepts the answer that it expects, or that memory was refused in the form of that call, and nothing
 # else. Other tests need ample memory, and are left out here. No test makes more than 22 allocations in
-# crates/milter_refused (refused_session_with_a_header_field has the most) and 14 in crates/milter_tool
-# (refused_trace_of_macros): past those nothing is refused, and each test runs as ever. So the numbers below end one after
-# that. Where a test comes to make more allocations, raise the last number of its crate.
+# crates/milter_refused (refused_session_with_a_header_field has the most), and no trace more than 14 in
+# crates/milter_tool (refused_trace_of_macros): past those nothing is refused, and each test runs as ever. So the numbers
+# below end one after that. Where a test comes to make more allocations, raise the last number of its crate. To parse a
+# command line takes about 60: of those after the 15th each eighth one is refused.
 #
 # Nothing is proved here. Four runs go on at a time; `JOBS=1 tests/refused_growth.sh` has one. The last line is
 # 'N passed, M failed', counting the runs of tests. The status is 1 where one failed, or where a crate's tests did not run.
@@ -30,7 +31,7 @@ export top
 
 log=$(
     {
-        seq 15 | sed 's/^/milter_tool /'
+        { seq 15; seq 20 8 60; } | sed 's/^/milter_tool /'
         seq 23 | sed 's/^/milter_refused /'
     } | xargs -P "${JOBS:-4}" -L 1 bash -c 'set -u; refuse "$@"' refuse
 )

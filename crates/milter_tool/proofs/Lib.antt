@@ -5,3 +5,6 @@ pub mod WriteLaws
 pub mod TraceLaws
 pub mod RunLaws
 pub mod SessionLaws
+pub mod RequestLaws
+pub mod FaultlessRows
+pub mod FaultlessWalk

@@ -80,7 +80,7 @@ AppendsTrace-whole line direction start text (Malformed n) t h = stopped_is text
 AppendsTrace-whole line direction start text (Truncated n) t h = stopped_is text start (Packet line direction (Truncated n)) t (h (λ e. cc))
 AppendsTrace-whole line direction start text NoMemory t h = tt
 
--- what `put_packet` tells of a packet at fault
+-- the error of `put_packet` at a packet at fault
 pub AppendsText-fault : (shown : Result (List ℕ) WireFault) (old new : List ℕ) (fault : WireFault) → AppendsText shown old new (Err fault) → fault ≢ NoMemory → (shown ≡ Err fault) × (new ≡ old)
 AppendsText-fault shown old new ZeroLength h other = absurd h
 AppendsText-fault shown old new (TooLong n) h other = absurd h

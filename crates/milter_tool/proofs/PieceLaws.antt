@@ -41,7 +41,7 @@ trace_to_come-fault text new begun prefix more h fault none p =
     ap (trace_from h) lines ∙ ap (λ (f : Option TraceFault). continue_unless (next_trace h parsed).text f others) p.1 in
     ap (λ (x : List ℕ). record { text = x; fault = Some fault }) p.0 ∙ ap (prepend_text text) (sym all)
 
--- a line ended with any fault that a call tells
+-- a line ended with any fault that a call returns
 pub ContinuesTrace-fault : (text new begun prefix more : List ℕ) (h : TraceState) (after : Trace) (fault : TraceFault) → HasNoLf (begun ++ prefix)
     → AppendsTrace (next_trace h (parsed_line (record { bytes = begun ++ prefix; ended = true }))) text new (Err fault) → ContinuesTrace (trace_to_come text h begun (prefix ++ 10 ∷ more)) after new (Err fault)
 ContinuesTrace-fault text new begun prefix more h after (BadLine n) none p = trace_to_come-fault text new begun prefix more h (BadLine n) none p

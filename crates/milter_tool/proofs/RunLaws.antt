@@ -42,8 +42,8 @@ RunProgress-more a b c w v u h k begun new piece text t p q goes = record {
 
 -- ---- after a beginning
 
-front_after : (written text : List ℕ) (w v u : Option (List ℕ)) → Appends w v written → WritesPrefix text v u → WritesPrefix (written ++ text) w u
-front_after written text w v u a f = record {
+prefix_after : (written text : List ℕ) (w v u : Option (List ℕ)) → Appends w v written → WritesPrefix text v u → WritesPrefix (written ++ text) w u
+prefix_after written text w v u a f = record {
   written = written ++ f.written;
   unwritten = f.unwritten;
   whole = append_assoc written f.written f.unwritten ∙ ap (λ (x : List ℕ). written ++ x) f.whole;
@@ -85,7 +85,7 @@ RunProgress-stops a b c w v u h begun piece e t p stops =
     let read = Consumes-trans a b c t.input piece t.was_read p in
     record {
       begun = known (λ x. WritesPrefix x.text w u) a c (t.input ++ piece) read (λ more.
-          subst (λ (x : Trace). WritesPrefix x.text w u) (whole_after a b w v h begun piece more t) (front_after t.written (trace_to_come [] h begun (piece ++ more)).text w v u t.appended (stops more).prefix));
+          subst (λ (x : Trace). WritesPrefix x.text w u) (whole_after a b w v h begun piece more t) (prefix_after t.written (trace_to_come [] h begun (piece ++ more)).text w v u t.appended (stops more).prefix));
       fault = λ input. known (λ x. WritesTrace x (Some e) w u) a c (t.input ++ piece) read (λ more.
           subst (λ (x : Trace). WritesTrace x (Some e) w u) (whole_after a b w v h begun piece more t) (all_after t.written (trace_to_come [] h begun (piece ++ more)) (Some e) w v u t.appended ((stops more).whole input)));
     }
@@ -105,7 +105,7 @@ RunProgress-end a b c w v u h begun (Err e) t p end ends =
     let last = last_of a b w v h begun t in (
       tt,
       record {
-        begun = known_end (λ y. WritesPrefix y.text w u) a c t.input read end (subst (λ (y : Trace). WritesPrefix y.text w u) last (front_after t.written (trace_from h (lines_of begun)).text w v u t.appended ends.prefix));
+        begun = known_end (λ y. WritesPrefix y.text w u) a c t.input read end (subst (λ (y : Trace). WritesPrefix y.text w u) last (prefix_after t.written (trace_from h (lines_of begun)).text w v u t.appended ends.prefix));
         fault = λ input. known_end (λ y. WritesTrace y (Some e) w u) a c t.input read end (subst (λ (y : Trace). WritesTrace y (Some e) w u) last (all_after t.written (trace_from h (lines_of begun)) (Some e) w v u t.appended (ends.whole input)));
       },
     )

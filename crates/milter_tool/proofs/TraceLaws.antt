@@ -12,14 +12,14 @@ use Rattle.milter_tool.specs.ParsedLine.{ParsedLine, Skipped, Bad, Carries, pars
 use Rattle.milter_tool.specs.Trace.{Trace, line_bytes, followed_by, unread_after, new_fault, new_packets, packets_trace, line_trace, stream, trace_after, trace_of}
 use Rattle.milter_tool.specs.TraceState.{TraceState, next_state, division_trace, next_trace, initial_state, trace_from, unread_in}
 
--- what is held after these lines
-held_of : List Line → TraceState
-held_of before = record { lines = length before; to_filter = unread_after ToFilter before; to_mta = unread_after ToMta before }
+-- the state after these lines
+state_after : List Line → TraceState
+state_after before = record { lines = length before; to_filter = unread_after ToFilter before; to_mta = unread_after ToMta before }
 
-unread_in-held_of : (d : Direction) (before : List Line) → unread_in d (held_of before) ≡ unread_after d before
-unfolding held_of
-unread_in-held_of ToFilter before = refl
-unread_in-held_of ToMta before = refl
+unread_in-state_after : (d : Direction) (before : List Line) → unread_in d (state_after before) ≡ unread_after d before
+unfolding state_after
+unread_in-state_after ToFilter before = refl
+unread_in-state_after ToMta before = refl
 
 new_packets-is : (before : List Line) (d : Direction) (bytes : List ℕ) → new_packets before d bytes ≡ (divide (unread_after d before ++ bytes)).frames
 new_packets-is before d bytes =
@@ -30,13 +30,13 @@ new_packets-is before d bytes =
 new_fault-is : (before : List Line) (d : Direction) (bytes : List ℕ) → new_fault before d bytes ≡ length_fault (divide (unread_after d before ++ bytes)).rest
 new_fault-is before d bytes = ap (λ (x : Division). length_fault x.rest) (divide-append (stream d before) bytes)
 
-print_is : (before : List Line) (e : ParsedLine) → next_trace (held_of before) e ≡ line_trace before e
-unfolding held_of
+print_is : (before : List Line) (e : ParsedLine) → next_trace (state_after before) e ≡ line_trace before e
+unfolding state_after
 print_is before Skipped = refl
 print_is before Bad = refl
 print_is before (Carries d bytes) =
     let n = length before + 1 in
-    ap (λ (x : List ℕ). division_trace n d (divide (x ++ bytes))) (unread_in-held_of d before)
+    ap (λ (x : List ℕ). division_trace n d (divide (x ++ bytes))) (unread_in-state_after d before)
     ∙ ap (λ (x : List Frame). packets_trace n d x (length_fault (divide (unread_after d before ++ bytes)).rest)) (sym (new_packets-is before d bytes))
     ∙ ap (λ (x : Option WireFault). packets_trace n d (new_packets before d bytes) x) (sym (new_fault-is before d bytes))
 
@@ -61,29 +61,29 @@ made n f m = record { lines = n; to_filter = f; to_mta = m }
 three : (n k : ℕ) (f g m o : List ℕ) → n ≡ k → f ≡ g → m ≡ o → made n f m ≡ made k g o
 three n k f g m o a b c = rw (a, b, c) refl
 
-held_by : (before : List Line) (line : Line) (e : ParsedLine) → parsed_line line ≡ e → next_state (held_of before) e ≡ held_of (before ++ line ∷ [])
-unfolding held_of made
-held_by before line Skipped is =
+next_state-line : (before : List Line) (line : Line) (e : ParsedLine) → parsed_line line ≡ e → next_state (state_after before) e ≡ state_after (before ++ line ∷ [])
+unfolding state_after made
+next_state-line before line Skipped is =
     three _ _ _ _ _ _ (sym (length-append before (line ∷ []))) (sym (left_same ToFilter before line (ap (line_bytes ToFilter) is))) (sym (left_same ToMta before line (ap (line_bytes ToMta) is)))
-held_by before line Bad is =
+next_state-line before line Bad is =
     three _ _ _ _ _ _ (sym (length-append before (line ∷ []))) (sym (left_same ToFilter before line (ap (line_bytes ToFilter) is))) (sym (left_same ToMta before line (ap (line_bytes ToMta) is)))
-held_by before line (Carries ToFilter bytes) is =
+next_state-line before line (Carries ToFilter bytes) is =
     three _ _ _ _ _ _ (sym (length-append before (line ∷ []))) (sym (left_more ToFilter before line bytes (ap (line_bytes ToFilter) is))) (sym (left_same ToMta before line (ap (line_bytes ToMta) is)))
-held_by before line (Carries ToMta bytes) is =
+next_state-line before line (Carries ToMta bytes) is =
     three _ _ _ _ _ _ (sym (length-append before (line ∷ []))) (sym (left_same ToFilter before line (ap (line_bytes ToFilter) is))) (sym (left_more ToMta before line bytes (ap (line_bytes ToMta) is)))
 
-trace_is : (before lines : List Line) → trace_from (held_of before) lines ≡ trace_after before lines
-unfolding held_of
+trace_is : (before lines : List Line) → trace_from (state_after before) lines ≡ trace_after before lines
+unfolding state_after
 trace_is before [] = refl
 trace_is before (line ∷ lines) =
     let e = parsed_line line in
-    ap (λ (x : Trace). followed_by x (trace_from (next_state (held_of before) e) lines)) (print_is before e)
-    ∙ ap (λ (h : TraceState). followed_by (line_trace before e) (trace_from h lines)) (held_by before line e refl)
+    ap (λ (x : Trace). followed_by x (trace_from (next_state (state_after before) e) lines)) (print_is before e)
+    ∙ ap (λ (h : TraceState). followed_by (line_trace before e) (trace_from h lines)) (next_state-line before line e refl)
     ∙ ap (followed_by (line_trace before e)) (trace_is (before ++ line ∷ []) lines)
 
-held_of-none : held_of [] ≡ initial_state
-unfolding held_of
-held_of-none = ap (λ (d : Division). record { lines = 0; to_filter = d.rest; to_mta = d.rest }) divide-nil
+state_after-none : state_after [] ≡ initial_state
+unfolding state_after
+state_after-none = ap (λ (d : Division). record { lines = 0; to_filter = d.rest; to_mta = d.rest }) divide-nil
 
 pub trace_from-initial_state : (input : List ℕ) → trace_from initial_state (lines_of input) ≡ trace_of input
-trace_from-initial_state input = ap (λ (h : TraceState). trace_from h (lines_of input)) (sym held_of-none) ∙ trace_is [] (lines_of input)
+trace_from-initial_state input = ap (λ (h : TraceState). trace_from h (lines_of input)) (sym state_after-none) ∙ trace_is [] (lines_of input)

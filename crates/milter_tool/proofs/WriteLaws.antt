@@ -25,15 +25,15 @@ WritesPrefix-all text w v a = record { written = text; unwritten = []; whole = a
 pub EndsWithFault-write : (t : Trace) (w v : Option (List ℕ)) (e : TraceFault) → e ≡ WriteFault → WritesPrefix t.text w v → EndsWithFault t w v e
 EndsWithFault-write t w v e is f = record { prefix = f; whole = λ input. absurd (subst IsInputFault is input) }
 
--- the text so far is a front of what is to be printed
-front_of : (before : Trace) (text : List ℕ) (fault : Option TraceFault) (w v : Option (List ℕ)) → record { text = text; fault = fault } ≡ before → WritesPrefix text w v → WritesPrefix before.text w v
-front_of before text fault w v e f = WritesPrefix-more text [] before.text w v f (append-nil text ∙ ap (λ (x : Trace). x.text) e)
+-- the text so far is a prefix of what is to be printed
+prefix_of : (before : Trace) (text : List ℕ) (fault : Option TraceFault) (w v : Option (List ℕ)) → record { text = text; fault = fault } ≡ before → WritesPrefix text w v → WritesPrefix before.text w v
+prefix_of before text fault w v e f = WritesPrefix-more text [] before.text w v f (append-nil text ∙ ap (λ (x : Trace). x.text) e)
 
 pub ContinuesTrace-prefix : (before other : Trace) (text : List ℕ) (r : Result Unit TraceFault) (w v : Option (List ℕ)) → ContinuesTrace before (prepend_text text other) text r → ¬ (r ≡ Err NoMemory) → WritesPrefix text w v → WritesPrefix before.text w v
 ContinuesTrace-prefix before other text (Ok u) w v h some f = WritesPrefix-more text other.text before.text w v f (ap (λ (x : Trace). x.text) h)
-ContinuesTrace-prefix before other text (Err (BadLine n)) w v h some f = front_of before text (Some (BadLine n)) w v h f
-ContinuesTrace-prefix before other text (Err (Packet n d e)) w v h some f = front_of before text (Some (Packet n d e)) w v h f
-ContinuesTrace-prefix before other text (Err (Truncated n m)) w v h some f = front_of before text (Some (Truncated n m)) w v h f
+ContinuesTrace-prefix before other text (Err (BadLine n)) w v h some f = prefix_of before text (Some (BadLine n)) w v h f
+ContinuesTrace-prefix before other text (Err (Packet n d e)) w v h some f = prefix_of before text (Some (Packet n d e)) w v h f
+ContinuesTrace-prefix before other text (Err (Truncated n m)) w v h some f = prefix_of before text (Some (Truncated n m)) w v h f
 ContinuesTrace-prefix before other text (Err ReadFault) w v h some f = absurd h
 ContinuesTrace-prefix before other text (Err WriteFault) w v h some f = absurd h
 ContinuesTrace-prefix before other text (Err TurnLimit) w v h some f = absurd h
@@ -80,7 +80,7 @@ AppendsTrace-no_limit t old new (Err WriteFault) h = absurd h
 AppendsTrace-no_limit t old new (Err TurnLimit) h = absurd h
 AppendsTrace-no_limit t old new (Err NoMemory) h = λ e. cc
 
--- a fact of each trace to come, for the fault that a call told
+-- a fact of each trace to come, for the fault that a call returned
 pub each_more : {T : Type 0} (r : Result T TraceFault) (P : List ℕ → TraceFault → Type 0) → ((more : List ℕ) → IfErr r (P more)) → IfErr r (λ e. (more : List ℕ) → P more e)
 each_more (Ok x) P h = tt
 each_more (Err e) P h = h

@@ -1,14 +1,14 @@
--- The command line as `clap` reads it, and the status that the program ends with.
-use Rattle.std.specs.Prelude.{◌≡◌, ℕ, List, [], true, false, codes, Option, Some, Result, Ok, Err, ◌⊎◌}
-use Rattle.clap.specs.Words.{App, IsAmong, Rule, Text, fault_of, kind_of, new_app, new_rule, with_rule, with_subcommand}
+-- The command line as `clap` reads it, and what it asks for.
+use Rattle.std.specs.Prelude.{◌≡◌, ◌≢◌, List, [], true, false, codes, Option, None, Some, Result, Ok, Err, IfSome, IsSomeAnd}
+use Rattle.clap.specs.Words.{App, HasKind, Row, Rule, Text, fault_of, first_of, new_app, new_rule, subcommand_of}
+use Rattle.clap.specs.Words.{subcommand_rows_of, with_rule, with_subcommand}
 use Rattle.clap.specs.declared.builder.action.ArgAction.TheVariants.{Set}
 use Rattle.clap.specs.declared.builder.command.Command.{Command}
 use Rattle.clap.specs.declared.builder.command.Command.TheViews.{out-Command}
 use Rattle.milter_tool.specs.declared.command_line.Request.{Request}
 use Rattle.milter_tool.specs.declared.command_line.Request.TheVariants.{Trace, Session}
 use Rattle.clap.specs.declared.error.Error.{Error}
-use Rattle.clap.specs.declared.error.kind.ErrorKind.{ErrorKind}
-use Rattle.clap.specs.declared.error.kind.ErrorKind.TheVariants.{DisplayHelp, DisplayVersion, OutOfMemory}
+use Rattle.clap.specs.declared.parser.matches.ArgMatches.{ArgMatches}
 
 -- the program, which wants a subcommand
 abbrev pub top_app : App
@@ -34,19 +34,32 @@ tool_app = with_subcommand (with_subcommand top_app trace_app.top) session_app.t
 abbrev pub IsLocal : Command → Type 0
 IsLocal c = (out-Command c).has_globals ≡ false
 
--- the subcommand of this name asks for it
-abbrev pub IsNamedBy : Option (List ℕ) → Request → Type 0
-IsNamedBy name Trace = name ≡ Some (codes "trace")
-IsNamedBy name (Session file) = name ≡ Some (codes "session")
+-- the subcommand of this name, with these values, asks for it
+abbrev pub IsAsked : Text × List Row → Request → Type 0
+IsAsked (name, values) Trace = name ≡ codes "trace"
+IsAsked (name, values) (Session file) =
+    (name ≡ codes "session") × (first_of (codes "file") values ≡ Some file.now)
 
--- Words that are taken have no fault, and an error is one of the first fault's kinds, or memory.
-abbrev pub ParsesAs : {T : Type 0} → List Text → Result T Error → Type 0
-ParsesAs words (Ok m) = fault_of tool_app words ≡ []
-ParsesAs words (Err e) = (kind_of e ≡ OutOfMemory) ⊎ IsAmong (kind_of e) (fault_of tool_app words)
+-- the subcommand of this name, with these values, asks for nothing
+abbrev pub IsUnasked : Text × List Row → Type 0
+IsUnasked (name, values) =
+    (name ≢ codes "trace") × (name ≡ codes "session" → first_of (codes "file") values ≡ None)
 
--- help and the version are what was asked for, refused memory is a fault, and the rest is a wrong use
-abbrev pub status_of : ErrorKind → ℕ
-status_of DisplayHelp = 0
-status_of DisplayVersion = 0
-status_of OutOfMemory = 1
-status_of _ = 2
+-- the request of the subcommand, or that it has none
+abbrev pub IsRequestOf : Option (Text × List Row) → Option Request → Type 0
+IsRequestOf subcommand (Some request) = IsSomeAnd subcommand (λ s. IsAsked s request)
+IsRequestOf subcommand None = IfSome subcommand IsUnasked
+
+-- the same of a subcommand named session that has these values
+abbrev pub IsSessionRequest : List Row → Option Request → Type 0
+IsSessionRequest values = IsRequestOf (Some (codes "session", values))
+
+-- words that are taken have no fault, and these are their matches
+abbrev pub HasMatches : List Text → ArgMatches → Type 0
+HasMatches words m = (fault_of tool_app words ≡ []) × (subcommand_rows_of m ≡ subcommand_of tool_app words)
+
+-- Words that are taken have no fault, and ask for what their subcommand does. An error is one of the first fault's
+-- kinds, or memory.
+abbrev pub ParsesAs : List Text → Result Request Error → Type 0
+ParsesAs words (Ok request) = (fault_of tool_app words ≡ []) × IsRequestOf (subcommand_of tool_app words) (Some request)
+ParsesAs words (Err e) = HasKind (fault_of tool_app words) e

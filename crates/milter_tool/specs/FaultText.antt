@@ -1,7 +1,11 @@
--- The fault lines of an input that ends within packets.
-use Rattle.std.specs.Prelude.{ℕ, ◌==◌, List, ◌∷◌, ◌++◌, codes, decimal, if◌then◌else◌}
+-- The fault lines of a trace and of a session file, before their LF.
+use Rattle.std.specs.Prelude.{ℕ, ◌==◌, List, ◌∷◌, ◌++◌, Option, None, Some, codes, decimal, if◌then◌else◌}
 use Rattle.milter_tool.specs.declared.direction.Direction.{Direction}
 use Rattle.milter_tool.specs.declared.direction.Direction.TheVariants.{ToFilter, ToMta}
+use Rattle.milter_tool.specs.declared.fault.TraceFault.{TraceFault}
+use Rattle.milter_tool.specs.declared.fault.TraceFault.TheVariants as trace
+use Rattle.milter_tool.specs.declared.session_error.SessionError.{SessionError}
+use Rattle.milter_tool.specs.declared.session_error.SessionError.TheVariants as session
 use Rattle.milter_tool.specs.PacketText.{mark_of}
 
 -- the line of one direction
@@ -15,3 +19,21 @@ truncated_lines to_filter to_mta =
     if to_mta == 0 then truncated_line ToFilter to_filter
     else if to_filter == 0 then truncated_line ToMta to_mta
     else (truncated_line ToFilter to_filter ++ 10 ∷ truncated_line ToMta to_mta)
+
+-- the lines of a trace's fault; the words of a packet's fault are those of `WireFault`, which states none
+abbrev pub fault_text : TraceFault → Option (List ℕ)
+fault_text (trace.BadLine number) = Some (codes "line " ++ decimal number ++ codes ": bad line")
+fault_text (trace.Packet number direction fault) = None
+fault_text (trace.Truncated to_filter to_mta) = Some (truncated_lines to_filter to_mta)
+fault_text trace.ReadFault = Some (codes "read fault")
+fault_text trace.WriteFault = Some (codes "write fault")
+fault_text trace.TurnLimit = Some (codes "turn limit")
+fault_text trace.NoMemory = Some (codes "out of memory")
+
+-- the line of a session's error
+abbrev pub session_error_text : SessionError → List ℕ
+session_error_text session.Read = codes "cannot read session"
+session_error_text (session.Fault number fault) =
+    codes "session line " ++ decimal number ++ codes ": fault " ++ decimal fault
+session_error_text session.Write = codes "write fault"
+session_error_text session.NoMemory = codes "out of memory"

@@ -5,7 +5,7 @@ use Rattle.std.specs.declared.alloc.Global.{Global}
 use Rattle.milter_tool.specs.declared.fault.TraceFault.{TraceFault}
 use Rattle.milter_tool.specs.declared.fault.TraceFault.TheVariants.{BadLine, Packet, Truncated, ReadFault, WriteFault, TurnLimit, NoMemory}
 
--- The bytes, or a bad line exactly where the digits stand for none, unless memory was refused.
+-- The bytes, or a bad line exactly where the digits encode none, unless memory was refused.
 abbrev pub DecodesDigits : Result (List ℕ) FromHexError → ℕ → Result (Vec ℕ Global) TraceFault → Type 0
 DecodesDigits read line (Ok v) = read ≡ Ok v.items
 DecodesDigits read line (Err (BadLine n)) = (n ≡ line) × IsErr read

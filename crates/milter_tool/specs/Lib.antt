@@ -11,3 +11,4 @@ pub mod TraceRun
 pub mod CommandLine
 pub mod FaultText
 pub mod SessionRun
+pub mod ToolError

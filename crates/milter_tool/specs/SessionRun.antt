@@ -1,6 +1,8 @@
 -- What the printing of a session file leaves, where the bytes of its reader and its writer are known.
-use Rattle.std.specs.Prelude.{◌≡◌, ℕ, List, Option, IfSome}
+use Rattle.std.specs.Prelude.{ℕ, List, Option, IfSome}
 use Rattle.std.specs.Io.KnownBytes.{Appends}
+use Rattle.std.specs.declared.io.ErrorKind.{ErrorKind}
+use Rattle.std.specs.declared.io.ErrorKind.TheVariants.{OutOfMemory}
 use Rattle.milter_mail.specs.MailSession.{MailSession}
 use Rattle.milter_session.specs.SessionFile.{IsSessionFile}
 use Rattle.milter_session.specs.declared.session_fault.SessionFault.{SessionFault}
@@ -30,6 +32,11 @@ IsFileFault Read = ⊥
 IsFileFault (Fault line number) = Unit {0}
 IsFileFault Write = ⊥
 IsFileFault NoMemory = ⊥
+
+-- a file isn't read where memory is refused, or where the system fails
+abbrev pub read_error : ErrorKind → SessionError
+read_error OutOfMemory = NoMemory
+read_error _ = Read
 
 -- the line of a fault and its number, or that memory was refused
 abbrev pub session_error : SessionFault → SessionError

@@ -13,7 +13,7 @@ WritesTraceOf fault input before after = IfSome input (λ bytes. WritesTrace (tr
 abbrev pub WritesPrefixOf : Option (List ℕ) → Option (List ℕ) → Option (List ℕ) → Type 0
 WritesPrefixOf input before after = IfSome input (λ bytes. WritesPrefix (trace_of bytes).text before after)
 
--- the reads after which a trace gives up
+-- the bytes that an input has at least, where a trace of it gives up
 abbrev pub read_max : ℕ
 read_max = 1073741824
 

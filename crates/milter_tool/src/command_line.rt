@@ -1,16 +1,16 @@
 //! The command line: what the program is asked to do.
 
-ghost use Rattle.std.specs.Prelude.{◌≡◌, ◌↔◌, IfOk, IfSome, Some, codes, map, false};
-ghost use Rattle.std.specs.Process.{exit_status};
-ghost use Rattle.clap.specs.Matches.{subcommand_name_of};
-ghost use Rattle.clap.specs.Words.{app_of, kind_of, rule_of};
-ghost use Rattle.milter_tool.specs.CommandLine.{IsLocal, IsNamedBy, ParsesAs, file_rule, session_app, status_of, tool_app, top_app, trace_app};
+ghost use Rattle.std.specs.Prelude.{◌≡◌, IfErr, IfOk, map, false};
+ghost use Rattle.clap.specs.Words.{HasKind, app_of, fault_of, found_of, rows_of, rule_of, subcommand_rows_of};
+ghost use Rattle.milter_tool.specs.CommandLine.{HasMatches, IsLocal, IsRequestOf, IsSessionRequest, ParsesAs, file_rule, session_app, tool_app, top_app, trace_app};
 
-use clap::error::ErrorKind;
+use crate::help_text;
 use clap::{Arg, ArgAction, ArgMatches, Command, Error};
 use std::alloc::{AllocError, Global};
 use std::convert::AsStr;
-use std::process::ExitCode;
+
+/// The version of the program.
+const VERSION: &str = "0.1.0";
 
 /// What the program is asked to do.
 #[derive(Clone, Copy, Debug, PartialEq, Eq)]
@@ -24,38 +24,41 @@ pub(crate) enum Request<'a> {
     },
 }
 
-/// Parses the words of a command line, the program's name first. An error has a text and a kind: a wrong use, what was
-/// asked for (help, the version), or memory that was refused.
-pub(crate) fn parse<'a, S: AsStr>(alloc: Global, words: &'a [S]) -> Result<ArgMatches<'a>, Error>
+/// What the words of a command line ask for, the program's name first. An error has a text and a kind: a wrong use,
+/// what was asked for (help, the version), or memory that was refused.
+pub(crate) fn parse<'a, S: AsStr>(alloc: Global, words: &'a [S]) -> Result<Request<'a>, Error>
     ensures { ParsesAs (map S.text words.entry.now) result }
+{
+    let matches = parse_matches(alloc, words)?;
+    Ok(request_of(&matches).unwrap())
+}
+
+fn parse_matches<'a, S: AsStr>(alloc: Global, words: &'a [S]) -> Result<ArgMatches<'a>, Error>
+    ensures ok { IfOk result (HasMatches (map S.text words.entry.now)) }
+    ensures err { IfErr result (HasKind (fault_of tool_app (map S.text words.entry.now))) }
 {
     command(alloc)?.try_get_matches_from(words)
 }
 
-/// What a parsed command line asks for.
-pub(crate) fn request_of<'a>(matches: &ArgMatches<'a>) -> Option<Request<'a>>
-    ensures trace { (result ≡ Some Request.Trace) ↔ (subcommand_name_of matches.now ≡ Some (codes "trace")) }
-    ensures name { IfSome result (IsNamedBy (subcommand_name_of matches.now)) }
+/// What parsed words ask for: nothing only where they name no subcommand, or a session without its file.
+fn request_of<'a>(matches: &ArgMatches<'a>) -> Option<Request<'a>>
+    ensures { IsRequestOf (subcommand_rows_of matches.now) result }
 {
     match matches.subcommand() {
         Some(("trace", _)) => Some(Request::Trace),
-        Some(("session", given)) => Some(Request::Session {
-            file: given.get_str("file")?,
-        }),
+        Some(("session", given)) => session_request(given),
         _ => None,
     }
 }
 
-/// The status that the program ends with after this error: 0 where help was asked for, 1 where memory was refused, 2
-/// for a wrong use.
-pub(crate) fn status_of(error: &Error) -> ExitCode
-    ensures { exit_status result ≡ status_of (kind_of error.now) }
+/// What the words after `session` ask for.
+fn session_request<'a>(given: &ArgMatches<'a>) -> Option<Request<'a>>
+    ensures { IsSessionRequest (rows_of (found_of given.now)) result }
 {
-    ExitCode::from(match error.kind() {
-        ErrorKind::DisplayHelp | ErrorKind::DisplayVersion => 0,
-        ErrorKind::OutOfMemory => 1,
-        _ => 2,
-    })
+    match given.get_str("file") {
+        Some(file) => Some(Request::Session { file }),
+        None => None,
+    }
 }
 
 /// The whole command line.
@@ -76,7 +79,7 @@ fn top<'a>(alloc: Global) -> Result<Command<'a>, AllocError>
             .about(
                 "Looks at conversations between mail servers and their filters, in the milter protocol",
             )
-            .version("0.1.0")
+            .version(VERSION)
             .subcommand_required(true),
     )
 }
@@ -85,9 +88,9 @@ fn trace<'a>(alloc: Global) -> Command<'a>
     ensures shape { app_of result ≡ trace_app }
     ensures local { IsLocal result }
 {
-    Command::new(alloc, "trace").about(
-        "Prints a line for each packet of a captured conversation, read from standard input",
-    )
+    Command::new(alloc, "trace")
+        .about("Prints a line for each packet of a captured conversation, read from standard input")
+        .after_long_help(help_text::TRACE)
 }
 
 fn session<'a>(alloc: Global) -> Result<Command<'a>, AllocError>
@@ -96,6 +99,7 @@ fn session<'a>(alloc: Global) -> Result<Command<'a>, AllocError>
 {
     Command::new(alloc, "session")
         .about("Prints what a session file has, in canonical form")
+        .after_long_help(help_text::SESSION)
         .arg(file(alloc))
 }
 

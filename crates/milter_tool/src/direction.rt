@@ -15,7 +15,7 @@ pub enum Direction {
 }
 
 impl Direction {
-    /// The character that stands for the direction, in a trace and in its text.
+    /// The character of the direction, in a trace and in its text.
     pub fn mark(self) -> u8
         ensures { result ≡ mark_of self }
     {

@@ -2,24 +2,22 @@
 
 ghost use Rattle.milter_tool.specs.declared.fault.TraceFault.TheVariants as faults;
 ghost use Rattle.milter_tool.specs.declared.direction.Direction.TheVariants.{ToFilter, ToMta};
-ghost use Rattle.milter_tool.specs.FaultText.{truncated_line, truncated_lines};
+ghost use Rattle.milter_tool.specs.FaultText.{fault_text, truncated_line, truncated_lines};
 ghost use Rattle.std.specs.Prelude.{◌≡◌, Some};
 
 use crate::direction::Direction;
 use milter_wire::{NoMemory, WireFault};
 use std::alloc::{AllocError, AllocFailed};
+use std::error::Error;
 use std::fmt;
-use thiserror::Error;
 
 /// Why a trace ended. After the first three, the text up to the fault was written; after the others, a prefix of
-/// it. Lines are numbered from 1. The text of each but `Truncated` is its fault line.
-#[derive(Clone, Copy, Debug, PartialEq, Eq, Error)]
+/// it. Lines are numbered from 1. The text of each is its fault line, without the LF; `Truncated` may have two lines.
+#[derive(Clone, Copy, Debug, PartialEq, Eq)]
 pub enum TraceFault {
     /// The line with this number is none of a trace.
-    #[error("line {0}: bad line")]
     BadLine(u64),
     /// A packet that becomes whole in this line is at fault, or the length of one.
-    #[error("line {line}: {direction} {fault}")]
     Packet {
         /// The number of the line.
         line: u64,
@@ -29,7 +27,6 @@ pub enum TraceFault {
         fault: WireFault,
     },
     /// The input ended with so many bytes of packets that aren't whole, in one direction at least.
-    #[error("{}", TruncatedStreams {to_filter: *.to_filter, to_mta: *.to_mta})]
     Truncated {
         /// The bytes to the filter.
         to_filter: usize,
@@ -37,18 +34,38 @@ pub enum TraceFault {
         to_mta: usize,
     },
     /// A read of the input failed.
-    #[error("read fault")]
     ReadFault,
     /// A write of the text failed, or took nothing.
-    #[error("write fault")]
     WriteFault,
     /// The input had not ended after 1,073,741,824 reads.
-    #[error("turn limit")]
     TurnLimit,
     /// Memory was refused.
-    #[error("out of memory")]
     NoMemory,
 }
+
+impl fmt::Display for TraceFault {
+    ghost output = { fault_text };
+
+    fn fmt<W: fmt::Write>(&self, f: &mut fmt::Formatter<W>) -> fmt::Result {
+        match *self {
+            TraceFault::BadLine(line) => write!(f, "line {line}: bad line"),
+            TraceFault::Packet {
+                line,
+                direction,
+                fault,
+            } => write!(f, "line {line}: {direction} {fault}"),
+            TraceFault::Truncated { to_filter, to_mta } => {
+                write!(f, "{}", TruncatedStreams { to_filter, to_mta })
+            }
+            TraceFault::ReadFault => f.write_str("read fault"),
+            TraceFault::WriteFault => f.write_str("write fault"),
+            TraceFault::TurnLimit => f.write_str("turn limit"),
+            TraceFault::NoMemory => f.write_str("out of memory"),
+        }
+    }
+}
+
+impl Error for TraceFault {}
 
 /// The fault line of an input that ended in a packet of this direction, with so many bytes of it.
 #[derive(Drop)]

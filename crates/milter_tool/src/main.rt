@@ -8,6 +8,7 @@ mod command_line;
 mod direction;
 mod fault;
 mod fields;
+mod help_text;
 mod line_assembler;
 mod packet_line;
 mod packet_stream;
@@ -15,6 +16,7 @@ mod session_error;
 mod session_run;
 #[cfg(test)]
 mod tests;
+mod tool_error;
 mod trace;
 mod trace_line;
 mod trace_printer;
@@ -25,57 +27,41 @@ use std::env::{self, Env};
 use std::process::ExitCode;
 use std::rt::Files;
 use std::{fs, io};
+use tool_error::ToolError;
 
 /// Prints the packets of the trace on standard input.
-fn print_trace<R: Input + Print + Eprint + AllocGlobal>(rt: &R) -> ExitCode {
+fn print_trace<R: Input + Print + AllocGlobal>(rt: &R) -> Result<(), ToolError> {
     let mut reader = rt.reader();
     let mut writer = io::writer(rt);
-    match trace::trace_run(rt.alloc(), &mut reader, &mut writer) {
-        Ok(()) => ExitCode::SUCCESS,
-        Err(fault) => {
-            let _ = eprintln!(rt; "{fault}");
-            ExitCode::FAILURE
-        }
-    }
+    trace::trace_run(rt.alloc(), &mut reader, &mut writer).map_err(ToolError::Trace)
 }
 
 /// Prints the session of the file at this path, in canonical form.
-fn print_session_file<R: Files + Print + Eprint + AllocGlobal>(rt: &R, path: &str) -> ExitCode {
+fn print_session_file<R: Files + Print + AllocGlobal>(rt: &R, path: &str) -> Result<(), ToolError> {
     let ended = match fs::open(rt, path) {
         Ok(file) => session_run::print_session(rt.alloc(), file, &mut io::writer(rt)),
-        Err(_) => Err(SessionError::Read),
+        Err(error) => Err(session_error::read_error(error.kind())),
     };
-    match ended {
-        Ok(()) => ExitCode::SUCCESS,
-        Err(error) => {
-            let _ = eprintln!(rt; "{error}");
-            ExitCode::FAILURE
-        }
+    ended.map_err(ToolError::Session)
+}
+
+/// The words of the command line, the program's name first.
+fn words<R: Env + AllocGlobal>(rt: &R) -> Result<Vec<String>, ToolError> {
+    match env::args(rt) {
+        Ok(words) => words.collect(rt.alloc()).map_err(|_| ToolError::NoMemory),
+        Err(error) => Err(tool_error::argument_error(error.kind())),
     }
 }
 
-fn run<R: Input + Files + Print + Eprint + Env + AllocGlobal>(rt: &R) -> io::Result<ExitCode> {
-    let words: Vec<String> = env::args(rt)?.collect(rt.alloc())?;
-    let matches = match command_line::parse(rt.alloc(), words.as_slice()) {
-        Ok(matches) => matches,
-        Err(error) => {
-            error.print(rt)?;
-            return Ok(command_line::status_of(&error));
-        }
-    };
-    match command_line::request_of(&matches) {
-        Some(Request::Trace) => Ok(print_trace(rt)),
-        Some(Request::Session { file }) => Ok(print_session_file(rt, file)),
-        None => Ok(ExitCode::FAILURE),
+fn run<R: Input + Files + Print + Env + AllocGlobal>(rt: &R) -> Result<(), ToolError> {
+    let words = words(rt)?;
+    match command_line::parse(rt.alloc(), words.as_slice()) {
+        Ok(Request::Trace) => print_trace(rt),
+        Ok(Request::Session { file }) => print_session_file(rt, file),
+        Err(error) => tool_error::answer(error, &mut io::writer(rt)),
     }
 }
 
 fn main(rt: HostRuntime) -> ExitCode {
-    match run(&rt) {
-        Ok(code) => code,
-        Err(error) => {
-            let _ = eprintln!(&rt; "milter_tool: {error}");
-            ExitCode::FAILURE
-        }
-    }
+    tool_error::report(run(&rt), &mut rt.stderr())
 }

@@ -1,21 +1,22 @@
 //! How the printing of a session file can end before its session does.
 
-ghost use Rattle.std.specs.Prelude.{◌≡◌};
-ghost use Rattle.milter_tool.specs.SessionRun.{session_error, text_error};
+ghost use Rattle.std.specs.Prelude.{◌≡◌, Some};
+ghost use Rattle.milter_tool.specs.FaultText.{session_error_text};
+ghost use Rattle.milter_tool.specs.SessionRun.{read_error, session_error, text_error};
 
 use milter_session::SessionFault;
 use milter_text::TextFault;
-use thiserror::Error;
+use std::error::Error;
+use std::fmt;
+use std::io::ErrorKind;
 
-/// Why a session was not printed to its end. The text of each is its fault line. After `Write` and `NoMemory` a prefix
-/// of the session may have been printed, after the others nothing was.
-#[derive(Clone, Copy, Debug, PartialEq, Eq, Error)]
+/// Why a session was not printed to its end. The text of each is its fault line, without the LF. After `Write` and
+/// `NoMemory` a prefix of the session may have been printed, after the others nothing was.
+#[derive(Clone, Copy, Debug, PartialEq, Eq)]
 pub(crate) enum SessionError {
     /// The file couldn't be read, or has more than 134,217,728 bytes.
-    #[error("cannot read session")]
     Read,
     /// The file has no session.
-    #[error("session line {line}: fault {number}")]
     Fault {
         /// The number of the line at fault, from 1.
         line: u64,
@@ -23,11 +24,36 @@ pub(crate) enum SessionError {
         number: u8,
     },
     /// A write failed, or took nothing.
-    #[error("write fault")]
     Write,
     /// Memory was refused.
-    #[error("out of memory")]
     NoMemory,
+}
+
+impl fmt::Display for SessionError {
+    ghost output = { λ error. Some (session_error_text error) };
+
+    fn fmt<W: fmt::Write>(&self, f: &mut fmt::Formatter<W>) -> fmt::Result {
+        match *self {
+            SessionError::Read => f.write_str("cannot read session"),
+            SessionError::Fault { line, number } => {
+                write!(f, "session line {line}: fault {number}")
+            }
+            SessionError::Write => f.write_str("write fault"),
+            SessionError::NoMemory => f.write_str("out of memory"),
+        }
+    }
+}
+
+impl Error for SessionError {}
+
+/// The error of a file that isn't opened, or not read.
+pub(crate) fn read_error(kind: ErrorKind) -> SessionError
+    ensures { result ≡ read_error kind }
+{
+    match kind {
+        ErrorKind::OutOfMemory => SessionError::NoMemory,
+        _ => SessionError::Read,
+    }
 }
 
 /// The error of a file that has no session.

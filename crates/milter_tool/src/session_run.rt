@@ -3,10 +3,10 @@
 ghost use Rattle.std.specs.Prelude.{◌≡◌, ◌≤◌, IfOk, IfErr, OnOk, IfSome, length};
 ghost use Rattle.milter_tool.specs.SessionRun.{HasNoSession, IsFileFault, WritesCanonical, file_max};
 
-use crate::session_error::{SessionError, session_error, text_error};
+use crate::session_error::{SessionError, read_error, session_error, text_error};
 use milter_session::{read_session, write_session};
 use std::alloc::Global;
-use std::io::{ErrorKind, Read, Write};
+use std::io::{Read, Write};
 
 /// The most bytes that a session file has.
 const FILE_MAX: u64 = 134_217_728;
@@ -47,7 +47,6 @@ fn read_file<R: Read + Drop>(alloc: Global, reader: R) -> Result<Vec<u8>, Sessio
     match reader.take(FILE_MAX + 1).read_to_end(&mut file) {
         Ok(_) if file.len() as u64 <= FILE_MAX => Ok(file),
         Ok(_) => Err(SessionError::Read),
-        Err(error) if error.kind() == ErrorKind::OutOfMemory => Err(SessionError::NoMemory),
-        Err(_) => Err(SessionError::Read),
+        Err(error) => Err(read_error(error.kind())),
     }
 }

@@ -30,7 +30,6 @@ const READ_MAX: u64 = 1_073_741_824;
 ///
 /// After `BadLine`, `Packet` and `Truncated` the text up to the fault was written, after any other fault a prefix of
 /// the text. A read or write that fails, also one that is interrupted, and a write that takes nothing, is a fault.
-///
 pub fn trace_run<R: Read, W: Write>(
     alloc: Global,
     reader: &mut R,
@@ -45,8 +44,8 @@ pub fn trace_run<R: Read, W: Write>(
         WritesTraceOf (Some e) (R.remaining reader.old) (W.contents writer.old) (W.contents writer.new)) }
     ensures begun { OnErr result (WritesPrefixOf (R.remaining reader.old)
         (W.contents writer.old) (W.contents writer.new)) }
-    // Each of the reads gave a byte at least.
-    ensures turns { IsErrOf result TraceFault.TurnLimit → HasBytes read_max (R.remaining reader.old) }
+    // The input of a trace that gives up is that long. How many reads there were is not stated.
+    ensures long_input { IsErrOf result TraceFault.TurnLimit → HasBytes read_max (R.remaining reader.old) }
 {
     let mut room = make_room(alloc)?;
     let mut assembler = LineAssembler::new(alloc)?;
@@ -68,7 +67,7 @@ fn run<R: Read, W: Write>(
         WritesTraceOf (Some e) (R.remaining reader.old) (W.contents writer.old) (W.contents writer.new)) }
     ensures begun { OnErr result (WritesPrefixOf (R.remaining reader.old)
         (W.contents writer.old) (W.contents writer.new)) }
-    ensures turns { IsErrOf result TraceFault.TurnLimit → HasBytes read_max (R.remaining reader.old) }
+    ensures long_input { IsErrOf result TraceFault.TurnLimit → HasBytes read_max (R.remaining reader.old) }
 {
     for _turn in 0..READ_MAX {
         let Ok(count) = reader.read(room) else {

@@ -121,7 +121,7 @@ impl TracePrinter {
     }
 }
 
-/// The bytes that the digits of a line stand for.
+/// The bytes that the digits of a line encode.
 fn decode_digits(alloc: Global, digits: &[u8], line: u64) -> Result<Vec<u8>, TraceFault>
     ensures { DecodesDigits (decode_of digits.now) line result }
 {

@@ -1,4 +1,4 @@
-//! Readers and writers that give and take in pieces, and fail where they are told to.
+//! Readers and writers that give and take in pieces, and that fail at a given call.
 
 use std::io::{self, ErrorKind, Read, Write};
 
@@ -78,7 +78,7 @@ pub(crate) struct FakeWriter {
 }
 
 impl FakeWriter {
-    /// A writer that holds these bytes and doesn't fail.
+    /// A writer that has these bytes and doesn't fail.
     pub(crate) fn new(written: Vec<u8>, piece: usize) -> FakeWriter {
         FakeWriter {
             written,

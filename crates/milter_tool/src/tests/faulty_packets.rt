@@ -136,7 +136,7 @@ fn unknown_codes_end_a_trace(rt: HostRuntime) -> Result<(), Fail> {
 }
 
 #[test]
-fn packets_that_are_not_whole_are_told(rt: HostRuntime) -> Result<(), Fail> {
+fn packets_that_are_not_whole_are_faults(rt: HostRuntime) -> Result<(), Fail> {
     let cases = [
         ("< 000000", "", 0, 3),
         ("< 000000\n", "", 0, 3),

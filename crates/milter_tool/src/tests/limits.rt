@@ -59,7 +59,7 @@ fn a_line_is_too_long_before_it_ends(rt: HostRuntime) -> Result<(), Fail> {
 }
 
 #[test]
-fn a_line_that_is_too_long_is_told_with_its_number(rt: HostRuntime) -> Result<(), Fail> {
+fn a_line_that_is_too_long_is_a_fault_with_its_number(rt: HostRuntime) -> Result<(), Fail> {
     let mut input = "> 0000000151\n\n".as_bytes().to_vec(rt.alloc())?;
     input.extend_from_slice(comment(rt.alloc(), 300_000)?.as_slice())?;
     input.extend_from_slice("\n> 0000000141\n".as_bytes())?;

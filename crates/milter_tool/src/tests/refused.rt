@@ -1,16 +1,18 @@
-//! Traces whose memory is refused. `tests/refused_growth.sh` runs them with each allocation refused in turn: each then
-//! answers as ever, or by want of memory. The writer takes no memory.
+//! Traces and command lines whose memory is refused. `tests/refused_growth.sh` runs them with an allocation refused, one after the other:
+//! each then answers as ever, or that memory was refused. The writer takes no memory.
 
 use super::{Ending, at_fault};
+use crate::command_line::{Request, parse};
 use crate::direction::Direction;
 use crate::fault::TraceFault;
 use crate::trace::trace_run;
+use clap::error::ErrorKind;
 use milter_wire::WireFault;
 use std::alloc::Global;
 use std::process::Abort;
 
-/// Asserts that a trace prints this text and ends so, or that it wants memory after a beginning of the text.
-fn assert_answers_or_wants_memory(
+/// Asserts that a trace prints this text and ends so, or that it ends with `NoMemory` after a prefix of the text.
+fn assert_answers_or_is_out_of_memory(
     rt: &impl Abort,
     alloc: Global,
     input: &str,
@@ -26,7 +28,7 @@ fn assert_answers_or_wants_memory(
     if found == Err(TraceFault::NoMemory) {
         assert!(rt;
             text.as_bytes().starts_with(written),
-            "a beginning of the text"
+            "a prefix of the text"
         );
     } else {
         assert_eq!(rt; found, ending);
@@ -36,7 +38,7 @@ fn assert_answers_or_wants_memory(
 
 #[test]
 fn refused_trace_of_three_lines(rt: HostRuntime) {
-    assert_answers_or_wants_memory(
+    assert_answers_or_is_out_of_memory(
         &rt,
         rt.alloc(),
         "> 0000000d4f00000006000000ff000ff7ff\n< 00\n< 00000163",
@@ -47,7 +49,7 @@ fn refused_trace_of_three_lines(rt: HostRuntime) {
 
 #[test]
 fn refused_trace_of_malformed_options(rt: HostRuntime) {
-    assert_answers_or_wants_memory(
+    assert_answers_or_is_out_of_memory(
         &rt,
         rt.alloc(),
         "< 0000000163\n> 000000024f00\n",
@@ -58,7 +60,7 @@ fn refused_trace_of_malformed_options(rt: HostRuntime) {
 
 #[test]
 fn refused_trace_of_a_bad_line(rt: HostRuntime) {
-    assert_answers_or_wants_memory(
+    assert_answers_or_is_out_of_memory(
         &rt,
         rt.alloc(),
         "< 0000000163\n> 0g\n",
@@ -69,7 +71,7 @@ fn refused_trace_of_a_bad_line(rt: HostRuntime) {
 
 #[test]
 fn refused_trace_of_macros(rt: HostRuntime) {
-    assert_answers_or_wants_memory(
+    assert_answers_or_is_out_of_memory(
         &rt,
         rt.alloc(),
         "> 0000000744436a006d7800\n> 000000024401",
@@ -80,7 +82,7 @@ fn refused_trace_of_macros(rt: HostRuntime) {
 
 #[test]
 fn refused_trace_of_arguments(rt: HostRuntime) {
-    assert_answers_or_wants_memory(
+    assert_answers_or_is_out_of_memory(
         &rt,
         rt.alloc(),
         "< 0000000832624079015c0000",
@@ -91,7 +93,7 @@ fn refused_trace_of_arguments(rt: HostRuntime) {
 
 #[test]
 fn refused_trace_of_a_malformed_header(rt: HostRuntime) {
-    assert_answers_or_wants_memory(
+    assert_answers_or_is_out_of_memory(
         &rt,
         rt.alloc(),
         "< 000000056d61696c00",
@@ -102,11 +104,45 @@ fn refused_trace_of_a_malformed_header(rt: HostRuntime) {
 
 #[test]
 fn refused_trace_of_an_unknown_code(rt: HostRuntime) {
-    assert_answers_or_wants_memory(
+    assert_answers_or_is_out_of_memory(
         &rt,
         rt.alloc(),
         "< 000000016300000001e4",
         "< c\n",
         at_fault(1, Direction::ToMta, WireFault::UnknownCode(0xe4)),
     );
+}
+
+/// Asserts that these words ask for this, or are answered by an error of this kind, or that memory was refused.
+fn assert_parses_or_is_out_of_memory(
+    rt: &impl Abort,
+    alloc: Global,
+    words: &[&str],
+    expected: Result<Request<'_>, ErrorKind>,
+) {
+    match parse(alloc, words) {
+        Ok(request) => assert_eq!(rt; Some(request), expected.ok()),
+        Err(error) if error.kind() == ErrorKind::OutOfMemory => {}
+        Err(error) => assert_eq!(rt; Some(error.kind()), expected.err()),
+    }
+}
+
+#[test]
+fn refused_command_line_of_a_session(rt: HostRuntime) {
+    let words = ["milter_tool", "session", "a"];
+    let request = Request::Session { file: "a" };
+    assert_parses_or_is_out_of_memory(&rt, rt.alloc(), &words, Ok(request));
+}
+
+#[test]
+fn refused_command_line_without_a_subcommand(rt: HostRuntime) {
+    let words = ["milter_tool"];
+    let kind = ErrorKind::MissingSubcommand;
+    assert_parses_or_is_out_of_memory(&rt, rt.alloc(), &words, Err(kind));
+}
+
+#[test]
+fn refused_command_line_of_help(rt: HostRuntime) {
+    let words = ["milter_tool", "trace", "--help"];
+    assert_parses_or_is_out_of_memory(&rt, rt.alloc(), &words, Err(ErrorKind::DisplayHelp));
 }

@@ -1,4 +1,3 @@
-use Rattle.std.proofs.Common.{◌≡◌, rules}
 use Rattle.milter_tool.proofs.SessionLaws.{canonical, no_session, text_error-none}
 use Rattle.milter_tool.proofs.session_run.print_session.Goals as goal
 

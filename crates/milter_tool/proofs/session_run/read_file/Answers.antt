@@ -1,4 +1,4 @@
-use Rattle.std.proofs.Common.{◌≡◌, ap, length, arith, rules}
+use Rattle.std.proofs.Common.{rules}
 use Rattle.milter_tool.proofs.SessionLaws.{whole_file}
 use Rattle.milter_tool.proofs.session_run.read_file.Goals as goal
 

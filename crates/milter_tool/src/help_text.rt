@@ -1,0 +1,80 @@
+//! What the long help of each subcommand explains after its options.
+
+/// The form of a trace, what is printed of it, and its fault lines.
+pub(crate) const TRACE: &str = "\
+The input is lines, of at most 262,144 bytes each:
+
+  > DIGITS  bytes from the mail server (MTA) to the filter
+  < DIGITS  bytes from the filter to the mail server
+
+DIGITS are hexadecimal digits, two a byte. Each direction is one stream of bytes:
+a packet may be cut over lines, and a line may have several packets. Blank lines,
+and lines that begin with #, are skipped.
+
+A line is printed for each packet once it is whole: its direction, code and
+fields. From
+
+  # both offer options
+  > 0000000d4f00000006
+  > 000001ff001fffff
+  < 0000000D4F000000060000001100000000
+
+the program prints
+
+  > O version 6 actions 000001ff protocol 001fffff
+  < O version 6 actions 00000011 protocol 00000000
+
+The first fault ends the trace. It is printed on standard error, with the number N
+of its line, from 1, and the direction D of its packet:
+
+  line N: bad line               line N has another form
+  line N: D zero length          a packet has length 0
+  line N: D length L too long    a packet has length L, above 65536
+  line N: D unknown code C       no packet of this direction has the code C
+  line N: D malformed C          a packet's payload isn't in the layout of its code
+  end: D truncated B bytes       the input ends after B bytes of a packet; a line
+                                 for each direction
+  read fault                     standard input was not read
+  write fault                    standard output was not written
+  out of memory                  memory was refused
+  turn limit                     the input goes on after 1,073,741,824 reads
+
+Status: 0 after the end of the input, 1 after a fault, 2 after a wrong use of the
+command line.";
+
+/// The form of a session file, its limits, and its fault lines.
+pub(crate) const SESSION: &str = "\
+A session file has these lines, in this order:
+
+  client U TEXT                  the client's host, once; or client 4 TEXT NUMBER
+                                 TEXT with its port and address (4, 6 or L)
+  helo TEXT                      its greeting, once
+  macro STAGE TEXT TEXT          a name and a value; STAGE is connect, helo, mail,
+                                 rcpt, data, eoh or eom
+  message                        begins a message
+  sender TEXT ..                 its sender and the parameters, once
+  recipient TEXT ..              a recipient and the parameters, once or more
+  header TEXT TEXT               a header field: name and value
+  body TEXT                      a piece of the body
+  end                            ends the message; others may follow
+
+TEXT is in double quotes, with the escapes \\\" \\\\ \\n \\r \\t and \\xHH. Blank lines, and
+lines that begin with #, are skipped. A file has at most 134,217,728 bytes.
+
+It is printed in canonical form. The first fault is printed on standard error,
+with the number N of its line, from 1:
+
+  session line N: fault 1        an unknown line, or one in another form
+  session line N: fault 2        no client line, or a bad one
+  session line N: fault 3        a message without a recipient
+  session line N: fault 4        a bad header line
+  session line N: fault 5        the file ends within a message
+  session line N: fault 6        a text is too large for a packet, or a message
+                                 has more than 16,777,216 bytes
+  session line N: fault 7        a NUL in a text other than a body's
+  cannot read session            the file was not read, or is too large
+  write fault                    standard output was not written
+  out of memory                  memory was refused
+
+Status: 0 after the whole session was printed, 1 after a fault, 2 after a wrong
+use of the command line.";
