@@ -22,10 +22,11 @@ pub loop-rest-preserved : goal.loop-rest-preserved
 loop-rest-preserved c =
     let handed = rw c.in-Ok-Some.field-0-is at c.in-Ok-Some.ensures.packet in
     let shown = c.in_default.ensures in
+    let left = rw (c.in-Ok-Some.is, c.in-Ok-Some.field-0-is) at c.next.follows.holds-at-none in
     record {
-      printing = rw (take_rest, handed.2, shown.2) (PrintProgress-handed c.args.line c.args.direction _ _ _ c.loop-rest.splitter c.loop-rest.rest.now _ shown.0 c.in_ok-taken.taken (frame_of c.in-Ok-Some.packet)
+      printing = rw (take_rest, left, shown.2) (PrintProgress-handed c.args.line c.args.direction _ _ _ c.loop-rest.splitter c.loop-rest.rest.now _ shown.0 c.in_ok-taken.taken (frame_of c.in-Ok-Some.packet)
           c.loop-rest.invariant.printing c.in_ok-taken.ensures.taken handed.1 handed.0 shown.1);
-      unfinished = rw handed.2 tt;
+      unfinished = rw left tt;
     }
 
 pub returns-in-Err-clause-appends : goal.returns-in-Err-clause-appends
@@ -33,7 +34,7 @@ returns-in-Err-clause-appends c =
     let whole = c.args.splitter.now ++ c.args.bytes.now in
     rw c.packet_fault-in-Err.ensures (AppendsTrace-whole c.args.line c.args.direction c.args.text.now.items c.loop-rest.text.items c.in-Err.fault (division_trace c.args.line c.args.direction (divide whole)) (λ (other : c.in-Err.fault ≢ NoMemory).
     PrintProgress-fault c.args.line c.args.direction _ _ _ c.loop-rest.splitter c.loop-rest.rest.now _ c.in_ok-taken.taken c.in-Err.fault
-    c.loop-rest.invariant.printing c.in_ok-taken.ensures.taken ((c.next.ensures.fault c.in-Err.fault other).0 c.in-Err.is)))
+    c.loop-rest.invariant.printing c.in_ok-taken.ensures.taken ((c.next.ensures.fault c.in-Err.fault).0 c.in-Err.is)))
 
 pub returns-clause-appends : goal.returns-clause-appends
 returns-clause-appends c =
