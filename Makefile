@@ -10,7 +10,7 @@ all:
 	@./milter_tool --version
 
 check:
-	rt all check
+	bash tests/check.sh
 
 test:
 	bash .ci/run

@@ -1,6 +1,6 @@
 //! Worked examples of the definitions that contracts stand on: each is what the definition computes.
 
-ghost use Rattle.std.specs.Prelude.{◌≡◌, [], ◌∷◌, ◌++◌, codes, false, length, List, ℕ, None, Some, true};
+ghost use Rattle.std.specs.Prelude.{◌≡◌, [], ◌∷◌, ◌++◌, codes, false, drop, length, List, ℕ, None, Some, take, true};
 ghost use Rattle.milter_wire.specs.declared.command.Command.TheVariants as commands;
 ghost use Rattle.milter_mail.specs.declared.edit.Edit.TheVariants.{AddHeader, AddRcpt, AddRcptPar, ChangeFrom, ChangeHeader, DelRcpt, Quarantine, ReplaceBody};
 ghost use Rattle.milter_options.specs.Agreement.{agree};
@@ -67,6 +67,8 @@ pub fn planned_sessions()
     ensures weight_of_macros { weight client helo one_macro message ≡ 70 }
     ensures pieces { (body : List ℕ) → length body ≡ 131071 → length (pieces_of body) ≡ 3 }
     ensures two_pieces { (body : List ℕ) → length body ≡ 65536 → length (pieces_of body) ≡ 2 }
+    ensures two_pieces_are { (body : List ℕ) → length body ≡ 65536 →
+        pieces_of body ≡ take 65535 body ∷ take 65535 (drop 65535 body) ∷ [] }
     ensures one_piece { (body : List ℕ) → length body ≡ 65535 → length (pieces_of body) ≡ 1 }
     ensures no_pieces { pieces_of [] ≡ [] }
 {}
