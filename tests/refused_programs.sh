@@ -1,7 +1,8 @@
 #!/usr/bin/env bash
 # Checks that the compiler refuses each program of tests/refused_programs/, with the error that its line `// refused: TEXT`
-# has: what the libraries' types are to forbid. Nothing is proved here. A program may use milter_stream; where one needs
-# another library, add it to the list below. The last line is 'N passed, M failed'.
+# has: what the libraries' types are to forbid. (Their files end in .txt, since a .rt file may be in a crate alone.)
+# Nothing is proved here. A program may use milter_stream; where one needs another library, add it to the list below. The
+# last line is 'N passed, M failed'.
 set -u
 top=$(cd "$(dirname "${BASH_SOURCE[0]}")/.." && pwd) || exit 1
 libraries=(milter_stream)
@@ -17,7 +18,7 @@ echo "refused_program: ${libraries[*]}" >>"$work/crates.txt"
 mkdir -p "$work/crates/refused_program/src"
 passed=0
 failed=0
-for program in "$top"/tests/refused_programs/*.rt; do
+for program in "$top"/tests/refused_programs/*.txt; do
     expected=$(sed -n 's|^// refused: ||p' "$program")
     cp "$program" "$work/crates/refused_program/src/main.rt"
     said=$(cd "$work/crates/refused_program" && rt try 2>&1)
