@@ -14,13 +14,13 @@ use milter_wire::{NoMemory, Text};
 use std::alloc::Global;
 
 /// The message after the edits, one after the other, and the reason for its quarantine, if any.
-/// Each edit must be one that a packet can ask for: no string of it holds a NUL, and its packet isn't too long.
+/// Each edit must be one that a packet can ask for: no string of it has a NUL, and its packet isn't too long.
 ///
 /// An added header field comes last, and an inserted one after as many others as its index states, or last where there
 /// are fewer. A changed one is found by its name, without regard to ASCII case, and by its number among those of this
 /// name, counted from 1; 0 is taken as 1. Its name stays as it was, and an empty value deletes it; where there
 /// are fewer, a value that isn't empty is added as the last. An added recipient comes last, and a deleted one goes
-/// wherever this very address stands, with any parameters. The last sender counts, with its own parameters or none, and
+/// wherever this very address is, with any parameters. The last sender counts, with its own parameters or none, and
 /// so does the last reason. The pieces of a body, one after the other, replace the old body.
 ///
 /// An edit looks at each header field or recipient at most once. No text is copied twice, and a new body is appended to

@@ -39,7 +39,7 @@ pub fn edits_in_turn()
     ensures body { (message : MailObject) (first second : List Edit) → filter_map new_piece first ≢ [] →
         (edited_message message (first ++ second)).message.body
         ≡ (edited_message message first).message.body ++ concat (filter_map new_piece second) }
-    // The last reason stands.
+    // The last reason counts.
     ensures quarantine { (message : MailObject) (edits : List Edit) (reason : List ℕ) →
         (edited_message message (edits ++ Quarantine reason ∷ [])).quarantine ≡ Some reason }
 {}

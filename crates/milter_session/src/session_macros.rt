@@ -102,7 +102,7 @@ impl Model for StageMacros {
     ghost view = { λ m. m.pairs.items };
 
     ghost invariant = { λ m. All PairFits m.pairs.items × (m.len ≡ length (flat_map pair m.pairs.items) + 1)
-        × m.len ≤ 65535 };
+        × m.len ≤ PAYLOAD_MAX };
 }
 
 impl StageMacros {

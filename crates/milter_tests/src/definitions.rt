@@ -1,4 +1,4 @@
-//! Worked examples of the definitions that contracts stand on: each is what the definition computes.
+//! Worked examples of the definitions that contracts name: each is what the definition computes.
 
 ghost use Rattle.std.specs.Prelude.{◌≡◌, [], ◌∷◌, ◌++◌, codes, false, drop, length, List, ℕ, None, Some, take, true};
 ghost use Rattle.milter_wire.specs.declared.command.Command.TheVariants as commands;
@@ -14,7 +14,7 @@ ghost use Rattle.milter_tests.specs.WorkedPlan.{all_macros, body, eob, full_mess
 
 use milter_mail::weight_of_parts;
 
-/// Edits of header fields count places and occurrences in the list as it is by then.
+/// Edits of header fields count positions and occurrences in the list as it is by then.
 pub fn edited_fields()
     ensures in_order { headers_after old_fields edits_of_fields ≡ new_fields }
     // The number 0 is taken as 1.
@@ -37,7 +37,7 @@ pub fn edited_messages()
     ensures arguments { recipients_after [] (AddRcptPar (codes "b") (Some (codes "N=1 X")) ∷ [])
         ≡ (record { address = codes "b"; params = codes "N=1 X" ∷ [] }) ∷ [] }
     ensures no_arguments { recipients_after [] (AddRcptPar (codes "b") None ∷ []) ≡ at (codes "b") ∷ [] }
-    // The last sender stands, and without arguments it has no parameters.
+    // The last sender counts, and without arguments it has no parameters.
     ensures sender { (edited_message message (ChangeFrom (codes "c") (Some []) ∷ ChangeFrom (codes "d") None
         ∷ [])).message.sender
         ≡ at (codes "d") }
@@ -150,7 +150,14 @@ pub fn largest_messages()
 }
 
 /// The text of a held message.
-#[tactic(auto, unfolding(milter_mail::specs::HeldText::held_text, milter_mail::specs::HeldText::line_of, milter_text::specs::Quoting::quoted))]
+#[tactic(
+    auto,
+    unfolding(
+        milter_mail::specs::HeldText::held_text,
+        milter_mail::specs::HeldText::line_of,
+        milter_text::specs::Quoting::quoted
+    )
+)]
 pub fn message_texts()
     ensures unedited { held_text (record { message = message; quarantine = None })
         ≡ line (codes "sender") (codes "a@x") ++ line (codes "recipient") (codes "b@y") ++ line (codes "body") []

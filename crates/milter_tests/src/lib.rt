@@ -1,5 +1,5 @@
 //! Tests of packets, options, lines, mail and session files, by values that were written out by hand, and worked
-//! examples of the definitions that contracts stand on.
+//! examples of the definitions that contracts name.
 #![tactic(auto)]
 
 mod definitions;

@@ -1,14 +1,14 @@
 -- A line assembler between two pieces of the input.
 use Rattle.std.specs.Prelude.{◌≡◌, ◌≤◌, [], length}
 use Rattle.milter_tool.specs.declared.line_assembler.LineAssembler.{LineAssembler}
-use Rattle.milter_tool.specs.ParsedLine.{line_max}
+use Rattle.milter_tool.specs.declared.trace_line.TheConstants.{LINE_MAX}
 use Rattle.milter_tool.specs.PrinterState.{HasUnfinishedStreams, printer_state}
 use Rattle.milter_tool.specs.TraceState.{HasNoLf, initial_state}
 
 -- the line that has begun has no LF and isn't too long, and neither direction has a whole packet
 pub record IsBetweenPieces (t : LineAssembler) : Type 0 where
   pub begun : HasNoLf t.begun.items
-  pub short : length t.begun.items ≤ line_max
+  pub short : length t.begun.items ≤ LINE_MAX
   pub unfinished : HasUnfinishedStreams t.printer
 
 -- a line assembler before the first byte

@@ -5,6 +5,7 @@ use Rattle.hex.specs.declared.error.FromHexError.{FromHexError}
 use Rattle.milter_text.specs.Lines.{Line, content, is_skipped}
 use Rattle.milter_tool.specs.declared.direction.Direction.{Direction}
 use Rattle.milter_tool.specs.declared.direction.Direction.TheVariants.{ToFilter, ToMta}
+use Rattle.milter_tool.specs.declared.trace_line.TheConstants.{LINE_MAX}
 
 -- A line is skipped, or is at fault, or carries bytes in a direction.
 pub data ParsedLine : Type 0 where
@@ -12,12 +13,9 @@ pub data ParsedLine : Type 0 where
   Bad : ParsedLine
   Carries : Direction → List ℕ → ParsedLine
 
--- the most bytes that a line has before its LF
-abbrev pub line_max : ℕ
-line_max = 262144
-
+-- more bytes before its LF than a line has
 abbrev pub is_too_long : Line → Bool
-is_too_long line = nat_lt line_max (length line.bytes)
+is_too_long line = nat_lt LINE_MAX (length line.bytes)
 
 abbrev pub carried : Direction → Result (List ℕ) FromHexError → ParsedLine
 carried direction (Ok bytes) = Carries direction bytes

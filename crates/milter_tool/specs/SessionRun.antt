@@ -13,10 +13,6 @@ use Rattle.milter_session.specs.SessionText.{session_text}
 use Rattle.milter_tool.specs.declared.session_error.SessionError.{SessionError}
 use Rattle.milter_tool.specs.declared.session_error.SessionError.TheVariants.{Read, Fault, Write, NoMemory}
 
--- the most bytes that a session file has
-abbrev pub file_max : ℕ
-file_max = 134217728
-
 -- the input has a session, and its canonical form was written and nothing else
 abbrev pub WritesCanonical : Option (List ℕ) → Option (List ℕ) → Option (List ℕ) → Type 0
 WritesCanonical input before after =

@@ -3,7 +3,7 @@
 ghost use Rattle.std.specs.Prelude.{◌≡◌, ◌≤◌, ◌<◌, ◌+◌, ◌++◌, ◌^◌, ◌⊎◌, List, ℕ, [], true, Err, IfOk, OnOk, OnErr, length};
 ghost use Rattle.milter_text.specs.Lines.{lines_of};
 ghost use Rattle.milter_tool.specs.PrinterState.{HasUnfinishedStreams, printer_state};
-ghost use Rattle.milter_tool.specs.ParsedLine.{line_max, parsed_line};
+ghost use Rattle.milter_tool.specs.ParsedLine.{parsed_line};
 ghost use Rattle.milter_tool.specs.TraceState.{ContinuesTrace, AppendsTrace, next_state, next_trace, trace_to_come, trace_from};
 
 use crate::fault::TraceFault;
@@ -108,7 +108,7 @@ impl LineAssembler {
     fn begin_line(&mut self, bytes: &[u8]) -> Result<(), TraceFault>
         requires { self.old.printer.lines + 1 < 2 ^ 64 }
         ensures ok { OnOk result (self.new.begun.items ≡ self.old.begun.items ++ bytes.now) }
-        ensures short { OnOk result (length self.new.begun.items ≤ line_max) }
+        ensures short { OnOk result (length self.new.begun.items ≤ LINE_MAX) }
         ensures err { OnErr result ((result ≡ Err TraceFault.NoMemory)
             ⊎ ((result ≡ Err (TraceFault.BadLine (self.old.printer.lines + 1)))
             × (LINE_MAX < length (self.old.begun.items ++ bytes.now)))) }

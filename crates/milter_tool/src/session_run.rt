@@ -1,7 +1,7 @@
 //! The subcommand `session`: from a session file to its canonical form.
 
 ghost use Rattle.std.specs.Prelude.{◌≡◌, ◌≤◌, IfOk, IfErr, OnOk, IfSome, length};
-ghost use Rattle.milter_tool.specs.SessionRun.{HasNoSession, IsFileFault, WritesCanonical, file_max};
+ghost use Rattle.milter_tool.specs.SessionRun.{HasNoSession, IsFileFault, WritesCanonical};
 
 use crate::session_error::{SessionError, read_error, session_error, text_error};
 use milter_session::{read_session, write_session};
@@ -40,7 +40,7 @@ pub(crate) fn print_session<R: Read + Drop, W: Write>(
 /// The bytes of a file. One that has more than 134,217,728 is refused.
 fn read_file<R: Read + Drop>(alloc: Global, reader: R) -> Result<Vec<u8>, SessionError>
     ensures bytes { IfOk result (λ file. IfSome (R.remaining reader) (λ bytes. file.items ≡ bytes)) }
-    ensures size { IfOk result (λ file. length file.items ≤ file_max) }
+    ensures size { IfOk result (λ file. length file.items ≤ FILE_MAX) }
     ensures fault { IfErr result (λ e. ¬ IsFileFault e) }
 {
     let mut file = Vec::new(alloc);

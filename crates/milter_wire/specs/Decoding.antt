@@ -2,6 +2,7 @@
 use Rattle.std.specs.Prelude.{◌≡◌, ℕ, zero, suc, Bool, true, false, ◌==◌, List, [], ◌∷◌, Option, Some, None, IsSome, Result, Ok, Err, if◌then◌else◌}
 use Rattle.std.specs.Int.{w16, from_be_bytes}
 use Rattle.std.specs.List.{list_any}
+use Rattle.milter_wire.specs.declared.codes.TheConstants.{SMFIA_INET, SMFIA_INET6, SMFIA_UNIX, SMFIA_UNKNOWN}
 use Rattle.milter_wire.specs.declared.client.Client.{Client}
 use Rattle.milter_wire.specs.declared.client.Origin.{Origin}
 use Rattle.milter_wire.specs.declared.client.Origin.TheVariants.{Unknown, Unix, Inet, Inet6}
@@ -122,10 +123,10 @@ endpoint_in bytes = do
 unfoldable pub origin_in : List ℕ → Option Origin
 origin_in [] = None
 origin_in (family ∷ rest) =
-    if family == 85 then ended Unknown rest
-    else if family == 76 then (endpoint_in rest >>= λ endpoint. Some (Unix endpoint.0 endpoint.1))
-    else if family == 52 then (endpoint_in rest >>= λ endpoint. Some (Inet endpoint.0 endpoint.1))
-    else if family == 54 then (endpoint_in rest >>= λ endpoint. Some (Inet6 endpoint.0 endpoint.1))
+    if family == SMFIA_UNKNOWN then ended Unknown rest
+    else if family == SMFIA_UNIX then (endpoint_in rest >>= λ endpoint. Some (Unix endpoint.0 endpoint.1))
+    else if family == SMFIA_INET then (endpoint_in rest >>= λ endpoint. Some (Inet endpoint.0 endpoint.1))
+    else if family == SMFIA_INET6 then (endpoint_in rest >>= λ endpoint. Some (Inet6 endpoint.0 endpoint.1))
     else None
 
 unfoldable pub client_in : List ℕ → Option Client

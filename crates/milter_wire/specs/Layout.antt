@@ -3,6 +3,7 @@
 use Rattle.std.specs.Prelude.{◌≡◌, ℕ, Bool, true, false, ◌<◌, ◌^◌, ◌==◌, ◌&&◌, ◌||◌, List, [], ◌∷◌, ◌++◌, All, Option, None, Some}
 use Rattle.std.specs.List.{flat_map}
 use Rattle.std.specs.Char.{is_ascii_digit}
+use Rattle.milter_wire.specs.declared.codes.TheConstants.{SMFIA_INET, SMFIA_INET6, SMFIA_UNIX, SMFIA_UNKNOWN}
 use Rattle.milter_wire.specs.declared.client.Client.{Client}
 use Rattle.milter_wire.specs.declared.client.Origin.{Origin}
 use Rattle.milter_wire.specs.declared.client.Origin.TheVariants.{Unknown, Unix, Inet, Inet6}
@@ -35,10 +36,10 @@ pub record PairFits (p : Pair) : Type 0 where
 -- ---- clients: a host, a family, and for a known family a port and an address
 
 abbrev pub origin : Origin → List ℕ
-origin Unknown = 85 ∷ []
-origin (Unix at address) = 76 ∷ (port at ++ string address)
-origin (Inet at address) = 52 ∷ (port at ++ string address)
-origin (Inet6 at address) = 54 ∷ (port at ++ string address)
+origin Unknown = SMFIA_UNKNOWN ∷ []
+origin (Unix at address) = SMFIA_UNIX ∷ (port at ++ string address)
+origin (Inet at address) = SMFIA_INET ∷ (port at ++ string address)
+origin (Inet6 at address) = SMFIA_INET6 ∷ (port at ++ string address)
 
 pub record EndpointFits (at : ℕ) (address : List ℕ) : Type 0 where
   pub in_range : at < 2 ^ 16

@@ -7,6 +7,7 @@ ghost use Rattle.milter_wire.specs.Field.{port, string};
 ghost use Rattle.milter_wire.specs.Layout.{client, origin, ClientFits, OriginFits};
 ghost use Rattle.milter_wire.specs.Decoding.{DecodesOptional, client_in, origin_in, endpoint_in};
 
+use crate::codes::{SMFIA_INET, SMFIA_INET6, SMFIA_UNIX, SMFIA_UNKNOWN};
 use crate::field::{put_port, take_port};
 use crate::strings::{has_no_nul, one_string, put_string, string_len, take_string};
 use crate::text::Text;
@@ -105,12 +106,12 @@ fn put_origin(out: &mut Vec<u8>, value: &Origin) -> Result<(), NoMemory>
 {
     match value {
         Origin::Unknown => {
-            out.push(b'U')?;
+            out.push(SMFIA_UNKNOWN)?;
             Ok(())
         }
-        Origin::Unix { port, address } => put_endpoint(out, b'L', *port, address),
-        Origin::Inet { port, address } => put_endpoint(out, b'4', *port, address),
-        Origin::Inet6 { port, address } => put_endpoint(out, b'6', *port, address),
+        Origin::Unix { port, address } => put_endpoint(out, SMFIA_UNIX, *port, address),
+        Origin::Inet { port, address } => put_endpoint(out, SMFIA_INET, *port, address),
+        Origin::Inet6 { port, address } => put_endpoint(out, SMFIA_INET6, *port, address),
     }
 }
 
@@ -145,16 +146,16 @@ fn take_origin(alloc: Global, bytes: &[u8]) -> Result<Option<Origin>, NoMemory>
         return Ok(None);
     };
     match *family {
-        b'U' => Ok(rest.is_empty().then_some(Origin::Unknown)),
-        b'L' => Ok(take_endpoint(alloc, rest)?.map(|(port, address)| Origin::Unix {
+        SMFIA_UNKNOWN => Ok(rest.is_empty().then_some(Origin::Unknown)),
+        SMFIA_UNIX => Ok(take_endpoint(alloc, rest)?.map(|(port, address)| Origin::Unix {
             port,
             address,
         })),
-        b'4' => Ok(take_endpoint(alloc, rest)?.map(|(port, address)| Origin::Inet {
+        SMFIA_INET => Ok(take_endpoint(alloc, rest)?.map(|(port, address)| Origin::Inet {
             port,
             address,
         })),
-        b'6' => Ok(take_endpoint(alloc, rest)?.map(|(port, address)| Origin::Inet6 {
+        SMFIA_INET6 => Ok(take_endpoint(alloc, rest)?.map(|(port, address)| Origin::Inet6 {
             port,
             address,
         })),

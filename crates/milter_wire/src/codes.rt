@@ -1,4 +1,5 @@
-//! The codes of packets, by their names in mfdef.h: SMFIC for commands, SMFIR for replies.
+//! The codes of packets, by their names in mfdef.h: SMFIC for commands, SMFIR for replies; and SMFIA, the families of
+//! clients.
 
 /// The message is given up. Source: mfdef.h.
 pub const SMFIC_ABORT: u8 = b'A';
@@ -95,3 +96,15 @@ pub const SMFIR_TEMPFAIL: u8 = b't';
 
 /// A reply code. Source: mfdef.h.
 pub const SMFIR_REPLYCODE: u8 = b'y';
+
+/// A client of which nothing is known. Source: mfdef.h.
+pub const SMFIA_UNKNOWN: u8 = b'U';
+
+/// A client at a Unix socket. Source: mfdef.h.
+pub const SMFIA_UNIX: u8 = b'L';
+
+/// A client with an IPv4 address. Source: mfdef.h.
+pub const SMFIA_INET: u8 = b'4';
+
+/// A client with an IPv6 address. Source: mfdef.h.
+pub const SMFIA_INET6: u8 = b'6';

@@ -70,7 +70,7 @@ pub enum Command {
 }
 
 impl Command {
-    /// Whether the command has an encoding: its code and payload have at most 65,536 bytes, and no string in it holds a
+    /// Whether the command has an encoding: its code and payload have at most 65,536 bytes, and no string in it has a
     /// NUL. No memory is taken.
     pub fn fits(&self) -> bool
         ensures { IsTrue result ↔ Fits self.now }
