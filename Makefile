@@ -1,5 +1,6 @@
 # The one entry: `make` builds the proved program, `make check` proves what changed and what is above a changed contract,
-# `make test` is the whole test command, `make bench` measures, and `make install PREFIX=/usr/local` puts the proved program in place.
+# `make test` is the whole test command, `make bench` measures, and `make install PREFIX=/usr/local` puts the proved
+# program in place.
 
 PREFIX ?= /usr/local
 PROGRAM := crates/milter_tool/out/milter_tool
