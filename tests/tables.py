@@ -13,7 +13,8 @@ import tempfile
 TOP = os.path.dirname(os.path.dirname(os.path.abspath(__file__)))
 BUILT = os.path.join(TOP, 'crates', 'milter_tool', 'out', 'milter_tool')
 TABLES = [
-    'trace_commands', 'trace_replies', 'trace_streams', 'session_faults', 'session_sizes', 'session_values']
+    'trace_commands', 'trace_replies', 'trace_streams', 'trace_lines', 'session_faults', 'session_sizes',
+    'session_values']
 SPECIAL = re.compile(rb'\{([0-9a-f]{2}|[^{}]\*[0-9]+|code)\}')
 NO_LF = b'{no LF}'
 

@@ -3,10 +3,7 @@
 mod arguments;
 mod fakes;
 mod fault_lines;
-mod faulty_packets;
-mod fields;
 mod limits;
-mod lines;
 mod printed;
 mod reads_and_writes;
 mod refused;

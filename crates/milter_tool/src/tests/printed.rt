@@ -1,41 +1,7 @@
-//! What is printed of the packets, however lines cut them.
+//! What is printed of packets, however lines cut them: the input comes in one read, and a byte a read.
 
 use super::assert_trace;
 use std::test::Fail;
-
-#[test]
-fn options_are_printed(rt: HostRuntime) -> Result<(), Fail> {
-    let cases = [
-        (
-            "> 0000000d4f00000006000000ff000ff7ff\n",
-            "> O version 6 actions 000000ff protocol 000ff7ff\n",
-        ),
-        (
-            "< 0000000d4f00000006000000ff000ff7ff\n",
-            "< O version 6 actions 000000ff protocol 000ff7ff\n",
-        ),
-        (
-            "> 0000000D4F00000006000000FF000FF7FF\n",
-            "> O version 6 actions 000000ff protocol 000ff7ff\n",
-        ),
-        (
-            "< 0000000D4f00000002fFfFfFfF8000000A\n",
-            "< O version 2 actions ffffffff protocol 8000000a\n",
-        ),
-        (
-            "> 0000000d4fffffffff0000000000000000\n",
-            "> O version 4294967295 actions 00000000 protocol 00000000\n",
-        ),
-        (
-            "> 0000000d4f00000000123456789abcdef0\n",
-            "> O version 0 actions 12345678 protocol 9abcdef0\n",
-        ),
-    ];
-    for (input, text) in cases {
-        assert_trace(&rt, input.as_bytes(), text, Ok(()), input)?;
-    }
-    Ok(())
-}
 
 #[test]
 fn lines_cut_packets_anywhere(rt: HostRuntime) -> Result<(), Fail> {
