@@ -150,14 +150,7 @@ pub fn largest_messages()
 }
 
 /// The text of a held message.
-#[tactic(
-    auto,
-    unfolding(
-        milter_mail::specs::HeldText::held_text,
-        milter_mail::specs::HeldText::line_of,
-        milter_text::specs::Quoting::quoted
-    )
-)]
+#[tactic(auto, unfolding(milter_mail::specs::HeldText::held_text, milter_mail::specs::HeldText::line_of, milter_text::specs::Quoting::quoted))]
 pub fn message_texts()
     ensures unedited { held_text (record { message = message; quarantine = None })
         ≡ line (codes "sender") (codes "a@x") ++ line (codes "recipient") (codes "b@y") ++ line (codes "body") []

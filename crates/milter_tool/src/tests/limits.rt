@@ -1,7 +1,7 @@
 //! A line that is too long is a fault before it ends.
 
-use super::fakes::FakeReader;
 use super::Ending;
+use super::fakes::FakeReader;
 use crate::fault::TraceFault;
 use crate::trace::trace_run;
 use std::alloc::{AllocError, Global};
