@@ -95,6 +95,7 @@ impl Model for StageMacros {
     ghost use Rattle.std.specs.Prelude.{◌≡◌, ◌+◌, ◌≤◌, All, List, length};
     ghost use Rattle.std.specs.List.{flat_map};
     ghost use Rattle.milter_wire.specs.declared.pair.Pair.{Pair};
+    ghost use Rattle.milter_stream.specs.declared.number.TheConstants.{PAYLOAD_MAX};
     ghost use Rattle.milter_wire.specs.Layout.{PairFits, pair};
 
     ghost Value = { List Pair };
