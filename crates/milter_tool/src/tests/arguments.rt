@@ -128,7 +128,7 @@ fn help_that_is_not_written_is_a_fault(rt: HostRuntime) -> Result<(), Fail> {
 }
 
 #[test]
-fn refused_memory_has_one_line(rt: HostRuntime) -> Result<(), Fail> {
+fn memory_that_is_refused_has_one_line(rt: HostRuntime) -> Result<(), Fail> {
     let mut written = Vec::new(rt.alloc());
     let ended = answer(clap::Error::from(AllocError), &mut written)
         .err()
