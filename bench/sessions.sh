@@ -34,24 +34,35 @@ def repeated(bytes_, size):
 
 
 files = {
-    "1 MiB": opening + large_message(),
-    "64 MiB": opening + large_message() * 64,
-    "127 MiB": opening + large_message() * 127,
-    "32 MiB of small messages": opening + repeated(b'message\nsender ""\nrecipient ""\nend\n', 32),
-    "32 MiB of one line": b"client " + repeated(b'"" ', 32) + b"\n",
-    "32 MiB of lines at fault": repeated(b"x\n", 32),
+    "1 MiB": lambda: opening + large_message(),
+    "64 MiB": lambda: opening + large_message() * 64,
+    "127 MiB": lambda: opening + large_message() * 127,
+    "32 MiB of small messages": lambda: opening + repeated(b'message\nsender ""\nrecipient ""\nend\n', 32),
+    "32 MiB of one line": lambda: b"client " + repeated(b'"" ', 32) + b"\n",
+    "32 MiB of lines at fault": lambda: repeated(b"x\n", 32),
 }
+
+
+def write(path, content):
+    """Writes the file in a process of its own: the most memory of a child is at least its parent's."""
+    child = os.fork()
+    if child == 0:
+        with open(path, "wb") as file:
+            file.write(content())
+        os._exit(0)
+    os.waitpid(child, 0)
+
+
 best = {}
 for name, content in files.items():
     path = f"{work}/session"
-    with open(path, "wb") as file:
-        file.write(content)
+    write(path, content)
     for _ in range(3):
         began = time.perf_counter()
         process = subprocess.Popen([program, "session", path], stdout=subprocess.DEVNULL, stderr=subprocess.DEVNULL)
         _, status, usage = os.wait4(process.pid, 0)
         best[name] = min(best.get(name, 1e9), time.perf_counter() - began)
-    size, most = len(content), usage.ru_maxrss / 1024
+    size, most = os.path.getsize(path), usage.ru_maxrss / 1024
     speed = size / best[name] / 1e6
     print(f"{name:26s} {size:10d} bytes {best[name]:8.4f} s {speed:8.1f} MB/s {most:8.1f} MiB, status {status >> 8}")
 twice = best["127 MiB"] / best["64 MiB"]
