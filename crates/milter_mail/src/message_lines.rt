@@ -88,8 +88,8 @@ fn put_path<W: Write>(
     )
 }
 
-/// Puts a line: the keyword, a first text and the others, each in quotes and after a blank, and LF. After either fault a
-/// prefix of what was put is written, and nothing else.
+/// Puts a line: the keyword, a first text and the others, each in quotes and after a blank, and LF. After either fault
+/// a prefix of what was put is written, and nothing else.
 pub fn put_line<W: Write>(
     output: &mut TextWriter<'_, W>,
     keyword: &[u8],

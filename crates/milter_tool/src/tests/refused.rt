@@ -1,5 +1,5 @@
-//! Traces and command lines whose memory is refused. `tests/refused_growth.sh` runs them with an allocation refused, one after the other:
-//! each then answers as ever, or that memory was refused. The writer takes no memory.
+//! Traces and command lines whose memory is refused. `tests/refused_growth.sh` runs them with an allocation refused, one
+//! after the other: each then answers as ever, or that memory was refused. The writer takes no memory.
 
 use super::{Ending, at_fault};
 use crate::command_line::{Request, parse};
