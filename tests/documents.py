@@ -1,6 +1,7 @@
 #!/usr/bin/env python3
 """Checks the documents against the repository: each block of code in README.md is lines of the example's program, each
-link between documents leads to a file, and each crate and clause that docs/PROOFS.md names is there.
+link between documents leads to a file, and each clause of docs/PROOFS.md and each definition of docs/DEFINITIONS.md is
+in the crate under which it is listed.
 
 The last line is 'N passed, M failed'; the status is 1 where something failed.
 """
@@ -52,9 +53,25 @@ def clauses():
                 yield 'docs/PROOFS.md: %s: clause %s' % (crate, name), found
 
 
+def definitions():
+    """Whether each definition of docs/DEFINITIONS.md stands in the files of specs/ that its row names."""
+    crate = None
+    for line in text_of('docs/DEFINITIONS.md').splitlines():
+        section = re.match(r'## .*`(milter_\w+)`', line)
+        crate = section[1] if section else crate
+        cells = line.split(' | ')
+        if crate is None or len(cells) != 3 or not line.startswith('| ') or line.startswith('| File'):
+            continue
+        paths = ['crates/%s/specs/%s.antt' % (crate, name.strip('| ')) for name in cells[0].split(',')]
+        source = '\n'.join(text_of(path) for path in paths if os.path.exists(os.path.join(TOP, path)))
+        for name in re.findall(r'`([^`]+)`', cells[1]):
+            found = re.search(r'(?<!\w)%s(?!\w)' % re.escape(name), source) is not None
+            yield 'docs/DEFINITIONS.md: %s: %s' % (crate, name), found
+
+
 def main():
     passed = failed = 0
-    for check in (blocks, links, clauses):
+    for check in (blocks, links, clauses, definitions):
         for what, is_well in check():
             passed, failed = passed + is_well, failed + (not is_well)
             if not is_well:
