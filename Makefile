@@ -19,6 +19,8 @@ test:
 bench:
 	bash bench/trace.sh
 	bash bench/sessions.sh
+	bash bench/wire.sh
+	bash bench/edits.sh
 
 install: all
 	install -d $(DESTDIR)$(PREFIX)/bin

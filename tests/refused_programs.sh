@@ -1,11 +1,11 @@
 #!/usr/bin/env bash
 # Checks that the compiler refuses each program of tests/refused_programs/, with the error that its line `// refused: TEXT`
 # has: what the libraries' types are to forbid. (Their files end in .txt, since a .rt file may be in a crate alone.)
-# Nothing is proved here. A program may use milter_stream; where one needs another library, add it to the list below. The
+# Nothing is proved here. A program may use the libraries in the list below; where one needs another, add it there. The
 # last line is 'N passed, M failed'.
 set -u
 top=$(cd "$(dirname "${BASH_SOURCE[0]}")/.." && pwd) || exit 1
-libraries=(milter_stream)
+libraries=(milter_stream milter_options milter_wire)
 work=$(mktemp -d)
 trap 'rm -rf "$work"' EXIT
 cp "$top/HANDLES" "$work/"

@@ -13,8 +13,8 @@ import tempfile
 TOP = os.path.dirname(os.path.dirname(os.path.abspath(__file__)))
 BUILT = os.path.join(TOP, 'crates', 'milter_tool', 'out', 'milter_tool')
 TABLES = [
-    'trace_commands', 'trace_replies', 'trace_streams', 'trace_lines', 'session_faults', 'session_sizes',
-    'session_values']
+    'trace_commands', 'trace_replies', 'trace_streams', 'trace_lines', 'trace_refused_memory', 'session_faults',
+    'session_sizes', 'session_values']
 SPECIAL = re.compile(rb'\{([0-9a-f]{2}|[^{}]\*[0-9]+|code)\}')
 NO_LF = b'{no LF}'
 
@@ -62,8 +62,13 @@ def packet_line(mark, text, code):
     return b'%s %08x%s\n' % (mark, len(packet), packet.hex().encode())
 
 
-def play(command, lines, code, program, folder):
-    """Plays the row of these lines once, and answers what was wrong, or None."""
+def path_of(table):
+    """The file of a table."""
+    return os.path.join(TOP, 'cases', table + '.table')
+
+
+def streams_of(lines, code):
+    """The input of the row of these lines, and how its run ends: its status, output and errors."""
     given, out, err = b'', b'', b''
     for mark, text in lines:
         if mark in b'|^':
@@ -74,13 +79,19 @@ def play(command, lines, code, program, folder):
             out += ended(text, code, True)
         elif mark == b'!':
             err += ended(text, code, True)
+    return given, (1 if err else 0, out, err)
+
+
+def play(command, lines, code, program, folder):
+    """Plays the row of these lines once, and answers what was wrong, or None."""
+    given, expected = streams_of(lines, code)
     path = os.path.join(folder, 'input')
     with open(path, 'wb') as file:
         file.write(given)
     words = [program, command] + ([path] if command == 'session' else [])
     with open(path, 'rb') as file:
         ran = subprocess.run(words, stdin=file, capture_output=True, check=False)
-    if (ran.returncode, ran.stdout, ran.stderr) == (1 if err else 0, out, err):
+    if (ran.returncode, ran.stdout, ran.stderr) == expected:
         return None
     return 'status %d, printed %r and %r' % (ran.returncode, ran.stdout[:200], ran.stderr[:200])
 
@@ -112,8 +123,7 @@ def main():
     with tempfile.TemporaryDirectory() as folder:
         for table in TABLES:
             command = table.partition('_')[0]
-            path = os.path.join(TOP, 'cases', table + '.table')
-            for line, row, codes in rows_of(path):
+            for line, row, codes in rows_of(path_of(table)):
                 for program in programs:
                     for code in codes:
                         wrong = play(command, row, code, program, folder)

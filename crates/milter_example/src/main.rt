@@ -52,7 +52,7 @@ fn main(rt: HostRuntime) -> anyhow::Result<()> {
     let Ok(edit) = Edit::from_reply(reply) else {
         bail!("the reply asks for no edit");
     };
-    let edited = apply(alloc, &message, &[edit])?;
+    let edited = apply(alloc, &message, &[edit], true)?;
     write_message(alloc, &mut io::writer(&rt), &edited)?;
     Ok(())
 }

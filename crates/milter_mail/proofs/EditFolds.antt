@@ -1,7 +1,8 @@
 -- What edits make of a list, step by step.
 use Rattle.std.proofs.Common.{◌≡◌, ℕ, ◌+◌, ◌-◌, ◌<◌, ◌==◌, zero, suc, Bool, true, false, List, [], ◌∷◌, ◌++◌, length, get_or, set, take, drop, Option, Some, None, refl, sym, ap, ◌∙◌, arith, add-one, append_assoc, append-nil, inl, inr}
 use Rattle.std.specs.List.{concat, cons_option, filter_map}
-use Rattle.std.specs.Str.{str_eq_ignore_ascii_case}
+use Rattle.std.specs.Str.{bytes_eq, str_eq_ignore_ascii_case, str_to_ascii_lowercase}
+use Rattle.std.proofs.lemmas.Slice.Eq.{bytes_eq-Decides}
 use Rattle.std.proofs.Math.Seq.{take-suc}
 use Rattle.std.proofs.lemmas.Bool.{cases_Bool, false≢true}
 use Rattle.std.proofs.lemmas.List.Elements.{filter_map-append}
@@ -72,6 +73,11 @@ set_is_changed (header ∷ headers) (suc position) old (byte ∷ bytes) within s
     rw add-one (ap (λ (others : List Header). header ∷ others) (set_is_changed headers position old (byte ∷ bytes) (omega arith) some here ∙ rw add-one refl))
 
 -- ---- the position of an occurrence is that of a field of the name
+
+pub same_name : (own other : List ℕ) → bytes_eq own other ≡ true → str_eq_ignore_ascii_case own other ≡ true
+same_name own other e =
+    let same = (bytes_eq-Decides own other).0 e in
+    (bytes_eq-Decides (str_to_ascii_lowercase own) (str_to_ascii_lowercase other)).1 (ap str_to_ascii_lowercase same)
 
 abbrev pub IsNamed : List ℕ → List Header → Type 0
 IsNamed name [] = ⊥

@@ -1,5 +1,5 @@
 -- Edits one after the other, and the replies that ask for them.
-use Rattle.std.proofs.Common.{◌≡◌, ◌≢◌, List, [], ◌∷◌, ◌++◌, ℕ, Option, Some, None, Ok, refl, ap, ◌∙◌}
+use Rattle.std.proofs.Common.{◌≡◌, ◌≢◌, Bool, List, [], ◌∷◌, ◌++◌, ℕ, Option, Some, None, Ok, refl, ap, ◌∙◌}
 use Rattle.std.specs.List.{concat, filter_map, last_or}
 use Rattle.std.proofs.lemmas.List.Elements.{filter_map-append}
 use Rattle.std.proofs.lemmas.List.Folds.{concat-append}
@@ -10,9 +10,9 @@ use Rattle.milter_mail.specs.declared.edit.Edit.TheVariants.{AddHeader, InsertHe
 use Rattle.milter_mail.specs.EditedMessage.{body_of, edit_headers, edit_recipients, headers_after, new_piece, new_reason, new_sender, or_as_it_was, recipients_after}
 use Rattle.milter_mail.specs.EditReplies.{edit_of, reply_of}
 
-pub headers_in_turn : (headers : List Header) (first second : List Edit) → headers_after headers (first ++ second) ≡ headers_after (headers_after headers first) second
-headers_in_turn headers [] second = refl
-headers_in_turn headers (edit ∷ first) second = headers_in_turn (edit_headers headers edit) first second
+pub headers_in_turn : (leading_space : Bool) (headers : List Header) (first second : List Edit) → headers_after leading_space headers (first ++ second) ≡ headers_after leading_space (headers_after leading_space headers first) second
+headers_in_turn leading_space headers [] second = refl
+headers_in_turn leading_space headers (edit ∷ first) second = headers_in_turn leading_space (edit_headers leading_space headers edit) first second
 
 pub recipients_in_turn : (recipients : List Path) (first second : List Edit) → recipients_after recipients (first ++ second) ≡ recipients_after (recipients_after recipients first) second
 recipients_in_turn recipients [] second = refl
@@ -32,7 +32,7 @@ asked_back Progress = refl
 
 -- ---- what stands
 
-last-append : {X : Type 0} (start : Option X) (xs ys : List X) → last_or start (xs ++ ys) ≡ last_or (last_or start xs) ys
+pub last-append : {X : Type 0} (start : Option X) (xs ys : List X) → last_or start (xs ++ ys) ≡ last_or (last_or start xs) ys
 last-append start [] ys = refl
 last-append start (x ∷ xs) ys = last-append (Some x) xs ys
 

@@ -1,5 +1,5 @@
 -- What edits make of a message is a message, where packets can ask for each of them.
-use Rattle.std.proofs.Common.{◌≡◌, ℕ, ◌+◌, ◌≤◌, true, List, [], ◌∷◌, ◌++◌, length, take, drop, All, Option, Some, None, sym, refl, ap, ◌∙◌, arith, length-append, not}
+use Rattle.std.proofs.Common.{◌≡◌, ℕ, ◌+◌, ◌≤◌, Bool, true, List, [], ◌∷◌, ◌++◌, length, take, drop, All, Option, Some, None, sym, refl, ap, ◌∙◌, arith, length-append, not}
 use Rattle.std.specs.List.{filter_map, last_or}
 use Rattle.std.specs.Str.{bytes_eq, str_eq_ignore_ascii_case, str_to_ascii_lowercase}
 use Rattle.std.specs.Char.{to_ascii_lowercase}
@@ -20,16 +20,15 @@ use Rattle.milter_mail.specs.declared.edit.Edit.{Edit}
 use Rattle.milter_mail.specs.declared.edit.Edit.TheVariants.{AddHeader, InsertHeader, ChangeHeader, AddRcpt, AddRcptPar, DelRcpt, ChangeFrom}
 use Rattle.milter_mail.specs.EditReplies.{reply_of}
 use Rattle.milter_mail.specs.EditedMessage.{added_field, change_at, changed_field, occurrence, edit_headers, edit_recipients, edited_message, headers_after, insert_at, new_sender, or_as_it_was, params_of, positions_from, recipients_after}
+use Rattle.milter_mail.specs.LeadingSpace.{FieldFits, WholeFieldFits, change_header, put_header, without_leading_space}
 use Rattle.milter_mail.specs.MailObject.{IsMessage, MailObject}
 use Rattle.milter_mail.proofs.EditFolds.{IsNamed, occurrence_position}
+use Rattle.milter_mail.proofs.LeadingSpaces.{change_fits, put_fits}
 
 abbrev pub IsAsked : Edit → Type 0
 IsAsked edit = ReplyFits (reply_of edit)
 
 -- ---- header fields
-
-abbrev pub IsField : Header → Type 0
-IsField header = Fits (commands.Header header)
 
 -- names that are equal but for case are as long
 same_length : (a b : List ℕ) → str_eq_ignore_ascii_case a b ≡ true → length a ≡ length b
@@ -37,10 +36,10 @@ same_length a b e =
     let same = (bytes_eq-Decides (str_to_ascii_lowercase a) (str_to_ascii_lowercase b)).0 e in
     sym (length-map a to_ascii_lowercase) ∙ ap length same ∙ length-map b to_ascii_lowercase
 
-added_fits : (header : Header) → ReplyFits (replies.AddHeader header) → IsField header
+added_fits : (header : Header) → ReplyFits (replies.AddHeader header) → WholeFieldFits header
 added_fits header h = record { fields = h.fields; payload = h.payload }
 
-inserted_fits : (index : ℕ) (header : Header) → ReplyFits (replies.InsertHeader index header) → IsField header
+inserted_fits : (index : ℕ) (header : Header) → ReplyFits (replies.InsertHeader index header) → WholeFieldFits header
 inserted_fits index header h = record {
   fields = h.fields.header;
   payload =
@@ -49,7 +48,7 @@ inserted_fits index header h = record {
       omega arith;
 }
 
-changed_fits : (index : ℕ) (header : Header) → ReplyFits (replies.ChangeHeader index header) → IsField header
+changed_fits : (index : ℕ) (header : Header) → ReplyFits (replies.ChangeHeader index header) → WholeFieldFits header
 changed_fits index header h = record {
   fields = h.fields.header;
   payload =
@@ -59,34 +58,34 @@ changed_fits index header h = record {
 }
 
 -- another value under a name that is as long
-renamed_fits : (old header : Header) → length old.name ≡ length header.name → IsField old → IsField header → Fits (commands.Header (record { name = old.name; value = header.value }))
-renamed_fits old header same h k = record {
+renamed_fits : (old : Header) (name value : List ℕ) → length old.name ≡ length name → FieldFits old → FieldFits (record { name = name; value = value }) → FieldFits (record { name = old.name; value = value })
+renamed_fits old name value same h k = record {
   fields = record { name = h.fields.name; value = k.fields.value };
   payload =
       let p = k.payload in
-      let l = length-append (string header.name) (string header.value) in
-      let m = length-append (string old.name) (string header.value) in
-      let n = length-append header.name (0 ∷ []) in
+      let l = length-append (string name) (string (without_leading_space value)) in
+      let m = length-append (string old.name) (string (without_leading_space value)) in
+      let n = length-append name (0 ∷ []) in
       let o = length-append old.name (0 ∷ []) in
       omega arith;
 }
 
-field_fits : (value : List ℕ) (rest : List Header) (header : Header) → header.value ≡ value → IsNamed header.name rest → All IsField rest → IsField header → All IsField (changed_field value rest)
-field_fits [] rest header e named h k = All-nil IsField
-field_fits (byte ∷ bytes) [] header e named h k = All-nil IsField
+field_fits : (value : List ℕ) (rest : List Header) (header : Header) → header.value ≡ value → IsNamed header.name rest → All FieldFits rest → FieldFits header → All FieldFits (changed_field value rest)
+field_fits [] rest header e named h k = All-nil FieldFits
+field_fits (byte ∷ bytes) [] header e named h k = All-nil FieldFits
 field_fits (byte ∷ bytes) (old ∷ rest) header e named h k =
-    let fits = renamed_fits old header (same_length old.name header.name named) (All-head IsField old rest h) k in
-    All-cons IsField (record { name = old.name; value = byte ∷ bytes }) [] (rw e at fits) (All-nil IsField)
+    let fits = renamed_fits old header.name header.value (same_length old.name header.name named) (All-head FieldFits old rest h) k in
+    All-cons FieldFits (record { name = old.name; value = byte ∷ bytes }) [] (rw e at fits) (All-nil FieldFits)
 
-change_at_fits : (found : Option ℕ) (header : Header) (headers : List Header) → ((position : ℕ) → found ≡ Some position → IsNamed header.name (drop position headers)) → All IsField headers → IsField header → All IsField (change_at found header headers)
+change_at_fits : (found : Option ℕ) (header : Header) (headers : List Header) → ((position : ℕ) → found ≡ Some position → IsNamed header.name (drop position headers)) → All FieldFits headers → FieldFits header → All FieldFits (change_at found header headers)
 change_at_fits None header headers named h k =
-    All-append IsField headers (added_field header) h
-    (cond_both (bytes_eq header.value []) [] (header ∷ []) (All IsField) (λ _. All-nil IsField) (λ _. All-cons IsField header [] k (All-nil IsField)))
+    All-append FieldFits headers (added_field header) h
+    (cond_both (bytes_eq header.value []) [] (header ∷ []) (All FieldFits) (λ _. All-nil FieldFits) (λ _. All-cons FieldFits header [] k (All-nil FieldFits)))
 change_at_fits (Some position) header headers named h k =
-    let new = field_fits header.value (drop position headers) header refl (named position refl) (All-drop IsField position headers h) k in
-    All-append IsField (take position headers ++ changed_field header.value (drop position headers)) (drop (position + 1) headers)
-    (All-append IsField (take position headers) (changed_field header.value (drop position headers)) (All-take IsField position headers h) new)
-    (All-drop IsField (position + 1) headers h)
+    let new = field_fits header.value (drop position headers) header refl (named position refl) (All-drop FieldFits position headers h) k in
+    All-append FieldFits (take position headers ++ changed_field header.value (drop position headers)) (drop (position + 1) headers)
+    (All-append FieldFits (take position headers) (changed_field header.value (drop position headers)) (All-take FieldFits position headers h) new)
+    (All-drop FieldFits (position + 1) headers h)
 
 named_at : (index : ℕ) (name : List ℕ) (headers : List Header) (position : ℕ) → occurrence index (positions_from 0 name headers) ≡ Some position → IsNamed name (drop position headers)
 named_at index name headers position e =
@@ -95,22 +94,25 @@ named_at index name headers position e =
     let same : h.ahead ≡ position = omega arith in
     rw same at h.named
 
-insert_fits : (index : ℕ) (header : Header) (headers : List Header) → All IsField headers → IsField header → All IsField (insert_at index header headers)
+insert_fits : (index : ℕ) (header : Header) (headers : List Header) → All FieldFits headers → FieldFits header → All FieldFits (insert_at index header headers)
 insert_fits index header headers h k =
-    All-append IsField (take index headers) (header ∷ drop index headers) (All-take IsField index headers h)
-    (All-cons IsField header (drop index headers) k (All-drop IsField index headers h))
+    All-append FieldFits (take index headers) (header ∷ drop index headers) (All-take FieldFits index headers h)
+    (All-cons FieldFits header (drop index headers) k (All-drop FieldFits index headers h))
 
-edit_headers_fits : (headers : List Header) (edit : Edit) → All IsField headers → IsAsked edit → All IsField (edit_headers headers edit)
-edit_headers_fits headers (AddHeader header) h k = All-push IsField headers header h (added_fits header k)
-edit_headers_fits headers (InsertHeader index header) h k = insert_fits index header headers h (inserted_fits index header k)
-edit_headers_fits headers (ChangeHeader index header) h k =
-    change_at_fits (occurrence index (positions_from 0 header.name headers)) header headers (named_at index header.name headers) h (changed_fits index header k)
-edit_headers_fits headers other h k = h
+edit_headers_fits : (leading_space : Bool) (headers : List Header) (edit : Edit) → All FieldFits headers → IsAsked edit → All FieldFits (edit_headers leading_space headers edit)
+edit_headers_fits leading_space headers (AddHeader header) h k =
+    All-push FieldFits headers (put_header leading_space header) h (put_fits leading_space header (added_fits header k))
+edit_headers_fits leading_space headers (InsertHeader index header) h k =
+    insert_fits index (put_header leading_space header) headers h (put_fits leading_space header (inserted_fits index header k))
+edit_headers_fits leading_space headers (ChangeHeader index header) h k =
+    change_at_fits (occurrence index (positions_from 0 header.name headers)) (change_header leading_space header) headers (named_at index header.name headers) h
+    (change_fits leading_space header.name header.value (changed_fits index header k))
+edit_headers_fits leading_space headers other h k = h
 
-headers_after_fits : (headers : List Header) (edits : List Edit) → All IsField headers → All IsAsked edits → All IsField (headers_after headers edits)
-headers_after_fits headers [] h asked = h
-headers_after_fits headers (edit ∷ edits) h asked =
-    headers_after_fits (edit_headers headers edit) edits (edit_headers_fits headers edit h (All-head IsAsked edit edits asked)) (All-tail IsAsked edit edits asked)
+headers_after_fits : (leading_space : Bool) (headers : List Header) (edits : List Edit) → All FieldFits headers → All IsAsked edits → All FieldFits (headers_after leading_space headers edits)
+headers_after_fits leading_space headers [] h asked = h
+headers_after_fits leading_space headers (edit ∷ edits) h asked =
+    headers_after_fits leading_space (edit_headers leading_space headers edit) edits (edit_headers_fits leading_space headers edit h (All-head IsAsked edit edits asked)) (All-tail IsAsked edit edits asked)
 
 -- ---- paths: a sender's packet and a recipient's have the same payload
 
@@ -179,9 +181,9 @@ sender_fits old last (other ∷ edits) h asked = sender_fits old last edits h (A
 
 -- ---- the whole
 
-pub edited_is_message : (message : MailObject) (edits : List Edit) → IsMessage message → All IsAsked edits → IsMessage (edited_message message edits).message
-edited_is_message message edits h asked = record {
+pub edited_is_message : (leading_space : Bool) (message : MailObject) (edits : List Edit) → IsMessage message → All IsAsked edits → IsMessage (edited_message leading_space message edits).message
+edited_is_message leading_space message edits h asked = record {
   sender = sender_fits message.sender None edits h.sender asked;
   recipients = recipients_after_fits message.recipients edits h.recipients asked;
-  headers = headers_after_fits message.headers edits h.headers asked;
+  headers = headers_after_fits leading_space message.headers edits h.headers asked;
 }

@@ -1,12 +1,13 @@
 -- The weight of a message is the sum of its parts' weights.
-use Rattle.std.proofs.Common.{◌≡◌, ℕ, zero, suc, ◌+◌, ◌-◌, ◌*◌, ◌/◌, ◌^◌, ◌≤◌, All, List, [], ◌∷◌, ◌++◌, length, min, map, take, drop, Some, refl, sym, subst, ◌∙◌, arith}
+use Rattle.std.proofs.Common.{◌≡◌, ℕ, zero, suc, ◌+◌, ◌*◌, ◌≤◌, All, List, [], ◌∷◌, ◌++◌, length, min, map, drop, Some, refl, sym, subst, ◌∙◌, arith}
 use Rattle.std.specs.List.{flat_map, range_with_len, sum_by}
 use Rattle.std.proofs.lemmas.List.{length-take, length-drop}
 use Rattle.std.proofs.lemmas.List.Concat.{flat_map-cons}
 use Rattle.std.proofs.lemmas.List.Elements.{All-weaker}
 use Rattle.std.proofs.lemmas.List.FromFn.{sum_by-map-range_with_len_more}
 use Rattle.std.proofs.lemmas.List.Sums.{sum_by-append, sum_by-cons, sum_by_push}
-use Rattle.milter_mail.specs.declared.weight.TheConstants.{PIECE_LEN, WEIGHT_MAX}
+use Rattle.milter_mail.specs.declared.message.TheConstants.{PIECE_LEN}
+use Rattle.milter_mail.specs.declared.weight.TheConstants.{WEIGHT_MAX}
 use Rattle.milter_wire.specs.declared.codes.TheConstants.{SMFIC_BODYEOB, SMFIC_CONNECT, SMFIC_DATA, SMFIC_EOH, SMFIC_HELO, SMFIC_MAIL, SMFIC_RCPT}
 use Rattle.milter_wire.specs.declared.client.Client.{Client}
 use Rattle.milter_wire.specs.declared.command.Command.{Command}
@@ -14,13 +15,14 @@ use Rattle.milter_wire.specs.declared.command.Command.TheVariants as commands
 use Rattle.milter_wire.specs.declared.header.Header.{Header}
 use Rattle.milter_wire.specs.declared.pair.Pair.{Pair}
 use Rattle.milter_wire.specs.declared.path.Path.{Path}
-use Rattle.milter_wire.specs.Command.{payload_of, encoding}
+use Rattle.milter_wire.specs.Command.{bytes_of, payload_of, encoding}
 use Rattle.milter_stream.specs.Number.{number}
 use Rattle.milter_mail.specs.declared.macros.Macros.{Macros}
 use Rattle.milter_mail.specs.MailObject.{MailObject}
-use Rattle.milter_mail.specs.MailSession.{IsSendable, IsSession, MailSession}
-use Rattle.milter_mail.specs.Plan.{macro_step, pieces_of}
-use Rattle.milter_mail.specs.Weight.{bytes_of, weight}
+use Rattle.milter_mail.specs.MailSession.{IsSendable}
+use Rattle.milter_mail.specs.Pieces.{piece_at, piece_count, pieces_of}
+use Rattle.milter_mail.specs.Steps.{macro_step}
+use Rattle.milter_mail.specs.Weight.{weight}
 use Rattle.milter_mail.specs.declared.weight.Overhead.{Overhead}
 use Rattle.milter_mail.specs.WeightParts.{body_weight, common_weight, macros_weight, opening_weight, parts_weight, IsOverhead, IsSendableWith}
 
@@ -49,9 +51,6 @@ bytes-step code pairs command = sum_by_push (λ c. length (encoding c)) (macro_s
 
 -- ---- the pieces of a body
 
-abbrev piece_at : List ℕ → ℕ → List ℕ
-piece_at body i = take PIECE_LEN (drop (PIECE_LEN * i) body)
-
 first_pieces : (body : List ℕ) (n : ℕ) → sum_by (λ piece. length (encoding (commands.Body piece))) (map (piece_at body) (range_with_len 0 n)) ≡ min (PIECE_LEN * n) (length body) + 5 * n
 first_pieces body zero = omega arith
 first_pieces body (suc n) =
@@ -68,7 +67,7 @@ first_pieces body (suc n) =
 body-bytes : (body : List ℕ) → bytes_of (flat_map (λ piece. commands.Body piece ∷ []) (pieces_of body)) ≡ body_weight (length body)
 body-bytes body =
     let each = bytes-each (λ piece. commands.Body piece ∷ []) (λ piece. length (encoding (commands.Body piece))) (λ piece. bytes-one (commands.Body piece)) (pieces_of body) in
-    each ∙ first_pieces body ((length body + (PIECE_LEN - 1)) / PIECE_LEN) ∙ omega arith
+    each ∙ first_pieces body (piece_count (length body)) ∙ omega arith
 
 -- ---- the whole
 
@@ -125,6 +124,7 @@ sendable_with client helo macros o h m sendable =
     record {
       whole = sendable.whole;
       has_recipient = sendable.has_recipient;
+      whole_fields = sendable.whole_fields;
       weight = rw (h.recipient_is, h.message_is) (omega (arith, sum, sendable.weight_fits));
     }
 
@@ -135,6 +135,7 @@ sendable client helo macros o h m with_overhead =
     record {
       whole = with_overhead.whole;
       has_recipient = with_overhead.has_recipient;
+      whole_fields = with_overhead.whole_fields;
       weight_fits = omega (arith, sum, h.message_is, fits);
     }
 

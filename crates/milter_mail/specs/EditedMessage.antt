@@ -1,5 +1,5 @@
 -- What edits make of a message: one edit after the other, on whole lists.
-use Rattle.std.specs.Prelude.{ℕ, ◌+◌, ◌-◌, ◌==◌, not, List, [], ◌∷◌, ◌++◌, take, drop, Option, None, Some, if◌then◌else◌}
+use Rattle.std.specs.Prelude.{ℕ, ◌+◌, ◌-◌, ◌==◌, Bool, not, List, [], ◌∷◌, ◌++◌, take, drop, Option, None, Some, if◌then◌else◌}
 use Rattle.std.specs.List.{concat, filter, filter_map, last_or}
 use Rattle.std.specs.Str.{bytes_eq, str_eq_ignore_ascii_case}
 use Rattle.milter_wire.specs.declared.header.Header.{Header}
@@ -7,6 +7,7 @@ use Rattle.milter_wire.specs.declared.path.Path.{Path}
 use Rattle.milter_mail.specs.declared.edit.Edit.{Edit}
 use Rattle.milter_mail.specs.declared.edit.Edit.TheVariants.{AddHeader, InsertHeader, ChangeHeader, AddRcpt, AddRcptPar, DelRcpt, ChangeFrom, ReplaceBody, Quarantine}
 use Rattle.milter_mail.specs.declared.message.Held.{Held}
+use Rattle.milter_mail.specs.LeadingSpace.{change_header, put_header}
 use Rattle.milter_mail.specs.MailObject.{MailObject}
 
 -- ---- header fields
@@ -51,15 +52,19 @@ change_at (Some position) header headers = set_field position header.value heade
 abbrev pub change : ℕ → Header → List Header → List Header
 change index header headers = change_at (occurrence index (positions_from 0 header.name headers)) header headers
 
-abbrev pub edit_headers : List Header → Edit → List Header
-edit_headers headers (AddHeader header) = headers ++ header ∷ []
-edit_headers headers (InsertHeader index header) = insert_at index header headers
-edit_headers headers (ChangeHeader index header) = change index header headers
-edit_headers headers other = headers
+-- an edit of header fields, with or without leading spaces in the values that it puts
+abbrev pub edit_headers : Bool → List Header → Edit → List Header
+edit_headers leading_space headers (AddHeader header) = headers ++ put_header leading_space header ∷ []
+edit_headers leading_space headers (InsertHeader index header) =
+    insert_at index (put_header leading_space header) headers
+edit_headers leading_space headers (ChangeHeader index header) =
+    change index (change_header leading_space header) headers
+edit_headers leading_space headers other = headers
 
-abbrev pub headers_after : List Header → List Edit → List Header
-headers_after headers [] = headers
-headers_after headers (edit ∷ edits) = headers_after (edit_headers headers edit) edits
+abbrev pub headers_after : Bool → List Header → List Edit → List Header
+headers_after leading_space headers [] = headers
+headers_after leading_space headers (edit ∷ edits) =
+    headers_after leading_space (edit_headers leading_space headers edit) edits
 
 -- ---- recipients
 
@@ -110,14 +115,14 @@ body_of old (piece ∷ pieces) = concat (piece ∷ pieces)
 
 -- the last sender that is asked for, the recipients and header fields after all edits, the new body in place of the old
 -- one, and the last reason for a quarantine
-abbrev pub edited_message : MailObject → List Edit → Held
-edited_message message edits =
+abbrev pub edited_message : Bool → MailObject → List Edit → Held
+edited_message leading_space message edits =
     record {
       message =
           record {
             sender = or_as_it_was message.sender (last_or None (filter_map new_sender edits));
             recipients = recipients_after message.recipients edits;
-            headers = headers_after message.headers edits;
+            headers = headers_after leading_space message.headers edits;
             body = body_of message.body (filter_map new_piece edits);
           };
       quarantine = last_or None (filter_map new_reason edits);

@@ -1,9 +1,13 @@
+pub mod LeadingSpace
 pub mod MailObject
+pub mod ChosenMacros
 pub mod EditReplies
 pub mod EditedMessage
 pub mod Occurrences
-pub mod Plan
+pub mod Pieces
+pub mod Steps
 pub mod Weight
 pub mod MailSession
+pub mod Plan
 pub mod WeightParts
 pub mod HeldText

@@ -4,6 +4,7 @@ use Rattle.milter_wire.specs.declared.command.Command.TheVariants as commands
 use Rattle.milter_wire.specs.declared.header.Header.{Header}
 use Rattle.milter_wire.specs.declared.path.Path.{Path}
 use Rattle.milter_wire.specs.Command.{Fits}
+use Rattle.milter_mail.specs.LeadingSpace.{FieldFits}
 
 pub record MailObject : Type 0 where
   pub sender : Path
@@ -11,8 +12,9 @@ pub record MailObject : Type 0 where
   pub headers : List Header
   pub body : List ℕ
 
--- the command of each part fits; the body may be any bytes
+-- the command of each part fits, that of a header field without the blank that its value begins with; the body may be
+-- any bytes
 pub record IsMessage (m : MailObject) : Type 0 where
   pub sender : Fits (commands.Mail m.sender)
   pub recipients : All (λ recipient. Fits (commands.Rcpt recipient)) m.recipients
-  pub headers : All (λ header. Fits (commands.Header header)) m.headers
+  pub headers : All FieldFits m.headers

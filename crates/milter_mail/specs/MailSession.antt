@@ -6,6 +6,7 @@ use Rattle.milter_wire.specs.declared.client.Client.{Client}
 use Rattle.milter_wire.specs.declared.command.Command.TheVariants as commands
 use Rattle.milter_wire.specs.Command.{Fits}
 use Rattle.milter_mail.specs.declared.macros.Macros.{Macros}
+use Rattle.milter_mail.specs.LeadingSpace.{WholeFieldFits}
 use Rattle.milter_mail.specs.MailObject.{IsMessage, MailObject}
 use Rattle.milter_mail.specs.Weight.{weight}
 
@@ -26,10 +27,12 @@ pub record MacrosFit (macros : Macros) : Type 0 where
   pub eoh : Fits (commands.Macro SMFIC_EOH macros.eoh)
   pub eom : Fits (commands.Macro SMFIC_BODYEOB macros.eom)
 
--- a message that has a recipient and weighs at most 16 MiB
+-- a message that has a recipient, whose header fields fit a packet with their whole values, and which weighs at most
+-- 16 MiB
 pub record IsSendable (client : Client) (helo : List ℕ) (macros : Macros) (m : MailObject) : Type 0 where
   pub whole : IsMessage m
   pub has_recipient : m.recipients ≢ []
+  pub whole_fields : All WholeFieldFits m.headers
   pub weight_fits : weight client helo macros m ≤ WEIGHT_MAX
 
 pub record IsSession (s : MailSession) : Type 0 where

@@ -1,21 +1,22 @@
 -- How many bytes the packets of one message are, with those of the connection that it comes on.
-use Rattle.std.specs.Prelude.{ℕ, List, ◌++◌, length}
-use Rattle.std.specs.List.{sum_by}
+use Rattle.std.specs.Prelude.{ℕ, List, [], ◌++◌}
+use Rattle.milter_wire.specs.declared.agreement.Agreed.{Agreed}
 use Rattle.milter_wire.specs.declared.client.Client.{Client}
-use Rattle.milter_wire.specs.declared.command.Command.{Command}
-use Rattle.milter_options.specs.declared.options.Options.{Options}
-use Rattle.milter_wire.specs.Command.{encoding}
+use Rattle.milter_options.specs.declared.options.TheConstants.Protocol.{HDR_LEADSPC}
+use Rattle.milter_wire.specs.Command.{bytes_of}
 use Rattle.milter_mail.specs.declared.macros.Macros.{Macros}
 use Rattle.milter_mail.specs.MailObject.{MailObject}
-use Rattle.milter_mail.specs.Plan.{message_steps, opening}
+use Rattle.milter_mail.specs.Steps.{message_steps, opening_steps}
 
--- version 6 with no bit: all is sent and all is answered
-abbrev pub all_is_sent : Options
-all_is_sent = record { version = 6; actions = record { 0 = 0 }; protocol = record { 0 = 0 } }
-
-abbrev pub bytes_of : List Command → ℕ
-bytes_of commands = sum_by (λ command. length (encoding command)) commands
+-- version 6 with no bit but that for leading spaces, and no symbol list: all is sent, with whole values of header
+-- fields and all macros
+abbrev pub all_is_sent : Agreed
+all_is_sent =
+    record {
+      options = record { version = 6; actions = record { 0 = 0 }; protocol = HDR_LEADSPC };
+      lists = [];
+    }
 
 abbrev pub weight : Client → List ℕ → Macros → MailObject → ℕ
 weight client helo macros message =
-    bytes_of (opening all_is_sent macros client helo ++ message_steps all_is_sent macros message)
+    bytes_of (opening_steps all_is_sent macros client helo ++ message_steps all_is_sent macros message)

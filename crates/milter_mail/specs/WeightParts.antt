@@ -1,19 +1,21 @@
 -- The weight of a message as a sum: what it weighs of itself, and what each message of the session weighs beside that.
-use Rattle.std.specs.Prelude.{◌≡◌, ◌≢◌, ◌≤◌, ℕ, ◌+◌, ◌-◌, ◌*◌, ◌/◌, ◌^◌, min, List, [], length, Option, None, Some}
+use Rattle.std.specs.Prelude.{◌≡◌, ◌≢◌, ◌≤◌, ℕ, ◌+◌, ◌-◌, ◌*◌, ◌^◌, All, min, List, [], length, Option, None, Some}
 use Rattle.std.specs.List.{sum_by}
 use Rattle.milter_stream.specs.declared.number.TheConstants.{HEAD_LEN}
-use Rattle.milter_mail.specs.declared.weight.TheConstants.{PIECE_LEN, WEIGHT_MAX}
+use Rattle.milter_mail.specs.declared.weight.TheConstants.{WEIGHT_MAX}
 use Rattle.milter_wire.specs.declared.codes.TheConstants.{SMFIC_BODYEOB, SMFIC_CONNECT, SMFIC_DATA, SMFIC_EOH, SMFIC_HELO, SMFIC_MAIL, SMFIC_RCPT}
 use Rattle.milter_wire.specs.declared.client.Client.{Client}
 use Rattle.milter_wire.specs.declared.command.Command.TheVariants as commands
+use Rattle.milter_wire.specs.declared.header.Header.{Header}
 use Rattle.milter_wire.specs.declared.pair.Pair.{Pair}
-use Rattle.milter_wire.specs.Command.{Fits, encoding}
+use Rattle.milter_wire.specs.Command.{Fits, bytes_of, encoding}
 use Rattle.milter_mail.specs.declared.macros.Macros.{Macros}
 use Rattle.milter_mail.specs.declared.weight.Overhead.{Overhead}
+use Rattle.milter_mail.specs.LeadingSpace.{WholeFieldFits}
 use Rattle.milter_mail.specs.MailObject.{IsMessage, MailObject}
 use Rattle.milter_mail.specs.MailSession.{MacrosFit}
-use Rattle.milter_mail.specs.Plan.{macro_step}
-use Rattle.milter_mail.specs.Weight.{bytes_of}
+use Rattle.milter_mail.specs.Pieces.{piece_count}
+use Rattle.milter_mail.specs.Steps.{macro_step}
 
 -- the bytes of the packet with these macros, where there are some
 abbrev pub macros_weight : ℕ → List Pair → ℕ
@@ -62,15 +64,30 @@ CommonWeighs macros (Some n) = CommonFits macros × (n ≡ min (common_weight ma
 
 -- the bytes of a body, and of the five before each of its pieces
 abbrev pub body_weight : ℕ → ℕ
-body_weight len = len + HEAD_LEN * ((len + (PIECE_LEN - 1)) / PIECE_LEN)
+body_weight len = len + HEAD_LEN * piece_count len
+
+-- the bytes of the packets of header fields with their whole values
+abbrev pub fields_weight : List Header → ℕ
+fields_weight headers = sum_by (λ header. length (encoding (commands.Header header))) headers
+
+-- the number of these bytes, where each field fits a packet with its whole value
+abbrev pub FieldsWeigh : List Header → Option ℕ → Type 0
+FieldsWeigh headers None = ¬ All WholeFieldFits headers
+FieldsWeigh headers (Some n) = All WholeFieldFits headers × (n ≡ min (fields_weight headers) (2 ^ 64 - 1))
 
 -- the bytes of the packets of the parts of a message, with so many more for each recipient
 abbrev pub parts_weight : ℕ → MailObject → ℕ
 parts_weight more message =
     length (encoding (commands.Mail message.sender))
     + sum_by (λ path. more + length (encoding (commands.Rcpt path))) message.recipients
-    + sum_by (λ header. length (encoding (commands.Header header))) message.headers
+    + fields_weight message.headers
     + body_weight (length message.body)
+
+-- the number of these bytes, where each header field fits a packet with its whole value
+abbrev pub PartsWeigh : ℕ → MailObject → Option ℕ → Type 0
+PartsWeigh more message None = ¬ All WholeFieldFits message.headers
+PartsWeigh more message (Some n) =
+    All WholeFieldFits message.headers × (n ≡ min (parts_weight more message) (2 ^ 64 - 1))
 
 -- the client, its greeting and the macros of each stage fit a packet
 abbrev pub OpeningAndMacrosFit : Client → List ℕ → Macros → Type 0
@@ -86,4 +103,5 @@ pub record IsOverhead (client : Client) (helo : List ℕ) (macros : Macros) (o :
 pub record IsSendableWith (o : Overhead) (m : MailObject) : Type 0 where
   pub whole : IsMessage m
   pub has_recipient : m.recipients ≢ []
+  pub whole_fields : All WholeFieldFits m.headers
   pub weight : o.message + parts_weight o.recipient m ≤ WEIGHT_MAX

@@ -23,15 +23,23 @@ use std::alloc::Global;
 /// wherever this very address is, with any parameters. The last sender counts, with its own parameters or none, and
 /// so does the last reason. The pieces of a body, one after the other, replace the old body.
 ///
+/// Where leading spaces aren't sent, each value that is put gets the blank that a value begins with in a message, an
+/// empty added one too.
+///
 /// An edit looks at each header field or recipient at most once. No text is copied twice, and a new body is appended to
 /// as its pieces come. The given message stays as it was, and after `NoMemory` nothing is left. Source: the libmilter
 /// callback documentation (message modification functions).
-pub fn apply(alloc: Global, message: &Message, edits: &[Edit]) -> Result<Held, NoMemory>
+pub fn apply(
+    alloc: Global,
+    message: &Message,
+    edits: &[Edit],
+    leading_space: bool,
+) -> Result<Held, NoMemory>
     requires { All (λ edit. Fits (reply_of edit)) edits.now }
-    ensures { IfOk result (λ held. held ≡ edited_message message.now edits.now) }
+    ensures { IfOk result (λ held. held ≡ edited_message leading_space message.now edits.now) }
 {
     let quarantine = quarantine_after(alloc, edits)?;
-    let message = message_after(alloc, message, edits)?;
+    let message = message_after(alloc, message, edits, leading_space)?;
     Ok(Held {
         message,
         quarantine,
@@ -39,13 +47,18 @@ pub fn apply(alloc: Global, message: &Message, edits: &[Edit]) -> Result<Held, N
 }
 
 /// The message after the edits.
-fn message_after(alloc: Global, message: &Message, edits: &[Edit]) -> Result<Message, NoMemory>
+fn message_after(
+    alloc: Global,
+    message: &Message,
+    edits: &[Edit],
+    leading_space: bool,
+) -> Result<Message, NoMemory>
     requires { All (λ edit. Fits (reply_of edit)) edits.now }
-    ensures { IfOk result (λ changed. changed ≡ (edited_message message.now edits.now).message) }
+    ensures { IfOk result (λ changed. changed ≡ (edited_message leading_space message.now edits.now).message) }
 {
     let sender = sender_after(alloc, message.sender(), edits)?;
     let recipients = recipients_after(alloc, message.recipients(), edits)?;
-    let headers = headers_after(alloc, message.headers(), edits)?;
+    let headers = headers_after(alloc, message.headers(), edits, leading_space)?;
     let body = body_after(alloc, message.body(), edits)?;
     Ok(Message::from_parts(sender, recipients, headers, body))
 }

@@ -6,7 +6,7 @@ use milter_wire::{Header, NoMemory, Params, Path, Text};
 use std::alloc::Global;
 
 /// A header field of the same name and value.
-pub(crate) fn copy_header(alloc: Global, header: &Header) -> Result<Header, NoMemory>
+fn copy_header(alloc: Global, header: &Header) -> Result<Header, NoMemory>
     ensures { IfOk result (λ copy. copy ≡ header.now) }
 {
     let name = Text::copy_of(alloc, header.name.as_slice())?;

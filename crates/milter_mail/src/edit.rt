@@ -132,9 +132,11 @@ fn payload_len(edit: &Edit) -> usize
         Edit::InsertHeader { header, .. } | Edit::ChangeHeader { header, .. } => {
             header_len(header).saturating_add(INDEX_LEN)
         }
-        Edit::AddRcpt(text) | Edit::DelRcpt(text) | Edit::Quarantine(text) => string_len(text),
+        Edit::AddRcpt(text) | Edit::DelRcpt(text) | Edit::Quarantine(text) => string_len(
+            text.as_slice(),
+        ),
         Edit::AddRcptPar { address, arguments } | Edit::ChangeFrom { address, arguments } => {
-            string_len(address).saturating_add(arguments_len(arguments))
+            string_len(address.as_slice()).saturating_add(arguments_len(arguments))
         }
         Edit::ReplaceBody(bytes) => bytes.as_slice().len(),
         Edit::Progress => 0,

@@ -6,11 +6,13 @@
 #![tactic(auto)]
 
 mod application;
+mod chosen_macros;
 mod copies;
 mod edit;
 mod header_edits;
 mod held_text;
 mod laws;
+mod leading_space;
 mod macros;
 mod message;
 mod message_lines;
@@ -22,11 +24,13 @@ pub use application::apply;
 pub use edit::Edit;
 pub use held_text::write_message;
 pub use laws::{
-    changed_fields, edits_in_turn, edits_of_replies, sendable_messages, weight_of_parts,
+    changed_fields, chosen_macros_fit, edits_in_turn, edits_of_replies, leading_spaces,
+    sendable_messages, weight_of_parts, weight_of_plan,
 };
+pub use leading_space::sent_value;
 pub use macros::Macros;
-pub use message::{Held, Message};
+pub use message::{Held, Message, MessageParts, PIECE_LEN};
 pub use message_lines::{put_line, put_message, put_text};
 pub use milter_text::{TextFault, Word, WordFault, quote, words};
-pub use session::Session;
+pub use session::{Session, SessionParts};
 pub use weight::{Overhead, WEIGHT_MAX};

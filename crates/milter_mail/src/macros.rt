@@ -1,7 +1,7 @@
 //! The macros that a mail server sends before its commands.
 
 ghost use Rattle.std.specs.Prelude.{◌≡◌};
-ghost use Rattle.milter_mail.specs.Plan.{macros_at};
+ghost use Rattle.milter_mail.specs.Steps.{macros_at};
 
 use milter_wire::{Pair, Pairs, Stage};
 

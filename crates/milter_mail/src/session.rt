@@ -14,14 +14,28 @@ use std::marker::Model;
 /// What a mail server sends of one client: who it is and how it greets, the macros of each stage, and the
 /// messages that it sends, in order.
 ///
-/// Each message has a recipient and weighs at most 16,777,216 bytes: those of all its packets where nothing is left
-/// out, of the client, of its greeting and of all macros, with their length fields.
+/// Each message has a recipient, and each of its header fields fits a packet with its whole value. It weighs at most
+/// 16,777,216 bytes: those of all its packets where nothing is left out, of the client, of its greeting and of all
+/// macros, with their length fields.
 #[derive(Debug, Drop)]
 pub struct Session {
     client: Client,
     helo: Text,
     macros: Macros,
     messages: Vec<Message>,
+}
+
+/// The parts of a session, each on its own.
+#[derive(Debug, Drop)]
+pub struct SessionParts {
+    /// The client.
+    pub client: Client,
+    /// The name with which it greets.
+    pub helo: Text,
+    /// The macros of each stage.
+    pub macros: Macros,
+    /// The messages, in order.
+    pub messages: Vec<Message>,
 }
 
 impl Model for Session {
@@ -46,8 +60,8 @@ impl Model for Session {
 
 impl Session {
     /// The session of these parts; or none, where the client, the greeting or the macros of a stage fit no packet, or
-    /// where a message has no recipient or weighs more than 16,777,216 bytes. There may be no message. No
-    /// memory is taken.
+    /// where a message has no recipient, a header field that fits no packet with its whole value, or weighs more than
+    /// 16,777,216 bytes. There may be no message. No memory is taken.
     pub fn new(client: Client, helo: Text, macros: Macros, messages: Vec<Message>) -> Option<Self>
         ensures parts { IfSome result (λ s. s ≡ record {
           client = client;
@@ -93,6 +107,22 @@ impl Session {
             helo,
             macros,
             messages,
+        }
+    }
+
+    /// The parts of the session. They are moved, and no memory is taken.
+    pub fn into_parts(self) -> SessionParts
+        ensures client { result.client ≡ self.client }
+        ensures helo { result.helo ≡ self.helo }
+        ensures macros { result.macros ≡ self.macros }
+        ensures messages { result.messages.items ≡ self.messages }
+        ensures whole { IsSession self }
+    {
+        SessionParts {
+            client: self.client,
+            helo: self.helo,
+            macros: self.macros,
+            messages: self.messages,
         }
     }
 

@@ -6,17 +6,14 @@ ghost use Rattle.milter_wire.specs.declared.command.Command.TheVariants as comma
 ghost use Rattle.milter_wire.specs.Command.{Fits, PacketLen, encoding};
 ghost use Rattle.milter_mail.specs.MailObject.{IsMessage};
 ghost use Rattle.milter_mail.specs.MailSession.{IsSession};
-ghost use Rattle.milter_mail.specs.WeightParts.{body_weight, parts_weight, CommonWeighs, IsOverhead, IsSendableWith, MacrosWeigh, OpeningAndMacrosFit, OpeningWeighs};
+ghost use Rattle.milter_mail.specs.WeightParts.{body_weight, CommonWeighs, FieldsWeigh, IsOverhead, IsSendableWith, MacrosWeigh, OpeningAndMacrosFit, OpeningWeighs, PartsWeigh};
 
 use crate::macros::Macros;
-use crate::message::Message;
+use crate::message::{Message, PIECE_LEN};
 use milter_wire::codes::{
     SMFIC_BODYEOB, SMFIC_CONNECT, SMFIC_DATA, SMFIC_EOH, SMFIC_HELO, SMFIC_MAIL, SMFIC_RCPT,
 };
 use milter_wire::{Client, HEAD_LEN, Header, Pairs, Path, Text, helo_packet_len};
-
-/// The bytes of a piece of a body, but for the last one, which may have fewer.
-const PIECE_LEN: usize = 65_535;
 
 /// The most bytes that the packets of one message have, with those of the connection that it comes on: 16 MiB.
 pub const WEIGHT_MAX: usize = 16_777_216;
@@ -48,18 +45,18 @@ impl Overhead {
         })
     }
 
-    /// Whether the message has a recipient, and weighs at most 16,777,216 bytes in a session with this overhead. No
-    /// memory is taken.
+    /// Whether the message has a recipient, each of its header fields fits a packet with its whole value, and it weighs at
+    /// most 16,777,216 bytes in a session with this overhead. No memory is taken.
     pub fn allows(&self, message: &Message) -> bool
         ensures { IsTrue result ↔ IsSendableWith self.now message.now }
     {
         if message.recipients().is_empty() {
             return false;
         }
-        let weight = self
-            .message
-            .saturating_add(parts_len(self.recipient, message));
-        weight <= WEIGHT_MAX
+        match parts_len(self.recipient, message) {
+            Some(len) => self.message.saturating_add(len) <= WEIGHT_MAX,
+            None => false,
+        }
     }
 }
 
@@ -125,14 +122,20 @@ fn are_sendable(overhead: &Overhead, messages: &[Message]) -> bool
     messages.iter().all(|message| overhead.allows(message))
 }
 
-fn parts_len(more: usize, message: &Message) -> usize
-    ensures weight { result ≡ min (parts_weight more message.now) (2 ^ 64 - 1) }
+/// The number of bytes of the packets of the parts of a message, with so many more for each recipient; or none, where
+/// a header field doesn't fit a packet with its whole value.
+fn parts_len(more: usize, message: &Message) -> Option<usize>
+    ensures weight { PartsWeigh more message.now result }
     ensures whole { IsMessage message.now }
 {
-    sender_len(message.sender())
-        .saturating_add(recipients_len(more, message.recipients()))
-        .saturating_add(headers_len(message.headers()))
-        .saturating_add(body_len(message.body()))
+    let sender = sender_len(message.sender());
+    let envelope = sender.saturating_add(recipients_len(more, message.recipients()));
+    let headers = headers_len(message.headers())?;
+    Some(
+        envelope
+            .saturating_add(headers)
+            .saturating_add(body_len(message.body())),
+    )
 }
 
 /// The number of bytes of the packet of the sender.
@@ -163,24 +166,18 @@ fn recipient_len(path: &Path) -> usize
     path.packet_len().unwrap_or(0)
 }
 
-/// The number of bytes of the packets of header fields.
-fn headers_len(headers: &[Header]) -> usize
-    requires { All (λ header. Fits (commands.Header header)) headers.now }
-    ensures { result ≡ min (sum_by (λ header. length (encoding (commands.Header header))) headers.now) (2 ^ 64 - 1) }
+/// The number of bytes of the packets of header fields with their whole values; or none, where one doesn't fit.
+fn headers_len(headers: &[Header]) -> Option<usize>
+    ensures { FieldsWeigh headers.now result }
 {
     let mut total: usize = 0;
     for header in headers {
-        total = total.saturating_add(header_len(header));
+        let Some(len) = header.packet_len() else {
+            return None;
+        };
+        total = total.saturating_add(len);
     }
-    total
-}
-
-/// The number of bytes of the packet of a header field.
-fn header_len(header: &Header) -> usize
-    requires { Fits (commands.Header header.now) }
-    ensures { result ≡ length (encoding (commands.Header header.now)) }
-{
-    header.packet_len().unwrap_or(0)
+    Some(total)
 }
 
 /// The number of bytes of the packets of the body.

@@ -20,6 +20,7 @@ actions_table =
     ∷ (codes "QUARANTINE", 32)
     ∷ (codes "CHGFROM", 64)
     ∷ (codes "ADDRCPT_PAR", 128)
+    ∷ (codes "SETSYMLIST", 256)
     ∷ []
 
 -- the steps that are not sent, or not answered
@@ -44,6 +45,7 @@ protocol_table =
     ∷ (codes "NR_UNKN", 131072)
     ∷ (codes "NR_EOH", 262144)
     ∷ (codes "NR_BODY", 524288)
+    ∷ (codes "HDR_LEADSPC", 1048576)
     ∷ []
 
 -- ---- texts

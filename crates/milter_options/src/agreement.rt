@@ -1,14 +1,14 @@
-//! What the two ends agree on.
+//! What the options of two ends have in common.
 
 ghost use Rattle.std.specs.Prelude.{◌≡◌};
-ghost use Rattle.milter_options.specs.Agreement.{agree};
+ghost use Rattle.milter_options.specs.Agreement.{common};
 
 use crate::options::{Actions, Options, Protocol};
 
 /// What both ends have: the smaller of the two versions, and the actions and the protocol bits that are in both. No
 /// memory is taken. Source: the libmilter callback documentation (xxfi_negotiate).
-pub fn agree(offer: Options, wants: Options) -> Options
-    ensures { result ≡ agree offer wants }
+pub fn common_options(offer: Options, wants: Options) -> Options
+    ensures { result ≡ common offer wants }
 {
     Options {
         version: offer.version.min(wants.version),

@@ -24,6 +24,8 @@ bitflag_items! {
         const CHGFROM = 0x40;
         /// Recipients may be added with arguments. Source: mfapi.h (SMFIF_ADDRCPT_PAR).
         const ADDRCPT_PAR = 0x80;
+        /// The filter may ask for the macros of a stage by name. Source: mfapi.h (SMFIF_SETSYMLIST).
+        const SETSYMLIST = 0x100;
     }
 }
 
@@ -67,6 +69,8 @@ bitflag_items! {
         const NR_EOH = 0x4_0000;
         /// Pieces of a body aren't answered. Source: mfdef.h (SMFIP_NR_BODY).
         const NR_BODY = 0x8_0000;
+        /// Values of header fields are sent with the blank that they begin with. Source: mfdef.h (SMFIP_HDR_LEADSPC).
+        const HDR_LEADSPC = 0x10_0000;
     }
 }
 

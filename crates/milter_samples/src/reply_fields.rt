@@ -1,12 +1,14 @@
 //! Replies of which one text is given, and each other one is empty.
 
 use crate::values::header;
-use milter_wire::{NoMemory, Reply, Text};
+use milter_wire::{Actions, NoMemory, Options, Protocol, Reply, SymList, SymLists, Text};
 use std::alloc::Global;
 
 /// A text of a reply.
 #[derive(Clone, Copy)]
 pub enum ReplyField {
+    /// The names of the only symbol list of the options.
+    SymbolNames,
     /// The recipient that is added without arguments, by the reply that has none.
     AddRcpt,
     /// The recipient that is added by the reply that may have arguments, without any.
@@ -42,6 +44,7 @@ pub enum ReplyField {
 /// The reply with these bytes as the field, with an empty text as each other one, and with the number 0.
 pub fn reply_with(alloc: Global, field: ReplyField, bytes: &[u8]) -> Result<Reply, NoMemory> {
     match field {
+        ReplyField::SymbolNames => options_reply(alloc, bytes),
         ReplyField::AddHeaderName | ReplyField::InsertHeaderName | ReplyField::ChangeHeaderName => {
             header_reply(alloc, field, bytes, b"")
         }
@@ -53,6 +56,21 @@ pub fn reply_with(alloc: Global, field: ReplyField, bytes: &[u8]) -> Result<Repl
         }
         _ => Ok(one_text_reply(field, Text::copy_of(alloc, bytes)?)),
     }
+}
+
+/// The option reply with one symbol list, which has these names.
+fn options_reply(alloc: Global, names: &[u8]) -> Result<Reply, NoMemory> {
+    let names = Text::copy_of(alloc, names)?;
+    let mut lists = Vec::with_capacity(alloc, 1)?;
+    lists.push(SymList { stage: 0, names })?;
+    Ok(Reply::Options {
+        options: Options {
+            version: 0,
+            actions: Actions(0),
+            protocol: Protocol(0),
+        },
+        lists: SymLists::new(lists),
+    })
 }
 
 /// The reply with this one text, and no arguments.

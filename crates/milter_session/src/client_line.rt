@@ -17,7 +17,7 @@ use crate::line_cursor::FileLine;
 use crate::line_values::{is_keyword, text_in};
 use crate::session_fault::SessionFault;
 use milter_text::Word;
-use milter_wire::{Client, NoMemory, Origin, Text, has_no_nul};
+use milter_wire::{Client, NoMemory, Origin, Text};
 use std::alloc::Global;
 use std::str;
 
@@ -45,7 +45,7 @@ pub(crate) fn client_in(alloc: Global, line: &FileLine) -> Result<Client, Sessio
     let Some((host, endpoint)) = client_parts(line.words.as_slice()) else {
         return Err(SessionFault::BadClient(line.number));
     };
-    if !has_no_nul(host) || !endpoint_has_no_nul(endpoint) {
+    if !host.has_no_nul() || !endpoint_has_no_nul(endpoint) {
         return Err(SessionFault::Nul(line.number));
     }
     let host = Text::copy_of(alloc, host.as_slice())?;
@@ -136,7 +136,7 @@ fn endpoint_has_no_nul(endpoint: Option<Endpoint<'_>>) -> bool
 {
     match endpoint {
         None => true,
-        Some(endpoint) => has_no_nul(endpoint.address),
+        Some(endpoint) => endpoint.address.has_no_nul(),
     }
 }
 

@@ -7,6 +7,7 @@ ghost use Rattle.std.specs.List.{list_all};
 ghost use Rattle.milter_wire.specs.declared.command.Command.TheVariants as commands;
 ghost use Rattle.milter_wire.specs.Command.{Fits};
 ghost use Rattle.milter_wire.specs.Field.{HasNoNul};
+ghost use Rattle.milter_mail.specs.LeadingSpace.{WholeFieldFits};
 ghost use Rattle.milter_session.specs.LineValues.{header_of, helo_of, if_named, is_keyword, is_name, path_of, piece_of};
 ghost use Rattle.milter_session.specs.LineValues.{text_of};
 ghost use Rattle.milter_session.specs.declared.session_fault.SessionFault.TheVariants as SessionFault;
@@ -15,7 +16,7 @@ ghost use Rattle.milter_session.specs.SessionFault.{IsAt, Reads};
 use crate::line_cursor::FileLine;
 use crate::session_fault::SessionFault;
 use milter_text::Word;
-use milter_wire::{Header, NoMemory, Params, Path, Text, has_no_nul, helo_packet_len};
+use milter_wire::{Header, NoMemory, Params, Path, Text, helo_packet_len};
 use std::alloc::Global;
 
 /// The name of the client in the line of its greeting.
@@ -26,7 +27,7 @@ pub(crate) fn helo_in(alloc: Global, line: &FileLine) -> Result<Text, SessionFau
     let Some(name) = helo_text(line.words.as_slice()) else {
         return Err(SessionFault::UnknownLine(line.number));
     };
-    if !has_no_nul(name) {
+    if !name.has_no_nul() {
         return Err(SessionFault::Nul(line.number));
     }
     if helo_packet_len(name).is_none() {
@@ -57,7 +58,7 @@ pub(crate) fn path_in(alloc: Global, keyword: &[u8], line: &FileLine) -> Result<
     let Some((address, params)) = path_words(keyword, line.words.as_slice()) else {
         return Err(SessionFault::UnknownLine(line.number));
     };
-    if !has_no_nul(address) || !have_no_nul(params) {
+    if !address.has_no_nul() || !have_no_nul(params) {
         return Err(SessionFault::Nul(line.number));
     }
     let address = Text::copy_of(alloc, address.as_slice())?;
@@ -90,7 +91,7 @@ fn are_quoted(words: &[Word]) -> bool
 fn have_no_nul(words: &[Word]) -> bool
     ensures { IsTrue result ↔ All (λ word. HasNoNul word.text) words.now }
 {
-    words.iter().all(|word| has_no_nul(&word.text))
+    words.iter().all(|word| word.text.has_no_nul())
 }
 
 /// The texts of the words, in order.
@@ -117,13 +118,13 @@ fn sized_path(path: Path, number: u64) -> Result<Path, SessionFault>
 
 /// The header field in the line.
 pub(crate) fn header_in(alloc: Global, line: &FileLine) -> Result<Header, SessionFault>
-    ensures reads { Reads (header_of line.now.words.items) (λ header. Fits (commands.Header header)) result }
+    ensures reads { Reads (header_of line.now.words.items) WholeFieldFits result }
     ensures at { IfErr result (λ e. IsAt line.now.number e) }
 {
     let Some((name, value)) = header_texts(line.words.as_slice()) else {
         return Err(SessionFault::BadHeader(line.number));
     };
-    if !has_no_nul(name) || !has_no_nul(value) {
+    if !name.has_no_nul() || !value.has_no_nul() {
         return Err(SessionFault::Nul(line.number));
     }
     if !is_name(name) {
@@ -173,7 +174,7 @@ fn is_name_byte(byte: u8) -> bool
 
 /// The header field, unless its packet would be too long.
 fn sized_header(header: Header, number: u64) -> Result<Header, SessionFault>
-    ensures reads { Reads (Some header) (λ header. Fits (commands.Header header)) result }
+    ensures reads { Reads (Some header) WholeFieldFits result }
     ensures at { IfErr result (λ e. IsAt number e) }
 {
     match header.packet_len() {

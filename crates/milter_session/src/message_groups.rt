@@ -4,6 +4,7 @@ ghost use Rattle.std.specs.Prelude.{◌≡◌, All, codes};
 ghost use Rattle.std.specs.List.{concat};
 ghost use Rattle.milter_wire.specs.declared.command.Command.TheVariants as commands;
 ghost use Rattle.milter_wire.specs.Command.{Fits};
+ghost use Rattle.milter_mail.specs.LeadingSpace.{WholeFieldFits};
 ghost use Rattle.milter_session.specs.LineValues.{header_of, path_of, piece_of};
 ghost use Rattle.milter_session.specs.Openings.{header_begins, path_begins, piece_begins};
 
@@ -69,10 +70,9 @@ impl LineGroup for HeaderFields {
 
     ghost value_of = { header_of };
 
-    ghost IsMadeOf = { λ group fields. (group.fields.items ≡ fields)
-        × All (λ field. Fits (commands.Header field)) fields };
+    ghost IsMadeOf = { λ group fields. (group.fields.items ≡ fields) × All WholeFieldFits fields };
 
-    ghost CanBe = { λ fields. All (λ field. Fits (commands.Header field)) fields };
+    ghost CanBe = { λ fields. All WholeFieldFits fields };
 
     fn keyword() -> &'static [u8] {
         b"header"

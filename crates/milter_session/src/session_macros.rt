@@ -18,7 +18,7 @@ use crate::line_values::{is_keyword, text_in};
 use crate::session_fault::SessionFault;
 use milter_mail::Macros;
 use milter_text::Word;
-use milter_wire::{PAYLOAD_MAX, Pair, Pairs, Text, has_no_nul, pair_len};
+use milter_wire::{PAYLOAD_MAX, Pair, Pairs, Text, pair_len};
 use std::alloc::Global;
 use std::marker::Model;
 
@@ -236,7 +236,7 @@ fn macro_in(alloc: Global, line: &FileLine) -> Result<MacroLine, SessionFault>
     let Some((stage, name, value)) = macro_parts(line.words.as_slice()) else {
         return Err(SessionFault::UnknownLine(line.number));
     };
-    if !has_no_nul(name) || !has_no_nul(value) {
+    if !name.has_no_nul() || !value.has_no_nul() {
         return Err(SessionFault::Nul(line.number));
     }
     let name = Text::copy_of(alloc, name.as_slice())?;

@@ -7,6 +7,7 @@ ghost use Rattle.milter_wire.specs.declared.path.Path.{Path};
 ghost use Rattle.milter_wire.specs.Command.{Fits};
 ghost use Rattle.milter_text.specs.declared.word.Word.{Word};
 ghost use Rattle.milter_text.specs.Words.{HasWords};
+ghost use Rattle.milter_mail.specs.LeadingSpace.{WholeFieldFits};
 ghost use Rattle.milter_mail.specs.MailObject.{IsMessage, MailObject};
 ghost use Rattle.milter_mail.specs.WeightParts.{IsSendableWith};
 ghost use Rattle.milter_session.specs.declared.session_fault.SessionFault.TheVariants as faults;
@@ -21,7 +22,7 @@ use crate::line_group::read_group;
 use crate::line_values::{is_keyword, path_in};
 use crate::message_groups::{Body, HeaderFields, Recipients};
 use crate::session_fault::SessionFault;
-use milter_mail::{Message, Overhead};
+use milter_mail::{Message, Overhead, leading_spaces};
 use milter_text::Word;
 use milter_wire::Path;
 use std::alloc::Global;
@@ -86,6 +87,7 @@ fn read_parts(alloc: Global, lines: &mut LineCursor<'_>) -> Result<Message, Sess
     ensures found { IfOk result (λ m. BeginWithParts lines.old.lines m lines.new.lines) }
     ensures only { (m : MailObject) (last : List ℕ) (rest : List (List ℕ)) →
         BeginWithParts lines.old.lines m (last ∷ rest) → HasWords last end_line → IsMessage m →
+        All WholeFieldFits m.headers →
         MatchResult result (λ x. (x ≡ m) × (lines.new.lines ≡ last ∷ rest)) (λ e. e ≡ faults.NoMemory) }
     ensures end { lines.new.end ≤ lines.old.end }
     ensures within { IfErr result (IsWithin lines.old.end) }
@@ -95,6 +97,7 @@ fn read_parts(alloc: Global, lines: &mut LineCursor<'_>) -> Result<Message, Sess
     let recipients: Recipients = read_group(alloc, lines)?;
     let headers: HeaderFields = read_group(alloc, lines)?;
     let body: Body = read_group(alloc, lines)?;
+    leading_spaces();
     Ok(Message::from_parts(sender, recipients.paths, headers.fields, body.bytes))
 }
 

@@ -83,6 +83,28 @@ filled len m old new piece h count same bytes =
       one_packet = subst IsAtMostOnePacket (sym bytes ∙ ap (λ (n : ℕ). take (len + n) new) took) step;
     }
 
+-- the first packet of a piece, as far as it has come
+first_of_piece : (piece : List ℕ) (n : ℕ) → n ≡ min (first_packet_end piece) (length piece) → IsAtMostOnePacket (take n piece)
+first_of_piece piece n e =
+    let len : length (take n piece) ≡ n = omega (arith, length-take n piece, e) in
+    elim (cases_lt (length piece) 4) [
+      | inl lt ↦ omega (arith, len, e, first_packet_end-le (take n piece))
+      | inr le ↦
+          let least = first_packet_end-le piece in
+          let same : first_packet_end piece ≡ first_packet_end (take n piece) =
+          sym (ap first_packet_end (take-append-drop n piece)) ∙ first_packet_end-append (take n piece) (drop n piece) (omega (arith, len, e, least)) in
+          omega (arith, len, e, same)
+    ]
+
+-- the buffer that has it
+pub first_filled : (n : ℕ) (old new piece : List ℕ) → length old ≡ 65540 → n ≡ min (first_packet_end piece) (length piece) → length new ≡ length old
+    → take (0 + length (take n piece)) new ≡ take 0 old ++ take n piece → IsBuffer n new
+first_filled n old new piece room count same bytes =
+    let most = first_packet_end-most piece in
+    let len : 0 + length (take n piece) ≡ n = omega (arith, length-take n piece, count) in
+    let taken : take n new ≡ take n piece = rw len at bytes in
+    record { room = same ∙ room; within = omega (arith, most, count); one_packet = subst IsAtMostOnePacket (sym taken) (first_of_piece piece n count) }
+
 -- what two steps take
 pub record Fed (unread piece new : List ℕ) (n : ℕ) : Type 0 where
   pub count : n ≡ fed_len unread piece

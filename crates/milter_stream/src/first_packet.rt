@@ -67,6 +67,18 @@ pub(crate) fn fill(buffer: &mut [u8], len: usize, piece: &[u8]) -> usize
     count
 }
 
+/// Puts the first packet of a piece into the buffer, as far as it has come, and answers how many bytes.
+pub(crate) fn fill_first(buffer: &mut [u8], piece: &[u8]) -> usize
+    requires { length buffer.old ≡ PACKET_MAX }
+    ensures count { result ≡ min (first_packet_end piece.now) (length piece.now) }
+    ensures bytes { take result buffer.new ≡ take result piece.now }
+    ensures buffer { IsBuffer result buffer.new }
+{
+    let count = first_packet_end(piece).min(piece.len());
+    put_after(buffer, 0, &piece[..count]);
+    count
+}
+
 /// Puts the bytes after the first `len` of the buffer, which has room for them.
 fn put_after(buffer: &mut [u8], len: usize, bytes: &[u8])
     requires { len + length bytes.now ≤ length buffer.old }

@@ -8,7 +8,7 @@ ghost use Rattle.std.specs.Io.BufRead.{Rests};
 ghost use Rattle.milter_stream.specs.Splitter.{LeavesUnread, frame_of};
 
 use crate::fault::{NoMemory, WireFault};
-use crate::first_packet::{fill, length_fault, whole_packet};
+use crate::first_packet::{fill, fill_first, length_fault, whole_packet};
 use crate::number::PACKET_MAX;
 use std::alloc::Global;
 use std::marker::Model;
@@ -63,9 +63,23 @@ impl Splitter {
         // Feeding makes progress: with no whole packet and no fault unread, some of a piece is taken.
         ensures progress { IsUnfinished self.old → piece.now ≢ [] → IfOk result (λ n. 0 < n) }
     {
+        if self.unread() == 0 {
+            return Ok(self.take_first(piece));
+        }
         let first = self.take_known(piece);
         let second = self.take_known(&piece[first..]);
         Ok(first + second)
+    }
+
+    /// Takes the first packet of a piece, as far as it has come, where nothing is unread, and answers how many bytes.
+    fn take_first(&mut self, piece: &[u8]) -> usize
+        requires { self.old ≡ [] }
+        ensures count { result ≡ fed_len [] piece.now }
+        ensures taken { self.new ≡ take result piece.now }
+    {
+        let count = fill_first(self.buffer.as_mut_slice(), piece);
+        self.len = count;
+        count
     }
 
     /// Takes bytes of a piece, up to the end of the first packet as far as it is known before, and answers how many.

@@ -1,3 +1,4 @@
 pub mod WorkedMessage
 pub mod WorkedEdits
 pub mod WorkedPlan
+pub mod WorkedMacros

@@ -26,3 +26,14 @@ new_fields =
     ∷ field (codes "A") (codes "y")
     ∷ field (codes "C") (codes "4")
     ∷ []
+
+-- the same, where leading spaces aren't sent
+abbrev pub new_fields_with_blanks : List Header
+new_fields_with_blanks =
+    field (codes "D") (codes " 5")
+    ∷ field (codes "A") (codes "1")
+    ∷ field (codes "B") (codes "2")
+    ∷ field (codes "A") (codes " x")
+    ∷ field (codes "A") (codes " y")
+    ∷ field (codes "C") (codes " 4")
+    ∷ []

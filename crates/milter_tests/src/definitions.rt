@@ -3,29 +3,40 @@
 ghost use Rattle.std.specs.Prelude.{◌≡◌, [], ◌∷◌, ◌++◌, codes, false, drop, length, List, ℕ, None, Some, take, true};
 ghost use Rattle.milter_wire.specs.declared.command.Command.TheVariants as commands;
 ghost use Rattle.milter_mail.specs.declared.edit.Edit.TheVariants.{AddHeader, AddRcpt, AddRcptPar, ChangeFrom, ChangeHeader, DelRcpt, Quarantine, ReplaceBody};
-ghost use Rattle.milter_options.specs.Agreement.{agree};
+ghost use Rattle.milter_options.specs.Agreement.{common};
 ghost use Rattle.milter_mail.specs.EditedMessage.{edited_message, headers_after, recipients_after};
 ghost use Rattle.milter_mail.specs.HeldText.{held_text};
-ghost use Rattle.milter_mail.specs.Plan.{is_asked, message_steps, opening, pieces_of};
+ghost use Rattle.milter_mail.specs.Pieces.{pieces_of};
+ghost use Rattle.milter_mail.specs.LeadingSpace.{sent_header};
+ghost use Rattle.milter_mail.specs.Steps.{message_steps, opening_steps};
+ghost use Rattle.milter_wire.specs.Agreement.{agree, is_asked};
+ghost use Rattle.milter_wire.specs.Command.{encoding};
 ghost use Rattle.milter_mail.specs.Weight.{weight};
-ghost use Rattle.milter_tests.specs.WorkedEdits.{edits_of_fields, new_fields, old_fields};
-ghost use Rattle.milter_tests.specs.WorkedMessage.{agreed, at, client, field, helo, line, message, no_macros, one_macro};
+ghost use Rattle.milter_tests.specs.WorkedEdits.{edits_of_fields, new_fields, new_fields_with_blanks, old_fields};
+ghost use Rattle.milter_tests.specs.WorkedMessage.{agreed, at, client, field, helo, line, message, no_macros, one_macro, options};
+ghost use Rattle.milter_tests.specs.WorkedMacros.{blank_field, blank_field_packet, both_packets, client_packet, field_packet, list, listed_packets, message_with, one_packets, opened, other_j, two_pairs};
 ghost use Rattle.milter_tests.specs.WorkedPlan.{all_macros, body, eob, full_message, header, mail, one, rcpt, short_message};
 
 use milter_mail::weight_of_parts;
 
 /// Edits of header fields count positions and occurrences in the list as it is by then.
 pub fn edited_fields()
-    ensures in_order { headers_after old_fields edits_of_fields ≡ new_fields }
+    ensures in_order { headers_after true old_fields edits_of_fields ≡ new_fields }
+    ensures with_blanks { headers_after false old_fields edits_of_fields ≡ new_fields_with_blanks }
     // The number 0 is taken as 1.
-    ensures first { headers_after old_fields (ChangeHeader 0 (field (codes "a") (codes "x")) ∷ [])
+    ensures first { headers_after true old_fields (ChangeHeader 0 (field (codes "a") (codes "x")) ∷ [])
         ≡ field (codes "A") (codes "x") ∷ field (codes "B") (codes "2") ∷ field (codes "A") (codes "3") ∷ [] }
     // An empty value deletes, and deletes nothing where there is no such occurrence.
-    ensures deleted { headers_after old_fields (ChangeHeader 2 (field (codes "a") []) ∷ [])
+    ensures deleted { headers_after true old_fields (ChangeHeader 2 (field (codes "a") []) ∷ [])
         ≡ field (codes "A") (codes "1") ∷ field (codes "B") (codes "2") ∷ [] }
-    ensures absent { headers_after old_fields (ChangeHeader 3 (field (codes "a") []) ∷ []) ≡ old_fields }
-    ensures added { headers_after [] (AddHeader (field (codes "A") (codes "1")) ∷ [])
+    ensures absent { headers_after true old_fields (ChangeHeader 3 (field (codes "a") []) ∷ []) ≡ old_fields }
+    ensures deleted_without_blanks { headers_after false old_fields (ChangeHeader 2 (field (codes "a") []) ∷ [])
+        ≡ field (codes "A") (codes "1") ∷ field (codes "B") (codes "2") ∷ [] }
+    ensures added { headers_after true [] (AddHeader (field (codes "A") (codes "1")) ∷ [])
         ≡ field (codes "A") (codes "1") ∷ [] }
+    // An empty value that is added gets a blank too.
+    ensures added_blank { headers_after false [] (AddHeader (field (codes "A") []) ∷ [])
+        ≡ field (codes "A") (codes " ") ∷ [] }
 {}
 
 /// Edits of recipients, of the sender, of the body and of the quarantine.
@@ -38,21 +49,21 @@ pub fn edited_messages()
         ≡ (record { address = codes "b"; params = codes "N=1 X" ∷ [] }) ∷ [] }
     ensures no_arguments { recipients_after [] (AddRcptPar (codes "b") None ∷ []) ≡ at (codes "b") ∷ [] }
     // The last sender counts, and without arguments it has no parameters.
-    ensures sender { (edited_message message (ChangeFrom (codes "c") (Some []) ∷ ChangeFrom (codes "d") None
+    ensures sender { (edited_message true message (ChangeFrom (codes "c") (Some []) ∷ ChangeFrom (codes "d") None
         ∷ [])).message.sender
         ≡ at (codes "d") }
-    ensures body { (edited_message message (ReplaceBody (codes "one") ∷ ReplaceBody [] ∷ ReplaceBody (codes "two")
+    ensures body { (edited_message true message (ReplaceBody (codes "one") ∷ ReplaceBody [] ∷ ReplaceBody (codes "two")
         ∷ [])).message.body
         ≡ codes "onetwo" }
-    ensures quarantine { (edited_message message (Quarantine (codes "p") ∷ Quarantine (codes "q") ∷ [])).quarantine
+    ensures quarantine { (edited_message true message (Quarantine (codes "p") ∷ Quarantine (codes "q") ∷ [])).quarantine
         ≡ Some (codes "q") }
-    ensures nothing { edited_message message [] ≡ record { message = message; quarantine = None } }
+    ensures nothing { edited_message true message [] ≡ record { message = message; quarantine = None } }
 {}
 
 /// The commands of one small session, and their weight.
 #[tactic(auto, unfolding(milter_stream::specs::Number::number))]
 pub fn planned_sessions()
-    ensures opened { opening (agreed 6 0) no_macros client helo ≡ commands.Connect client ∷ commands.Helo helo ∷ [] }
+    ensures opened { opening_steps (agreed 6 0) no_macros client helo ≡ commands.Connect client ∷ commands.Helo helo ∷ [] }
     ensures whole { message_steps (agreed 6 0) no_macros message
         ≡ commands.Mail (at (codes "a@x")) ∷ commands.Rcpt (at (codes "b@y")) ∷ commands.DataCmd ∷ commands.Eoh
         ∷ commands.Eob [] ∷ [] }
@@ -60,8 +71,8 @@ pub fn planned_sessions()
     ensures version { message_steps (agreed 3 0) no_macros message
         ≡ commands.Mail (at (codes "a@x")) ∷ commands.Rcpt (at (codes "b@y")) ∷ commands.Eoh ∷ commands.Eob [] ∷ [] }
     // A stage that isn't sent has no macros either.
-    ensures left_out { opening (agreed 6 1) one_macro client helo ≡ commands.Helo helo ∷ [] }
-    ensures macros { opening (agreed 6 2) one_macro client helo
+    ensures left_out { opening_steps (agreed 6 1) one_macro client helo ≡ commands.Helo helo ∷ [] }
+    ensures macros { opening_steps (agreed 6 2) one_macro client helo
         ≡ commands.Macro 67 (one_macro.connect) ∷ commands.Connect client ∷ [] }
     ensures weight { weight client helo no_macros message ≡ 59 }
     ensures weight_of_macros { weight client helo one_macro message ≡ 70 }
@@ -75,7 +86,7 @@ pub fn planned_sessions()
 
 /// The commands with the macros of each stage, and of a message with each part.
 pub fn planned_macros()
-    ensures opened { opening (agreed 6 0) all_macros client helo
+    ensures opened { opening_steps (agreed 6 0) all_macros client helo
         ≡ commands.Macro 67 (one (codes "c")) ∷ commands.Connect client ∷ commands.Macro 72 (one (codes "h"))
         ∷ commands.Helo helo ∷ [] }
     // The macros of recipients come before each of them, and those of header fields and of the body are none.
@@ -130,8 +141,43 @@ pub fn asked_commands()
 
 /// What two ends agree on.
 pub fn agreed_options()
-    ensures smaller { agree (agreed 6 1047) (agreed 2 3) ≡ agreed 2 3 }
-    ensures bits { agree (agreed 3 5) (agreed 6 6) ≡ agreed 3 4 }
+    ensures smaller { common (options 6 1047) (options 2 3) ≡ options 2 3 }
+    ensures bits { common (options 3 5) (options 6 6) ≡ options 3 4 }
+    // Without an offer to take symbol lists there are none.
+    ensures no_lists { agree (options 6 0) (options 6 0) (record { stage = 0; names = codes "j" } ∷ []) ≡ agreed 6 0 }
+{}
+
+/// The bytes of the connection, by the symbol lists of its first stage: without one all macros, else the last macro of
+/// each name, in the order of the list, and no packet of macros where none is left.
+#[tactic(auto, unfolding(milter_stream::specs::Number::number))]
+pub fn symbol_lists()
+    ensures all { opened [] two_pairs ≡ both_packets }
+    ensures one { opened (list 0 (codes "j") ∷ []) two_pairs ≡ one_packets }
+    ensures in_its_order { opened (list 0 (codes "j k j") ∷ []) two_pairs ≡ listed_packets }
+    ensures blanks { opened (list 0 (codes "  j  k ") ∷ []) two_pairs ≡ listed_packets }
+    ensures no_such { opened (list 0 (codes "z") ∷ []) two_pairs ≡ client_packet }
+    ensures empty { opened (list 0 [] ∷ []) two_pairs ≡ client_packet }
+    // The last list of a stage counts, and one of a stage above 6 changes nothing.
+    ensures last_list { opened (list 0 (codes "z") ∷ list 0 (codes "j") ∷ []) two_pairs ≡ one_packets }
+    ensures no_stage { opened (list 0 (codes "j") ∷ list 7 (codes "k") ∷ list 1 (codes "k") ∷ []) two_pairs
+        ≡ one_packets }
+    // The last macro of a name counts.
+    ensures last_pair { opened (list 0 (codes "j") ∷ []) (other_j ∷ two_pairs) ≡ one_packets }
+{}
+
+/// A header field whose value begins with a blank is sent without it, unless leading spaces are sent; another first
+/// byte stays.
+#[tactic(auto, unfolding(milter_stream::specs::Number::number))]
+pub fn sent_headers()
+    ensures without_blank { encoding (commands.Header (sent_header false blank_field)) ≡ field_packet }
+    ensures with_blank { encoding (commands.Header (sent_header true blank_field)) ≡ blank_field_packet }
+    ensures one_alone { sent_header false (field (codes "A") (codes "  x")) ≡ field (codes "A") (codes " x") }
+    ensures tab { sent_header false (field (codes "A") (9 ∷ codes "hi")) ≡ field (codes "A") (9 ∷ codes "hi") }
+    // In a message that is sent but for the other stages.
+    ensures planned { message_steps (agreed 6 604) no_macros (message_with blank_field)
+        ≡ commands.Header (field (codes "Subject") (codes "hi")) ∷ commands.Eob [] ∷ [] }
+    ensures planned_with_blank { message_steps (agreed 6 1049180) no_macros (message_with blank_field)
+        ≡ commands.Header blank_field ∷ commands.Eob [] ∷ [] }
 {}
 
 /// The largest body of a message of that session: 16 MiB with all else.

@@ -8,5 +8,5 @@ mod tests;
 
 pub use definitions::{
     agreed_options, asked_commands, edited_fields, edited_messages, largest_messages,
-    message_texts, planned_macros, planned_sessions, planned_stages,
+    message_texts, planned_macros, planned_sessions, planned_stages, sent_headers, symbol_lists,
 };

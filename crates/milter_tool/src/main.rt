@@ -4,43 +4,27 @@
 //! it was asked, 1 after a fault, and 2 after a wrong use of the command line.
 #![tactic(auto)]
 
-mod command_line;
-mod direction;
-mod fault;
-mod fields;
-mod help_text;
-mod line_assembler;
-mod packet_line;
-mod packet_stream;
-mod session_error;
-mod session_run;
-#[cfg(test)]
-mod tests;
-mod tool_error;
-mod trace;
-mod trace_line;
-mod trace_printer;
-
-use command_line::Request;
-use session_error::SessionError;
+use milter_cli::{
+    Request, ToolError, answer, argument_error, parse, print_session, read_error, report,
+};
+use milter_trace::trace_run;
 use std::env::{self, Env};
 use std::process::ExitCode;
 use std::rt::Files;
 use std::{fs, io};
-use tool_error::ToolError;
 
 /// Prints the packets of the trace on standard input.
 fn print_trace<R: Input + Print + AllocGlobal>(rt: &R) -> Result<(), ToolError> {
     let mut reader = rt.reader();
     let mut writer = io::writer(rt);
-    trace::trace_run(rt.alloc(), &mut reader, &mut writer).map_err(ToolError::Trace)
+    trace_run(rt.alloc(), &mut reader, &mut writer).map_err(ToolError::Trace)
 }
 
 /// Prints the session of the file at this path, in canonical form.
 fn print_session_file<R: Files + Print + AllocGlobal>(rt: &R, path: &str) -> Result<(), ToolError> {
     let ended = match fs::open(rt, path) {
-        Ok(file) => session_run::print_session(rt.alloc(), file, &mut io::writer(rt)),
-        Err(error) => Err(session_error::read_error(error.kind())),
+        Ok(file) => print_session(rt.alloc(), file, &mut io::writer(rt)),
+        Err(error) => Err(read_error(error.kind())),
     };
     ended.map_err(ToolError::Session)
 }
@@ -49,19 +33,19 @@ fn print_session_file<R: Files + Print + AllocGlobal>(rt: &R, path: &str) -> Res
 fn words<R: Env + AllocGlobal>(rt: &R) -> Result<Vec<String>, ToolError> {
     match env::args(rt) {
         Ok(words) => words.collect(rt.alloc()).map_err(|_| ToolError::NoMemory),
-        Err(error) => Err(tool_error::argument_error(error.kind())),
+        Err(error) => Err(argument_error(error.kind())),
     }
 }
 
 fn run<R: Input + Files + Print + Env + AllocGlobal>(rt: &R) -> Result<(), ToolError> {
     let words = words(rt)?;
-    match command_line::parse(rt.alloc(), words.as_slice()) {
+    match parse(rt.alloc(), words.as_slice()) {
         Ok(Request::Trace) => print_trace(rt),
         Ok(Request::Session { file }) => print_session_file(rt, file),
-        Err(error) => tool_error::answer(error, &mut io::writer(rt)),
+        Err(error) => answer(error, &mut io::writer(rt)),
     }
 }
 
 fn main(rt: HostRuntime) -> ExitCode {
-    tool_error::report(run(&rt), &mut rt.stderr())
+    report(run(&rt), &mut rt.stderr())
 }

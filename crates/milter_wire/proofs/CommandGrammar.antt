@@ -52,7 +52,7 @@ command_row : (code : ℕ) (payload : List ℕ) (c : Command) → IsBytes payloa
 unfolding command_in
 command_row code payload c bytes e = row_relates IsRow rows code payload c (each_row payload bytes) e
 
-command_again : (c : Command) → FieldsFit c → command_in (code_of c) (payload_of c) ≡ Some c
+pub command_again : (c : Command) → FieldsFit c → command_in (code_of c) (payload_of c) ≡ Some c
 unfolding command_in
 command_again Abort fits = refl
 command_again (Body bytes) fits = refl

@@ -13,7 +13,7 @@ use Rattle.milter_stream.specs.Number.{number}
 use Rattle.milter_wire.specs.Command as of_commands
 use Rattle.milter_wire.specs.Reply as of_replies
 use Rattle.milter_wire.specs.Field.{string, HasNoNul}
-use Rattle.milter_wire.specs.Layout.{OptionsFit, PairFits, ReplyCodeFits}
+use Rattle.milter_wire.specs.Layout.{OptionsFit, PairFits, SymListFits, ReplyCodeFits}
 use Rattle.milter_wire.proofs.CommandGrammar.{command_known}
 use Rattle.milter_wire.proofs.ReplyGrammar.{reply_known}
 use Rattle.milter_wire.proofs.Grammar.{◌⨾◌, EachCode, row_has_value}
@@ -83,7 +83,7 @@ each_reply =
     (replies.AddRcpt [], record { fields = no_nul; payload = omega arith }, refl)
     ⨾ (replies.DelRcpt [], record { fields = no_nul; payload = omega arith }, refl)
     ⨾ (replies.AddRcptPar [] None, record { fields = record { no_nul = no_nul; arguments = tt }; payload = omega arith }, refl)
-    ⨾ (replies.Options no_options, record { fields = no_bits; payload = omega arith }, refl)
+    ⨾ (replies.Options no_options [], record { fields = record { options = no_bits; lists = All-nil SymListFits }; payload = omega arith }, refl)
     ⨾ (replies.Accept, record { fields = tt; payload = omega arith }, refl)
     ⨾ (replies.ReplaceBody [], record { fields = tt; payload = omega arith }, refl)
     ⨾ (replies.Continue, record { fields = tt; payload = omega arith }, refl)

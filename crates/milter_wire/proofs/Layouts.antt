@@ -7,8 +7,8 @@ use Rattle.milter_stream.specs.Number.{number}
 use Rattle.milter_wire.specs.Field.{port}
 use Rattle.milter_wire.specs.Layout.{options, OptionsFit}
 use Rattle.milter_options.specs.Bind.{◌>>=◌}
-use Rattle.milter_stream.specs.Number.{number_from_bytes, number_at}
-use Rattle.milter_wire.specs.Decoding.{port_of, port_at, ended, options_in}
+use Rattle.milter_stream.specs.Number.{number_at}
+use Rattle.milter_wire.specs.Decoding.{port_of, port_at, ended, options_at, options_in}
 use Rattle.milter_stream.proofs.StreamLaws.{number_at-number, number_takes}
 use Rattle.milter_wire.proofs.Ports.{two_bytes, port-port_of, port_of-lt}
 use Rattle.milter_stream.specs.Number.{IsBytes}
@@ -39,35 +39,63 @@ port_takes (a ∷ b ∷ body) n rest bytes h =
 port_takes [] n rest bytes h = absurd cc
 port_takes (a ∷ []) n rest bytes h = absurd cc
 
+-- ---- bytes after others
+
+pub bytes_after : (before rest : List ℕ) → IsBytes (before ++ rest) → IsBytes rest
+bytes_after [] rest b = b
+bytes_after (x ∷ before) rest b = bytes_after before rest (All-tail (λ x. x < 2 ^ 8) x (before ++ rest) b)
+
 -- ---- options
+
+pub options_at-options : (o : Options) (rest : List ℕ) → OptionsFit o → options_at (options o ++ rest) ≡ Some (o, rest)
+unfolding options_at
+options_at-options o rest h =
+    let v = o.version in
+    let a = o.actions.0 in
+    let p = o.protocol.0 in
+    let parts : options o ++ rest ≡ number v ++ (number a ++ (number p ++ rest)) =
+    append_assoc (number v ++ number a) (number p) rest ∙ append_assoc (number v) (number a) (number p ++ rest) in
+    ap options_at parts
+    ∙ rw (number_at-number v (number a ++ (number p ++ rest)) h.version, number_at-number a (number p ++ rest) h.actions, number_at-number p rest h.protocol) refl
+
+three_numbers : (bytes after_v after_a after_p : List ℕ) (v a p : ℕ) → bytes ≡ number v ++ after_v → after_v ≡ number a ++ after_a → after_a ≡ number p ++ after_p
+    → bytes ≡ (number v ++ number a ++ number p) ++ after_p
+three_numbers bytes after_v after_a after_p v a p h k l =
+    rw (h, k, l) (sym (append_assoc (number v ++ number a) (number p) after_p ∙ append_assoc (number v) (number a) (number p ++ after_p)))
+
+pub record TakesOptions (bytes : List ℕ) (o : Options) (rest : List ℕ) : Type 0 where
+  pub bytes_are : bytes ≡ options o ++ rest
+  pub fits : OptionsFit o
+  pub rest_bytes : IsBytes rest
+
+pub options_first : (bytes : List ℕ) (o : Options) (rest : List ℕ) → IsBytes bytes → options_at bytes ≡ Some (o, rest) → TakesOptions bytes o rest
+unfolding options_at
+options_first bytes o rest b e =
+    let made : ℕ → ℕ → ℕ → Options = λ v a p. record { version = v; actions = record { 0 = a }; protocol = record { 0 = p } } in
+    let v = bind_some (number_at bytes) (λ v. number_at v.1 >>= λ a. number_at a.1 >>= λ p. Some (made v.0 a.0 p.0, p.1)) (o, rest) e in
+    let a = bind_some (number_at v.0.1) (λ a. number_at a.1 >>= λ p. Some (made v.0.0 a.0 p.0, p.1)) (o, rest) v.2 in
+    let p = bind_some (number_at a.0.1) (λ p. Some (made v.0.0 a.0.0 p.0, p.1)) (o, rest) a.2 in
+    let x = number_takes bytes v.0.0 v.0.1 b v.1 in
+    let y = number_takes v.0.1 a.0.0 a.0.1 x.rest_bytes a.1 in
+    let z = number_takes a.0.1 p.0.0 p.0.1 y.rest_bytes p.1 in
+    subst (λ (x : Options × List ℕ). TakesOptions bytes x.0 x.1) {x = (made v.0.0 a.0.0 p.0.0, p.0.1)} (same_Some (made v.0.0 a.0.0 p.0.0, p.0.1) (o, rest) p.2)
+    record {
+      bytes_are = three_numbers bytes v.0.1 a.0.1 p.0.1 v.0.0 a.0.0 p.0.0 x.bytes_are y.bytes_are z.bytes_are;
+      fits = record { version = x.fits; actions = y.fits; protocol = z.fits };
+      rest_bytes = z.rest_bytes;
+    }
 
 pub options_in-options : (o : Options) → OptionsFit o → options_in (options o) ≡ Some o
 unfolding options_in
 options_in-options o h =
-    let v = o.version in
-    let a = o.actions.0 in
-    let p = o.protocol.0 in
-    let parts : options o ≡ number v ++ (number a ++ (number p ++ [])) =
-    append_assoc (number v) (number a) (number p) ∙ ap (λ (x : List ℕ). number v ++ (number a ++ x)) (sym (append-nil (number p))) in
-    ap options_in parts
-    ∙ rw (number_at-number v (number a ++ (number p ++ [])) h.version, number_at-number a (number p ++ []) h.actions, number_at-number p [] h.protocol) refl
-
-three_numbers : (bytes after_v after_a after_p : List ℕ) (v a p : ℕ) → bytes ≡ number v ++ after_v → after_v ≡ number a ++ after_a → after_a ≡ number p ++ after_p → after_p ≡ []
-    → bytes ≡ number v ++ number a ++ number p
-three_numbers bytes after_v after_a after_p v a p h k l m =
-    let last : after_a ≡ number p = l ∙ rw m (append-nil (number p)) in
-    rw (h, k, last) (sym (append_assoc (number v) (number a) (number p)))
+    let whole : options_at (options o) ≡ Some (o, []) = ap options_at (sym (append-nil (options o))) ∙ options_at-options o [] h in
+    rw whole refl
 
 pub options_take : (bytes : List ℕ) (o : Options) → IsBytes bytes → options_in bytes ≡ Some o → (bytes ≡ options o) × OptionsFit o
 unfolding options_in
 options_take bytes o b e =
-    let made : ℕ → ℕ → ℕ → Options = λ v a p. record { version = v; actions = record { 0 = a }; protocol = record { 0 = p } } in
-    let v = bind_some (number_at bytes) (λ v. number_at v.1 >>= λ a. number_at a.1 >>= λ p. ended (made v.0 a.0 p.0) p.1) o e in
-    let a = bind_some (number_at v.0.1) (λ a. number_at a.1 >>= λ p. ended (made v.0.0 a.0 p.0) p.1) o v.2 in
-    let p = bind_some (number_at a.0.1) (λ p. ended (made v.0.0 a.0.0 p.0) p.1) o a.2 in
-    let x = number_takes bytes v.0.0 v.0.1 b v.1 in
-    let y = number_takes v.0.1 a.0.0 a.0.1 x.rest_bytes a.1 in
-    let z = number_takes a.0.1 p.0.0 p.0.1 y.rest_bytes p.1 in
-    let end = ended_takes (made v.0.0 a.0.0 p.0.0) p.0.1 o p.2 in
-    subst (λ (o : Options). (bytes ≡ options o) × OptionsFit o) {x = made v.0.0 a.0.0 p.0.0} end.1
-    (three_numbers bytes v.0.1 a.0.1 p.0.1 v.0.0 a.0.0 p.0.0 x.bytes_are y.bytes_are z.bytes_are end.0, record { version = x.fits; actions = y.fits; protocol = z.fits })
+    let p = bind_some (options_at bytes) (λ x. ended x.0 x.1) o e in
+    let t = options_first bytes p.0.0 p.0.1 b p.1 in
+    let end = ended_takes p.0.0 p.0.1 o p.2 in
+    subst (λ (o : Options). (bytes ≡ options o) × OptionsFit o) {x = p.0.0} end.1
+    (t.bytes_are ∙ rw end.0 (append-nil (options p.0.0)), t.fits)

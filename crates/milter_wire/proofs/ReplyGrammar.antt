@@ -5,14 +5,13 @@ use Rattle.std.proofs.lemmas.List.Elements.{All-from_get_or}
 use Rattle.milter_wire.specs.declared.reply.Reply.{Reply}
 use Rattle.milter_wire.specs.declared.reply.Reply.TheVariants.{Options, AddRcpt, DelRcpt, AddRcptPar, Accept, ReplaceBody, Continue, Discard, ChangeFrom, AddHeader, InsertHeader, ChangeHeader, Progress, Quarantine, Reject, Skip, Tempfail, Code}
 use Rattle.milter_stream.specs.Packet.{packet, IsPayload}
-use Rattle.milter_wire.specs.Decoding.{addressed_in, header_in, indexed_in, options_in, reply_code_in, string_in}
+use Rattle.milter_wire.specs.Decoding.{addressed_in, header_in, indexed_in, options_with_lists_in, reply_code_in, string_in}
 use Rattle.milter_wire.specs.Reply.{code_of, payload_of, is_code, FieldsFit, IsEncodedAs, reply_in, rows}
 use Rattle.milter_stream.specs.Number.{IsBytes}
-use Rattle.milter_wire.proofs.Layouts.{options_in-options, options_take}
 use Rattle.milter_wire.proofs.Grammar.{◌⨾◌, EachRow, Reads, bytes_row, field_row, empty_row, row_relates}
 use Rattle.milter_stream.proofs.StreamLaws.{packet-same, packet-whole}
 use Rattle.milter_wire.proofs.StringFields.{one_string_takes, string_in-string}
-use Rattle.milter_wire.proofs.Values.{addressed_takes, addressed_in-addressed, header_takes, header_in-header, indexed_takes, indexed_in-indexed, reply_code_takes, reply_code_in-string}
+use Rattle.milter_wire.proofs.Values.{options_with_lists_take, options_with_lists_in-encoded, addressed_takes, addressed_in-addressed, header_takes, header_in-header, indexed_takes, indexed_in-indexed, reply_code_takes, reply_code_in-string}
 
 -- a code and a payload that are a reply's row of the table
 record IsRow (r : Reply) (code : ℕ) (payload : List ℕ) : Type 0 where
@@ -27,7 +26,7 @@ each_row payload bytes =
     field_row (Relates 43) AddRcpt (string_in payload) (λ x read. let t = one_string_takes payload x read in record { code_is = refl; payload_is = t.bytes_are; fields = t.no_nul })
     ⨾ field_row (Relates 45) DelRcpt (string_in payload) (λ x read. let t = one_string_takes payload x read in record { code_is = refl; payload_is = t.bytes_are; fields = t.no_nul })
     ⨾ field_row (Relates 50) (λ a. AddRcptPar a.0 a.1) (addressed_in payload) (λ x read. let t = addressed_takes payload x read in record { code_is = refl; payload_is = t.0; fields = t.1 })
-    ⨾ field_row (Relates 79) Options (options_in payload) (λ x read. let t = options_take payload x bytes read in record { code_is = refl; payload_is = t.0; fields = t.1 })
+    ⨾ field_row (Relates 79) (λ o. Options o.0 o.1) (options_with_lists_in payload) (λ x read. let t = options_with_lists_take payload x bytes read in record { code_is = refl; payload_is = t.0; fields = t.1 })
     ⨾ empty_row (λ r. IsRow r 97) Accept payload record { code_is = refl; payload_is = refl; fields = tt }
     ⨾ (λ r. bytes_row (Relates 98) (ReplaceBody payload) r record { code_is = refl; payload_is = refl; fields = tt })
     ⨾ empty_row (λ r. IsRow r 99) Continue payload record { code_is = refl; payload_is = refl; fields = tt }
@@ -48,12 +47,12 @@ reply_row : (code : ℕ) (payload : List ℕ) (r : Reply) → IsBytes payload �
 unfolding reply_in
 reply_row code payload r bytes e = row_relates IsRow rows code payload r (each_row payload bytes) e
 
-reply_again : (r : Reply) → FieldsFit r → reply_in (code_of r) (payload_of r) ≡ Some r
+pub reply_again : (r : Reply) → FieldsFit r → reply_in (code_of r) (payload_of r) ≡ Some r
 unfolding reply_in
 reply_again (AddRcpt address) fits = rw (string_in-string address fits) refl
 reply_again (DelRcpt address) fits = rw (string_in-string address fits) refl
 reply_again (AddRcptPar address args) fits = rw (addressed_in-addressed address args fits) refl
-reply_again (Options o) fits = rw (options_in-options o fits) refl
+reply_again (Options o lists) fits = rw (options_with_lists_in-encoded o lists fits) refl
 reply_again Accept fits = refl
 reply_again (ReplaceBody bytes) fits = refl
 reply_again Continue fits = refl
@@ -79,7 +78,7 @@ unfolding is_code
 reply_known (AddRcpt address) = refl
 reply_known (DelRcpt address) = refl
 reply_known (AddRcptPar address args) = refl
-reply_known (Options o) = refl
+reply_known (Options o lists) = refl
 reply_known Accept = refl
 reply_known (ReplaceBody bytes) = refl
 reply_known Continue = refl

@@ -1,8 +1,10 @@
 -- A string that is decoded was encoded so, and a string that is encoded is decoded.
-use Rattle.std.proofs.Common.{◌≡◌, ◌≢◌, ℕ, zero, suc, ◌+◌, ◌<◌, ◌≤◌, false, ltb, List, [], ◌∷◌, ◌++◌, length, take, drop, Some, None, refl, sym, ap, subst, ◌∙◌, arith, inl, inr, add-one, append-nil, length-append}
-use Rattle.std.specs.Prelude.{◌==◌, position}
+use Rattle.std.proofs.Common.{◌≡◌, ◌≢◌, ℕ, zero, suc, ◌+◌, ◌<◌, ◌≤◌, false, ltb, List, [], ◌∷◌, ◌++◌, length, take, drop, Option, Some, None, refl, sym, ap, subst, ◌∙◌, arith, inl, inr, add-one, append-nil, length-append}
+use Rattle.std.specs.Prelude.{◌==◌, position, slice_index}
 use Rattle.std.specs.List.{position_or_len}
-use Rattle.std.proofs.lemmas.Bool.{cases_lt, lt-ltb, ltb-true, ne_eqb}
+use Rattle.std.proofs.lemmas.Bool.{cases_lt, false_from_ne_true, le-ltb, lt-ltb, ltb-true, ne_eqb}
+use Rattle.std.proofs.lemmas.List.Sums.{position_or_len_is}
+use Rattle.memchr.specs.Find.{IsFirstByte, is_byte}
 use Rattle.std.proofs.lemmas.Option.{cond_some, none-some, same_Some}
 use Rattle.std.proofs.lemmas.List.Elements.{All-nil, All-cons, All-head, All-tail}
 use Rattle.milter_wire.specs.Field.{string, HasNoNul}
@@ -44,6 +46,17 @@ pub string_at-nul : (bytes : List ℕ) (n : ℕ) → position (λ byte. byte == 
 string_at-nul bytes n h =
     let g = cond_some (ltb (end_of bytes) (length bytes)) (end_of bytes) n h in
     rw (← g.1) (found bytes (ltb-true _ _ g.0))
+
+-- the first NUL, as a search for it finds it
+pub first_zero : (bytes : List ℕ) (found : Option ℕ) → IsFirstByte (is_byte 0) bytes found → found ≡ position (λ byte. byte == 0) bytes
+first_zero bytes (Some k) h =
+    let at : end_of bytes ≡ k = position_or_len_is (λ byte. byte == 0) bytes k 0 (omega (arith, h.0.high))
+    (λ j lt. false_from_ne_true (slice_index bytes j == 0) (h.0.before j (omega arith) lt)) (λ _. h.1) in
+    rw (at, lt-ltb k (length bytes) h.0.high) refl
+first_zero bytes None h =
+    let at : end_of bytes ≡ length bytes = position_or_len_is (λ byte. byte == 0) bytes (length bytes) 0 (omega arith)
+    (λ j lt. false_from_ne_true (slice_index bytes j == 0) (h j (omega arith) lt)) (λ lt. absurd (omega (arith, lt))) in
+    rw (at, le-ltb (length bytes) (length bytes) (omega arith)) refl
 
 -- ---- a string at the start
 

@@ -11,19 +11,22 @@ use Rattle.milter_wire.specs.declared.client.Origin.TheVariants.{Unknown, Unix, 
 use Rattle.milter_wire.specs.declared.header.Header.{Header}
 use Rattle.milter_wire.specs.declared.pair.Pair.{Pair}
 use Rattle.milter_wire.specs.declared.path.Path.{Path}
+use Rattle.milter_wire.specs.declared.symbol_lists.SymList.{SymList}
+use Rattle.milter_options.specs.declared.options.Options.{Options}
 use Rattle.milter_stream.specs.Number.{number}
 use Rattle.milter_wire.specs.Field.{port, string, HasNoNul}
-use Rattle.milter_wire.specs.Layout.{pair, PairFits, origin, OriginFits, EndpointFits, client, ClientFits, path, PathFits, header, HeaderFits, IndexedFits, arguments, ArgumentsFit, AddressedFits, is_reply_code, ReplyCodeFits}
+use Rattle.milter_wire.specs.Layout.{options, options_with_lists, OptionsWithListsFit, sym_list, pair, PairFits, origin, OriginFits, EndpointFits, client, ClientFits, path, PathFits, header, HeaderFits, IndexedFits, arguments, ArgumentsFit, AddressedFits, is_reply_code, ReplyCodeFits}
 use Rattle.milter_options.specs.Bind.{◌>>=◌}
-use Rattle.milter_wire.specs.Decoding.{ended, port_at, string_at, string_in, header_in, indexed_in, strings_in, pairs_in, macro_in, path_in, endpoint_in, origin_in, client_in, arguments_in, addressed_in, reply_code_in}
+use Rattle.milter_wire.specs.Decoding.{ended, options_at, sym_lists_in, options_with_lists_in, port_at, string_at, string_in, header_in, indexed_in, strings_in, pairs_in, macro_in, path_in, endpoint_in, origin_in, client_in, arguments_in, addressed_in, reply_code_in}
 use Rattle.milter_stream.specs.Number.{number_at}
 use Rattle.milter_stream.specs.Number.{IsBytes}
 use Rattle.milter_options.proofs.Binds.{bind_some}
 use Rattle.milter_wire.proofs.Steps.{chosen, ended_takes}
 use Rattle.milter_wire.proofs.StringFields.{string_takes, string_at-string, one_string_takes, string_in-string}
 use Rattle.milter_wire.proofs.SequenceLaws.{strings_take, strings_in-strings, pairs_take, pairs_in-pairs}
+use Rattle.milter_wire.proofs.SymListLaws.{sym_lists_take, sym_lists_in-sym_lists}
 use Rattle.milter_stream.proofs.StreamLaws.{number_takes, number_at-number}
-use Rattle.milter_wire.proofs.Layouts.{port_takes, port_at-port}
+use Rattle.milter_wire.proofs.Layouts.{bytes_after, port_takes, port_at-port, options_first, options_at-options}
 
 -- ---- header fields
 
@@ -59,6 +62,22 @@ indexed_takes bytes x b e =
 pub indexed_in-indexed : (index : ℕ) (h : Header) → IndexedFits index h → indexed_in (number index ++ header h) ≡ Some (index, h)
 unfolding indexed_in
 indexed_in-indexed index h fits = rw (number_at-number index (header h) fits.in_range, header_in-header h fits.header) refl
+
+-- ---- options with symbol lists
+
+pub options_with_lists_take : (bytes : List ℕ) (x : Options × List SymList) → IsBytes bytes → options_with_lists_in bytes ≡ Some x → (bytes ≡ options_with_lists x.0 x.1) × OptionsWithListsFit x.0 x.1
+unfolding options_with_lists_in
+options_with_lists_take bytes x b e =
+    let o = bind_some (options_at bytes) (λ o. sym_lists_in o.1 >>= λ lists. Some (o.0, lists)) x e in
+    let l = bind_some (sym_lists_in o.0.1) (λ lists. Some (o.0.0, lists)) x o.2 in
+    let t = options_first bytes o.0.0 o.0.1 b o.1 in
+    let u = sym_lists_take o.0.1 l.0 t.rest_bytes l.1 in
+    subst (λ (x : Options × List SymList). (bytes ≡ options_with_lists x.0 x.1) × OptionsWithListsFit x.0 x.1) (same_Some (o.0.0, l.0) x l.2)
+    (t.bytes_are ∙ ap (λ (z : List ℕ). options o.0.0 ++ z) u.bytes_are, record { options = t.fits; lists = u.fit })
+
+pub options_with_lists_in-encoded : (o : Options) (lists : List SymList) → OptionsWithListsFit o lists → options_with_lists_in (options_with_lists o lists) ≡ Some (o, lists)
+unfolding options_with_lists_in
+options_with_lists_in-encoded o lists fits = rw (options_at-options o (flat_map sym_list lists) fits.options, sym_lists_in-sym_lists lists fits.lists) refl
 
 -- ---- macros
 
@@ -147,10 +166,6 @@ origin_in-origin Unknown fits = refl
 origin_in-origin (Unix at address) fits = rw (endpoint_in-endpoint at address fits) refl
 origin_in-origin (Inet at address) fits = rw (endpoint_in-endpoint at address fits) refl
 origin_in-origin (Inet6 at address) fits = rw (endpoint_in-endpoint at address fits) refl
-
-bytes_after : (before rest : List ℕ) → IsBytes (before ++ rest) → IsBytes rest
-bytes_after [] rest b = b
-bytes_after (x ∷ before) rest b = bytes_after before rest (All-tail (λ x. x < 2 ^ 8) x (before ++ rest) b)
 
 pub client_takes : (bytes : List ℕ) (c : Client) → IsBytes bytes → client_in bytes ≡ Some c → (bytes ≡ client c) × ClientFits c
 unfolding client_in

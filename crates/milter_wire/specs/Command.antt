@@ -1,6 +1,6 @@
 -- The encoding of each command, by one case for each row of the table of commands, and its decoding.
-use Rattle.std.specs.Prelude.{◌≡◌, ℕ, Bool, List, [], ◌∷◌, length, All, codes, Option, None, Some}
-use Rattle.std.specs.List.{flat_map}
+use Rattle.std.specs.Prelude.{◌≡◌, ℕ, Bool, List, [], ◌∷◌, length, All, Option, None, Some}
+use Rattle.std.specs.List.{flat_map, sum_by}
 use Rattle.std.specs.Option.{option_map}
 use Rattle.milter_wire.specs.declared.codes.TheConstants.{SMFIC_ABORT, SMFIC_BODY, SMFIC_BODYEOB, SMFIC_CONNECT, SMFIC_DATA, SMFIC_EOH, SMFIC_HEADER, SMFIC_HELO, SMFIC_MACRO, SMFIC_MAIL, SMFIC_OPTNEG, SMFIC_QUIT, SMFIC_QUIT_NC, SMFIC_RCPT, SMFIC_UNKNOWN}
 use Rattle.milter_wire.specs.declared.command.Command.{Command}
@@ -80,6 +80,10 @@ IsCodeOfSome code = (c : Command) × Fits c × (code_of c ≡ code)
 -- the packet of a command
 abbrev pub encoding : Command → List ℕ
 encoding c = packet (code_of c) (payload_of c)
+
+-- the number of bytes of the packets of commands
+abbrev pub bytes_of : List Command → ℕ
+bytes_of commands = sum_by (λ command. length (encoding command)) commands
 
 -- the command is encoded as these bytes
 pub record IsEncodedAs (c : Command) (bytes : List ℕ) : Type 0 where

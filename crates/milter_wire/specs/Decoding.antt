@@ -1,5 +1,5 @@
 -- The decoding of fields and payloads, from left to right; `None` where the bytes aren't in the layout.
-use Rattle.std.specs.Prelude.{◌≡◌, ℕ, zero, suc, Bool, true, false, ◌==◌, List, [], ◌∷◌, Option, Some, None, IsSome, Result, Ok, Err, if◌then◌else◌}
+use Rattle.std.specs.Prelude.{◌≡◌, ℕ, zero, suc, Bool, true, false, ◌==◌, List, [], ◌∷◌, length, Option, Some, None, IsSome, Result, Ok, Err, if◌then◌else◌}
 use Rattle.std.specs.Int.{w16, from_be_bytes}
 use Rattle.std.specs.List.{list_any}
 use Rattle.milter_wire.specs.declared.codes.TheConstants.{SMFIA_INET, SMFIA_INET6, SMFIA_UNIX, SMFIA_UNKNOWN}
@@ -13,6 +13,7 @@ use Rattle.milter_wire.specs.declared.header.Header.{Header}
 use Rattle.milter_options.specs.declared.options.Options.{Options}
 use Rattle.milter_wire.specs.declared.pair.Pair.{Pair}
 use Rattle.milter_wire.specs.declared.path.Path.{Path}
+use Rattle.milter_wire.specs.declared.symbol_lists.SymList.{SymList}
 use Rattle.milter_wire.specs.Layout.{is_reply_code}
 use Rattle.milter_stream.specs.Number.{number_at}
 use Rattle.milter_options.specs.Bind.{◌>>=◌}
@@ -42,19 +43,51 @@ string_at (suc byte ∷ rest) = do
   text ← string_at rest
   Some (suc byte ∷ text.0, text.1)
 
--- ---- whole payloads, up to the end of the bytes
-
 abbrev pub options_of : ℕ → ℕ → ℕ → Options
 options_of version actions protocol =
     record { version = version; actions = record { 0 = actions }; protocol = record { 0 = protocol } }
 
--- options, up to the end of the bytes
-unfoldable pub options_in : List ℕ → Option Options
-options_in bytes = do
+-- three numbers
+unfoldable pub options_at : List ℕ → Option (Options × List ℕ)
+options_at bytes = do
   version ← number_at bytes
   actions ← number_at version.1
   protocol ← number_at actions.1
-  ended (options_of version.0 actions.0 protocol.0) protocol.1
+  Some (options_of version.0 actions.0 protocol.0, protocol.1)
+
+-- a stage and the names
+unfoldable pub sym_list_at : List ℕ → Option (SymList × List ℕ)
+sym_list_at bytes = do
+  stage ← number_at bytes
+  names ← string_at stage.1
+  Some (record { stage = stage.0; names = names.0 }, names.1)
+
+-- ---- whole payloads, up to the end of the bytes
+
+unfoldable pub options_in : List ℕ → Option Options
+options_in bytes = do
+  options ← options_at bytes
+  ended options.0 options.1
+
+-- One list after the other, at most so many.
+unfoldable pub sym_lists_within : ℕ → List ℕ → Option (List SymList)
+sym_lists_within most [] = Some []
+sym_lists_within zero (byte ∷ rest) = None
+sym_lists_within (suc most) (byte ∷ rest) = do
+  first ← sym_list_at (byte ∷ rest)
+  others ← sym_lists_within most first.1
+  Some (first.0 ∷ others)
+
+-- symbol lists: there are fewer of them than bytes
+unfoldable pub sym_lists_in : List ℕ → Option (List SymList)
+sym_lists_in bytes = sym_lists_within (length bytes) bytes
+
+-- options, and then symbol lists
+unfoldable pub options_with_lists_in : List ℕ → Option (Options × List SymList)
+options_with_lists_in bytes = do
+  options ← options_at bytes
+  lists ← sym_lists_in options.1
+  Some (options.0, lists)
 
 unfoldable pub string_in : List ℕ → Option (List ℕ)
 string_in bytes = do
@@ -174,6 +207,11 @@ read_by (row ∷ rows) code payload = if code == row.0 then row.1 payload else r
 abbrev pub DecodesOptional : {V : Type 0} → Option V → Result (Option V) memory.NoMemory → Type 0
 DecodesOptional read (Ok found) = found ≡ read
 DecodesOptional read (Err refused) = IsSome read
+
+-- another value in the place of the one that is given
+abbrev pub map_ok : {A B E : Type 0} → (A → B) → Result A E → Result B E
+map_ok f (Ok x) = Ok (f x)
+map_ok f (Err e) = Err e
 
 -- `decode` gives what is read, unless memory is refused; whether the code is known is answered first.
 abbrev pub Decodes : {V : Type 0} → ℕ → Bool → Option V → Result V WireFault → Type 0

@@ -11,6 +11,7 @@ use Rattle.milter_wire.specs.declared.header.Header.{Header}
 use Rattle.milter_options.specs.declared.options.Options.{Options}
 use Rattle.milter_wire.specs.declared.pair.Pair.{Pair}
 use Rattle.milter_wire.specs.declared.path.Path.{Path}
+use Rattle.milter_wire.specs.declared.symbol_lists.SymList.{SymList}
 use Rattle.milter_stream.specs.Number.{number}
 use Rattle.milter_wire.specs.Field.{port, string, HasNoNul}
 
@@ -23,6 +24,24 @@ pub record OptionsFit (o : Options) : Type 0 where
   pub version : o.version < 2 ^ 32
   pub actions : o.actions.0 < 2 ^ 32
   pub protocol : o.protocol.0 < 2 ^ 32
+
+-- ---- symbol lists: a stage, and the names of macros
+
+abbrev pub sym_list : SymList → List ℕ
+sym_list l = number l.stage ++ string l.names
+
+pub record SymListFits (l : SymList) : Type 0 where
+  pub stage : l.stage < 2 ^ 32
+  pub names : HasNoNul l.names
+
+-- ---- options with symbol lists: the options, and then each list
+
+abbrev pub options_with_lists : Options → List SymList → List ℕ
+options_with_lists o lists = options o ++ flat_map sym_list lists
+
+pub record OptionsWithListsFit (o : Options) (ls : List SymList) : Type 0 where
+  pub options : OptionsFit o
+  pub lists : All SymListFits ls
 
 -- ---- macros: a name and a value
 

@@ -5,4 +5,10 @@ pub mod Decoding
 pub mod Command
 pub mod Stages
 pub mod Reply
+pub mod Frames
 pub mod Verdicts
+pub mod SymLists
+pub mod Agreement
+pub mod Lists
+pub mod Lent
+pub mod LentCommand

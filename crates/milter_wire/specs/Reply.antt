@@ -1,14 +1,15 @@
 -- The encoding of each reply, by one case for each row of the table of replies, and its decoding.
-use Rattle.std.specs.Prelude.{◌≡◌, ℕ, Bool, List, [], ◌∷◌, ◌++◌, codes, Option, Some}
+use Rattle.std.specs.Prelude.{◌≡◌, ℕ, Bool, List, [], ◌∷◌, ◌++◌, length, Option, Some}
+use Rattle.std.specs.List.{sum_by}
 use Rattle.std.specs.Option.{option_map}
 use Rattle.milter_wire.specs.declared.codes.TheConstants.{SMFIC_OPTNEG, SMFIR_ACCEPT, SMFIR_ADDHEADER, SMFIR_ADDRCPT, SMFIR_ADDRCPT_PAR, SMFIR_CHGFROM, SMFIR_CHGHEADER, SMFIR_CONTINUE, SMFIR_DELRCPT, SMFIR_DISCARD, SMFIR_INSHEADER, SMFIR_PROGRESS, SMFIR_QUARANTINE, SMFIR_REJECT, SMFIR_REPLBODY, SMFIR_REPLYCODE, SMFIR_SKIP, SMFIR_TEMPFAIL}
 use Rattle.milter_wire.specs.declared.reply.Reply.{Reply}
 use Rattle.milter_wire.specs.declared.reply.Reply.TheVariants.{Options, AddRcpt, DelRcpt, AddRcptPar, Accept, ReplaceBody, Continue, Discard, ChangeFrom, AddHeader, InsertHeader, ChangeHeader, Progress, Quarantine, Reject, Skip, Tempfail, Code}
 use Rattle.milter_stream.specs.Number.{number}
 use Rattle.milter_wire.specs.Field.{string, HasNoNul}
-use Rattle.milter_wire.specs.Layout.{options, OptionsFit, header, HeaderFits, IndexedFits, arguments, AddressedFits, ReplyCodeFits}
+use Rattle.milter_wire.specs.Layout.{options_with_lists, OptionsWithListsFit, header, HeaderFits, IndexedFits, arguments, AddressedFits, ReplyCodeFits}
 use Rattle.milter_stream.specs.Packet.{packet, IsPayload}
-use Rattle.milter_wire.specs.Decoding.{Row, has_row, read_by, ended, options_in, string_in, header_in, indexed_in, addressed_in, reply_code_in}
+use Rattle.milter_wire.specs.Decoding.{Row, has_row, read_by, ended, options_with_lists_in, string_in, header_in, indexed_in, addressed_in, reply_code_in}
 
 -- ---- the table
 
@@ -17,7 +18,7 @@ abbrev pub code_of : Reply → ℕ
 code_of (AddRcpt address) = SMFIR_ADDRCPT
 code_of (DelRcpt address) = SMFIR_DELRCPT
 code_of (AddRcptPar address args) = SMFIR_ADDRCPT_PAR
-code_of (Options o) = SMFIC_OPTNEG
+code_of (Options o lists) = SMFIC_OPTNEG
 code_of Accept = SMFIR_ACCEPT
 code_of (ReplaceBody bytes) = SMFIR_REPLBODY
 code_of Continue = SMFIR_CONTINUE
@@ -38,7 +39,7 @@ abbrev pub payload_of : Reply → List ℕ
 payload_of (AddRcpt address) = string address
 payload_of (DelRcpt address) = string address
 payload_of (AddRcptPar address args) = string address ++ arguments args
-payload_of (Options o) = options o
+payload_of (Options o lists) = options_with_lists o lists
 payload_of Accept = []
 payload_of (ReplaceBody bytes) = bytes
 payload_of Continue = []
@@ -59,7 +60,7 @@ abbrev pub FieldsFit : Reply → Type 0
 FieldsFit (AddRcpt address) = HasNoNul address
 FieldsFit (DelRcpt address) = HasNoNul address
 FieldsFit (AddRcptPar address args) = AddressedFits address args
-FieldsFit (Options o) = OptionsFit o
+FieldsFit (Options o lists) = OptionsWithListsFit o lists
 FieldsFit Accept = Unit {0}
 FieldsFit (ReplaceBody bytes) = Unit {0}
 FieldsFit Continue = Unit {0}
@@ -90,6 +91,10 @@ IsCodeOfSome code = (r : Reply) × Fits r × (code_of r ≡ code)
 abbrev pub encoding : Reply → List ℕ
 encoding r = packet (code_of r) (payload_of r)
 
+-- the number of bytes of the packets of replies
+abbrev pub bytes_of : List Reply → ℕ
+bytes_of replies = sum_by (λ reply. length (encoding reply)) replies
+
 -- the reply is encoded as these bytes
 pub record IsEncodedAs (r : Reply) (bytes : List ℕ) : Type 0 where
   pub fits : Fits r
@@ -103,7 +108,7 @@ rows =
     (SMFIR_ADDRCPT, λ payload. option_map AddRcpt (string_in payload))
     ∷ (SMFIR_DELRCPT, λ payload. option_map DelRcpt (string_in payload))
     ∷ (SMFIR_ADDRCPT_PAR, λ payload. option_map (λ a. AddRcptPar a.0 a.1) (addressed_in payload))
-    ∷ (SMFIC_OPTNEG, λ payload. option_map Options (options_in payload))
+    ∷ (SMFIC_OPTNEG, λ payload. option_map (λ o. Options o.0 o.1) (options_with_lists_in payload))
     ∷ (SMFIR_ACCEPT, ended Accept)
     ∷ (SMFIR_REPLBODY, λ payload. Some (ReplaceBody payload))
     ∷ (SMFIR_CONTINUE, ended Continue)

@@ -16,7 +16,7 @@ pub(crate) fn arguments_fit(value: &Option<Text>) -> bool
     ensures { IsTrue result ↔ ArgumentsFit value.now }
 {
     match value {
-        Some(text) => has_no_nul(text),
+        Some(text) => has_no_nul(text.as_slice()),
         None => true,
     }
 }
@@ -26,7 +26,7 @@ pub fn arguments_len(value: &Option<Text>) -> usize
     ensures { result ≡ length (arguments value.now) }
 {
     match value {
-        Some(text) => string_len(text),
+        Some(text) => string_len(text.as_slice()),
         None => 0,
     }
 }
@@ -36,7 +36,7 @@ fn put_arguments(out: &mut Vec<u8>, value: &Option<Text>) -> Result<(), NoMemory
     ensures { PutsBytes (arguments value.now) out.old.items out.new.items result }
 {
     match value {
-        Some(text) => put_string(out, text),
+        Some(text) => put_string(out, text.as_slice()),
         None => Ok(()),
     }
 }
@@ -49,7 +49,7 @@ pub(crate) fn put_addressed(
 ) -> Result<(), NoMemory>
     ensures { PutsBytes (string address.now ++ arguments value.now) out.old.items out.new.items result }
 {
-    put_string(out, address)?;
+    put_string(out, address.as_slice())?;
     put_arguments(out, value)
 }
 

@@ -1,5 +1,5 @@
-//! The codes of packets, by their names in mfdef.h: SMFIC for commands, SMFIR for replies; and SMFIA, the families of
-//! clients.
+//! The codes of packets, by their names in mfdef.h: SMFIC for commands, SMFIR for replies; SMFIA, the families of
+//! clients; and SMFIM of mfapi.h, the stages of symbol lists.
 
 /// The message is given up. Source: mfdef.h.
 pub const SMFIC_ABORT: u8 = b'A';
@@ -108,3 +108,24 @@ pub const SMFIA_INET: u8 = b'4';
 
 /// A client with an IPv6 address. Source: mfdef.h.
 pub const SMFIA_INET6: u8 = b'6';
+
+/// The stage of a symbol list: when a client has connected. Source: mfapi.h.
+pub const SMFIM_CONNECT: u32 = 0;
+
+/// The stage of a symbol list: HELO or EHLO. Source: mfapi.h.
+pub const SMFIM_HELO: u32 = 1;
+
+/// The stage of a symbol list: the sender. Source: mfapi.h.
+pub const SMFIM_ENVFROM: u32 = 2;
+
+/// The stage of a symbol list: each recipient. Source: mfapi.h.
+pub const SMFIM_ENVRCPT: u32 = 3;
+
+/// The stage of a symbol list: DATA. Source: mfapi.h.
+pub const SMFIM_DATA: u32 = 4;
+
+/// The stage of a symbol list: the end of the message. Source: mfapi.h.
+pub const SMFIM_EOM: u32 = 5;
+
+/// The stage of a symbol list: the end of the header. Source: mfapi.h.
+pub const SMFIM_EOH: u32 = 6;

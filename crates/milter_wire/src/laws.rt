@@ -1,10 +1,15 @@
 //! Laws of the encodings, each the contract of a function that does nothing.
 
-ghost use Rattle.std.specs.Prelude.{◌≡◌, ◌++◌, ◌↔◌, IsTrue, List, ℕ, []};
+ghost use Rattle.std.specs.Prelude.{◌≡◌, ◌≢◌, ◌++◌, ◌↔◌, All, IsTrue, List, ℕ, [], length, map, Err, Ok, Result, Some};
+ghost use Rattle.std.specs.List.{flat_map};
+ghost use Rattle.milter_stream.specs.declared.fault.WireFault.{WireFault};
+ghost use Rattle.milter_stream.specs.Stream.{Divides, Frame, IsRest, divide};
 ghost use Rattle.milter_wire.specs.declared.command.Command.{Command};
 ghost use Rattle.milter_wire.specs.declared.reply.Reply.{Reply};
 ghost use Rattle.milter_wire.specs.Command as commands;
 ghost use Rattle.milter_wire.specs.Reply as replies;
+ghost use Rattle.milter_wire.specs.Decoding.{Decodes};
+ghost use Rattle.milter_wire.specs.Frames.{command_frame, frame_command, frame_reply, frames_and, reply_frame};
 
 /// A command that fits has exactly one encoding, and another has none.
 pub fn command_encodings()
@@ -44,4 +49,36 @@ pub fn replies_apart()
         replies.IsEncodedAs r bytes → replies.IsEncodedAs s bytes → r ≡ s }
     ensures whole { (r s : Reply) (bytes more : List ℕ) →
         replies.IsEncodedAs r bytes → replies.IsEncodedAs s (bytes ++ more) → more ≡ [] }
+{}
+
+/// A command that fits is read back from its packet, and a stream of packets of commands divides into them.
+pub fn command_frames()
+    ensures read_back { (c : Command) → commands.Fits c →
+        commands.command_in (commands.code_of c) (commands.payload_of c) ≡ Some c }
+    ensures frame { (c : Command) → commands.Fits c → frame_command (command_frame c) ≡ Ok c }
+    ensures divides { (cs : List Command) (rest : List ℕ) → All commands.Fits cs → IsRest rest →
+        Divides (flat_map commands.encoding cs ++ rest) (map command_frame cs) rest }
+    // The same in words that compute, whatever follows them.
+    ensures computed { (cs : List Command) (more : List ℕ) → All commands.Fits cs →
+        divide (flat_map commands.encoding cs ++ more) ≡ frames_and (map command_frame cs) more }
+    ensures bytes { (cs : List Command) → commands.bytes_of cs ≡ length (flat_map commands.encoding cs) }
+    // What `decode` answers, but where memory is refused.
+    ensures decoded { (f : Frame) (r : Result Command WireFault) → r ≢ Err WireFault.NoMemory →
+        Decodes f.code (commands.is_code f.code) (commands.command_in f.code f.payload) r → r ≡ frame_command f }
+{}
+
+/// A reply that fits is read back from its packet, and a stream of packets of replies divides into them.
+pub fn reply_frames()
+    ensures read_back { (r : Reply) → replies.Fits r →
+        replies.reply_in (replies.code_of r) (replies.payload_of r) ≡ Some r }
+    ensures frame { (r : Reply) → replies.Fits r → frame_reply (reply_frame r) ≡ Ok r }
+    ensures divides { (rs : List Reply) (rest : List ℕ) → All replies.Fits rs → IsRest rest →
+        Divides (flat_map replies.encoding rs ++ rest) (map reply_frame rs) rest }
+    // The same in words that compute, whatever follows them.
+    ensures computed { (rs : List Reply) (more : List ℕ) → All replies.Fits rs →
+        divide (flat_map replies.encoding rs ++ more) ≡ frames_and (map reply_frame rs) more }
+    ensures bytes { (rs : List Reply) → replies.bytes_of rs ≡ length (flat_map replies.encoding rs) }
+    // What `decode` answers, but where memory is refused.
+    ensures decoded { (f : Frame) (r : Result Reply WireFault) → r ≢ Err WireFault.NoMemory →
+        Decodes f.code (replies.is_code f.code) (replies.reply_in f.code f.payload) r → r ≡ frame_reply f }
 {}

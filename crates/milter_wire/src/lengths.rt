@@ -4,11 +4,11 @@ ghost use Rattle.std.specs.Prelude.{◌≡◌, ◌≤◌, ◌<◌, ◌+◌, ℕ,
 ghost use Rattle.milter_wire.specs.declared.command.Command.{Command};
 ghost use Rattle.milter_wire.specs.Command.{PacketLen};
 
-use crate::client::{Client, client_fits, client_len};
+use crate::client::Client;
 use crate::header::{Header, header_fits, header_len};
 use crate::lists::Pairs;
 use crate::pair::{pairs_fit, pairs_len};
-use crate::path::{Path, path_fits, path_len};
+use crate::path::Path;
 use crate::strings::{has_no_nul, string_len};
 use crate::text::Text;
 use milter_stream::{HEAD_LEN, PAYLOAD_MAX};
@@ -20,10 +20,11 @@ impl Client {
     pub fn packet_len(&self) -> Option<usize>
         ensures { PacketLen (Command.Connect self.now) result }
     {
-        if !client_fits(self) {
+        let client = self.as_ref();
+        if !client.fits() {
             return None;
         }
-        with_head(client_len(self))
+        with_head(client.payload_len())
     }
 }
 
@@ -35,10 +36,11 @@ impl Path {
         ensures mail { PacketLen (Command.Mail self.now) result }
         ensures rcpt { PacketLen (Command.Rcpt self.now) result }
     {
-        if !path_fits(self) {
+        let path = self.as_ref();
+        if !path.fits() {
             return None;
         }
-        with_head(path_len(self))
+        with_head(path.payload_len())
     }
 }
 
@@ -76,10 +78,10 @@ impl Pairs {
 pub fn helo_packet_len(name: &Text) -> Option<usize>
     ensures { PacketLen (Command.Helo name.now) result }
 {
-    if !has_no_nul(name) {
+    if !has_no_nul(name.as_slice()) {
         return None;
     }
-    with_head(string_len(name))
+    with_head(string_len(name.as_slice()))
 }
 
 /// The number of bytes of a packet whose payload has so many, where a packet has room for it.

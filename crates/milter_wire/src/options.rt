@@ -3,10 +3,11 @@
 ghost use Rattle.std.specs.Prelude.{◌≡◌, ◌++◌, ◌↔◌, IsTrue, OnOk, option_map};
 ghost use Rattle.milter_stream.specs.Appending.{PutsBytes};
 ghost use Rattle.milter_wire.specs.Layout.{options, OptionsFit};
-ghost use Rattle.milter_wire.specs.Decoding.{options_in};
+ghost use Rattle.milter_wire.specs.Decoding.{options_at, options_in};
 
 use milter_options::{Actions, Options, Protocol};
 use milter_stream::{NoMemory, put_number, take_number};
+
 /// The number of bytes that options have in a packet.
 pub(crate) const OPTIONS_LEN: usize = 12;
 
@@ -29,20 +30,30 @@ pub(crate) fn put_options(out: &mut Vec<u8>, value: &Options) -> Result<(), NoMe
     put_number(out, value.protocol.0)
 }
 
+/// The options that the bytes begin with, and the bytes after them.
+#[tactic(auto, unfolding(crate::specs::Decoding::options_at))]
+pub(crate) fn take_options_first(bytes: &[u8]) -> Option<(Options, &[u8])>
+    ensures { option_map (λ x. (x.0, x.1.now)) result ≡ options_at bytes.now }
+{
+    let (version, rest) = take_number(bytes)?;
+    let (actions, rest) = take_number(rest)?;
+    let (protocol, rest) = take_number(rest)?;
+    let options = Options {
+        version,
+        actions: Actions(actions),
+        protocol: Protocol(protocol),
+    };
+    Some((options, rest))
+}
+
 /// The options that these bytes encode, all of the bytes.
 #[tactic(auto, unfolding(crate::specs::Decoding::options_in))]
 pub(crate) fn take_options(bytes: &[u8]) -> Option<Options>
     ensures { result ≡ options_in bytes.now }
 {
-    let (version, rest) = take_number(bytes)?;
-    let (actions, rest) = take_number(rest)?;
-    let (protocol, rest) = take_number(rest)?;
+    let (options, rest) = take_options_first(bytes)?;
     if !rest.is_empty() {
         return None;
     }
-    Some(Options {
-        version,
-        actions: Actions(actions),
-        protocol: Protocol(protocol),
-    })
+    Some(options)
 }

@@ -16,9 +16,12 @@ use crate::codes::{
 use crate::header::{
     Header, header_fits, header_len, put_header, put_indexed, take_header, take_indexed,
 };
-use crate::options::{OPTIONS_LEN, options_fit, put_options, take_options};
 use crate::reply_code::{is_reply_code, take_reply_code};
 use crate::strings::{has_no_nul, put_bytes, put_string, string_len, take_text};
+use crate::symbol_lists::{
+    SymLists, options_with_lists_fit, options_with_lists_len, put_options_with_lists,
+    take_options_with_lists,
+};
 use crate::text::Text;
 use milter_options::Options;
 use milter_stream::{NoMemory, PAYLOAD_MAX, WireFault, put_head};
@@ -27,8 +30,13 @@ use std::alloc::Global;
 /// A packet that a filter sends to an MTA. Source: mfdef.h (the codes SMFIR_), and the layouts that libmilter writes.
 #[derive(Clone, Debug, PartialEq, Eq, Drop)]
 pub enum Reply {
-    /// `O`: the versions, actions and protocol steps that the filter accepts.
-    Options(Options),
+    /// `O`: the version, actions and protocol steps that the filter accepts, and the macros that it asks for.
+    Options {
+        /// The version, the actions and the protocol steps.
+        options: Options,
+        /// The symbol lists, which a mail server looks at where it offered `Actions::SETSYMLIST`.
+        lists: SymLists,
+    },
     /// `+`: the message gets this recipient too.
     AddRcpt(Text),
     /// `-`: the message doesn't get this recipient.
@@ -136,17 +144,19 @@ fn fields_fit(reply: &Reply) -> bool
     ensures { IsTrue result ↔ FieldsFit reply.now }
 {
     match reply {
-        Reply::Options(options) => options_fit(options),
-        Reply::AddRcpt(text) | Reply::DelRcpt(text) | Reply::Quarantine(text) => has_no_nul(text),
+        Reply::Options { options, lists } => options_with_lists_fit(options, lists),
+        Reply::AddRcpt(text) | Reply::DelRcpt(text) | Reply::Quarantine(text) => has_no_nul(
+            text.as_slice(),
+        ),
         Reply::AddRcptPar { address, arguments } | Reply::ChangeFrom { address, arguments } => {
-            has_no_nul(address) && arguments_fit(arguments)
+            has_no_nul(address.as_slice()) && arguments_fit(arguments)
         }
         Reply::AddHeader(header) => header_fits(header),
         Reply::InsertHeader { index, header } | Reply::ChangeHeader { index, header } => {
             let _index = *index;
             header_fits(header)
         }
-        Reply::Code(text) => has_no_nul(text) && is_reply_code(text.as_slice()),
+        Reply::Code(text) => has_no_nul(text.as_slice()) && is_reply_code(text.as_slice()),
         Reply::Accept | Reply::Continue | Reply::Discard | Reply::Progress => true,
         Reply::Reject | Reply::Skip | Reply::Tempfail | Reply::ReplaceBody(_) => true,
     }
@@ -164,7 +174,7 @@ fn code(reply: &Reply) -> u8
     ensures { result ≡ code_of reply.now }
 {
     match reply {
-        Reply::Options(_) => SMFIC_OPTNEG,
+        Reply::Options { .. } => SMFIC_OPTNEG,
         Reply::AddRcpt(_) => SMFIR_ADDRCPT,
         Reply::DelRcpt(_) => SMFIR_DELRCPT,
         Reply::AddRcptPar { .. } => SMFIR_ADDRCPT_PAR,
@@ -191,11 +201,11 @@ fn payload_len(reply: &Reply) -> usize
     ensures { result ≡ min (length (payload_of reply.now)) (2 ^ 64 - 1) }
 {
     match reply {
-        Reply::Options(_) => OPTIONS_LEN,
-        Reply::AddRcpt(text) | Reply::DelRcpt(text) => string_len(text),
-        Reply::Quarantine(text) | Reply::Code(text) => string_len(text),
+        Reply::Options { options, lists } => options_with_lists_len(options, lists),
+        Reply::AddRcpt(text) | Reply::DelRcpt(text) => string_len(text.as_slice()),
+        Reply::Quarantine(text) | Reply::Code(text) => string_len(text.as_slice()),
         Reply::AddRcptPar { address, arguments } | Reply::ChangeFrom { address, arguments } => {
-            string_len(address).saturating_add(arguments_len(arguments))
+            string_len(address.as_slice()).saturating_add(arguments_len(arguments))
         }
         Reply::AddHeader(header) => header_len(header),
         Reply::InsertHeader { header, .. } | Reply::ChangeHeader { header, .. } => {
@@ -211,9 +221,9 @@ fn put_payload(out: &mut Vec<u8>, reply: &Reply) -> Result<(), NoMemory>
     ensures { PutsBytes (payload_of reply.now) out.old.items out.new.items result }
 {
     match reply {
-        Reply::Options(options) => put_options(out, options),
-        Reply::AddRcpt(text) | Reply::DelRcpt(text) => put_string(out, text),
-        Reply::Quarantine(text) | Reply::Code(text) => put_string(out, text),
+        Reply::Options { options, lists } => put_options_with_lists(out, options, lists),
+        Reply::AddRcpt(text) | Reply::DelRcpt(text) => put_string(out, text.as_slice()),
+        Reply::Quarantine(text) | Reply::Code(text) => put_string(out, text.as_slice()),
         Reply::AddRcptPar { address, arguments } | Reply::ChangeFrom { address, arguments } => {
             put_addressed(out, address, arguments)
         }
@@ -259,7 +269,10 @@ fn take_payload(alloc: Global, code: u8, payload: &[u8]) -> Result<Option<Reply>
             address,
             arguments,
         )| Reply::AddRcptPar { address, arguments })),
-        SMFIC_OPTNEG => Ok(take_options(payload).map(Reply::Options)),
+        SMFIC_OPTNEG => Ok(take_options_with_lists(alloc, payload)?.map(|(
+            options,
+            lists,
+        )| Reply::Options { options, lists })),
         SMFIR_ACCEPT => Ok(nothing.then_some(Reply::Accept)),
         SMFIR_REPLBODY => Ok(Some(Reply::ReplaceBody(Text::copy_of(alloc, payload)?))),
         SMFIR_CONTINUE => Ok(nothing.then_some(Reply::Continue)),

@@ -4,20 +4,17 @@ ghost use Rattle.std.specs.Prelude.{◌≡◌, ◌-◌, ◌^◌, ◌++◌, ◌�
 ghost use Rattle.std.specs.List.{flat_map};
 ghost use Rattle.milter_stream.specs.Appending.{PutsBytes};
 ghost use Rattle.milter_wire.specs.Field.{HasNoNul, string};
-ghost use Rattle.milter_wire.specs.Decoding.{DecodesOptional, pairs_in, strings_in};
+ghost use Rattle.milter_wire.specs.Decoding.{pairs_in, strings_in};
 
-use crate::lists::{Pairs, Params};
-use crate::pair::Pair;
 use crate::strings::{has_no_nul, put_string, string_len, take_string};
 use crate::text::Text;
 use milter_stream::NoMemory;
-use std::alloc::Global;
 
 /// Whether strings can carry the texts.
 pub(crate) fn have_no_nul(texts: &[Text]) -> bool
     ensures { IsTrue result ↔ All HasNoNul texts.now }
 {
-    texts.iter().all(|text| has_no_nul(text))
+    texts.iter().all(|text| has_no_nul(text.as_slice()))
 }
 
 /// The number of bytes of the strings, or the greatest `usize`.
@@ -26,7 +23,7 @@ pub(crate) fn strings_len(texts: &[Text]) -> usize
 {
     let mut total: usize = 0;
     for text in texts {
-        total = total.saturating_add(string_len(text));
+        total = total.saturating_add(string_len(text.as_slice()));
     }
     total
 }
@@ -36,13 +33,13 @@ pub(crate) fn put_strings(out: &mut Vec<u8>, texts: &[Text]) -> Result<(), NoMem
     ensures { PutsBytes (flat_map string texts.now) out.old.items out.new.items result }
 {
     for text in texts {
-        put_string(out, text)?;
+        put_string(out, text.as_slice())?;
     }
     Ok(())
 }
 
 /// Whether the bytes are strings up to the end.
-fn are_strings(bytes: &[u8]) -> bool
+pub(crate) fn are_strings(bytes: &[u8]) -> bool
     ensures { result ≡ is_some (strings_in bytes.now) }
 {
     let mut rest = bytes;
@@ -55,27 +52,8 @@ fn are_strings(bytes: &[u8]) -> bool
     true
 }
 
-/// The strings that the bytes are, up to the end.
-pub(crate) fn take_strings(alloc: Global, bytes: &[u8]) -> Result<Option<Params>, NoMemory>
-    ensures { DecodesOptional (strings_in bytes.now) result }
-{
-    if !are_strings(bytes) {
-        return Ok(None);
-    }
-    let mut texts = Vec::new(alloc);
-    let mut rest = bytes;
-    while !rest.is_empty() {
-        let Some((text, after)) = take_string(rest) else {
-            return Ok(None);
-        };
-        texts.push(Text::copy_of(alloc, text)?)?;
-        rest = after;
-    }
-    Ok(Some(Params::new(texts)))
-}
-
 /// Whether the bytes are pairs of strings up to the end.
-fn are_pairs(bytes: &[u8]) -> bool
+pub(crate) fn are_pairs(bytes: &[u8]) -> bool
     ensures { result ≡ is_some (pairs_in bytes.now) }
 {
     let mut rest = bytes;
@@ -89,28 +67,4 @@ fn are_pairs(bytes: &[u8]) -> bool
         rest = after;
     }
     true
-}
-
-/// The pairs of strings that the bytes are, up to the end.
-pub(crate) fn take_pairs(alloc: Global, bytes: &[u8]) -> Result<Option<Pairs>, NoMemory>
-    ensures { DecodesOptional (pairs_in bytes.now) result }
-{
-    if !are_pairs(bytes) {
-        return Ok(None);
-    }
-    let mut pairs = Vec::new(alloc);
-    let mut rest = bytes;
-    while !rest.is_empty() {
-        let Some((name, middle)) = take_string(rest) else {
-            return Ok(None);
-        };
-        let Some((value, after)) = take_string(middle) else {
-            return Ok(None);
-        };
-        let name = Text::copy_of(alloc, name)?;
-        let value = Text::copy_of(alloc, value)?;
-        pairs.push(Pair { name, value })?;
-        rest = after;
-    }
-    Ok(Some(Pairs::new(pairs)))
 }

@@ -6,29 +6,30 @@ ghost use Rattle.milter_wire.specs.Field.{HasNoNul, string};
 ghost use Rattle.milter_wire.specs.Decoding.{DecodesOptional, string_at, string_in};
 
 use crate::text::Text;
+use memchr::memchr;
 use milter_stream::NoMemory;
 use std::alloc::Global;
 
 /// Whether a string can carry the text: no byte of it is a NUL. No memory is taken.
 #[tactic(auto, unfolding(crate::specs::Field::HasNoNul))]
-pub fn has_no_nul(text: &Text) -> bool
+pub fn has_no_nul(text: &[u8]) -> bool
     ensures { IsTrue result ↔ HasNoNul text.now }
 {
-    text.as_slice().iter().all(|byte| *byte != 0)
+    text.iter().all(|byte| *byte != 0)
 }
 
 /// The number of bytes of the string that carries the text: those of the text, and a NUL. No memory is taken.
-pub fn string_len(text: &Text) -> usize
+pub fn string_len(text: &[u8]) -> usize
     ensures { result ≡ length (string text.now) }
 {
-    text.as_slice().len() + 1
+    text.len() + 1
 }
 
 /// Appends the string.
-pub(crate) fn put_string(out: &mut Vec<u8>, text: &Text) -> Result<(), NoMemory>
+pub(crate) fn put_string(out: &mut Vec<u8>, text: &[u8]) -> Result<(), NoMemory>
     ensures { PutsBytes (string text.now) out.old.items out.new.items result }
 {
-    put_bytes(out, text.as_slice())?;
+    put_bytes(out, text)?;
     out.push(0)?;
     Ok(())
 }
@@ -45,7 +46,7 @@ pub(crate) fn put_bytes(out: &mut Vec<u8>, bytes: &[u8]) -> Result<(), NoMemory>
 fn first_nul(bytes: &[u8]) -> Option<usize>
     ensures { result ≡ position (λ byte. byte == 0) bytes.now }
 {
-    bytes.iter().position(|byte| *byte == 0)
+    memchr(0, bytes)
 }
 
 /// The text of the string that the bytes begin with, and the bytes after the string.

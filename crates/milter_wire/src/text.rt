@@ -1,9 +1,11 @@
 //! Texts as the protocol carries them: bytes in no particular encoding.
 
-ghost use Rattle.std.specs.Prelude.{◌≡◌, IfOk, List, ℕ, nat_eq};
+ghost use Rattle.std.specs.Prelude.{◌≡◌, ◌↔◌, IfOk, IsTrue, List, ℕ, nat_eq};
+ghost use Rattle.milter_wire.specs.Field.{HasNoNul};
 ghost use Rattle.std.specs.Cmp.{partial_equiv_from_equiv};
 ghost use Rattle.std.specs.Cmp.Lexicographic.{pointwise, nat_list_eq_equiv};
 
+use crate::strings::has_no_nul;
 use milter_stream::NoMemory;
 use std::alloc::Global;
 use std::convert::AsSlice;
@@ -44,6 +46,13 @@ impl Text {
         ensures { result.now ≡ self.now }
     {
         self.bytes.as_slice()
+    }
+
+    /// Whether a string can carry the text: no byte of it is a NUL. No memory is taken.
+    pub fn has_no_nul(&self) -> bool
+        ensures { IsTrue result ↔ HasNoNul self.now }
+    {
+        has_no_nul(self.as_slice())
     }
 }
 

@@ -20,7 +20,8 @@ fn with_header(alloc: Global) -> Result<Message, SampleFault> {
     Message::new(sender, Vec::new(alloc), headers, Vec::new(alloc)).ok_or(SampleFault::NoValue)
 }
 
-/// Whether this is the text after the edits that these packets ask for; where writing it is refused, a prefix of it.
+/// Whether this is the text after the edits that these packets ask for, where leading spaces aren't sent; where writing
+/// it is refused, a prefix of it.
 fn is_text_after(
     alloc: Global,
     message: &Message,
@@ -28,7 +29,7 @@ fn is_text_after(
     text: &[u8],
 ) -> Result<bool, SampleFault> {
     let edits = edits_of(alloc, packets)?;
-    let held = apply(alloc, message, &edits)?;
+    let held = apply(alloc, message, &edits, false)?;
     let mut out = Vec::with_capacity(alloc, text.len())?;
     Ok(match write_message(alloc, &mut out, &held) {
         Ok(()) => out.as_slice() == text,
@@ -57,7 +58,7 @@ fn is_edited(
 fn refused_edits_of_header_fields(rt: HostRuntime) {
     let message = with_header(rt.alloc());
     let packets: [(u8, &[u8]); 1] = [(b'h', b"m\x002\0")];
-    let text = b"sender \"\"\nheader \"n\" \"v\"\nheader \"m\" \"2\"\nbody \"\"\nend\n";
+    let text = b"sender \"\"\nheader \"n\" \"v\"\nheader \"m\" \" 2\"\nbody \"\"\nend\n";
     assert!(rt; is_edited(rt.alloc(), message, &packets, text));
 }
 
@@ -65,7 +66,7 @@ fn refused_edits_of_header_fields(rt: HostRuntime) {
 fn refused_changed_header_field(rt: HostRuntime) {
     let message = with_header(rt.alloc());
     let packets: [(u8, &[u8]); 1] = [(b'm', b"\0\0\0\x01N\0w\0")];
-    let text = b"sender \"\"\nheader \"n\" \"w\"\nbody \"\"\nend\n";
+    let text = b"sender \"\"\nheader \"n\" \" w\"\nbody \"\"\nend\n";
     assert!(rt; is_edited(rt.alloc(), message, &packets, text));
 }
 

@@ -50,6 +50,12 @@ fn refused_options(rt: HostRuntime) {
 }
 
 #[test]
+fn refused_symbol_lists(rt: HostRuntime) {
+    let packet = b"\0\0\0\x18O\0\0\0\x06\0\0\x01\0\0\0\0\0\0\0\0\0j\0\0\0\0\x07\0";
+    assert!(rt; is_reply(rt.alloc(), packet));
+}
+
+#[test]
 fn refused_macros(rt: HostRuntime) {
     assert!(rt; is_command(rt.alloc(), b"\0\0\0\x06DCj\0m\0"));
 }
@@ -149,6 +155,13 @@ fn is_malformed_reply(alloc: Global, code: u8, payload: &[u8]) -> bool {
 #[test]
 fn refused_malformed_replies(rt: HostRuntime) {
     let alloc = rt.alloc();
+    assert!(rt;
+        is_malformed_reply(
+            alloc,
+            b'O',
+            b"\0\0\0\x06\0\0\x01\0\0\0\0\0\0\0\0\0j\0\0\0\0\x05"
+        )
+    );
     assert!(rt; is_malformed_reply(alloc, b'+', b"a\0A"));
     assert!(rt; is_malformed_reply(alloc, b'2', b"a\0P\0A"));
     assert!(rt; is_malformed_reply(alloc, b'h', b"n\0v\0A"));

@@ -15,9 +15,10 @@ fn text_after(
     alloc: Global,
     message: &Message,
     packets: &[(u8, &[u8])],
+    leading_space: bool,
 ) -> Result<Vec<u8>, SampleFault> {
     let edits = edits_of(alloc, packets)?;
-    let held = apply(alloc, message, &edits)?;
+    let held = apply(alloc, message, &edits, leading_space)?;
     let mut out = Vec::new(alloc);
     match write_message(alloc, &mut out, &held) {
         Ok(()) => Ok(out),
@@ -25,15 +26,16 @@ fn text_after(
     }
 }
 
-/// Whether this is the text of the file's one message after the edits that these packets ask for.
-fn is_text_after(alloc: Global, packets: &[(u8, &[u8])], text: &[u8]) -> bool {
+/// Whether this is the text of the file's one message after the edits that these packets ask for, with or without
+/// leading spaces in the values that they put.
+fn is_text_after(alloc: Global, packets: &[(u8, &[u8])], leading_space: bool, text: &[u8]) -> bool {
     let Ok(session) = read_session(alloc, FILE) else {
         return false;
     };
     let [message] = session.messages() else {
         return false;
     };
-    match text_after(alloc, message, packets) {
+    match text_after(alloc, message, packets, leading_space) {
         Ok(found) => found.as_slice() == text,
         Err(_) => false,
     }
@@ -51,7 +53,23 @@ fn header_fields_are_edited(rt: HostRuntime) {
     let text = b"sender \"a@x\" \"SIZE=9\"\nrecipient \"b\"\nrecipient \"c\"\nrecipient \"b\"\n\
         header \"D\" \"5\"\nheader \"A\" \"1\"\nheader \"B\" \"2\"\nheader \"A\" \"x\"\n\
         header \"A\" \"y\"\nheader \"C\" \"4\"\nbody \"old\"\nend\n";
-    assert!(rt; is_text_after(rt.alloc(), &packets, text));
+    assert!(rt; is_text_after(rt.alloc(), &packets, true, text));
+}
+
+#[test]
+fn values_get_a_leading_space(rt: HostRuntime) {
+    // Each value that is put gets a blank, an empty added one too; the names and the other fields stay.
+    let packets: [(u8, &[u8]); 5] = [
+        (b'm', b"\0\0\0\x02a\0x\0"),
+        (b'm', b"\0\0\0\x05A\0y\0"),
+        (b'm', b"\0\0\0\x01B\0\0"),
+        (b'i', b"\0\0\0\0D\x005\0"),
+        (b'h', b"E\0\0"),
+    ];
+    let text = b"sender \"a@x\" \"SIZE=9\"\nrecipient \"b\"\nrecipient \"c\"\nrecipient \"b\"\n\
+        header \"D\" \" 5\"\nheader \"A\" \"1\"\nheader \"A\" \" x\"\n\
+        header \"A\" \" y\"\nheader \"E\" \" \"\nbody \"old\"\nend\n";
+    assert!(rt; is_text_after(rt.alloc(), &packets, false, text));
 }
 
 #[test]
@@ -67,7 +85,7 @@ fn header_fields_are_deleted(rt: HostRuntime) {
     let text = b"sender \"a@x\" \"SIZE=9\"\nrecipient \"b\"\nrecipient \"c\"\nrecipient \"b\"\n\
         header \"B\" \"2\"\nheader \"C\" \"4\"\nheader \"A\" \"x\"\nheader \"D\" \"5\"\n\
         body \"old\"\nend\n";
-    assert!(rt; is_text_after(rt.alloc(), &packets, text));
+    assert!(rt; is_text_after(rt.alloc(), &packets, true, text));
 }
 
 #[test]
@@ -86,7 +104,7 @@ fn recipients_and_quarantine_are_edited(rt: HostRuntime) {
     let text = b"quarantine \"q\"\nsender \"a@x\" \"SIZE=9\"\nrecipient \"c\"\nrecipient \"c\"\n\
         recipient \"d\" \"N=1 X\"\nrecipient \"f\" \"\"\n\
         header \"A\" \"1\"\nheader \"B\" \"2\"\nheader \"A\" \"3\"\nbody \"old\"\nend\n";
-    assert!(rt; is_text_after(rt.alloc(), &packets, text));
+    assert!(rt; is_text_after(rt.alloc(), &packets, true, text));
 }
 
 #[test]
@@ -102,5 +120,5 @@ fn sender_and_body_are_replaced(rt: HostRuntime) {
     let text = b"sender \"c\"\nrecipient \"b\"\nrecipient \"c\"\nrecipient \"b\"\n\
         header \"A\" \"1\"\nheader \"B\" \"2\"\nheader \"A\" \"3\"\n\
         body \"a\\x00\\xff\\ntwo\"\nend\n";
-    assert!(rt; is_text_after(rt.alloc(), &packets, text));
+    assert!(rt; is_text_after(rt.alloc(), &packets, true, text));
 }

@@ -1,6 +1,6 @@
 //! Texts of messages and sessions, written by writers that fail.
 
-use super::writers::{FakeWriter, Refusal};
+use super::fakes::{FakeWriter, Refusal};
 use milter_mail::{Held, Message, TextFault, apply, write_message};
 use milter_samples::path;
 use milter_session::{read_session, write_session};
@@ -13,7 +13,7 @@ fn held(alloc: Global, file: &[u8]) -> Option<Held> {
     let [message] = session.messages() else {
         return None;
     };
-    apply(alloc, message, &[]).ok()
+    apply(alloc, message, &[], true).ok()
 }
 
 /// How writing the text ends, and what was written.
@@ -74,7 +74,7 @@ fn long(alloc: Global, size: usize) -> Option<Held> {
     let body = vec![in alloc; 0x00; size].ok()?;
     let sender = path(alloc, b"a@x", &[]).ok()?;
     let message = Message::new(sender, Vec::new(alloc), Vec::new(alloc), body)?;
-    apply(alloc, &message, &[]).ok()
+    apply(alloc, &message, &[], true).ok()
 }
 
 #[test]

@@ -27,7 +27,8 @@ const COMMAND_SIZES: [(CommandField, usize); 18] = [
 ];
 
 /// The most bytes of each text of a reply that fits a packet, where its other texts are empty.
-const REPLY_SIZES: [(ReplyField, usize); 15] = [
+const REPLY_SIZES: [(ReplyField, usize); 16] = [
+    (ReplyField::SymbolNames, 65_518),
     (ReplyField::AddRcpt, 65_534),
     (ReplyField::AddRcptParAddress, 65_534),
     (ReplyField::AddRcptParArguments, 65_533),

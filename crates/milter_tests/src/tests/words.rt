@@ -70,7 +70,10 @@ fn texts_name_sets_of_bits(rt: HostRuntime) {
         Protocol::from_names("SKIP|NR_BODY"),
         Some(Protocol(0x8_0400))
     );
-    assert_eq!(rt; Protocol::from_names("HDR_LEADSPC"), None);
+    assert_eq!(rt;
+        Protocol::from_names("HDR_LEADSPC"),
+        Some(Protocol(0x10_0000))
+    );
 }
 
 #[test]

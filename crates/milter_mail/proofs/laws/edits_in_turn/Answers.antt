@@ -2,16 +2,16 @@ use Rattle.milter_mail.proofs.EditSequences.{body_in_turn, headers_in_turn, last
 use Rattle.milter_mail.proofs.laws.edits_in_turn.Goals as goal
 
 pub returns-clause-headers : goal.returns-clause-headers
-returns-clause-headers c headers first second = headers_in_turn headers first second
+returns-clause-headers c leading_space headers first second = headers_in_turn leading_space headers first second
 
 pub returns-clause-recipients : goal.returns-clause-recipients
 returns-clause-recipients c recipients first second = recipients_in_turn recipients first second
 
 pub returns-clause-sender : goal.returns-clause-sender
-returns-clause-sender c message first second = sender_in_turn message.sender first second
+returns-clause-sender c leading_space message first second = sender_in_turn message.sender first second
 
 pub returns-clause-body : goal.returns-clause-body
-returns-clause-body c message first second some = body_in_turn message.body first second some
+returns-clause-body c leading_space message first second some = body_in_turn message.body first second some
 
 pub returns-clause-quarantine : goal.returns-clause-quarantine
-returns-clause-quarantine c message edits reason = last_reason edits reason
+returns-clause-quarantine c leading_space message edits reason = last_reason edits reason

@@ -1,4 +1,4 @@
-use Rattle.std.proofs.Common.{rules, ◌≡◌, ◌^◌, ℕ, true, false, sym, ap, ◌∙◌, arith}
+use Rattle.std.proofs.Common.{sym, ◌∙◌}
 use Rattle.milter_session.proofs.Digits.{never_none, number_is_utf8, parsed_port, some_value}
 use Rattle.milter_session.proofs.client_line.port_in.Goals as goal
 

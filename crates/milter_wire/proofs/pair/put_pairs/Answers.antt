@@ -2,5 +2,5 @@ use Rattle.std.proofs.Common.{rules}
 use Rattle.milter_wire.proofs.Written.{extends_more}
 use Rattle.milter_wire.proofs.pair.put_pairs.Goals as goal
 
-pub returns-in_err-put_pair : goal.returns-in_err-put_pair
-returns-in_err-put_pair c = (search rules, extends_more _ _ _ _ c.loop-value.invariant c.put_pair.ensures.1)
+pub returns-in_err-put : goal.returns-in_err-put
+returns-in_err-put c = (search rules, extends_more _ _ _ _ c.loop-value.invariant c.put.ensures.1)

@@ -1,4 +1,4 @@
-use Rattle.std.proofs.Common.{ℕ, ap, Ok}
+use Rattle.std.proofs.Common.{ℕ, [], ap, Ok}
 use Rattle.milter_stream.proofs.FirstPackets.{fed, takes_some}
 use Rattle.milter_stream.proofs.splitter.Splitter.feed.Goals as goal
 
@@ -20,3 +20,6 @@ returns-clause-progress c = λ unfinished some.
     let s = c.take_known-second.ensures in
     let count = (fed _ c.args.piece.now _ _ _ _ f.one_packet f.count f.taken s.count s.taken).count in
     takes_some _ c.args.piece.now _ unfinished some count
+
+pub returns-then-unread-eq0-clause-progress : goal.returns-then-unread-eq0-clause-progress
+returns-then-unread-eq0-clause-progress c = λ unfinished some. takes_some [] c.args.piece.now _ tt some c.take_first.ensures.count

@@ -1,0 +1,77 @@
+#!/usr/bin/env bash
+# Measures what it takes to read and to encode packets, with `milter_bench`: user instructions for a message of 16
+# packets, with ten header fields and 4 KiB of body, and MB of packets a second for bodies of 10 MiB, beside a plain
+# copy of the same bytes in the same run. The instructions are callgrind's, without those of a run over the message
+# once; callgrind counts a copy by `rep movsb` a byte at a time, so that this is turned off in the C library. It prints
+# a line for each, and takes valgrind, Python and half a minute. The program is built first, which proves what it is
+# made of.
+set -eu
+cd "$(dirname "${BASH_SOURCE[0]}")/.."
+(cd crates/milter_bench && rt run -- encode 1 <stdin >/dev/null 2>&1) || {
+    echo "milter_bench was not built: run rt run in crates/milter_bench"
+    exit 1
+}
+program=crates/milter_bench/out/milter_bench
+work=$(mktemp -d)
+trap 'rm -rf "$work"' EXIT
+AGAIN=100
+
+# message BODY: the packets of a message whose body has so many bytes
+message() {
+    python3 - "$1" <<'PYTHON'
+import struct, sys
+def packet(code, payload): return struct.pack(">I", 1 + len(payload)) + code + payload
+def strings(*texts): return b"".join(text.encode() + b"\0" for text in texts)
+FIELDS = [
+    ("Received", "from mail.example.org (mail.example.org [192.0.2.17])\n\t"
+                 "by mx.example.net with ESMTPS id 4BxYz12345"),
+    ("From", "Ada <ada@example.org>"), ("To", "Bob <bob@example.net>"),
+    ("Subject", "A message of an ordinary length, to be measured"), ("Date", "Mon, 23 Nov 2026 14:00:00 +0000"),
+    ("Message-ID", "<20261123140000.1234@example.org>"), ("MIME-Version", "1.0"),
+    ("Content-Type", "text/plain; charset=utf-8"), ("Content-Transfer-Encoding", "8bit"), ("User-Agent", "Example/1.0")]
+size = int(sys.argv[1])
+out = packet(b"C", strings("mail.example.org") + b"4" + struct.pack(">H", 12345) + strings("192.0.2.17"))
+out += packet(b"H", strings("mail.example.org"))
+out += packet(b"M", strings("<ada@example.org>", "SIZE=%d" % size))
+out += packet(b"R", strings("<bob@example.net>"))
+for field in FIELDS: out += packet(b"L", strings(*field))
+body = bytes((7 * at + 3) % 251 + 1 for at in range(size))
+for at in range(0, size, 65535): out += packet(b"B", body[at:at + 65535])
+sys.stdout.buffer.write(out + packet(b"E", b""))
+PYTHON
+}
+
+# instructions WORK COUNT: what callgrind counts of a run
+instructions() {
+    GLIBC_TUNABLES=glibc.cpu.x86_rep_movsb_threshold=1000000000 valgrind --tool=callgrind \
+        --callgrind-out-file=/dev/null "$program" "$1" "$2" <"$work/message" 2>&1 >/dev/null |
+        sed -n 's/.*Collected : //p'
+}
+
+# best WORK COUNT: the least of three runs, in nanoseconds
+best() {
+    local least=0 from took
+    for _ in 1 2 3; do
+        from=$(date +%s%N)
+        "$program" "$1" "$2" <"$work/body" >/dev/null
+        took=$(($(date +%s%N) - from))
+        if [ "$least" = 0 ] || [ "$took" -lt "$least" ]; then least=$took; fi
+    done
+    echo "$least"
+}
+
+message 4096 >"$work/message"
+message 10485760 >"$work/body"
+echo "a message of 16 packets and $(stat -c %s "$work/message") bytes, user instructions:"
+for what in split lent owned encode; do
+    once=$(instructions "$what" 1)
+    often=$(instructions "$what" $((AGAIN + 1)))
+    printf '%-8s %8d\n' "$what" $(((often - once) / AGAIN))
+done
+echo "a message with a body of 10 MiB, MB/s:"
+for what in copy split lent owned encode; do
+    once=$(best "$what" 1)
+    often=$(best "$what" 41)
+    awk -v what="$what" -v took=$((often - once)) -v size="$(stat -c %s "$work/body")" 'BEGIN {
+        printf "%-8s %8.0f\n", what, 40 * size / took * 1000 }'
+done

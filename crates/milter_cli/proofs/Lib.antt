@@ -1,0 +1,4 @@
+pub mod SessionLaws
+pub mod RequestLaws
+pub mod FaultlessRows
+pub mod FaultlessWalk

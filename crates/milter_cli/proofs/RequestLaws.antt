@@ -1,0 +1,110 @@
+-- The request of a command line.
+use Rattle.std.proofs.Common.{◌≡◌, ◌<◌, Bool, cond, true, false, not, ◌||◌, List, [], ◌∷◌, Option, None, Some, IfSome, IsSome, is_some, subst, inl, inr, refl, sym, ap, ◌∙◌, codes, slice_index, length, arith, true≢false, option_map}
+use Rattle.std.proofs.lemmas.Option.{none-some}
+use Rattle.std.proofs.lemmas.Slice.Eq.{bytes_eq-Decides}
+use Rattle.std.specs.Prelude.{find, slice_get}
+use Rattle.std.specs.Option.{option_and_then, option_map_or}
+use Rattle.std.specs.Str.{bytes_eq}
+use Rattle.clap.specs.Facts.{explicit_source}
+use Rattle.clap.specs.Words.{Row, Shape, Text, built, fault_of, first_of, first_value, rows_of, subcommand_of, subcommand_rows_of}
+use Rattle.clap.specs.Walk.{answers_to, finished, nothing_held, rows_after, settled, walk, walk_from}
+use Rattle.clap.specs.Simple.{argument_words, built_leaf, entered, help_shape, inherited, label_of, marked_built, names_of, rows_at, with_leaf_noted}
+use Rattle.clap.specs.Takes.{is_given}
+use Rattle.clap.specs.Kinds.{Kinds}
+use Rattle.clap.specs.Faults.{check_fault, defaults_fault, entered_fault, level_fault, settle_fault, walk_fault}
+use Rattle.clap.proofs.WalkLemmas.{first_value-rows}
+use Rattle.clap.specs.declared.error.kind.ErrorKind.{ErrorKind}
+use Rattle.clap.specs.declared.parser.matches.Found.{Found}
+use Rattle.clap.specs.declared.parser.matches.ArgMatches.{ArgMatches}
+use Rattle.milter_cli.specs.declared.command_line.Request.{Request}
+use Rattle.milter_cli.specs.CommandLine.{HasMatches, IsRequestOf, IsUnasked, session_app, tool_app, trace_app}
+use Rattle.milter_cli.proofs.FaultlessRows.{AreFilled, Each, Fills, IsFilled, find_each, no_faults, settled_filled, some_fault}
+use Rattle.milter_cli.proofs.FaultlessWalk.{StopsBeforeHelp, defaults_filled, walk_rows, walk_stops}
+
+pub file_given : (f : Found) (file : Text) → Some file ≡ first_value f (codes "file") → first_of (codes "file") (rows_of f) ≡ Some file
+file_given f file is = sym (is ∙ first_value-rows f (codes "file"))
+
+pub no_file : (f : Found) → None ≡ first_value f (codes "file") → IsUnasked (codes "session", rows_of f)
+no_file f none = (λ named. (let other : 115 ≡ 116 = ap (λ t. slice_index t 0) named in absurd (omega (arith, other))), λ named. sym (none ∙ first_value-rows f (codes "file")))
+
+first_given : (o : Option Row) → option_map_or (λ r. explicit_source r.source) o false ≡ true → IfSome o IsFilled → option_and_then (λ r. slice_get r.values 0) o ≡ None → ⊥
+first_given None given f none = true≢false (sym given)
+first_given (Some r) given f none = go r.values f none
+  where
+    go : (values : List Text) → 0 < length values → slice_get values 0 ≡ None → ⊥
+    go [] f none = omega (arith, f)
+    go (v ∷ vs) f none = none-some _ (sym none)
+
+-- an argument that is required has a value
+file_is_given : (s : Shape) (words : List Text) → Each Fills s.rules → ((rows : List Row) → check_fault s rows false ≡ [] → is_given (codes "file") rows ≡ true) → level_fault s [] nothing_held words false [] ≡ []
+    → first_of (codes "file") (rows_after s.rules [] words) ≡ None → ⊥
+file_is_given s words fills required e none =
+    let end = (walk s.rules [] nothing_held words).held in
+    let walked = no_faults (walk_fault s [] (walk_from nothing_held) words) _ e in
+    let rest = no_faults (settle_fault s.rules s.args_override_self end) _ walked.1 in
+    let checked = no_faults (defaults_fault (settled s.rules end).rows s.rules) _ rest.1 in
+    let rows = finished s.rules end in
+    let filled : AreFilled rows = defaults_filled s.rules (settled s.rules end).rows
+    (settled_filled s.rules s.args_override_self fills end rest.0 (walk_rows s fills [] (walk_from nothing_held) words walked.0 tt)) in
+    first_given (find (λ r. bytes_eq r.id (codes "file")) rows) (required rows checked.1) (find_each IsFilled _ rows filled) none
+
+abbrev trace_shape : Shape
+trace_shape = built_leaf (inherited (with_leaf_noted (marked_built tool_app.top)) trace_app.top)
+
+abbrev session_shape : Shape
+session_shape = built_leaf (inherited (with_leaf_noted (marked_built tool_app.top)) session_app.top)
+
+required_here : (b : Bool) (k : ErrorKind) → cond (not b || false) (k ∷ []) [] ≡ [] → b ≡ true
+required_here true k e = refl
+required_here false k e = absurd (some_fault k [] e)
+
+or_false : (b : Bool) → b || false ≡ true → b ≡ true
+or_false true e = refl
+or_false false e = e
+
+-- the subcommand help isn't entered without a fault
+never_help : (name : Text) → bytes_eq name (codes "help") ≡ false → bytes_eq (codes "help") name || false ≡ true → ⊥
+never_help name other named =
+    let is : codes "help" ≡ name = (bytes_eq-Decides (codes "help") name).0 (or_false _ named) in
+    true≢false (ap (λ x. bytes_eq x (codes "help")) is ∙ other)
+
+abbrev pick : Bool → Bool → Bool → Option Shape
+pick trace session help = cond trace (Some trace_shape) (cond session (Some session_shape) (cond help (Some (built_leaf help_shape)) None))
+
+abbrev asked_below : Option Shape → List Text → Kinds
+asked_below o words = option_map_or (λ s. level_fault s [] nothing_held words false []) o []
+
+abbrev entered_by : Option Shape → List Text → Option (Text × List Row)
+entered_by o words = option_map (λ s. rows_at s words) o
+
+-- a subcommand that is entered without a fault asks for something
+picked_asks : (words : List Text) (rows : List Row) (trace session help : Bool) → (help ≡ true → ⊥) → asked_below (pick trace session help) words ≡ []
+    → check_fault (built tool_app).top rows (is_some (entered_by (pick trace session help) words)) ≡ [] → IsRequestOf (entered_by (pick trace session help) words) None → ⊥
+picked_asks words rows true session help none below check unasked = unasked.0 refl
+picked_asks words rows false true help none below check unasked =
+    file_is_given session_shape words (inr refl, (inl refl, tt)) (λ rows e. required_here _ _ e) below (unasked.1 refl)
+picked_asks words rows false false true none below check unasked = none refl
+picked_asks words rows false false false none below check unasked = some_fault _ _ check
+
+entered_asks : (stop : Option (Text × List Text)) (rows : List Row) → StopsBeforeHelp stop → entered_fault (built tool_app) stop ≡ []
+    → check_fault (built tool_app).top rows (is_some (entered (built tool_app) stop)) ≡ [] → IsRequestOf (entered (built tool_app) stop) None → ⊥
+entered_asks None rows other below check unasked = some_fault _ _ check
+entered_asks (Some p) rows other below check unasked =
+    picked_asks p.1 rows (answers_to p.0 (label_of trace_shape)) (answers_to p.0 (label_of session_shape)) (answers_to p.0 (label_of (built_leaf help_shape)))
+    (never_help p.0 other) below check unasked
+
+-- words without a fault ask for something
+pub asks : (words : List Text) → fault_of tool_app words ≡ [] → IsRequestOf (subcommand_of tool_app words) None → ⊥
+asks words e unasked =
+    let a = built tool_app in
+    let given = argument_words a words in
+    let last = walk a.top.rules (names_of a) nothing_held given in
+    let walked = no_faults (walk_fault a.top (names_of a) (walk_from nothing_held) given) _ e in
+    let below = no_faults (entered_fault a last.stopped) _ walked.1 in
+    let rest = no_faults (settle_fault a.top.rules a.top.args_override_self last.held) _ below.1 in
+    let checked = no_faults (defaults_fault (settled a.top.rules last.held).rows a.top.rules) _ rest.1 in
+    entered_asks last.stopped (finished a.top.rules last.held) (walk_stops a.top (names_of a) (walk_from nothing_held) given refl walked.0 tt) below.0 checked.1 unasked
+
+pub some_request : (words : List Text) (m : ArgMatches) (request : Option Request) → HasMatches words m → IsRequestOf (subcommand_rows_of m) request → IsSome request
+some_request words m None (faultless, is) unasked = absurd (asks words faultless (subst (λ o. IsRequestOf o None) is unasked))
+some_request words m (Some request) matches asked = refl

@@ -1,0 +1,54 @@
+-- How the program ends where it did not do what it was asked.
+use Rattle.std.specs.Prelude.{◌≡◌, ℕ, List, [], ◌∷◌, ◌++◌, Option, None, Some, Result, Ok, Err, IfErr, codes, option_map}
+use Rattle.std.specs.declared.io.ErrorKind.{ErrorKind as IoKind}
+use Rattle.std.specs.declared.io.ErrorKind.TheVariants as io
+use Rattle.clap.specs.declared.error.Error.{Error}
+use Rattle.clap.specs.declared.error.kind.ErrorKind.{ErrorKind}
+use Rattle.clap.specs.declared.error.kind.ErrorKind.TheVariants.{DisplayHelp, DisplayVersion, OutOfMemory}
+use Rattle.milter_cli.specs.SessionRun.{session_error_text}
+use Rattle.milter_trace.specs.FaultText.{fault_text}
+use Rattle.milter_cli.specs.declared.tool_error.ToolError.{ToolError}
+use Rattle.milter_cli.specs.declared.tool_error.ToolError.TheVariants.{Usage, NotUtf8, Trace, Session, Write, NoMemory}
+
+-- a wrong use of the command line, or a fault
+abbrev pub error_status : ToolError → ℕ
+error_status (Usage error) = 2
+error_status NotUtf8 = 2
+error_status (Trace fault) = 1
+error_status (Session error) = 1
+error_status Write = 1
+error_status NoMemory = 1
+
+abbrev pub status_of : Result Unit ToolError → ℕ
+status_of (Ok done) = 0
+status_of (Err error) = error_status error
+
+abbrev pub line : List ℕ → List ℕ
+line text = text ++ 10 ∷ []
+
+-- what standard error gets: the text that explains a wrong use is not stated
+abbrev pub error_lines : ToolError → Option (List ℕ)
+error_lines (Usage error) = None
+error_lines NotUtf8 = Some (line (codes "error: invalid UTF-8 was detected in one or more arguments"))
+error_lines (Trace fault) = option_map line (fault_text fault)
+error_lines (Session error) = Some (line (session_error_text error))
+error_lines Write = Some (line (codes "write fault"))
+error_lines NoMemory = Some (line (codes "out of memory"))
+
+-- arguments are not read where memory is refused, or where one isn't UTF-8
+abbrev pub argument_error : IoKind → ToolError
+argument_error io.OutOfMemory = NoMemory
+argument_error _ = NotUtf8
+
+-- help and the version go to standard output
+abbrev pub IsShown : ErrorKind → Type 0
+IsShown DisplayHelp = Unit {0}
+IsShown DisplayVersion = Unit {0}
+IsShown _ = ⊥
+
+-- how a command line ends that has no request
+abbrev pub EndsBy : ErrorKind → Error → Result Unit ToolError → Type 0
+EndsBy DisplayHelp error result = IfErr result (λ e. e ≡ Write)
+EndsBy DisplayVersion error result = IfErr result (λ e. e ≡ Write)
+EndsBy OutOfMemory error result = result ≡ Err NoMemory
+EndsBy _ error result = result ≡ Err (Usage error)

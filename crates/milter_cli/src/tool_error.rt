@@ -1,0 +1,96 @@
+//! Why the program did not do what it was asked: its lines on standard error, and its status.
+
+ghost use Rattle.std.specs.Prelude.{◌≡◌, OnOk};
+ghost use Rattle.std.specs.Process.{exit_status};
+ghost use Rattle.clap.specs.Words.{kind_of};
+ghost use Rattle.milter_cli.specs.ToolError.{EndsBy, IsShown, argument_error, error_lines, status_of};
+
+use crate::session_error::SessionError;
+use clap::error::ErrorKind;
+use milter_trace::TraceFault;
+use std::error::Error;
+use std::fmt;
+use std::io::{self, Write};
+use std::process::ExitCode;
+
+/// Why the program did not do what it was asked. The text of each is what it writes on standard error: whole lines.
+#[derive(Debug, Drop)]
+pub enum ToolError {
+    /// A wrong command line, and the text that explains it.
+    Usage(clap::Error),
+    /// An argument isn't UTF-8.
+    NotUtf8,
+    /// A trace that ended before its input.
+    Trace(TraceFault),
+    /// A session that was not printed to its end.
+    Session(SessionError),
+    /// Help or the version was not written.
+    Write,
+    /// Memory was refused before there was a subcommand.
+    NoMemory,
+}
+
+impl fmt::Display for ToolError {
+    ghost output = { error_lines };
+
+    fn fmt<W: fmt::Write>(&self, f: &mut fmt::Formatter<W>) -> fmt::Result {
+        match self {
+            ToolError::Usage(error) => write!(f, "{error}"),
+            ToolError::NotUtf8 => {
+                writeln!(
+                    f,
+                    "error: invalid UTF-8 was detected in one or more arguments"
+                )
+            }
+            ToolError::Trace(fault) => writeln!(f, "{fault}"),
+            ToolError::Session(error) => writeln!(f, "{error}"),
+            ToolError::Write => writeln!(f, "write fault"),
+            ToolError::NoMemory => writeln!(f, "out of memory"),
+        }
+    }
+}
+
+impl Error for ToolError {}
+
+/// Ends the program: writes the lines of its error, where it has one, and answers with its status. That is 0 where the
+/// program did what it was asked, 2 after a wrong use of the command line, and 1 after any other error, also where
+/// the lines are not written.
+pub fn report<W: Write>(ended: Result<(), ToolError>, errors: &mut W) -> ExitCode
+    ensures status { exit_status result ≡ status_of ended }
+    ensures silent { OnOk ended (W.contents errors.new ≡ W.contents errors.old) }
+{
+    let Err(error) = ended else {
+        return ExitCode::SUCCESS;
+    };
+    let _ = write!(errors, "{error}");
+    ExitCode::from(match error {
+        ToolError::Usage(_) | ToolError::NotUtf8 => 2,
+        ToolError::Trace(_) | ToolError::Session(_) | ToolError::Write | ToolError::NoMemory => 1,
+    })
+}
+
+/// Why the words of the command line are not there: an argument isn't UTF-8, or memory was refused.
+pub fn argument_error(kind: io::ErrorKind) -> ToolError
+    ensures { result ≡ argument_error kind }
+{
+    match kind {
+        io::ErrorKind::OutOfMemory => ToolError::NoMemory,
+        _ => ToolError::NotUtf8,
+    }
+}
+
+/// Ends a command line that has no request: writes help and the version, where one of them was asked for, and answers
+/// with any other error.
+pub fn answer<W: Write>(error: clap::Error, output: &mut W) -> Result<(), ToolError>
+    ensures ends { EndsBy (kind_of error) error result }
+    ensures unwritten { ¬ IsShown (kind_of error) → W.contents output.new ≡ W.contents output.old }
+{
+    match error.kind() {
+        ErrorKind::DisplayHelp | ErrorKind::DisplayVersion => match write!(output, "{error}") {
+            Ok(()) => Ok(()),
+            Err(_) => Err(ToolError::Write),
+        },
+        ErrorKind::OutOfMemory => Err(ToolError::NoMemory),
+        _ => Err(ToolError::Usage(error)),
+    }
+}

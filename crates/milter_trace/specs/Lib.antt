@@ -1,0 +1,11 @@
+pub mod ParsedLine
+pub mod PacketText
+pub mod Trace
+pub mod TraceState
+pub mod UndecodedLine
+pub mod PrinterState
+pub mod HexDigits
+pub mod AssemblerState
+pub mod TraceWriting
+pub mod TraceRun
+pub mod FaultText

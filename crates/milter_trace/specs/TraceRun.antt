@@ -1,0 +1,22 @@
+-- What a whole trace leaves, where the bytes of its reader and its writer are known.
+use Rattle.std.specs.Prelude.{ℕ, ◌≤◌, List, length, Option, IfSome}
+use Rattle.milter_trace.specs.declared.fault.TraceFault.{TraceFault}
+use Rattle.milter_trace.specs.Trace.{trace_of}
+use Rattle.milter_text.specs.Writing.{WritesPrefix}
+use Rattle.milter_trace.specs.TraceWriting.{WritesTrace}
+
+-- the text of the whole input was written, and the trace of the input ends so
+abbrev pub WritesTraceOf : Option TraceFault → Option (List ℕ) → Option (List ℕ) → Option (List ℕ) → Type 0
+WritesTraceOf fault input before after = IfSome input (λ bytes. WritesTrace (trace_of bytes) fault before after)
+
+-- a prefix of the text of the whole input was written
+abbrev pub WritesPrefixOf : Option (List ℕ) → Option (List ℕ) → Option (List ℕ) → Type 0
+WritesPrefixOf input before after = IfSome input (λ bytes. WritesPrefix (trace_of bytes).text before after)
+
+-- the bytes that an input has at least, where a trace of it gives up
+abbrev pub read_max : ℕ
+read_max = 1073741824
+
+-- the input has at least so many bytes
+abbrev pub HasBytes : ℕ → Option (List ℕ) → Type 0
+HasBytes count input = IfSome input (λ bytes. count ≤ length bytes)

@@ -1,0 +1,19 @@
+//! Traces: conversations between a mail server and a filter as lines of hexadecimal digits.
+//!
+//! [`trace_run`] reads a trace and writes a line for each packet of either direction, with its fields. Where the trace
+//! ends before its input, a [`TraceFault`] says why.
+#![tactic(auto)]
+
+mod direction;
+mod fault;
+mod fields;
+mod line_assembler;
+mod packet_line;
+mod packet_stream;
+mod trace;
+mod trace_line;
+mod trace_printer;
+
+pub use direction::Direction;
+pub use fault::TraceFault;
+pub use trace::trace_run;
