@@ -11,9 +11,6 @@ work=$(mktemp -d)
 trap 'rm -rf "$work"' EXIT
 if [ ! -x "$program" ] || [ -n "$(find crates/*/src crates/*/specs -newer "$program" -print -quit)" ]; then
     printf 'client U ""\nhelo ""\nmessage\nsender ""\nrecipient ""\nend\n\0' >"$work/empty"
-    for crate in milter_stream milter_options milter_wire milter_text milter_mail milter_session milter_samples; do
-        (cd "crates/$crate" && rt lib) >"$work/log" 2>&1 || { cat "$work/log"; exit 1; }
-    done
     (cd crates/milter_edits && rt run <"$work/empty") >"$work/log" 2>&1 || { cat "$work/log"; exit 1; }
 fi
 python3 - "$work" "$program" <<'PYTHON'

@@ -5,7 +5,7 @@
 # last line is 'N passed, M failed'.
 set -u
 top=$(cd "$(dirname "${BASH_SOURCE[0]}")/.." && pwd) || exit 1
-libraries=(milter_stream milter_options milter_wire)
+libraries=(milter_stream milter_fields milter_options milter_wire)
 work=$(mktemp -d)
 trap 'rm -rf "$work"' EXIT
 cp "$top/HANDLES" "$work/"

@@ -4,7 +4,7 @@
 
 ghost use Rattle.std.specs.Prelude.{All, IfOk};
 ghost use Rattle.milter_wire.specs.Reply.{Fits};
-ghost use Rattle.milter_mail.specs.EditReplies.{reply_of};
+ghost use Rattle.milter_message.specs.EditReplies.{reply_of};
 
 use anyhow::bail;
 use milter_mail::{Edit, Message, apply};

@@ -1,10 +1,4 @@
-pub mod BodyPieces
-pub mod EditFolds
-pub mod LeadingSpaces
-pub mod EditsFit
 pub mod Weights
-pub mod EditSequences
 pub mod ChosenFit
 pub mod MacroChoice
-pub mod HeaderChanges
 pub mod MailLaws

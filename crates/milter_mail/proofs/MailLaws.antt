@@ -1,9 +1,9 @@
 -- Laws of weights, for proofs in the crates above: each is also the contract of a function in src/laws.rt.
 use Rattle.std.proofs.Common.{ℕ, List, All}
-use Rattle.milter_wire.specs.declared.client.Client.{Client}
+use Rattle.milter_fields.specs.declared.client.Client.{Client}
 use Rattle.milter_mail.specs.declared.macros.Macros.{Macros}
 use Rattle.milter_mail.specs.declared.weight.Overhead.{Overhead}
-use Rattle.milter_mail.specs.MailObject.{MailObject}
+use Rattle.milter_message.specs.MailObject.{MailObject}
 use Rattle.milter_mail.specs.MailSession.{IsSendable}
 use Rattle.milter_mail.specs.WeightParts.{IsOverhead, IsSendableWith}
 use Rattle.milter_mail.proofs.Weights as weights

@@ -6,21 +6,21 @@ use Rattle.std.proofs.lemmas.List.Concat.{flat_map-cons}
 use Rattle.std.proofs.lemmas.List.Elements.{All-weaker}
 use Rattle.std.proofs.lemmas.List.FromFn.{sum_by-map-range_with_len_more}
 use Rattle.std.proofs.lemmas.List.Sums.{sum_by-append, sum_by-cons, sum_by_push}
-use Rattle.milter_mail.specs.declared.message.TheConstants.{PIECE_LEN}
+use Rattle.milter_message.specs.declared.message.TheConstants.{PIECE_LEN}
 use Rattle.milter_mail.specs.declared.weight.TheConstants.{WEIGHT_MAX}
 use Rattle.milter_wire.specs.declared.codes.TheConstants.{SMFIC_BODYEOB, SMFIC_CONNECT, SMFIC_DATA, SMFIC_EOH, SMFIC_HELO, SMFIC_MAIL, SMFIC_RCPT}
-use Rattle.milter_wire.specs.declared.client.Client.{Client}
+use Rattle.milter_fields.specs.declared.client.Client.{Client}
 use Rattle.milter_wire.specs.declared.command.Command.{Command}
 use Rattle.milter_wire.specs.declared.command.Command.TheVariants as commands
-use Rattle.milter_wire.specs.declared.header.Header.{Header}
-use Rattle.milter_wire.specs.declared.pair.Pair.{Pair}
-use Rattle.milter_wire.specs.declared.path.Path.{Path}
+use Rattle.milter_fields.specs.declared.header.Header.{Header}
+use Rattle.milter_fields.specs.declared.pair.Pair.{Pair}
+use Rattle.milter_fields.specs.declared.path.Path.{Path}
 use Rattle.milter_wire.specs.Command.{bytes_of, payload_of, encoding}
 use Rattle.milter_stream.specs.Number.{number}
 use Rattle.milter_mail.specs.declared.macros.Macros.{Macros}
-use Rattle.milter_mail.specs.MailObject.{MailObject}
+use Rattle.milter_message.specs.MailObject.{MailObject}
 use Rattle.milter_mail.specs.MailSession.{IsSendable}
-use Rattle.milter_mail.specs.Pieces.{piece_at, piece_count, pieces_of}
+use Rattle.milter_message.specs.Pieces.{piece_at, piece_count, pieces_of}
 use Rattle.milter_mail.specs.Steps.{macro_step}
 use Rattle.milter_mail.specs.Weight.{weight}
 use Rattle.milter_mail.specs.declared.weight.Overhead.{Overhead}

@@ -1,10 +1,4 @@
-pub mod LeadingSpace
-pub mod MailObject
 pub mod ChosenMacros
-pub mod EditReplies
-pub mod EditedMessage
-pub mod Occurrences
-pub mod Pieces
 pub mod Steps
 pub mod Weight
 pub mod MailSession

@@ -4,7 +4,7 @@ use Rattle.milter_wire.specs.declared.agreement.Agreed.{Agreed}
 use Rattle.milter_wire.specs.declared.command.Command.{Command}
 use Rattle.milter_mail.specs.declared.macros.Macros.{Macros}
 use Rattle.milter_mail.specs.ChosenMacros.{chosen_macros}
-use Rattle.milter_mail.specs.MailObject.{MailObject}
+use Rattle.milter_message.specs.MailObject.{MailObject}
 use Rattle.milter_mail.specs.MailSession.{MailSession}
 use Rattle.milter_mail.specs.Steps.{message_steps, opening_steps}
 

@@ -2,18 +2,18 @@
 use Rattle.std.specs.Prelude.{ℕ, List, [], ◌∷◌, ◌++◌, Option, None, Some, if◌then◌else◌}
 use Rattle.std.specs.List.{flat_map}
 use Rattle.milter_wire.specs.declared.agreement.Agreed.{Agreed}
-use Rattle.milter_wire.specs.declared.client.Client.{Client}
+use Rattle.milter_fields.specs.declared.client.Client.{Client}
 use Rattle.milter_wire.specs.declared.command.Command.{Command}
 use Rattle.milter_wire.specs.declared.command.Command.TheVariants as commands
-use Rattle.milter_wire.specs.declared.pair.Pair.{Pair}
+use Rattle.milter_fields.specs.declared.pair.Pair.{Pair}
 use Rattle.milter_wire.specs.declared.stage.Stage.{Stage}
 use Rattle.milter_wire.specs.declared.stage.Stage.TheVariants.{Connect, Helo, Mail, Rcpt, DataCmd, Header, Eoh, Body, Eob}
 use Rattle.milter_wire.specs.Agreement.{has_leading_space, is_sent}
 use Rattle.milter_wire.specs.Stages.{macro_command_of}
 use Rattle.milter_mail.specs.declared.macros.Macros.{Macros}
-use Rattle.milter_mail.specs.LeadingSpace.{sent_header}
-use Rattle.milter_mail.specs.MailObject.{MailObject}
-use Rattle.milter_mail.specs.Pieces.{pieces_of}
+use Rattle.milter_message.specs.LeadingSpace.{sent_header}
+use Rattle.milter_message.specs.MailObject.{MailObject}
+use Rattle.milter_message.specs.Pieces.{pieces_of}
 
 -- the macros that are sent before each command of a stage
 abbrev pub macros_at : Macros → Stage → List Pair

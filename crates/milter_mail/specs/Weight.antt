@@ -1,11 +1,11 @@
 -- How many bytes the packets of one message are, with those of the connection that it comes on.
 use Rattle.std.specs.Prelude.{ℕ, List, [], ◌++◌}
 use Rattle.milter_wire.specs.declared.agreement.Agreed.{Agreed}
-use Rattle.milter_wire.specs.declared.client.Client.{Client}
+use Rattle.milter_fields.specs.declared.client.Client.{Client}
 use Rattle.milter_options.specs.declared.options.TheConstants.Protocol.{HDR_LEADSPC}
 use Rattle.milter_wire.specs.Command.{bytes_of}
 use Rattle.milter_mail.specs.declared.macros.Macros.{Macros}
-use Rattle.milter_mail.specs.MailObject.{MailObject}
+use Rattle.milter_message.specs.MailObject.{MailObject}
 use Rattle.milter_mail.specs.Steps.{message_steps, opening_steps}
 
 -- version 6 with no bit but that for leading spaces, and no symbol list: all is sent, with whole values of header

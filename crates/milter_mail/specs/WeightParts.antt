@@ -4,17 +4,17 @@ use Rattle.std.specs.List.{sum_by}
 use Rattle.milter_stream.specs.declared.number.TheConstants.{HEAD_LEN}
 use Rattle.milter_mail.specs.declared.weight.TheConstants.{WEIGHT_MAX}
 use Rattle.milter_wire.specs.declared.codes.TheConstants.{SMFIC_BODYEOB, SMFIC_CONNECT, SMFIC_DATA, SMFIC_EOH, SMFIC_HELO, SMFIC_MAIL, SMFIC_RCPT}
-use Rattle.milter_wire.specs.declared.client.Client.{Client}
+use Rattle.milter_fields.specs.declared.client.Client.{Client}
 use Rattle.milter_wire.specs.declared.command.Command.TheVariants as commands
-use Rattle.milter_wire.specs.declared.header.Header.{Header}
-use Rattle.milter_wire.specs.declared.pair.Pair.{Pair}
+use Rattle.milter_fields.specs.declared.header.Header.{Header}
+use Rattle.milter_fields.specs.declared.pair.Pair.{Pair}
 use Rattle.milter_wire.specs.Command.{Fits, bytes_of, encoding}
 use Rattle.milter_mail.specs.declared.macros.Macros.{Macros}
 use Rattle.milter_mail.specs.declared.weight.Overhead.{Overhead}
-use Rattle.milter_mail.specs.LeadingSpace.{WholeFieldFits}
-use Rattle.milter_mail.specs.MailObject.{IsMessage, MailObject}
+use Rattle.milter_message.specs.LeadingSpace.{WholeFieldFits}
+use Rattle.milter_message.specs.MailObject.{IsMessage, MailObject}
 use Rattle.milter_mail.specs.MailSession.{MacrosFit}
-use Rattle.milter_mail.specs.Pieces.{piece_count}
+use Rattle.milter_message.specs.Pieces.{piece_count}
 use Rattle.milter_mail.specs.Steps.{macro_step}
 
 -- the bytes of the packet with these macros, where there are some

@@ -6,8 +6,8 @@ ghost use Rattle.milter_mail.specs.HeldText.{held_text, reason_line};
 ghost use Rattle.milter_text.specs.TextWriter.{Puts};
 ghost use Rattle.milter_text.specs.Writing.{WritesPrefix};
 
-use crate::message::Held;
 use crate::message_lines::{put_line, put_message};
+use milter_message::Held;
 use milter_text::{TextFault, TextWriter};
 use milter_wire::Text;
 use std::alloc::Global;

@@ -5,7 +5,7 @@ ghost use Rattle.std.specs.List.{flat_map};
 ghost use Rattle.milter_mail.specs.HeldText.{content_lines, envelope_lines, header_line, line_of, message_lines, path_line, text_of, texts_of};
 ghost use Rattle.milter_text.specs.TextWriter.{Puts};
 
-use crate::message::Message;
+use milter_message::Message;
 use milter_text::{TextFault, TextWriter};
 use milter_wire::{Header, Path, Text};
 use std::io::Write;

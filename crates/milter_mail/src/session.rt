@@ -6,8 +6,8 @@ ghost use Rattle.milter_wire.specs.Command.{Fits};
 ghost use Rattle.milter_mail.specs.MailSession.{IsSendable, IsSession, MacrosFit};
 
 use crate::macros::Macros;
-use crate::message::Message;
 use crate::weight::is_session;
+use milter_message::Message;
 use milter_wire::{Client, Text};
 use std::marker::Model;
 

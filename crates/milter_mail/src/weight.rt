@@ -4,16 +4,19 @@ ghost use Rattle.std.specs.Prelude.{◌≡◌, ◌≢◌, ◌≤◌, ◌+◌, �
 ghost use Rattle.std.specs.List.{sum_by};
 ghost use Rattle.milter_wire.specs.declared.command.Command.TheVariants as commands;
 ghost use Rattle.milter_wire.specs.Command.{Fits, PacketLen, encoding};
-ghost use Rattle.milter_mail.specs.MailObject.{IsMessage};
+ghost use Rattle.milter_message.specs.MailObject.{IsMessage};
 ghost use Rattle.milter_mail.specs.MailSession.{IsSession};
 ghost use Rattle.milter_mail.specs.WeightParts.{body_weight, CommonWeighs, FieldsWeigh, IsOverhead, IsSendableWith, MacrosWeigh, OpeningAndMacrosFit, OpeningWeighs, PartsWeigh};
 
 use crate::macros::Macros;
-use crate::message::{Message, PIECE_LEN};
+use milter_message::{Message, PIECE_LEN};
 use milter_wire::codes::{
     SMFIC_BODYEOB, SMFIC_CONNECT, SMFIC_DATA, SMFIC_EOH, SMFIC_HELO, SMFIC_MAIL, SMFIC_RCPT,
 };
-use milter_wire::{Client, HEAD_LEN, Header, Pairs, Path, Text, helo_packet_len};
+use milter_wire::{
+    Client, HEAD_LEN, Header, Pairs, Path, Text, connect_packet_len, header_packet_len,
+    helo_packet_len, macro_packet_len, path_packet_len,
+};
 
 /// The most bytes that the packets of one message have, with those of the connection that it comes on: 16 MiB.
 pub const WEIGHT_MAX: usize = 16_777_216;
@@ -63,7 +66,9 @@ impl Overhead {
 fn opening_len(client: &Client, helo: &Text, macros: &Macros) -> Option<usize>
     ensures { OpeningWeighs client.now helo.now macros.now result }
 {
-    let connect = macros_len(SMFIC_CONNECT, &macros.connect)?.saturating_add(client.packet_len()?);
+    let connect = macros_len(SMFIC_CONNECT, &macros.connect)?.saturating_add(connect_packet_len(
+        client,
+    )?);
     let helo = macros_len(SMFIC_HELO, &macros.helo)?.saturating_add(helo_packet_len(helo)?);
     Some(connect.saturating_add(helo))
 }
@@ -87,7 +92,7 @@ fn common_len(macros: &Macros) -> Option<usize>
 fn macros_len(command: u8, pairs: &Pairs) -> Option<usize>
     ensures { MacrosWeigh command pairs.now result }
 {
-    let len = pairs.packet_len()?;
+    let len = macro_packet_len(pairs)?;
     if pairs.as_slice().is_empty() {
         return Some(0);
     }
@@ -143,7 +148,7 @@ fn sender_len(path: &Path) -> usize
     requires { Fits (commands.Mail path.now) }
     ensures { result ≡ length (encoding (commands.Mail path.now)) }
 {
-    path.packet_len().unwrap_or(0)
+    path_packet_len(path).unwrap_or(0)
 }
 
 /// The number of bytes of the packets of recipients, with so many more for each.
@@ -163,7 +168,7 @@ fn recipient_len(path: &Path) -> usize
     requires { Fits (commands.Rcpt path.now) }
     ensures { result ≡ length (encoding (commands.Rcpt path.now)) }
 {
-    path.packet_len().unwrap_or(0)
+    path_packet_len(path).unwrap_or(0)
 }
 
 /// The number of bytes of the packets of header fields with their whole values; or none, where one doesn't fit.
@@ -172,7 +177,7 @@ fn headers_len(headers: &[Header]) -> Option<usize>
 {
     let mut total: usize = 0;
     for header in headers {
-        let Some(len) = header.packet_len() else {
+        let Some(len) = header_packet_len(header) else {
             return None;
         };
         total = total.saturating_add(len);

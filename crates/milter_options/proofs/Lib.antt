@@ -1,3 +1,4 @@
-pub mod Binds
 pub mod Names
 pub mod SetLaws
+mod SymListLaws
+pub mod PayloadLaws

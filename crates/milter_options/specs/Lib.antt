@@ -1,3 +1,4 @@
-pub mod Bind
 pub mod Bits
 pub mod Agreement
+pub mod Payload
+pub mod SymLists

@@ -1,15 +1,22 @@
 //! What the two ends of the Sendmail milter protocol agree on before the first stage: the version, the changes that the
-//! filter may ask for, and the steps that are left out or left unanswered.
+//! filter may ask for, the steps that are left out or left unanswered, and the macros that it asks for.
 //!
-//! [`Options`] is what one end offers or the other wants, and [`common_options`] is what both have. Nothing here reads, writes,
-//! waits or takes memory.
+//! [`Options`] is what one end offers or the other wants, [`common_options`] is what both have, and [`SymLists`] is what
+//! a filter's reply has beside them. Nothing here reads, writes or waits.
 #![tactic(auto)]
 
 mod agreement;
 mod bits;
 mod laws;
 mod options;
+mod payload;
+mod symbol_lists;
 
 pub use agreement::common_options;
 pub use laws::names_of_bits;
 pub use options::{Actions, Options, Protocol};
+pub use payload::{OPTIONS_LEN, options_fit, put_options, take_options, take_options_first};
+pub use symbol_lists::{
+    SymList, SymLists, options_with_lists_fit, options_with_lists_len, put_options_with_lists,
+    take_options_with_lists,
+};

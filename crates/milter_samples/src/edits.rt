@@ -2,7 +2,7 @@
 
 ghost use Rattle.std.specs.Prelude.{All, IfOk};
 ghost use Rattle.milter_wire.specs.Reply.{Fits};
-ghost use Rattle.milter_mail.specs.EditReplies.{reply_of};
+ghost use Rattle.milter_message.specs.EditReplies.{reply_of};
 
 use crate::fault::SampleFault;
 use milter_mail::{Edit, edits_of_replies};

@@ -7,7 +7,7 @@ use Rattle.std.proofs.lemmas.Bool.{false≢true}
 use Rattle.std.proofs.lemmas.List.Elements.{All-append, All-cons, All-nil, All-head, All-tail}
 use Rattle.milter_text.specs.declared.word.Word.{Word}
 use Rattle.milter_text.specs.Words.{HasWords}
-use Rattle.milter_mail.specs.MailObject.{MailObject}
+use Rattle.milter_message.specs.MailObject.{MailObject}
 use Rattle.milter_session.specs.declared.session_fault.SessionFault.{SessionFault}
 use Rattle.milter_session.specs.declared.session_fault.SessionFault.TheVariants.{NoMemory}
 use Rattle.milter_session.specs.LineCursor.{EndsBefore}

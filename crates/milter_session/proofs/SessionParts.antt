@@ -1,9 +1,9 @@
 -- A session and its parts.
 use Rattle.std.proofs.Common.{◌≡◌, ℕ, List, [], ◌∷◌, ◌++◌, All, IfOk, Result, Ok, Err, codes, refl, sym, ap, subst, ◌∙◌}
-use Rattle.milter_wire.specs.declared.client.Client.{Client}
+use Rattle.milter_fields.specs.declared.client.Client.{Client}
 use Rattle.milter_mail.specs.declared.macros.Macros.{Macros}
 use Rattle.milter_mail.specs.declared.weight.Overhead.{Overhead}
-use Rattle.milter_mail.specs.MailObject.{MailObject}
+use Rattle.milter_message.specs.MailObject.{MailObject}
 use Rattle.milter_mail.specs.MailSession.{IsSession, MailSession}
 use Rattle.milter_mail.specs.WeightParts.{IsOverhead, IsSendableWith}
 use Rattle.milter_mail.proofs.MailLaws.{all_sendable_with}

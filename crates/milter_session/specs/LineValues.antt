@@ -7,11 +7,11 @@ use Rattle.std.specs.List.{list_all}
 use Rattle.std.specs.Option.{option_map}
 use Rattle.std.specs.Str.{bytes_eq}
 use Rattle.std.specs.Str.Parse.{digits_value}
-use Rattle.milter_wire.specs.declared.client.Client.{Client}
-use Rattle.milter_wire.specs.declared.client.Origin.{Origin}
-use Rattle.milter_wire.specs.declared.client.Origin.TheVariants.{Unknown, Unix, Inet, Inet6}
-use Rattle.milter_wire.specs.declared.header.Header.{Header}
-use Rattle.milter_wire.specs.declared.path.Path.{Path}
+use Rattle.milter_fields.specs.declared.client.Client.{Client}
+use Rattle.milter_fields.specs.declared.client.Origin.{Origin}
+use Rattle.milter_fields.specs.declared.client.Origin.TheVariants.{Unknown, Unix, Inet, Inet6}
+use Rattle.milter_fields.specs.declared.header.Header.{Header}
+use Rattle.milter_fields.specs.declared.path.Path.{Path}
 use Rattle.milter_text.specs.declared.word.Word.{Word}
 use Rattle.milter_session.specs.declared.session_macros.MacroLine.{MacroLine}
 use Rattle.milter_session.specs.declared.session_macros.MacroStage.{MacroStage}

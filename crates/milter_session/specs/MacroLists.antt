@@ -1,7 +1,7 @@
 -- The macros of all stages, by the stage.
 use Rattle.std.specs.Prelude.{Bool, List, [], ◌∷◌, ◌++◌, if◌then◌else◌}
 use Rattle.std.specs.Str.{bytes_eq}
-use Rattle.milter_wire.specs.declared.pair.Pair.{Pair}
+use Rattle.milter_fields.specs.declared.pair.Pair.{Pair}
 use Rattle.milter_mail.specs.declared.macros.Macros.{Macros}
 use Rattle.milter_session.specs.declared.session_macros.MacroStage.{MacroStage}
 use Rattle.milter_session.specs.declared.session_macros.MacroStage.TheVariants.{Connect, Helo, Mail, Rcpt, DataCmd, Eom}

@@ -1,7 +1,7 @@
 -- How far the lines of a message have been read.
 use Rattle.std.specs.Prelude.{◌≡◌, ℕ, List, ◌∷◌, ◌++◌, codes}
 use Rattle.std.specs.List.{concat}
-use Rattle.milter_mail.specs.MailObject.{MailObject}
+use Rattle.milter_message.specs.MailObject.{MailObject}
 use Rattle.milter_text.specs.Words.{HasWords}
 use Rattle.milter_session.specs.LineValues.{header_of, message_line, path_of, piece_of}
 use Rattle.milter_session.specs.SessionFile.{AllHaveValues, LineHasValue, ParsesAsMessage}

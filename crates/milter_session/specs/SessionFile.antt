@@ -2,11 +2,11 @@
 -- of its bytes here.
 use Rattle.std.specs.Prelude.{◌≡◌, ℕ, List, [], ◌∷◌, ◌++◌, codes, Option, None, Some, if◌then◌else◌}
 use Rattle.std.specs.List.{AllZip, concat, filter_map}
-use Rattle.milter_wire.specs.declared.pair.Pair.{Pair}
+use Rattle.milter_fields.specs.declared.pair.Pair.{Pair}
 use Rattle.milter_mail.specs.declared.macros.Macros.{Macros}
 use Rattle.milter_text.specs.declared.word.Word.{Word}
 use Rattle.milter_text.specs.Lines.{contents}
-use Rattle.milter_mail.specs.MailObject.{MailObject}
+use Rattle.milter_message.specs.MailObject.{MailObject}
 use Rattle.milter_mail.specs.MailSession.{IsSession, MailSession}
 use Rattle.milter_session.specs.declared.session_macros.MacroLine.{MacroLine}
 use Rattle.milter_session.specs.declared.session_macros.MacroStage.{MacroStage}

@@ -8,7 +8,7 @@ ghost use Rattle.std.specs.List.{list_all};
 ghost use Rattle.std.specs.Str.Parse.{digits_value};
 ghost use Rattle.milter_wire.specs.declared.command.Command.TheVariants as commands;
 ghost use Rattle.milter_wire.specs.Command.{Fits};
-ghost use Rattle.milter_wire.specs.Layout.{OriginFits};
+ghost use Rattle.milter_fields.specs.Layout.{OriginFits};
 ghost use Rattle.milter_session.specs.ClientOrigin.{endpoint_origin, origin_with};
 ghost use Rattle.milter_session.specs.LineValues.{client_of, is_number, is_port, origin_of};
 ghost use Rattle.milter_session.specs.SessionFault.{IsAt, Reads};
@@ -17,7 +17,7 @@ use crate::line_cursor::FileLine;
 use crate::line_values::{is_keyword, text_in};
 use crate::session_fault::SessionFault;
 use milter_text::Word;
-use milter_wire::{Client, NoMemory, Origin, Text};
+use milter_wire::{Client, NoMemory, Origin, Text, connect_packet_len};
 use std::alloc::Global;
 use std::str;
 
@@ -167,7 +167,7 @@ fn sized_client(client: Client, number: u64) -> Result<Client, SessionFault>
     ensures reads { Reads (Some client) (λ client. Fits (commands.Connect client)) result }
     ensures at { IfErr result (λ e. IsAt number e) }
 {
-    match client.packet_len() {
+    match connect_packet_len(&client) {
         Some(_) => Ok(client),
         None => Err(SessionFault::TooLarge(number)),
     }

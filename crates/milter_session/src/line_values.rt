@@ -6,8 +6,8 @@ ghost use Rattle.std.specs.Prelude.{None, Some, ℕ, map, option_map};
 ghost use Rattle.std.specs.List.{list_all};
 ghost use Rattle.milter_wire.specs.declared.command.Command.TheVariants as commands;
 ghost use Rattle.milter_wire.specs.Command.{Fits};
-ghost use Rattle.milter_wire.specs.Field.{HasNoNul};
-ghost use Rattle.milter_mail.specs.LeadingSpace.{WholeFieldFits};
+ghost use Rattle.milter_fields.specs.Field.{HasNoNul};
+ghost use Rattle.milter_message.specs.LeadingSpace.{WholeFieldFits};
 ghost use Rattle.milter_session.specs.LineValues.{header_of, helo_of, if_named, is_keyword, is_name, path_of, piece_of};
 ghost use Rattle.milter_session.specs.LineValues.{text_of};
 ghost use Rattle.milter_session.specs.declared.session_fault.SessionFault.TheVariants as SessionFault;
@@ -16,7 +16,9 @@ ghost use Rattle.milter_session.specs.SessionFault.{IsAt, Reads};
 use crate::line_cursor::FileLine;
 use crate::session_fault::SessionFault;
 use milter_text::Word;
-use milter_wire::{Header, NoMemory, Params, Path, Text, helo_packet_len};
+use milter_wire::{
+    Header, NoMemory, Params, Path, Text, header_packet_len, helo_packet_len, path_packet_len,
+};
 use std::alloc::Global;
 
 /// The name of the client in the line of its greeting.
@@ -110,7 +112,7 @@ fn sized_path(path: Path, number: u64) -> Result<Path, SessionFault>
     ensures reads { Reads (Some path) (λ path. Fits (commands.Rcpt path)) result }
     ensures at { IfErr result (λ e. IsAt number e) }
 {
-    match path.packet_len() {
+    match path_packet_len(&path) {
         Some(_) => Ok(path),
         None => Err(SessionFault::TooLarge(number)),
     }
@@ -177,7 +179,7 @@ fn sized_header(header: Header, number: u64) -> Result<Header, SessionFault>
     ensures reads { Reads (Some header) WholeFieldFits result }
     ensures at { IfErr result (λ e. IsAt number e) }
 {
-    match header.packet_len() {
+    match header_packet_len(&header) {
         Some(_) => Ok(header),
         None => Err(SessionFault::TooLarge(number)),
     }

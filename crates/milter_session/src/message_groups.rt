@@ -4,7 +4,7 @@ ghost use Rattle.std.specs.Prelude.{◌≡◌, All, codes};
 ghost use Rattle.std.specs.List.{concat};
 ghost use Rattle.milter_wire.specs.declared.command.Command.TheVariants as commands;
 ghost use Rattle.milter_wire.specs.Command.{Fits};
-ghost use Rattle.milter_mail.specs.LeadingSpace.{WholeFieldFits};
+ghost use Rattle.milter_message.specs.LeadingSpace.{WholeFieldFits};
 ghost use Rattle.milter_session.specs.LineValues.{header_of, path_of, piece_of};
 ghost use Rattle.milter_session.specs.Openings.{header_begins, path_begins, piece_begins};
 

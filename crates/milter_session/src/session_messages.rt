@@ -3,12 +3,12 @@
 ghost use Rattle.std.specs.Prelude.{◌≡◌, ◌≢◌, ◌↔◌, ◌≤◌, ◌++◌, ◌∷◌, [], All, IfErr, IfOk, IsOk, IsTrue, List};
 ghost use Rattle.std.specs.Prelude.{MatchResult, codes, ℕ};
 ghost use Rattle.milter_wire.specs.declared.command.Command.TheVariants as commands;
-ghost use Rattle.milter_wire.specs.declared.path.Path.{Path};
+ghost use Rattle.milter_fields.specs.declared.path.Path.{Path};
 ghost use Rattle.milter_wire.specs.Command.{Fits};
 ghost use Rattle.milter_text.specs.declared.word.Word.{Word};
 ghost use Rattle.milter_text.specs.Words.{HasWords};
-ghost use Rattle.milter_mail.specs.LeadingSpace.{WholeFieldFits};
-ghost use Rattle.milter_mail.specs.MailObject.{IsMessage, MailObject};
+ghost use Rattle.milter_message.specs.LeadingSpace.{WholeFieldFits};
+ghost use Rattle.milter_message.specs.MailObject.{IsMessage, MailObject};
 ghost use Rattle.milter_mail.specs.WeightParts.{IsSendableWith};
 ghost use Rattle.milter_session.specs.declared.session_fault.SessionFault.TheVariants as faults;
 ghost use Rattle.milter_session.specs.LineCursor.{IsNextLine, NextHasWords};

@@ -1,8 +1,8 @@
 -- Edits of header fields, one after the other.
 use Rattle.std.specs.Prelude.{List, [], ◌∷◌, codes}
-use Rattle.milter_wire.specs.declared.header.Header.{Header}
-use Rattle.milter_mail.specs.declared.edit.Edit.{Edit}
-use Rattle.milter_mail.specs.declared.edit.Edit.TheVariants.{InsertHeader, ChangeHeader}
+use Rattle.milter_fields.specs.declared.header.Header.{Header}
+use Rattle.milter_message.specs.declared.edit.Edit.{Edit}
+use Rattle.milter_message.specs.declared.edit.Edit.TheVariants.{InsertHeader, ChangeHeader}
 use Rattle.milter_tests.specs.WorkedMessage.{field}
 
 abbrev pub old_fields : List Header

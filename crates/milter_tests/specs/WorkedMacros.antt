@@ -2,11 +2,11 @@
 use Rattle.std.specs.Prelude.{ℕ, List, [], ◌∷◌, codes}
 use Rattle.std.specs.List.{flat_map}
 use Rattle.milter_wire.specs.declared.agreement.Agreed.{Agreed}
-use Rattle.milter_wire.specs.declared.header.Header.{Header}
-use Rattle.milter_wire.specs.declared.pair.Pair.{Pair}
-use Rattle.milter_wire.specs.declared.symbol_lists.SymList.{SymList}
+use Rattle.milter_fields.specs.declared.header.Header.{Header}
+use Rattle.milter_fields.specs.declared.pair.Pair.{Pair}
+use Rattle.milter_options.specs.declared.symbol_lists.SymList.{SymList}
 use Rattle.milter_wire.specs.Command.{encoding}
-use Rattle.milter_mail.specs.MailObject.{MailObject}
+use Rattle.milter_message.specs.MailObject.{MailObject}
 use Rattle.milter_mail.specs.MailSession.{MailSession}
 use Rattle.milter_mail.specs.Plan.{opening}
 use Rattle.milter_tests.specs.WorkedMessage.{at, client, field, helo, macros_with, options}

@@ -1,14 +1,14 @@
 -- One small session, and the values that it is made of.
 use Rattle.std.specs.Prelude.{ℕ, List, [], ◌∷◌, ◌++◌, codes, None}
-use Rattle.milter_wire.specs.declared.client.Client.{Client}
-use Rattle.milter_wire.specs.declared.client.Origin.TheVariants.{Unknown}
-use Rattle.milter_wire.specs.declared.header.Header.{Header}
+use Rattle.milter_fields.specs.declared.client.Client.{Client}
+use Rattle.milter_fields.specs.declared.client.Origin.TheVariants.{Unknown}
+use Rattle.milter_fields.specs.declared.header.Header.{Header}
 use Rattle.milter_options.specs.declared.options.Options.{Options}
 use Rattle.milter_wire.specs.declared.agreement.Agreed.{Agreed}
-use Rattle.milter_wire.specs.declared.pair.Pair.{Pair}
-use Rattle.milter_wire.specs.declared.path.Path.{Path}
+use Rattle.milter_fields.specs.declared.pair.Pair.{Pair}
+use Rattle.milter_fields.specs.declared.path.Path.{Path}
 use Rattle.milter_mail.specs.declared.macros.Macros.{Macros}
-use Rattle.milter_mail.specs.MailObject.{MailObject}
+use Rattle.milter_message.specs.MailObject.{MailObject}
 
 -- a sender or a recipient without parameters
 abbrev pub at : List ℕ → Path

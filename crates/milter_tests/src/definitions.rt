@@ -2,12 +2,12 @@
 
 ghost use Rattle.std.specs.Prelude.{◌≡◌, [], ◌∷◌, ◌++◌, codes, false, drop, length, List, ℕ, None, Some, take, true};
 ghost use Rattle.milter_wire.specs.declared.command.Command.TheVariants as commands;
-ghost use Rattle.milter_mail.specs.declared.edit.Edit.TheVariants.{AddHeader, AddRcpt, AddRcptPar, ChangeFrom, ChangeHeader, DelRcpt, Quarantine, ReplaceBody};
+ghost use Rattle.milter_message.specs.declared.edit.Edit.TheVariants.{AddHeader, AddRcpt, AddRcptPar, ChangeFrom, ChangeHeader, DelRcpt, Quarantine, ReplaceBody};
 ghost use Rattle.milter_options.specs.Agreement.{common};
-ghost use Rattle.milter_mail.specs.EditedMessage.{edited_message, headers_after, recipients_after};
+ghost use Rattle.milter_message.specs.EditedMessage.{edited_message, headers_after, recipients_after};
 ghost use Rattle.milter_mail.specs.HeldText.{held_text};
-ghost use Rattle.milter_mail.specs.Pieces.{pieces_of};
-ghost use Rattle.milter_mail.specs.LeadingSpace.{sent_header};
+ghost use Rattle.milter_message.specs.Pieces.{pieces_of};
+ghost use Rattle.milter_message.specs.LeadingSpace.{sent_header};
 ghost use Rattle.milter_mail.specs.Steps.{message_steps, opening_steps};
 ghost use Rattle.milter_wire.specs.Agreement.{agree, is_asked};
 ghost use Rattle.milter_wire.specs.Command.{encoding};

@@ -5,8 +5,7 @@ ghost use Rattle.std.specs.List.{flat_map};
 ghost use Rattle.milter_stream.specs.Appending.{PutsBytes};
 ghost use Rattle.milter_text.specs.Quoting.{quoted, quoted_byte};
 
-use milter_stream::hex_digit;
-use milter_wire::NoMemory;
+use milter_stream::{NoMemory, hex_digit};
 use std::alloc::Global;
 
 /// Appends the text in quotes, in its canonical form: a visible ASCII character and the blank as itself, but

@@ -4,7 +4,8 @@ ghost use Rattle.std.specs.Prelude.{◌≡◌};
 ghost use Rattle.milter_text.specs.declared.word.WordFault.TheVariants as faults;
 ghost use Rattle.milter_text.specs.WordFault.{word_fault_number};
 
-use milter_wire::{NoMemory, Text};
+use milter_fields::Text;
+use milter_stream::NoMemory;
 use std::alloc::{AllocError, AllocFailed};
 use thiserror::Error;
 

@@ -4,14 +4,14 @@ use Rattle.std.specs.List.{flat_map}
 use Rattle.hex.specs.Hex.{encode_lower}
 use Rattle.milter_stream.specs.declared.fault.WireFault.{WireFault}
 use Rattle.milter_stream.specs.declared.fault.WireFault.TheVariants.{ZeroLength, TooLong, UnknownCode, Malformed, Truncated, NoMemory}
-use Rattle.milter_wire.specs.declared.client.Client.{Client}
-use Rattle.milter_wire.specs.declared.client.Origin.{Origin}
-use Rattle.milter_wire.specs.declared.client.Origin.TheVariants as origins
-use Rattle.milter_wire.specs.declared.header.Header.{Header}
+use Rattle.milter_fields.specs.declared.client.Client.{Client}
+use Rattle.milter_fields.specs.declared.client.Origin.{Origin}
+use Rattle.milter_fields.specs.declared.client.Origin.TheVariants as origins
+use Rattle.milter_fields.specs.declared.header.Header.{Header}
 use Rattle.milter_options.specs.declared.options.Options.{Options}
-use Rattle.milter_wire.specs.declared.pair.Pair.{Pair}
-use Rattle.milter_wire.specs.declared.path.Path.{Path}
-use Rattle.milter_wire.specs.declared.symbol_lists.SymList.{SymList}
+use Rattle.milter_fields.specs.declared.pair.Pair.{Pair}
+use Rattle.milter_fields.specs.declared.path.Path.{Path}
+use Rattle.milter_options.specs.declared.symbol_lists.SymList.{SymList}
 use Rattle.milter_wire.specs.declared.command.Command.{Command}
 use Rattle.milter_wire.specs.declared.command.Command.TheVariants as commands
 use Rattle.milter_wire.specs.declared.reply.Reply.{Reply}

@@ -12,11 +12,11 @@ use Rattle.milter_stream.specs.Stream.{Divides, Frame, IsFrame, IsRest, divide, 
 use Rattle.milter_stream.proofs.StreamLaws.{divide-handed}
 use Rattle.milter_wire.specs.declared.command.Command.{Command}
 use Rattle.milter_wire.specs.declared.reply.Reply.{Reply}
-use Rattle.milter_wire.specs.Decoding.{Decodes, Row, has_row, read_by}
+use Rattle.milter_wire.specs.Tables.{Decodes, Row, has_row, read_by}
 use Rattle.milter_wire.specs.Command as of_commands
 use Rattle.milter_wire.specs.Reply as of_replies
 use Rattle.milter_wire.specs.Frames.{value_or_fault, frames_and}
-use Rattle.milter_wire.proofs.Steps.{chosen}
+use Rattle.milter_fields.proofs.Steps.{chosen}
 
 -- ---- codes that are known
 

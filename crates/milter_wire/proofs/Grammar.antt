@@ -8,11 +8,12 @@ use Rattle.milter_stream.specs.declared.fault.WireFault.{WireFault}
 use Rattle.milter_stream.specs.declared.fault.WireFault.TheVariants.{ZeroLength, TooLong, UnknownCode, Malformed, Truncated, NoMemory}
 use Rattle.milter_stream.specs.Number.{number}
 use Rattle.milter_stream.specs.Packet.{packet, IsPayload}
-use Rattle.milter_wire.specs.Decoding.{Decodes, Row, ended, has_row, read_by}
+use Rattle.milter_wire.specs.Tables.{Decodes, Row, has_row, read_by}
+use Rattle.milter_fields.specs.Decoding.{ended}
 use Rattle.milter_stream.specs.Stream.{Frame, first_frame}
 use Rattle.milter_stream.proofs.Frames.{first_frame-packet}
-use Rattle.milter_options.proofs.Binds.{some_value}
-use Rattle.milter_wire.proofs.Steps.{chosen, ended_takes}
+use Rattle.milter_fields.proofs.Binds.{some_value}
+use Rattle.milter_fields.proofs.Steps.{chosen, ended_takes}
 
 -- ---- rows of a table
 

@@ -2,18 +2,19 @@
 use Rattle.std.proofs.Common.{◌≡◌, ◌≢◌, ℕ, true, List, [], ◌∷◌, None, refl, subst, arith, rules}
 use Rattle.std.specs.Prelude.{◌↔◌, IsTrue}
 use Rattle.std.proofs.lemmas.List.Elements.{All-nil}
-use Rattle.milter_wire.specs.declared.client.Client.{Client}
-use Rattle.milter_wire.specs.declared.client.Origin.TheVariants as origins
-use Rattle.milter_wire.specs.declared.header.Header.{Header}
+use Rattle.milter_fields.specs.declared.client.Client.{Client}
+use Rattle.milter_fields.specs.declared.client.Origin.TheVariants as origins
+use Rattle.milter_fields.specs.declared.header.Header.{Header}
 use Rattle.milter_options.specs.declared.options.Options.{Options}
-use Rattle.milter_wire.specs.declared.path.Path.{Path}
+use Rattle.milter_fields.specs.declared.path.Path.{Path}
 use Rattle.milter_wire.specs.declared.command.Command.TheVariants as commands
 use Rattle.milter_wire.specs.declared.reply.Reply.TheVariants as replies
 use Rattle.milter_stream.specs.Number.{number}
 use Rattle.milter_wire.specs.Command as of_commands
 use Rattle.milter_wire.specs.Reply as of_replies
-use Rattle.milter_wire.specs.Field.{string, HasNoNul}
-use Rattle.milter_wire.specs.Layout.{OptionsFit, PairFits, SymListFits, ReplyCodeFits}
+use Rattle.milter_fields.specs.Field.{HasNoNul}
+use Rattle.milter_options.specs.Payload.{OptionsFit, SymListFits}
+use Rattle.milter_fields.specs.Layout.{PairFits, ReplyCodeFits}
 use Rattle.milter_wire.proofs.CommandGrammar.{command_known}
 use Rattle.milter_wire.proofs.ReplyGrammar.{reply_known}
 use Rattle.milter_wire.proofs.Grammar.{◌⨾◌, EachCode, row_has_value}
@@ -49,7 +50,7 @@ code_fits = record { no_nul = search rules; form = refl }
 -- ---- commands
 
 each_command : EachCode of_commands.IsCodeOfSome of_commands.rows
-unfolding string number
+unfolding number
 each_command =
     (commands.Abort, record { fields = tt; payload = omega arith }, refl)
     ⨾ (commands.Body [], record { fields = tt; payload = omega arith }, refl)
@@ -78,7 +79,7 @@ commands_known code = (
 -- ---- replies
 
 each_reply : EachCode of_replies.IsCodeOfSome of_replies.rows
-unfolding string number
+unfolding number
 each_reply =
     (replies.AddRcpt [], record { fields = no_nul; payload = omega arith }, refl)
     ⨾ (replies.DelRcpt [], record { fields = no_nul; payload = omega arith }, refl)

@@ -10,7 +10,7 @@ use Rattle.milter_wire.specs.declared.agreement.Agreed.{Agreed}
 use Rattle.milter_wire.specs.declared.command.Command.{Command}
 use Rattle.milter_wire.specs.declared.stage.Stage.{Stage}
 use Rattle.milter_wire.specs.declared.stage.Stage.TheVariants.{DataCmd}
-use Rattle.milter_wire.specs.declared.symbol_lists.SymList.{SymList}
+use Rattle.milter_options.specs.declared.symbol_lists.SymList.{SymList}
 use Rattle.milter_wire.specs.Stages.{not_answered_of, not_sent_of, stage_of}
 
 -- whether a set has one of these bits

@@ -1,14 +1,8 @@
-pub mod Field
-pub mod Layout
-pub mod Pair
-pub mod Decoding
+pub mod Tables
 pub mod Command
 pub mod Stages
 pub mod Reply
 pub mod Frames
 pub mod Verdicts
-pub mod SymLists
 pub mod Agreement
-pub mod Lists
-pub mod Lent
 pub mod LentCommand

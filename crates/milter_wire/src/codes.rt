@@ -1,6 +1,8 @@
 //! The codes of packets, by their names in mfdef.h: SMFIC for commands, SMFIR for replies; SMFIA, the families of
 //! clients; and SMFIM of mfapi.h, the stages of symbol lists.
 
+pub use milter_fields::families::{SMFIA_INET, SMFIA_INET6, SMFIA_UNIX, SMFIA_UNKNOWN};
+
 /// The message is given up. Source: mfdef.h.
 pub const SMFIC_ABORT: u8 = b'A';
 
@@ -96,18 +98,6 @@ pub const SMFIR_TEMPFAIL: u8 = b't';
 
 /// A reply code. Source: mfdef.h.
 pub const SMFIR_REPLYCODE: u8 = b'y';
-
-/// A client of which nothing is known. Source: mfdef.h.
-pub const SMFIA_UNKNOWN: u8 = b'U';
-
-/// A client at a Unix socket. Source: mfdef.h.
-pub const SMFIA_UNIX: u8 = b'L';
-
-/// A client with an IPv4 address. Source: mfdef.h.
-pub const SMFIA_INET: u8 = b'4';
-
-/// A client with an IPv6 address. Source: mfdef.h.
-pub const SMFIA_INET6: u8 = b'6';
 
 /// The stage of a symbol list: when a client has connected. Source: mfapi.h.
 pub const SMFIM_CONNECT: u32 = 0;

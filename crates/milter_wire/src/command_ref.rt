@@ -5,28 +5,26 @@ ghost use Rattle.std.specs.List.{flat_map};
 ghost use Rattle.milter_stream.specs.Appending.{PutsBytes};
 ghost use Rattle.milter_stream.specs.declared.fault.WireFault.TheVariants as faults;
 ghost use Rattle.milter_wire.specs.declared.command.Command.TheVariants as commands;
-ghost use Rattle.milter_wire.specs.Layout.{pair};
+ghost use Rattle.milter_fields.specs.Layout.{pair};
 ghost use Rattle.milter_wire.specs.Command.{code_of, payload_of, is_code, Fits, FieldsFit, encoding, command_in};
-ghost use Rattle.milter_wire.specs.Decoding.{macro_in, map_ok};
+ghost use Rattle.milter_fields.specs.Decoding.{macro_in};
+ghost use Rattle.milter_wire.specs.Tables.{map_ok};
 ghost use Rattle.milter_wire.specs.Frames.{frame_command};
 ghost use Rattle.milter_wire.specs.LentCommand.{command_of};
 ghost use Rattle.milter_wire.specs.Stages.{stage_of};
 
-use crate::client::ClientRef;
 use crate::codes::{
     SMFIC_ABORT, SMFIC_BODY, SMFIC_BODYEOB, SMFIC_CONNECT, SMFIC_DATA, SMFIC_EOH, SMFIC_HEADER,
     SMFIC_HELO, SMFIC_MACRO, SMFIC_MAIL, SMFIC_OPTNEG, SMFIC_QUIT, SMFIC_QUIT_NC, SMFIC_RCPT,
     SMFIC_UNKNOWN,
 };
 use crate::command::Command;
-use crate::header::HeaderRef;
-use crate::lent_lists::PairsRef;
-use crate::options::{OPTIONS_LEN, options_fit, put_options, take_options};
-use crate::path::PathRef;
 use crate::stage::Stage;
-use crate::strings::{has_no_nul, one_string, put_bytes, put_string, string_len};
-use crate::text::Text;
-use milter_options::Options;
+use milter_fields::{
+    ClientRef, HeaderRef, PairsRef, PathRef, Text, has_no_nul, one_string, put_bytes, put_string,
+    string_len,
+};
+use milter_options::{OPTIONS_LEN, Options, options_fit, put_options, take_options};
 use milter_stream::{NoMemory, PAYLOAD_MAX, WireFault, put_head};
 use std::alloc::Global;
 
@@ -262,7 +260,7 @@ fn put_macro(out: &mut Vec<u8>, command: u8, pairs: &PairsRef<'_>) -> Result<(),
 }
 
 /// The macros that these bytes encode, all of the bytes, and the code before them.
-#[tactic(auto, unfolding(crate::specs::Decoding::macro_in))]
+#[tactic(auto, unfolding(milter_fields::specs::Decoding::macro_in))]
 fn macro_of(bytes: &[u8]) -> Option<CommandRef<'_>>
     ensures { option_map command_of result ≡ option_map (λ m. commands.Macro m.0 m.1) (macro_in bytes.now) }
 {

@@ -8,7 +8,7 @@ ghost use Rattle.milter_wire.specs.declared.command.Command.{Command};
 ghost use Rattle.milter_wire.specs.declared.reply.Reply.{Reply};
 ghost use Rattle.milter_wire.specs.Command as commands;
 ghost use Rattle.milter_wire.specs.Reply as replies;
-ghost use Rattle.milter_wire.specs.Decoding.{Decodes};
+ghost use Rattle.milter_wire.specs.Tables.{Decodes};
 ghost use Rattle.milter_wire.specs.Frames.{command_frame, frame_command, frame_reply, frames_and, reply_frame};
 
 /// A command that fits has exactly one encoding, and another has none.

@@ -4,72 +4,61 @@ ghost use Rattle.std.specs.Prelude.{◌≡◌, ◌≤◌, ◌<◌, ◌+◌, ℕ,
 ghost use Rattle.milter_wire.specs.declared.command.Command.{Command};
 ghost use Rattle.milter_wire.specs.Command.{PacketLen};
 
-use crate::client::Client;
-use crate::header::{Header, header_fits, header_len};
-use crate::lists::Pairs;
-use crate::pair::{pairs_fit, pairs_len};
-use crate::path::Path;
-use crate::strings::{has_no_nul, string_len};
-use crate::text::Text;
+use milter_fields::{
+    Client, Header, Pairs, Path, Text, has_no_nul, header_fits, header_len, pairs_fit, pairs_len,
+    string_len,
+};
 use milter_stream::{HEAD_LEN, PAYLOAD_MAX};
 
-impl Client {
-    /// The number of bytes of the packet of the client, from 8 to 65,540, its length field among them; or
-    /// none, where there is no such packet: a string has a NUL, or they have too many bytes. No memory is taken.
-    #[tactic(auto, unfolding(milter_stream::specs::Number::number))]
-    pub fn packet_len(&self) -> Option<usize>
-        ensures { PacketLen (Command.Connect self.now) result }
-    {
-        let client = self.as_ref();
-        if !client.fits() {
-            return None;
-        }
-        with_head(client.payload_len())
+/// The number of bytes of the packet of the client, from 8 to 65,540, its length field among them; or none, where there
+/// is no such packet: a string has a NUL, or they have too many bytes. No memory is taken.
+#[tactic(auto, unfolding(milter_stream::specs::Number::number))]
+pub fn connect_packet_len(client: &Client) -> Option<usize>
+    ensures { PacketLen (Command.Connect client.now) result }
+{
+    let client = client.as_ref();
+    if !client.fits() {
+        return None;
     }
+    with_head(client.payload_len())
 }
 
-impl Path {
-    /// The number of bytes of the packet of the sender or the recipient, from 6 to 65,540, its length field among them;
-    /// or none, where there is no such packet: a string has a NUL, or they have too many bytes. No memory is taken.
-    #[tactic(auto, unfolding(milter_stream::specs::Number::number))]
-    pub fn packet_len(&self) -> Option<usize>
-        ensures mail { PacketLen (Command.Mail self.now) result }
-        ensures rcpt { PacketLen (Command.Rcpt self.now) result }
-    {
-        let path = self.as_ref();
-        if !path.fits() {
-            return None;
-        }
-        with_head(path.payload_len())
+/// The number of bytes of the packet of the sender or the recipient, from 6 to 65,540, its length field among them; or
+/// none, where there is no such packet: a string has a NUL, or they have too many bytes. No memory is taken.
+#[tactic(auto, unfolding(milter_stream::specs::Number::number))]
+pub fn path_packet_len(path: &Path) -> Option<usize>
+    ensures mail { PacketLen (Command.Mail path.now) result }
+    ensures rcpt { PacketLen (Command.Rcpt path.now) result }
+{
+    let path = path.as_ref();
+    if !path.fits() {
+        return None;
     }
+    with_head(path.payload_len())
 }
 
-impl Header {
-    /// The number of bytes of the packet of the header field, from 7 to 65,540, its length field among them;
-    /// or none, where there is no such packet: a string has a NUL, or they have too many bytes. No memory is taken.
-    #[tactic(auto, unfolding(milter_stream::specs::Number::number))]
-    pub fn packet_len(&self) -> Option<usize>
-        ensures { PacketLen (Command.Header self.now) result }
-    {
-        if !header_fits(self) {
-            return None;
-        }
-        with_head(header_len(self))
+/// The number of bytes of the packet of the header field, from 7 to 65,540, its length field among them; or none, where
+/// there is no such packet: a string has a NUL, or they have too many bytes. No memory is taken.
+#[tactic(auto, unfolding(milter_stream::specs::Number::number))]
+pub fn header_packet_len(header: &Header) -> Option<usize>
+    ensures { PacketLen (Command.Header header.now) result }
+{
+    if !header_fits(header) {
+        return None;
     }
+    with_head(header_len(header))
 }
 
-impl Pairs {
-    /// The number of bytes of a packet with these macros, from 6 to 65,540, its length field among them; or none, where
-    /// no packet has them: a string has a NUL, or they have too many bytes. No memory is taken.
-    #[tactic(auto, unfolding(milter_stream::specs::Number::number))]
-    pub fn packet_len(&self) -> Option<usize>
-        ensures { (command : ℕ) → PacketLen (Command.Macro command self.now) result }
-    {
-        if !pairs_fit(self.as_slice()) {
-            return None;
-        }
-        with_head(pairs_len(self.as_slice()).saturating_add(1))
+/// The number of bytes of a packet with these macros, from 6 to 65,540, its length field among them; or none, where no
+/// packet has them: a string has a NUL, or they have too many bytes. No memory is taken.
+#[tactic(auto, unfolding(milter_stream::specs::Number::number))]
+pub fn macro_packet_len(pairs: &Pairs) -> Option<usize>
+    ensures { (command : ℕ) → PacketLen (Command.Macro command pairs.now) result }
+{
+    if !pairs_fit(pairs.as_slice()) {
+        return None;
     }
+    with_head(pairs_len(pairs.as_slice()).saturating_add(1))
 }
 
 /// The number of bytes of the packet with a client's greeting, from 6 to 65,540, its length field among them; or none,

@@ -5,25 +5,23 @@ ghost use Rattle.milter_wire.specs.declared.reply.Reply.{Reply};
 ghost use Rattle.milter_stream.specs.Appending.{PutsBytes};
 ghost use Rattle.milter_stream.specs.Packet.{packet};
 ghost use Rattle.milter_wire.specs.Reply.{code_of, payload_of, is_code, Fits, FieldsFit, IsEncodedAs, encoding, reply_in};
-ghost use Rattle.milter_wire.specs.Decoding.{Decodes, DecodesOptional};
+ghost use Rattle.milter_wire.specs.Tables.{Decodes};
+ghost use Rattle.milter_fields.specs.Decoding.{DecodesOptional};
 
-use crate::arguments::{arguments_fit, arguments_len, put_addressed, take_addressed};
 use crate::codes::{
     SMFIC_OPTNEG, SMFIR_ACCEPT, SMFIR_ADDHEADER, SMFIR_ADDRCPT, SMFIR_ADDRCPT_PAR, SMFIR_CHGFROM,
     SMFIR_CHGHEADER, SMFIR_CONTINUE, SMFIR_DELRCPT, SMFIR_DISCARD, SMFIR_INSHEADER, SMFIR_PROGRESS,
     SMFIR_QUARANTINE, SMFIR_REJECT, SMFIR_REPLBODY, SMFIR_REPLYCODE, SMFIR_SKIP, SMFIR_TEMPFAIL,
 };
-use crate::header::{
-    Header, header_fits, header_len, put_header, put_indexed, take_header, take_indexed,
+use milter_fields::{
+    Header, Text, arguments_fit, arguments_len, has_no_nul, header_fits, header_len, is_reply_code,
+    put_addressed, put_bytes, put_header, put_indexed, put_string, string_len, take_addressed,
+    take_header, take_indexed, take_reply_code, take_text,
 };
-use crate::reply_code::{is_reply_code, take_reply_code};
-use crate::strings::{has_no_nul, put_bytes, put_string, string_len, take_text};
-use crate::symbol_lists::{
-    SymLists, options_with_lists_fit, options_with_lists_len, put_options_with_lists,
+use milter_options::{
+    Options, SymLists, options_with_lists_fit, options_with_lists_len, put_options_with_lists,
     take_options_with_lists,
 };
-use crate::text::Text;
-use milter_options::Options;
 use milter_stream::{NoMemory, PAYLOAD_MAX, WireFault, put_head};
 use std::alloc::Global;
 

@@ -5,7 +5,7 @@ ghost use Rattle.milter_wire.specs.Verdicts.{given_at, reply_of, verdict_of};
 
 use crate::reply::Reply;
 use crate::stage::Stage;
-use crate::text::Text;
+use milter_fields::Text;
 
 /// A filter's answer to a stage. Source: mfdef.h (SMFIR_CONTINUE and those after it), and the libmilter callback
 /// documentation (return values).

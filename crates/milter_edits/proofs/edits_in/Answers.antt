@@ -1,7 +1,7 @@
 use Rattle.std.proofs.lemmas.List.Elements.{All-push}
 use Rattle.milter_wire.specs.Reply.{Fits}
-use Rattle.milter_mail.specs.declared.edit.Edit.{Edit}
-use Rattle.milter_mail.specs.EditReplies.{reply_of}
+use Rattle.milter_message.specs.declared.edit.Edit.{Edit}
+use Rattle.milter_message.specs.EditReplies.{reply_of}
 use Rattle.milter_edits.proofs.edits_in.Goals as goal
 
 pub loop-rest-preserved : goal.loop-rest-preserved

@@ -1,6 +1,6 @@
 use Rattle.std.proofs.Common.{All, length}
 use Rattle.milter_wire.specs.Reply.{Fits}
-use Rattle.milter_mail.specs.EditReplies.{reply_of}
+use Rattle.milter_message.specs.EditReplies.{reply_of}
 use Rattle.milter_edits.proofs.edits_in.Given as goal
 
 abbrev pub decreases-loop-rest : goal.decreases-loop-rest

@@ -1,5 +1,5 @@
 use Rattle.std.proofs.Common.{◌≡◌, ◌-◌, ◌^◌, All, min, take}
-use Rattle.milter_mail.specs.LeadingSpace.{WholeFieldFits}
+use Rattle.milter_message.specs.LeadingSpace.{WholeFieldFits}
 use Rattle.milter_mail.specs.WeightParts.{fields_weight}
 use Rattle.milter_mail.proofs.weight.headers_len.Given as goal
 

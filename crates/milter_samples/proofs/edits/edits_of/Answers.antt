@@ -1,6 +1,6 @@
 use Rattle.std.proofs.lemmas.List.Elements.{All-push, All-same}
 use Rattle.milter_wire.specs.Reply.{Fits}
-use Rattle.milter_mail.specs.EditReplies.{reply_of}
+use Rattle.milter_message.specs.EditReplies.{reply_of}
 use Rattle.milter_samples.proofs.edits.edits_of.Goals as goal
 
 pub loop-code-preserved : goal.loop-code-preserved

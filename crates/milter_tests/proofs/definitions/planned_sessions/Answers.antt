@@ -2,7 +2,7 @@ use Rattle.std.proofs.Common.{◌+◌, ◌*◌, ◌/◌, ◌∙◌, ◌≡◌, L
 use Rattle.std.proofs.lemmas.List.FromFn.{length-map-range_with_len}
 use Rattle.std.specs.Prelude.{map}
 use Rattle.std.specs.List.{range_with_len}
-use Rattle.milter_mail.specs.Pieces.{pieces_of}
+use Rattle.milter_message.specs.Pieces.{pieces_of}
 use Rattle.milter_tests.proofs.definitions.planned_sessions.Goals as goal
 
 -- the number of pieces of a body of this many bytes

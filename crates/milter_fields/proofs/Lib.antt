@@ -1,0 +1,9 @@
+pub mod Binds
+pub mod Ports
+pub mod Written
+pub mod Steps
+pub mod StringFields
+pub mod SequenceLaws
+pub mod LentLists
+pub mod Layouts
+pub mod Values

@@ -1,0 +1,7 @@
+pub mod Bind
+pub mod Field
+pub mod Layout
+pub mod Pair
+pub mod Decoding
+pub mod Lists
+pub mod Lent

@@ -1,6 +1,0 @@
-use Rattle.milter_mail.proofs.EditFolds.{IsPieced}
-use Rattle.milter_mail.proofs.application.body_after.Given as goal
-
--- the pieces of the edits so far
-abbrev pub invariant-loop-edit : goal.invariant-loop-edit
-invariant-loop-edit l = IsPieced l.replaced l.body.items l.edit-index l.edits

@@ -1,5 +1,0 @@
-use Rattle.milter_mail.proofs.LeadingSpaces.{all_whole_fit}
-use Rattle.milter_mail.proofs.laws.leading_spaces.Goals as goal
-
-pub returns-clause-whole : goal.returns-clause-whole
-returns-clause-whole c = all_whole_fit

@@ -1,0 +1,6 @@
+pub mod LeadingSpace
+pub mod MailObject
+pub mod EditReplies
+pub mod EditedMessage
+pub mod Occurrences
+pub mod Pieces

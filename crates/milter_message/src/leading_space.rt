@@ -1,0 +1,78 @@
+//! The blank that the value of a header field begins with: a message has it in its values, and peers send it only where
+//! they agreed to.
+
+ghost use Rattle.std.specs.Prelude.{◌≡◌, ◌-◌, ◌^◌, ◌↔◌, All, IfOk, IsTrue, false, length, min};
+ghost use Rattle.milter_fields.specs.Layout.{header};
+ghost use Rattle.milter_message.specs.LeadingSpace.{FieldFits, put_header, put_value, sent_header};
+
+use milter_wire::{Header, NoMemory, PAYLOAD_MAX, Text, string_len};
+use std::alloc::Global;
+
+/// The blank that the value of a header field begins with, after the colon. Source: mfdef.h (SMFIP_HDR_LEADSPC).
+const LEADING_SPACE: u8 = b' ';
+
+/// The value of a header field as it is sent: the whole value where leading spaces are sent, else without the one blank
+/// that it begins with, if it does. No memory is taken. Source: mfdef.h (SMFIP_HDR_LEADSPC).
+pub fn sent_value(header: &Header, leading_space: bool) -> &[u8]
+    ensures { result.now ≡ (sent_header leading_space header.now).value }
+{
+    if leading_space {
+        return header.value.as_slice();
+    }
+    match header.value.as_slice() {
+        [LEADING_SPACE, rest @ ..] => rest,
+        value => value,
+    }
+}
+
+/// Whether the packet of the header field fits without the blank that its value begins with.
+pub(crate) fn field_fits(header: &Header) -> bool
+    ensures { IsTrue result ↔ FieldFits header.now }
+{
+    if !header.name.has_no_nul() || !header.value.has_no_nul() {
+        return false;
+    }
+    sent_len(header) <= PAYLOAD_MAX
+}
+
+/// The number of bytes of the payload of the header field without the blank that its value begins with; or the greatest
+/// `usize`, where there are more.
+fn sent_len(field: &Header) -> usize
+    ensures { result ≡ min (length (header (sent_header false field.now))) (2 ^ 64 - 1) }
+{
+    string_len(field.name.as_slice())
+        .saturating_add(sent_value(field, false).len())
+        .saturating_add(1)
+}
+
+/// Whether each header field fits a packet without the blank that its value begins with.
+pub(crate) fn fields_fit(headers: &[Header]) -> bool
+    ensures { IsTrue result ↔ All FieldFits headers.now }
+{
+    headers.iter().all(|header| field_fits(header))
+}
+
+/// A copy of the header field as an edit puts it: where leading spaces aren't sent, its value gets a blank.
+pub(crate) fn put_copy(
+    alloc: Global,
+    header: &Header,
+    leading_space: bool,
+) -> Result<Header, NoMemory>
+    ensures { IfOk result (λ copy. copy ≡ put_header leading_space header.now) }
+{
+    let name = Text::copy_of(alloc, header.name.as_slice())?;
+    let value = put_value(alloc, &header.value, leading_space)?;
+    Ok(Header { name, value })
+}
+
+/// A copy of the value, after a blank where leading spaces aren't sent.
+pub(crate) fn put_value(alloc: Global, value: &Text, leading_space: bool) -> Result<Text, NoMemory>
+    ensures { IfOk result (λ copy. copy ≡ put_value leading_space value.now) }
+{
+    let mut bytes = Vec::with_capacity(alloc, string_len(value.as_slice()))?;
+    if !leading_space {
+        bytes.push(LEADING_SPACE)?;
+    }
+    bytes.extend_from_slice(value.as_slice())?;
+    Ok(Text::new(bytes))
+}

@@ -1,0 +1,20 @@
+//! Messages as SMTP carries them, and the edits of them that a filter may ask for.
+//!
+//! A [`Message`] is the envelope, the header and the body, each of which fits packets. An [`Edit`] is a change to a
+//! message that a filter asks for, and [`apply`] gives the message after edits as a [`Held`] one.
+#![tactic(auto)]
+
+mod application;
+mod copies;
+mod edit;
+mod header_edits;
+mod laws;
+mod leading_space;
+mod message;
+mod recipient_edits;
+
+pub use application::apply;
+pub use edit::Edit;
+pub use laws::{changed_fields, edits_in_turn, edits_of_replies, leading_spaces};
+pub use leading_space::sent_value;
+pub use message::{Held, Message, MessageParts, PIECE_LEN};
