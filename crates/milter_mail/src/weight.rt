@@ -66,9 +66,8 @@ impl Overhead {
 fn opening_len(client: &Client, helo: &Text, macros: &Macros) -> Option<usize>
     ensures { OpeningWeighs client.now helo.now macros.now result }
 {
-    let connect = macros_len(SMFIC_CONNECT, &macros.connect)?.saturating_add(connect_packet_len(
-        client,
-    )?);
+    let client = connect_packet_len(client)?;
+    let connect = macros_len(SMFIC_CONNECT, &macros.connect)?.saturating_add(client);
     let helo = macros_len(SMFIC_HELO, &macros.helo)?.saturating_add(helo_packet_len(helo)?);
     Some(connect.saturating_add(helo))
 }
