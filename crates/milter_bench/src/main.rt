@@ -2,8 +2,8 @@
 //! the number of their payload bytes is printed.
 //!
 //! The first word is what is done with each packet: `split` nothing, `lent` it is decoded as it is lent, `owned` it is
-//! decoded into a command of its own, and `encode` that command is encoded again. With `copy` the bytes are copied to a
-//! buffer, and not split. The second word is how often.
+//! decoded into a command of its own, and `encode` the lent command is encoded again. With `copy` the bytes are copied
+//! to a buffer, and not split. The second word is how often.
 #![tactic(auto)]
 
 ghost use Rattle.std.specs.Prelude.{◌≤◌, length};
@@ -15,61 +15,69 @@ use std::env;
 use std::io::Read;
 
 /// What is done with each packet.
-#[derive(Clone, Copy, PartialEq, Eq)]
-enum Work {
-    Split,
-    Lent,
-    Owned,
-    Encode,
+trait Work {
+    fn read(&mut self, packet: Packet<'_>) -> anyhow::Result<()>
+        requires { length packet.payload.now ≤ PAYLOAD_MAX };
 }
 
-impl Work {
-    fn named(word: &str) -> Option<Work> {
-        match word {
-            "split" => Some(Work::Split),
-            "lent" => Some(Work::Lent),
-            "owned" => Some(Work::Owned),
-            "encode" => Some(Work::Encode),
-            _ => None,
-        }
-    }
-}
+/// Nothing.
+#[derive(Drop)]
+struct Split;
 
-/// Does the work with the packet.
-fn read_packet(
+/// It is decoded as it is lent.
+#[derive(Drop)]
+struct Lent;
+
+/// It is decoded into a command of its own.
+#[derive(Drop)]
+struct Owned {
     alloc: Global,
-    work: Work,
-    packet: Packet<'_>,
-    out: &mut Vec<u8>,
-) -> anyhow::Result<u64>
-    requires { length packet.payload.now ≤ PAYLOAD_MAX }
-{
-    match work {
-        Work::Split => {}
-        Work::Lent => {
-            let _command = CommandRef::decode(packet.code, packet.payload)?;
-        }
-        Work::Owned => {
-            let _command = Command::decode(alloc, packet.code, packet.payload)?;
-        }
-        Work::Encode => {
-            let command = CommandRef::decode(packet.code, packet.payload)?;
-            out.clear();
-            if command.fits() {
-                command.encode(alloc, out)?;
-            }
-        }
+}
+
+/// It is decoded as it is lent, and encoded again.
+#[derive(Drop)]
+struct Encode {
+    alloc: Global,
+    out: Vec<u8>,
+}
+
+impl Work for Split {
+    fn read(&mut self, packet: Packet<'_>) -> anyhow::Result<()> {
+        let _packet = packet;
+        Ok(())
     }
-    Ok(packet.payload.len() as u64)
+}
+
+impl Work for Lent {
+    fn read(&mut self, packet: Packet<'_>) -> anyhow::Result<()> {
+        let _command = CommandRef::decode(packet.code, packet.payload)?;
+        Ok(())
+    }
+}
+
+impl Work for Owned {
+    fn read(&mut self, packet: Packet<'_>) -> anyhow::Result<()> {
+        let _command = Command::decode(self.alloc, packet.code, packet.payload)?;
+        Ok(())
+    }
+}
+
+impl Work for Encode {
+    fn read(&mut self, packet: Packet<'_>) -> anyhow::Result<()> {
+        let command = CommandRef::decode(packet.code, packet.payload)?;
+        self.out.clear();
+        if command.fits() {
+            command.encode(self.alloc, &mut self.out)?;
+        }
+        Ok(())
+    }
 }
 
 /// Splits the stream and does the work with each packet. The answer is the number of their payload bytes.
-fn read_stream(
-    alloc: Global,
-    work: Work,
+fn read_stream<W: Work>(
+    work: &mut W,
     splitter: &mut Splitter,
     stream: &[u8],
-    out: &mut Vec<u8>,
 ) -> anyhow::Result<u64> {
     let mut total: u64 = 0;
     let mut rest = stream;
@@ -80,19 +88,24 @@ fn read_stream(
         }
         rest = &rest[taken..];
         if let Some(packet) = splitter.next()? {
-            total = total.saturating_add(read_packet(alloc, work, packet, out)?);
+            total = total.saturating_add(packet.payload.len() as u64);
+            work.read(packet)?;
         }
     }
     Ok(total)
 }
 
 /// Splits the stream as often as it is asked for. The answer is the number of payload bytes.
-fn read_again(alloc: Global, work: Work, stream: &[u8], count: u64) -> anyhow::Result<u64> {
+fn read_again<W: Work>(
+    alloc: Global,
+    work: &mut W,
+    stream: &[u8],
+    count: u64,
+) -> anyhow::Result<u64> {
     let mut splitter = Splitter::new(alloc)?;
-    let mut out = Vec::new(alloc);
     let mut total: u64 = 0;
     for _ in 0..count {
-        let read = read_stream(alloc, work, &mut splitter, stream, &mut out)?;
+        let read = read_stream(work, &mut splitter, stream)?;
         total = total.saturating_add(read);
     }
     Ok(total)
@@ -119,9 +132,16 @@ fn main(rt: HostRuntime) -> anyhow::Result<()> {
     let count = count.parse::<u64>().ok().context("COUNT is no number")?;
     let mut stream = Vec::new(alloc);
     rt.reader().read_to_end(&mut stream)?;
-    let total = match Work::named(work) {
-        Some(work) => read_again(alloc, work, &stream, count)?,
-        None => copy_again(alloc, &stream, count)?,
+    let total = match work.as_str() {
+        "split" => read_again(alloc, &mut Split, &stream, count)?,
+        "lent" => read_again(alloc, &mut Lent, &stream, count)?,
+        "owned" => read_again(alloc, &mut Owned { alloc }, &stream, count)?,
+        "encode" => {
+            let out = Vec::new(alloc);
+            read_again(alloc, &mut Encode { alloc, out }, &stream, count)?
+        }
+        "copy" => copy_again(alloc, &stream, count)?,
+        _ => bail!("{work} is no work"),
     };
     println!(rt; "{total}")?;
     Ok(())

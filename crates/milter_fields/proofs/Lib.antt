@@ -5,5 +5,5 @@ pub mod Steps
 pub mod StringFields
 pub mod SequenceLaws
 pub mod LentLists
-pub mod Layouts
+pub mod PortFields
 pub mod Values

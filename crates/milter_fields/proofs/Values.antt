@@ -21,7 +21,7 @@ use Rattle.milter_fields.proofs.Steps.{chosen, ended_takes}
 use Rattle.milter_fields.proofs.StringFields.{string_takes, string_at-string, one_string_takes, string_in-string}
 use Rattle.milter_fields.proofs.SequenceLaws.{strings_take, strings_in-strings, pairs_take, pairs_in-pairs}
 use Rattle.milter_stream.proofs.StreamLaws.{number_takes, number_at-number}
-use Rattle.milter_fields.proofs.Layouts.{bytes_after, port_takes, port_at-port}
+use Rattle.milter_fields.proofs.PortFields.{bytes_after, port_takes, port_at-port}
 
 -- ---- header fields
 

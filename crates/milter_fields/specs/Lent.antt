@@ -1,5 +1,4 @@
 -- The values that lent ones stand for.
-use Rattle.std.specs.Prelude.{ℕ, List, [], ◌∷◌, Option, None, Some}
 use Rattle.milter_fields.specs.declared.client.Client.{Client}
 use Rattle.milter_fields.specs.declared.client.ClientRef.{ClientRef}
 use Rattle.milter_fields.specs.declared.client.Origin.{Origin}

@@ -12,7 +12,7 @@ use Rattle.milter_fields.specs.Decoding.{string_at}
 use Rattle.milter_fields.proofs.Binds.{bind_some}
 use Rattle.milter_stream.proofs.StreamLaws.{number_takes, number_at-number}
 use Rattle.milter_fields.proofs.StringFields.{string_takes, string_at-string, string_at-shorter}
-use Rattle.milter_fields.proofs.Layouts.{bytes_after}
+use Rattle.milter_fields.proofs.PortFields.{bytes_after}
 
 -- ---- a list at the start
 

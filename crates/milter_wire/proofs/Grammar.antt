@@ -1,17 +1,13 @@
 -- What `decode` answers, from a decoding that is the encoding's inverse. Both directions use it.
-use Rattle.std.proofs.Common.{◌≡◌, ℕ, Bool, true, false, List, [], ◌∷◌, ◌++◌, Option, Some, None, Result, Ok, Err, refl, sym, ap, subst, ◌∙◌, append-nil, inl, inr}
-use Rattle.std.specs.Prelude.{◌==◌, ◌||◌, ◌⊎◌, IsSome, IsTrue, IfOk, MatchResult, ◌↔◌}
+use Rattle.std.proofs.Common.{◌≡◌, ℕ, Bool, true, false, List, [], ◌∷◌, Option, Some, None, Result, Ok, Err, refl, sym, ap, subst, ◌∙◌, inl, inr}
+use Rattle.std.specs.Prelude.{◌==◌, ◌||◌, ◌⊎◌, IsTrue, IfOk, MatchResult, ◌↔◌}
 use Rattle.std.specs.Option.{option_map}
 use Rattle.std.proofs.lemmas.Bool.{eqb-true}
 use Rattle.std.proofs.lemmas.Option.{none-some, same_Some}
 use Rattle.milter_stream.specs.declared.fault.WireFault.{WireFault}
 use Rattle.milter_stream.specs.declared.fault.WireFault.TheVariants.{ZeroLength, TooLong, UnknownCode, Malformed, Truncated, NoMemory}
-use Rattle.milter_stream.specs.Number.{number}
-use Rattle.milter_stream.specs.Packet.{packet, IsPayload}
 use Rattle.milter_wire.specs.Tables.{Decodes, Row, has_row, read_by}
 use Rattle.milter_fields.specs.Decoding.{ended}
-use Rattle.milter_stream.specs.Stream.{Frame, first_frame}
-use Rattle.milter_stream.proofs.Frames.{first_frame-packet}
 use Rattle.milter_fields.proofs.Binds.{some_value}
 use Rattle.milter_fields.proofs.Steps.{chosen, ended_takes}
 

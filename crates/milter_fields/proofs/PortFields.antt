@@ -1,15 +1,11 @@
--- What is decoded from the fields of a payload was encoded so, and what is encoded is decoded.
-use Rattle.std.proofs.Common.{◌≡◌, ℕ, ◌<◌, ◌^◌, List, [], ◌∷◌, ◌++◌, Some, refl, sym, ap, subst, ◌∙◌, append_assoc, append-nil}
+-- A port at the start of bytes: what is decoded was encoded so, and what is encoded is decoded.
+use Rattle.std.proofs.Common.{◌≡◌, ℕ, ◌<◌, ◌^◌, List, [], ◌∷◌, ◌++◌, Some, refl, sym, ap, subst, ◌∙◌}
 use Rattle.std.proofs.lemmas.Option.{same_Some}
 use Rattle.std.proofs.lemmas.List.Elements.{All-head, All-tail}
-use Rattle.milter_stream.specs.Number.{number, number_at, IsBytes}
+use Rattle.milter_stream.specs.Number.{IsBytes}
 use Rattle.milter_fields.specs.Field.{port}
-use Rattle.milter_fields.specs.Bind.{◌>>=◌}
-use Rattle.milter_fields.specs.Decoding.{port_of, port_at, ended}
-use Rattle.milter_stream.proofs.StreamLaws.{number_at-number, number_takes}
+use Rattle.milter_fields.specs.Decoding.{port_of, port_at}
 use Rattle.milter_fields.proofs.Ports.{two_bytes, port-port_of, port_of-lt}
-use Rattle.milter_fields.proofs.Binds.{bind_some}
-use Rattle.milter_fields.proofs.Steps.{ended_takes}
 
 -- ---- ports
 
