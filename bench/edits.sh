@@ -11,10 +11,10 @@ work=$(mktemp -d)
 trap 'rm -rf "$work"' EXIT
 if [ ! -x "$program" ] || [ -n "$(find crates/*/src crates/*/specs -newer "$program" -print -quit)" ]; then
     printf 'client U ""\nhelo ""\nmessage\nsender ""\nrecipient ""\nend\n\0' >"$work/empty"
-    for crate in milter_stream milter_options milter_wire milter_text milter_mail milter_session milter_samples; do
+    for crate in milter_stream milter_options milter_wire milter_text milter_mail milter_session; do
         (cd "crates/$crate" && rt lib) >"$work/log" 2>&1 || { cat "$work/log"; exit 1; }
     done
-    (cd crates/milter_edits && rt run <"$work/empty") >"$work/log" 2>&1 || { cat "$work/log"; exit 1; }
+    (cd crates/milter_edits && rt run -- count <"$work/empty") >"$work/log" 2>&1 || { cat "$work/log"; exit 1; }
 fi
 python3 - "$work" "$program" <<'PYTHON'
 import os, struct, subprocess, sys
@@ -81,7 +81,7 @@ def run(name, file, edits, times):
     best = 1e9
     for _ in range(times):
         with open(path, "rb") as packets:
-            process = subprocess.Popen([program], stdin=packets, stdout=subprocess.PIPE)
+            process = subprocess.Popen([program, "count"], stdin=packets, stdout=subprocess.PIPE)
             text = process.stdout.read().decode().strip()
             _, status, usage = os.wait4(process.pid, 0)
             best = min(best, usage.ru_utime + usage.ru_stime)
