@@ -1,6 +1,6 @@
 #!/usr/bin/env python3
-"""Runs the programs, as both compilers built them, with reads and writes of a few bytes and with each of them failing in
-turn: the rows of the tables cases/*_failed_calls.table, and the printing of help and of the version; and the rows of
+"""Runs the programs, as both compilers built them, with reads and writes of a few bytes and with each failing in turn:
+the rows of the tables cases/*_failed_calls.table, and the printing of help and of the version; and the rows of
 trace_streams.table and trace_lines.table with a byte a read. What is run is what `rt ci` built; nothing is proved here.
 
 A run in which a read fails has printed what the lines print that had ended, in which a write fails what the writes

@@ -1,6 +1,6 @@
 #!/usr/bin/env python3
-"""Plays the rows of the tables cases/*.table on milter_tool and milter_edits as both compilers build them; the tables of
-failed calls are played by failed_calls.py alone.
+"""Plays the rows of the tables cases/*.table on milter_tool and milter_edits as both compilers build them; the tables
+of failed calls are played by failed_calls.py alone.
 
 cases/README.md has the format of the tables. The programs are those that `rt ci` leaves. The last line is
 'N passed, M failed'; the status is 1 where a row failed or a table can't be read.

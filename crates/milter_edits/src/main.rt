@@ -1,7 +1,9 @@
-//! Applies edits to a message. Standard input is a session file of one message, a NUL, and a stream of the reply packets
-//! that ask for the edits. The first word is what is printed: `text` the text of the message after them, which the tables
-//! of cases/ have, and `count` how many header fields and recipients it then has, for the bench of edits. A second word
-//! says that leading spaces are agreed on.
+//! Applies edits to a message. Standard input is a session file of one message, a NUL, and a stream of the reply
+//! packets that ask for the edits.
+//!
+//! The first word is what is printed: `text` the text of the message after them, which the tables of cases/ have, and
+//! `count` how many header fields and recipients it then has, for the bench of edits. A second word says that leading
+//! spaces are agreed on.
 #![tactic(auto)]
 
 ghost use Rattle.std.specs.Prelude.{◌≤◌, All, IfOk, length};

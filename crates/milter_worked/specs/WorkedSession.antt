@@ -3,6 +3,7 @@ use Rattle.std.specs.Prelude.{ℕ, List, [], ◌∷◌, ◌++◌, codes, drop, t
 use Rattle.milter_wire.specs.declared.agreement.Agreed.{Agreed}
 use Rattle.milter_wire.specs.declared.command.Command.{Command}
 use Rattle.milter_wire.specs.declared.command.Command.TheVariants as commands
+use Rattle.milter_wire.specs.declared.pair.Pair.{Pair}
 use Rattle.milter_wire.specs.declared.symbol_lists.SymList.{SymList}
 use Rattle.milter_mail.specs.declared.macros.Macros.{Macros}
 use Rattle.milter_mail.specs.MailObject.{MailObject}
@@ -45,9 +46,13 @@ message_of body =
 abbrev pub session_of : List ℕ → MailSession
 session_of body = record { client = client; helo = helo; macros = macros; messages = message_of body ∷ [] }
 
+-- the macros at connect in the order of their list
+abbrev pub listed_pairs : List Pair
+listed_pairs = record { name = codes "j"; value = codes "mx" } ∷ record { name = codes "k"; value = codes "v" } ∷ []
+
 abbrev pub opening_commands : List Command
 opening_commands =
-    commands.Macro 67 (record { name = codes "j"; value = codes "mx" } ∷ record { name = codes "k"; value = codes "v" } ∷ [])
+    commands.Macro 67 listed_pairs
     ∷ commands.Connect client
     ∷ commands.Macro 72 (one (codes "h"))
     ∷ commands.Helo helo

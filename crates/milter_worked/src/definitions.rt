@@ -162,8 +162,8 @@ pub fn agreed_options()
 pub fn named_bits()
     ensures none { bits_named actions_table (codes "none") ≡ Some 0 }
     ensures repeated { bits_named actions_table (codes "CHGBODY|ADDHDRS|CHGBODY") ≡ Some 3 }
-    ensures eight { bits_named actions_table (codes "ADDHDRS|CHGBODY|ADDRCPT|DELRCPT|CHGHDRS|QUARANTINE|CHGFROM|ADDRCPT_PAR")
-        ≡ Some 255 }
+    ensures eight { bits_named actions_table
+        (codes "ADDHDRS|CHGBODY|ADDRCPT|DELRCPT|CHGHDRS|QUARANTINE|CHGFROM|ADDRCPT_PAR") ≡ Some 255 }
     ensures protocol { bits_named protocol_table (codes "SKIP|NR_BODY") ≡ Some 525312 }
     ensures leading_space { bits_named protocol_table (codes "HDR_LEADSPC") ≡ Some 1048576 }
     // Names are matched exactly, and there is one between any two bars.

@@ -1,5 +1,5 @@
-//! Commands and replies: decoded, copied and encoded. These tests accept that a call is out of memory, and nothing of it
-//! is left then: `tests/refused_growth.py` runs them with each allocation refused in turn.
+//! Commands and replies: decoded, copied and encoded. These tests accept that a call is out of memory, and nothing of
+//! it is left then: `tests/refused_growth.py` runs them with each allocation refused in turn.
 
 mod command_packets;
 mod reply_packets;
