@@ -20,7 +20,8 @@ import tables
 
 CUT_TABLES = ['trace_streams', 'trace_lines']
 FAILED_TABLES = ['trace_failed_calls', 'session_failed_calls', 'edits_failed_calls']
-READ_ERRORS = [errno.EIO, errno.EINTR]
+# A file is read by a call that repeats a read that is interrupted.
+READ_ERRORS = {'trace': [errno.EIO, errno.EINTR], 'session': [errno.EIO]}
 # An error of 0 is a write that takes nothing.
 WRITE_ERRORS = [0, errno.EIO, errno.EINTR, errno.ENOSPC, errno.EPIPE]
 # Help is written by calls that repeat a write that is interrupted.
@@ -70,7 +71,7 @@ class Row:
         for number in range(1, count + 1):
             printed = self.printed_of((number - 1) * piece) if self.kind == 'trace' else b''
             ended = 1, printed, READ_FAULTS[self.kind]
-            for error in READ_ERRORS:
+            for error in READ_ERRORS[self.kind]:
                 what = 'read %d of %d bytes fails by %d' % (number, piece, error)
                 yield self.play(what, named(read_piece=piece, failed_read=number, error=error), ended.__eq__, True)
         what = '%d reads of %d bytes' % (count, piece)
