@@ -64,38 +64,50 @@ fn held_after(
     Ok(apply(alloc, message, &edits, leading_space)?)
 }
 
-/// The same for the one message of a session file, which a NUL ends, and the stream after it.
+/// The session file and the stream after it: a NUL is between them.
+fn parts_of(input: &[u8]) -> Option<(&[u8], &[u8])> {
+    let end = input.iter().position(|byte| *byte == 0)?;
+    Some((&input[..end], &input[end + 1..]))
+}
+
+/// The same for the one message of a session file, and the stream after it.
 fn held_in(alloc: Global, input: &[u8], leading_space: bool) -> anyhow::Result<Held> {
-    let Some(end) = input.iter().position(|byte| *byte == 0) else {
+    let Some((file, stream)) = parts_of(input) else {
         bail!("a NUL is to follow the session file");
     };
-    let session = read_session(alloc, &input[..end])?;
+    let session = read_session(alloc, file)?;
     let [message] = session.messages() else {
         bail!("the session is to have one message");
     };
-    held_after(alloc, message, &input[end + 1..], leading_space)
+    held_after(alloc, message, stream, leading_space)
+}
+
+/// The message of standard input after its edits.
+fn read_held<R: Input + AllocGlobal>(rt: &R, leading_space: bool) -> anyhow::Result<Held> {
+    let mut input = Vec::new(rt.alloc());
+    rt.reader().read_to_end(&mut input)?;
+    held_in(rt.alloc(), &input, leading_space)
+}
+
+/// Prints the text of the message, or how much it has.
+fn print_held<R: Print + AllocGlobal>(rt: &R, held: &Held, printed: &str) -> anyhow::Result<()> {
+    if printed == "text" {
+        write_message(rt.alloc(), &mut io::writer(rt), held)?;
+    } else {
+        let headers = held.message.headers().len();
+        let recipients = held.message.recipients().len();
+        println!(rt; "{headers} header fields, {recipients} recipients")?;
+    }
+    Ok(())
 }
 
 fn main(rt: HostRuntime) -> anyhow::Result<()> {
-    let alloc = rt.alloc();
-    let words: Vec<String> = env::args(&rt)?.collect(alloc)?;
+    let words: Vec<String> = env::args(&rt)?.collect(rt.alloc())?;
     let (printed, leading_space) = match words.as_slice() {
         [_, printed] => (printed, false),
         [_, printed, _] => (printed, true),
         _ => bail!("usage: milter_edits text|count [leading_space]"),
     };
-    let mut input = Vec::new(alloc);
-    rt.reader().read_to_end(&mut input)?;
-    let held = held_in(alloc, input.as_slice(), leading_space)?;
-    if printed.as_str() == "text" {
-        write_message(alloc, &mut io::writer(&rt), &held)?;
-    } else {
-        let message = &held.message;
-        println!(&rt;
-            "{} header fields, {} recipients",
-            message.headers().len(),
-            message.recipients().len()
-        )?;
-    }
-    Ok(())
+    let held = read_held(&rt, leading_space)?;
+    print_held(&rt, &held, printed)
 }
