@@ -1,9 +1,9 @@
 /*
- * Refuses one allocation of a program: tests/refused_growth.sh compiles this as a shared object, and it is preloaded.
+ * Refuses one allocation of a program: refused_growth.py has this compiled as a shared object, and preloaded.
  *
  * REFUSED_ALLOCATION is the number of the allocation that is refused, from 1; the numbers count calls of malloc,
  * calloc, realloc, aligned_alloc and posix_memalign. When it is refused, one byte is written to the file descriptor
- * that REFUSED_REPORT names. So where no byte comes, the program made fewer allocations.
+ * that PRELOADED_REPORT names. So where no byte comes, the program made fewer allocations.
  *
  * Counted are the calls that the program's own file makes, its runtime among them. What the dynamic loader and the C
  * library take for themselves is not counted, since it is no part of what the program does; they are told apart by
@@ -82,7 +82,7 @@ static void find_program(void)
 __attribute__((constructor)) static void begin(void)
 {
 	refused = number_of("REFUSED_ALLOCATION");
-	report = (int)number_of("REFUSED_REPORT");
+	report = (int)number_of("PRELOADED_REPORT");
 	find_program();
 }
 

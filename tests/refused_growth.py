@@ -1,47 +1,39 @@
 #!/usr/bin/env python3
-"""Runs tests and the program with one allocation refused: the first one, then the second one, and so on, until a run
-makes fewer allocations than that. refused_growth.sh compiles the object that refuses them, and says what is run.
+"""Runs tests of milter_tests and the cases of milter_tool with one allocation refused: the first one, then the
+second one, and so on, until a run makes fewer allocations than that; and the same for milter_edits. The programs are
+run as both compilers built them, milter_tool on each case of cases/ that has `args` and on the rows of the tables
+cases/*_refused_memory.table, and milter_edits on the rows of cases/edits_values.table; the tests are those below
+`tests::packets`. What is run is what `rt ci` built; nothing is proved here. refuse.c says what counts as an allocation.
 
-    python3 tests/refused_growth.py OBJECT
-
-A test of milter_refused passes, whatever was refused. A run of milter_tool ends as it does with ample memory, or as one
+A test passes, whatever was refused. A run of a program ends as it does with ample memory, or as one
 that is out of memory: after a part of the standard output from its beginning, with `out of memory` alone on standard
 error, and status 1. The last run of each, in which nothing was refused, is as ever.
 
-The last line is 'N passed, M failed', counting the runs.
+The last line is 'N passed, M failed', counting the runs. The status is 1 where one failed, where no run of the tests or
+of a program came to a refused allocation, or where what is run is missing.
 """
-import concurrent.futures
 import glob
 import os
 import subprocess
 import sys
+import tempfile
 
+import preloaded
 import tables
 
 TOP = tables.TOP
-TESTS = os.path.join(TOP, 'crates', 'milter_refused', 'out', 'milter_refused_tests')
-PROGRAMS = [tables.BUILT, tables.BUILT + '.by-rattle']
-TABLE = 'trace_refused_memory'
-OUT_OF_MEMORY = b'out of memory\n'
+TESTS = tables.program_of('milter_tests', '_tests')
+REFUSED = 'tests::packets::'
+TABLES = {'milter_tool': ['trace_refused_memory', 'session_refused_memory'], 'milter_edits': ['edits_values']}
+OUT_OF_MEMORY = [b'out of memory\n', b'Error: out of memory\n', b'Error: memory allocation failed\n']
 PASSED = b'\ntest result: ok\n'
 NO_TEST = 'a name that no test has'
-SECONDS = 60
 
 
-def ran(command, given, refused, preloaded):
+def ran(command, given, refused, refuser):
     """Runs a command with one allocation refused. Answers its status, output and errors, and whether it came to that
     allocation."""
-    ends, reports = os.pipe()
-    named = {'LD_PRELOAD': preloaded, 'REFUSED_ALLOCATION': str(refused), 'REFUSED_REPORT': str(reports)}
-    try:
-        done = subprocess.run(
-            command, input=given, capture_output=True, cwd=TOP, env=named, pass_fds=[reports], timeout=SECONDS,
-            check=False)
-    finally:
-        os.close(reports)
-        with os.fdopen(ends, 'rb') as report:
-            was_refused = report.read() != b''
-    return (done.returncode, done.stdout, done.stderr), was_refused
+    return preloaded.ran(command, given, refuser, {'REFUSED_ALLOCATION': refused})
 
 
 def is_passed(ended):
@@ -55,7 +47,7 @@ def is_as_ever_or_out_of_memory(expected):
 
     def is_right(ended):
         status, out, err = ended
-        return ended == expected or (status == 1 and err == OUT_OF_MEMORY and expected[1].startswith(out))
+        return ended == expected or (status == 1 and err in OUT_OF_MEMORY and expected[1].startswith(out))
 
     return is_right
 
@@ -67,12 +59,12 @@ class Play:
         self.name, self.command, self.given = name, command, given
         self.is_right, self.is_as_ever = is_right, is_as_ever
 
-    def failures(self, preloaded):
+    def failures(self, refuser):
         """The number of runs, and what was wrong in those that failed."""
         wrong, number, was_refused = [], 0, True
         while was_refused:
             number += 1
-            ended, was_refused = ran(self.command, self.given, number, preloaded)
+            ended, was_refused = ran(self.command, self.given, number, refuser)
             if not (self.is_right if was_refused else self.is_as_ever)(ended):
                 what = 'allocation %d refused' % number if was_refused else 'nothing refused'
                 wrong.append('%s, %s: status %d, printed %r and %r' % (
@@ -80,14 +72,15 @@ class Play:
         return number, wrong
 
 
-def plays_of_tests(preloaded):
-    """Each test of milter_refused. A name that no test has shows first that the harness itself takes no memory, so that
-    what is refused is what a test takes."""
-    _, was_refused = ran([TESTS, NO_TEST], b'', 1, preloaded)
+def plays_of_tests(refuser):
+    """Each test that accepts refused memory. A name that no test has shows first that the harness itself takes no
+    memory, so that what is refused is what a test takes."""
+    _, was_refused = ran([TESTS, NO_TEST], b'', 1, refuser)
     if was_refused:
         sys.exit('the harness of the tests takes memory before a test runs: count from there')
     listed = subprocess.run([TESTS, '--list'], capture_output=True, check=True).stdout.decode()
     names = [line.removesuffix(': test') for line in listed.splitlines() if line.endswith(': test')]
+    names = [name for name in names if name.startswith(REFUSED)]
     return [Play(name, [TESTS, name], b'', is_passed, is_passed) for name in names]
 
 
@@ -100,30 +93,41 @@ def content(folder, name):
         return file.read()
 
 
-def cases():
-    """Each folder of cases/ that has `args`: its name, words and standard input, and how its run ends."""
+def cases(program):
+    """Each folder of cases/ that has `args`: its name, command and standard input, and how its run ends."""
     for folder in sorted(glob.glob(os.path.join(TOP, 'cases', '*', ''))):
         if os.path.isfile(os.path.join(folder, 'args')):
             words = content(folder, 'args').decode().splitlines()
             expected = int(content(folder, 'status') or 0), content(folder, 'stdout'), content(folder, 'stderr')
-            yield os.path.basename(os.path.dirname(folder)), words, content(folder, 'stdin'), expected
-    for line, row, _ in tables.rows_of(tables.path_of(TABLE)):
-        yield '%s.table:%d' % (TABLE, line), ['trace'], *tables.streams_of(row, None)
+            yield os.path.basename(os.path.dirname(folder)), [program] + words, content(folder, 'stdin'), expected
 
 
-def plays_of_program(program):
-    """Each case, and each row of the table, on this build of milter_tool."""
-    for name, words, given, expected in cases():
+def rows(table, build, folder):
+    """The same for each row of a table; the row's input is also a file of this folder."""
+    for line, row, _ in tables.rows_of(tables.path_of(table)):
+        kind = tables.kind_of(table)
+        given, expected = tables.streams_of(kind, row, None)
+        path = os.path.join(folder, '%s.%d' % (table, line))
+        with open(path, 'wb') as file:
+            file.write(given)
+        yield '%s.table:%d' % (table, line), tables.command_of(kind, row, build, path), given, expected
+
+
+def plays_of_program(name, build, folder):
+    """Each case, and each row of its tables, on this build of a program."""
+    program = tables.program_of(name, build)
+    played_cases = list(cases(program)) if name == 'milter_tool' else []
+    for table in TABLES[name]:
+        played_cases += rows(table, build, folder)
+    for case, command, given, expected in played_cases:
         yield Play(
-            '%s on %s' % (name, os.path.basename(program)), [program] + words, given,
-            is_as_ever_or_out_of_memory(expected), expected.__eq__)
+            '%s on %s' % (case, os.path.basename(program)), command, given, is_as_ever_or_out_of_memory(expected),
+            expected.__eq__)
 
 
-def played(name, plays, preloaded):
+def played(name, plays, refuser):
     """Runs all of these, and answers how many runs there were and how many failed."""
-    jobs = int(os.environ.get('JOBS') or len(os.sched_getaffinity(0)))
-    with concurrent.futures.ThreadPoolExecutor(jobs) as pool:
-        results = list(pool.map(lambda play: play.failures(preloaded), plays))
+    results = preloaded.played([lambda play=play: play.failures(refuser) for play in plays])
     runs, wrong = sum(number for number, _ in results), [what for _, found in results for what in found]
     if runs == len(results):
         wrong.append('%s: no allocation was refused' % name)
@@ -133,13 +137,13 @@ def played(name, plays, preloaded):
 
 
 def main():
-    preloaded = sys.argv[1]
-    for program in PROGRAMS + [TESTS]:
-        if not os.path.isfile(program):
-            sys.exit('%s is missing: run `rt ci`, which builds it' % os.path.relpath(program, TOP))
-    groups = [(TESTS, plays_of_tests(preloaded))]
-    groups += [(program, list(plays_of_program(program))) for program in PROGRAMS]
-    counts = [played(os.path.basename(name), plays, preloaded) for name, plays in groups]
+    programs = [(name, build) for name in TABLES for build in tables.BUILDS]
+    preloaded.need([TESTS] + [tables.program_of(name, build) for name, build in programs])
+    with tempfile.TemporaryDirectory() as folder:
+        refuser = preloaded.compiled('refuse.c', folder)
+        groups = [(TESTS, plays_of_tests(refuser))]
+        groups += [(name + build, list(plays_of_program(name, build, folder))) for name, build in programs]
+        counts = [played(os.path.basename(name), plays, refuser) for name, plays in groups]
     runs, failed = (sum(count) for count in zip(*counts))
     print('%d passed, %d failed' % (runs - failed, failed))
     return 1 if failed else 0

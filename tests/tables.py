@@ -1,8 +1,9 @@
 #!/usr/bin/env python3
-"""Plays the rows of the tables cases/*.table on milter_tool as both compilers build it.
+"""Plays the rows of the tables cases/*.table on milter_tool and milter_edits as both compilers build them; the tables
+of failed calls are played by failed_calls.py alone.
 
-cases/README.md has the format of the tables. The programs are those that `rt ci` leaves, or the one that the first
-argument names. The last line is 'N passed, M failed'; the status is 1 where a row failed or a table can't be read.
+cases/README.md has the format of the tables. The programs are those that `rt ci` leaves. The last line is
+'N passed, M failed'; the status is 1 where a row failed or a table can't be read.
 """
 import os
 import re
@@ -11,11 +12,19 @@ import sys
 import tempfile
 
 TOP = os.path.dirname(os.path.dirname(os.path.abspath(__file__)))
-BUILT = os.path.join(TOP, 'crates', 'milter_tool', 'out', 'milter_tool')
+BUILDS = ['', '.by-rattle']
 TABLES = [
-    'trace_commands', 'trace_replies', 'trace_streams', 'trace_lines', 'trace_refused_memory', 'session_faults',
-    'session_sizes', 'session_values']
-SPECIAL = re.compile(rb'\{([0-9a-f]{2}|[^{}]\*[0-9]+|code)\}')
+    'trace_commands', 'trace_replies', 'trace_sizes', 'trace_streams', 'trace_lines', 'trace_refused_memory',
+    'session_faults', 'session_sizes', 'session_values', 'session_refused_memory', 'edits_values', 'edits_faults']
+# What plays the tables of each kind: a program and its words, of which FILE stands for a file of the input.
+FILE = object()
+PLAYERS = {
+    'trace': ('milter_tool', ['trace']),
+    'session': ('milter_tool', ['session', FILE]),
+    'edits': ('milter_edits', ['text']),
+}
+MARKS = b'|^<>=!*#$%'
+SPECIAL = re.compile(rb'\{([0-9a-f]{2}|[^{}]+\*[0-9]+|code)\}')
 NO_LF = b'{no LF}'
 
 
@@ -44,7 +53,8 @@ def expanded(text, code, printed):
         what = found[1]
         if what == b'code':
             return name_of(code).encode() if printed else bytes([code])
-        return what[:1] * int(what[2:]) if what[1:2] == b'*' else bytes([int(what, 16)])
+        repeated, _, count = what.rpartition(b'*')
+        return repeated * int(count) if repeated else bytes([int(what, 16)])
 
     return SPECIAL.sub(special, text)
 
@@ -55,11 +65,11 @@ def ended(text, code, printed):
     return expanded(text.removesuffix(NO_LF), code, printed) + (b'' if no_lf else b'\n')
 
 
-def packet_line(mark, text, code):
-    """A line of a trace with one packet: a code, and after a blank its payload."""
+def packet_of(text, code):
+    """A packet: its length, a code, and what follows a blank as its payload."""
     packet = expanded(text, code, False)
     packet = packet[:1] + packet[2:]
-    return b'%s %08x%s\n' % (mark, len(packet), packet.hex().encode())
+    return len(packet).to_bytes(4, 'big') + packet
 
 
 def path_of(table):
@@ -67,14 +77,32 @@ def path_of(table):
     return os.path.join(TOP, 'cases', table + '.table')
 
 
-def streams_of(lines, code):
+def kind_of(table):
+    """What a table is played by."""
+    return table.partition('_')[0]
+
+
+def program_of(name, build):
+    """The program of this name as `rt ci` leaves it."""
+    return os.path.join(TOP, 'crates', name, 'out', name + build)
+
+
+def command_of(kind, lines, build, path):
+    """The command that plays a row of these lines, whose input is this file."""
+    name, words = PLAYERS[kind]
+    more = [text.decode() for mark, text in lines if mark == b'$']
+    return [program_of(name, build)] + [path if word is FILE else word for word in words] + more
+
+
+def streams_of(kind, lines, code):
     """The input of the row of these lines, and how its run ends: its status, output and errors."""
     given, out, err = b'', b'', b''
     for mark, text in lines:
         if mark in b'|^':
             given += ended(text, code, False)
         elif mark in b'<>':
-            given += packet_line(mark, text, code)
+            packet = packet_of(text, code)
+            given += b'%s %s\n' % (mark, packet.hex().encode()) if kind == 'trace' else packet
         elif mark == b'=':
             out += ended(text, code, True)
         elif mark == b'!':
@@ -82,15 +110,15 @@ def streams_of(lines, code):
     return given, (1 if err else 0, out, err)
 
 
-def play(command, lines, code, program, folder):
+def play(kind, lines, code, build, folder):
     """Plays the row of these lines once, and answers what was wrong, or None."""
-    given, expected = streams_of(lines, code)
+    given, expected = streams_of(kind, lines, code)
     path = os.path.join(folder, 'input')
     with open(path, 'wb') as file:
         file.write(given)
-    words = [program, command] + ([path] if command == 'session' else [])
+    command = command_of(kind, lines, build, path)
     with open(path, 'rb') as file:
-        ran = subprocess.run(words, stdin=file, capture_output=True, check=False)
+        ran = subprocess.run(command, stdin=file, capture_output=True, check=False)
     if (ran.returncode, ran.stdout, ran.stderr) == expected:
         return None
     return 'status %d, printed %r and %r' % (ran.returncode, ran.stdout[:200], ran.stderr[:200])
@@ -103,7 +131,7 @@ def rows_of(path):
         lines = file.read().split(b'\n')
     for number, line in enumerate(lines + [b''], 1):
         mark, text = line[:1], line[2:]
-        if line and (mark not in b'|^<>=!*#' or line[1:2] not in (b'', b' ')):
+        if line and (mark not in MARKS or line[1:2] not in (b'', b' ')):
             sys.exit('%s:%d: no line of a table' % (path, number))
         if line and mark != b'#':
             start = start or number
@@ -118,18 +146,17 @@ def rows_of(path):
 
 
 def main():
-    programs = sys.argv[1:] or [BUILT, BUILT + '.by-rattle']
     passed = failed = 0
     with tempfile.TemporaryDirectory() as folder:
         for table in TABLES:
-            command = table.partition('_')[0]
+            kind = kind_of(table)
             for line, row, codes in rows_of(path_of(table)):
-                for program in programs:
+                for build in BUILDS:
                     for code in codes:
-                        wrong = play(command, row, code, program, folder)
+                        wrong = play(kind, row, code, build, folder)
                         passed, failed = passed + (wrong is None), failed + (wrong is not None)
                         if wrong is not None:
-                            print('FAILED: %s.table:%d on %s: %s' % (table, line, os.path.basename(program), wrong))
+                            print('FAILED: %s.table:%d%s: %s' % (table, line, build, wrong))
     print('%d passed, %d failed' % (passed, failed))
     return 1 if failed or not passed else 0
 

@@ -1,18 +1,35 @@
-//! Applies edits to a message, and prints how many header fields and recipients it then has: the bench of edits runs it.
-//! Standard input is a session file of one message, a NUL, and a stream of the reply packets that ask for the edits.
+//! Applies edits to a message. Standard input is a session file of one message, a NUL, and a stream of the reply
+//! packets that ask for the edits.
+//!
+//! The first word is what is printed: `text` the text of the message after them, which the tables of cases/ have, and
+//! `count` how many header fields and recipients it then has, for the bench of edits. A second word says that leading
+//! spaces are agreed on.
 #![tactic(auto)]
 
-ghost use Rattle.std.specs.Prelude.{All, IfOk};
+ghost use Rattle.std.specs.Prelude.{◌≤◌, All, IfOk, length};
 ghost use Rattle.milter_wire.specs.Reply.{Fits};
 ghost use Rattle.milter_message.specs.EditReplies.{reply_of};
 
 use anyhow::bail;
-use milter_mail::{Edit, Message, apply};
-use milter_samples::edit_of;
+use milter_mail::{Edit, Held, Message, apply, edits_of_replies, write_message};
 use milter_session::read_session;
-use milter_wire::Splitter;
+use milter_wire::{PAYLOAD_MAX, Packet, Reply, Splitter};
 use std::alloc::Global;
-use std::io::Read;
+use std::env;
+use std::io::{self, Read};
+
+/// The edit that a packet asks for.
+fn edit_of(alloc: Global, packet: Packet<'_>) -> anyhow::Result<Edit>
+    requires { length packet.payload.now ≤ PAYLOAD_MAX }
+    ensures { IfOk result (λ edit. Fits (reply_of edit)) }
+{
+    edits_of_replies();
+    let reply = Reply::decode(alloc, packet.code, packet.payload)?;
+    match Edit::from_reply(reply) {
+        Ok(edit) => Ok(edit),
+        Err(_) => bail!("a packet asks for no edit"),
+    }
+}
 
 /// The edits that the packets of a stream ask for.
 fn edits_in(alloc: Global, stream: &[u8]) -> anyhow::Result<Vec<Edit>>
@@ -30,42 +47,67 @@ fn edits_in(alloc: Global, stream: &[u8]) -> anyhow::Result<Vec<Edit>>
         let Some(packet) = splitter.next()? else {
             continue;
         };
-        let Ok(edit) = edit_of(alloc, packet.code, packet.payload) else {
-            bail!("a packet asks for no edit");
-        };
-        edits.push(edit)?;
+        edits.push(edit_of(alloc, packet)?)?;
     }
+    splitter.at_end()?;
     Ok(edits)
 }
 
-/// How many header fields and recipients the message has after the edits of a stream.
-fn counts_after(alloc: Global, message: &Message, stream: &[u8]) -> anyhow::Result<(usize, usize)> {
+/// The message after the edits of a stream.
+fn held_after(
+    alloc: Global,
+    message: &Message,
+    stream: &[u8],
+    leading_space: bool,
+) -> anyhow::Result<Held> {
     let edits = edits_in(alloc, stream)?;
-    let held = apply(alloc, message, &edits, false)?;
-    Ok((
-        held.message.headers().len(),
-        held.message.recipients().len(),
-    ))
+    Ok(apply(alloc, message, &edits, leading_space)?)
 }
 
-/// The same for the one message of a session file, which a NUL ends, and the stream after it.
-fn counts_in(alloc: Global, input: &[u8]) -> anyhow::Result<(usize, usize)> {
-    let Some(end) = input.iter().position(|byte| *byte == 0) else {
+/// The session file and the stream after it: a NUL is between them.
+fn parts_of(input: &[u8]) -> Option<(&[u8], &[u8])> {
+    let end = input.iter().position(|byte| *byte == 0)?;
+    Some((&input[..end], &input[end + 1..]))
+}
+
+/// The same for the one message of a session file, and the stream after it.
+fn held_in(alloc: Global, input: &[u8], leading_space: bool) -> anyhow::Result<Held> {
+    let Some((file, stream)) = parts_of(input) else {
         bail!("a NUL is to follow the session file");
     };
-    let Ok(session) = read_session(alloc, &input[..end]) else {
-        bail!("the file has no session");
-    };
+    let session = read_session(alloc, file)?;
     let [message] = session.messages() else {
         bail!("the session is to have one message");
     };
-    counts_after(alloc, message, &input[end + 1..])
+    held_after(alloc, message, stream, leading_space)
+}
+
+/// The message of standard input after its edits.
+fn read_held<R: Input + AllocGlobal>(rt: &R, leading_space: bool) -> anyhow::Result<Held> {
+    let mut input = Vec::new(rt.alloc());
+    rt.reader().read_to_end(&mut input)?;
+    held_in(rt.alloc(), &input, leading_space)
+}
+
+/// Prints the text of the message, or how much it has.
+fn print_held<R: Print + AllocGlobal>(rt: &R, held: &Held, printed: &str) -> anyhow::Result<()> {
+    if printed == "text" {
+        write_message(rt.alloc(), &mut io::writer(rt), held)?;
+    } else {
+        let headers = held.message.headers().len();
+        let recipients = held.message.recipients().len();
+        println!(rt; "{headers} header fields, {recipients} recipients")?;
+    }
+    Ok(())
 }
 
 fn main(rt: HostRuntime) -> anyhow::Result<()> {
-    let mut input = Vec::new(rt.alloc());
-    rt.reader().read_to_end(&mut input)?;
-    let (headers, recipients) = counts_in(rt.alloc(), input.as_slice())?;
-    println!(&rt; "{} header fields, {} recipients", headers, recipients)?;
-    Ok(())
+    let words: Vec<String> = env::args(&rt)?.collect(rt.alloc())?;
+    let (printed, leading_space) = match words.as_slice() {
+        [_, printed] => (printed, false),
+        [_, printed, _] => (printed, true),
+        _ => bail!("usage: milter_edits text|count [leading_space]"),
+    };
+    let held = read_held(&rt, leading_space)?;
+    print_held(&rt, &held, printed)
 }

@@ -1,101 +1,97 @@
-//! Packets are decoded to values that are encoded to the same packets.
+//! Commands and replies: decoded, copied and encoded. These tests accept that a call is out of memory, and nothing of
+//! it is left then: `tests/refused_growth.py` runs them with each allocation refused in turn.
 
-use milter_samples::{COMMAND_STREAM, REPLY_STREAM};
-use milter_wire::{Command, Packet, Reply, Splitter};
+mod command_packets;
+mod reply_packets;
+
+use command_packets::COMMAND_PACKETS;
+use milter_wire::{Command, NoMemory, Reply, WireFault};
+use reply_packets::REPLY_PACKETS;
 use std::alloc::Global;
 
-/// Whether the command has a copy that is equal to it, and fits and is appended.
-fn append_command(alloc: Global, command: &Command, out: &mut Vec<u8>) -> bool {
-    let copied = match command.clone() {
-        Ok(copy) => copy == *command,
-        Err(_) => false,
-    };
-    copied && command.fits() && command.encode(alloc, out).is_ok()
+/// Whether the output is a byte that was there before, and then the packet.
+fn is_appended(out: &[u8], packet: &[u8]) -> bool {
+    out.starts_with(&[0xaa]) && out.get(1..) == Some(packet)
 }
 
-/// Whether the packet has a command, which is appended.
-fn append_as_command(alloc: Global, packet: &Packet<'_>, out: &mut Vec<u8>) -> bool {
-    if packet.payload.len() > 65_535 {
+/// Whether the command is appended as this packet, or nothing of it, where memory is refused.
+fn is_command_encoded(alloc: Global, command: &Command, packet: &[u8]) -> bool {
+    let mut out = Vec::new(alloc);
+    if out.push(0xaa).is_err() {
+        return true;
+    }
+    if !command.fits() {
         return false;
     }
-    match Command::decode(alloc, packet.code, packet.payload) {
-        Ok(command) => append_command(alloc, &command, out),
-        Err(_) => false,
+    match command.encode(alloc, &mut out) {
+        Ok(()) => is_appended(&out, packet),
+        Err(NoMemory) => is_appended(&out, &[]),
     }
 }
 
-/// Appends each command of the stream, and answers whether all of them were.
-fn append_commands(alloc: Global, splitter: &mut Splitter, out: &mut Vec<u8>) -> bool {
-    let mut rest = COMMAND_STREAM;
-    while !rest.is_empty() {
-        let taken = splitter.feed(rest).unwrap_or(0);
-        if taken == 0 {
-            return false;
-        }
-        rest = &rest[taken..];
-        let appended = match splitter.next() {
-            Ok(Some(packet)) => append_as_command(alloc, &packet, out),
-            _ => false,
-        };
-        if !appended {
-            return false;
-        }
+/// Whether a copy of the command is equal to it, where there is memory.
+fn is_command_copied(command: &Command) -> bool {
+    match command.clone() {
+        Ok(copy) => copy == *command,
+        Err(_) => true,
     }
-    true
+}
+
+/// Whether the packet has a command whose packet it is, where there is memory.
+fn is_command(alloc: Global, packet: &[u8]) -> bool {
+    if packet.len() < 5 || packet.len() > 100 {
+        return false;
+    }
+    match Command::decode(alloc, packet[4], &packet[5..]) {
+        Ok(command) => is_command_copied(&command) && is_command_encoded(alloc, &command, packet),
+        Err(fault) => fault == WireFault::NoMemory,
+    }
 }
 
 #[test]
 fn commands_are_encoded_as_they_were(rt: HostRuntime) {
-    let mut splitter = Splitter::new(rt.alloc()).expect(&rt, "there is memory");
-    let mut out = Vec::new(rt.alloc());
-    assert!(rt; append_commands(rt.alloc(), &mut splitter, &mut out));
-    assert!(rt; out.as_slice() == COMMAND_STREAM);
+    for packet in COMMAND_PACKETS {
+        assert!(rt; is_command(rt.alloc(), packet));
+    }
 }
 
-/// Whether the reply has a copy that is equal to it, and fits and is appended.
-fn append_reply(alloc: Global, reply: &Reply, out: &mut Vec<u8>) -> bool {
-    let copied = match reply.clone() {
-        Ok(copy) => copy == *reply,
-        Err(_) => false,
-    };
-    copied && reply.fits() && reply.encode(alloc, out).is_ok()
-}
-
-/// Whether the packet has a reply, which is appended.
-fn append_as_reply(alloc: Global, packet: &Packet<'_>, out: &mut Vec<u8>) -> bool {
-    if packet.payload.len() > 65_535 {
+/// Whether the reply is appended as this packet, or nothing of it, where memory is refused.
+fn is_reply_encoded(alloc: Global, reply: &Reply, packet: &[u8]) -> bool {
+    let mut out = Vec::new(alloc);
+    if out.push(0xaa).is_err() {
+        return true;
+    }
+    if !reply.fits() {
         return false;
     }
-    match Reply::decode(alloc, packet.code, packet.payload) {
-        Ok(reply) => append_reply(alloc, &reply, out),
-        Err(_) => false,
+    match reply.encode(alloc, &mut out) {
+        Ok(()) => is_appended(&out, packet),
+        Err(NoMemory) => is_appended(&out, &[]),
     }
 }
 
-/// Appends each reply of the stream, and answers whether all of them were.
-fn append_replies(alloc: Global, splitter: &mut Splitter, out: &mut Vec<u8>) -> bool {
-    let mut rest = REPLY_STREAM;
-    while !rest.is_empty() {
-        let taken = splitter.feed(rest).unwrap_or(0);
-        if taken == 0 {
-            return false;
-        }
-        rest = &rest[taken..];
-        let appended = match splitter.next() {
-            Ok(Some(packet)) => append_as_reply(alloc, &packet, out),
-            _ => false,
-        };
-        if !appended {
-            return false;
-        }
+/// Whether a copy of the reply is equal to it, where there is memory.
+fn is_reply_copied(reply: &Reply) -> bool {
+    match reply.clone() {
+        Ok(copy) => copy == *reply,
+        Err(_) => true,
     }
-    true
+}
+
+/// Whether the packet has a reply whose packet it is, where there is memory.
+fn is_reply(alloc: Global, packet: &[u8]) -> bool {
+    if packet.len() < 5 || packet.len() > 100 {
+        return false;
+    }
+    match Reply::decode(alloc, packet[4], &packet[5..]) {
+        Ok(reply) => is_reply_copied(&reply) && is_reply_encoded(alloc, &reply, packet),
+        Err(fault) => fault == WireFault::NoMemory,
+    }
 }
 
 #[test]
 fn replies_are_encoded_as_they_were(rt: HostRuntime) {
-    let mut splitter = Splitter::new(rt.alloc()).expect(&rt, "there is memory");
-    let mut out = Vec::new(rt.alloc());
-    assert!(rt; append_replies(rt.alloc(), &mut splitter, &mut out));
-    assert!(rt; out.as_slice() == REPLY_STREAM);
+    for packet in REPLY_PACKETS {
+        assert!(rt; is_reply(rt.alloc(), packet));
+    }
 }

@@ -1,4 +1,0 @@
-pub mod WorkedMessage
-pub mod WorkedEdits
-pub mod WorkedPlan
-pub mod WorkedMacros

@@ -1,0 +1,10 @@
+//! Worked examples of the definitions that contracts name: each is what the definition computes.
+#![tactic(auto)]
+
+mod definitions;
+
+pub use definitions::{
+    agreed_options, asked_commands, edited_fields, edited_messages, largest_messages,
+    message_texts, named_bits, planned_conversations, planned_macros, planned_sessions,
+    planned_stages, sent_headers, symbol_lists,
+};

@@ -1,0 +1,86 @@
+/*
+ * Has the reads and writes of a program move a few bytes at a time, and one of them fail: failed_calls.py has this
+ * compiled as a shared object, and preloaded.
+ *
+ * READ_PIECE and WRITE_PIECE are the most bytes that a read, or a write to standard output, moves. FAILED_READ and
+ * FAILED_WRITE are the number of the call that fails, from 1, or 0 for none; FAILED_ERROR is its error, as in
+ * <errno.h>, and a write that fails with 0 takes nothing. When the call fails, one byte is written to the file
+ * descriptor that PRELOADED_REPORT names. So where no byte comes, the program made fewer calls.
+ *
+ * It includes no headers, so that it compiles where only a compiler is installed. It is for glibc.
+ */
+typedef unsigned long size_t;
+
+enum { STDOUT = 1 };
+
+extern char *getenv(const char *name);
+extern int *__errno_location(void);
+extern void abort(void);
+
+/* The C library's own functions, under the names that no object takes the place of. */
+extern long __read(int file, void *bytes, size_t size);
+extern long __write(int file, const void *bytes, size_t size);
+
+/* The calls of one kind: the most bytes that one moves, how many there were, and which one fails. */
+struct calls {
+	size_t piece;
+	size_t made;
+	size_t failed;
+};
+
+static struct calls reads, writes;
+static int error, report;
+
+static size_t number_of(const char *name)
+{
+	const char *digit = getenv(name);
+	size_t number = 0;
+
+	if (!digit || !*digit)
+		abort();
+	for (; *digit; digit++)
+		number = 10 * number + (size_t)(*digit - '0');
+	return number;
+}
+
+__attribute__((constructor)) static void begin(void)
+{
+	reads.piece = number_of("READ_PIECE");
+	reads.failed = number_of("FAILED_READ");
+	writes.piece = number_of("WRITE_PIECE");
+	writes.failed = number_of("FAILED_WRITE");
+	error = (int)number_of("FAILED_ERROR");
+	report = (int)number_of("PRELOADED_REPORT");
+}
+
+/* Whether the next call of this kind fails. */
+static int fails(struct calls *calls)
+{
+	if (++calls->made != calls->failed)
+		return 0;
+	if (__write(report, "", 1) != 1)
+		abort();
+	*__errno_location() = error;
+	return 1;
+}
+
+static size_t least(size_t size, size_t piece)
+{
+	return size < piece ? size : piece;
+}
+
+long read(int file, void *bytes, size_t size)
+{
+	if (fails(&reads))
+		return -1;
+	return __read(file, bytes, least(size, reads.piece));
+}
+
+long write(int file, const void *bytes, size_t size)
+{
+	if (file != STDOUT)
+		return __write(file, bytes, size);
+	if (fails(&writes))
+		return error ? -1 : 0;
+	return __write(file, bytes, least(size, writes.piece));
+}
