@@ -79,8 +79,8 @@ class Play:
 
 
 def plays_of_tests(refuser):
-    """Each test that ends with `NoMemory` where memory is refused. A name that no test has shows first that the harness itself takes no
-    memory, so that what is refused is what a test takes."""
+    """Each test that ends with `NoMemory` where memory is refused. A name that no test has shows first that the harness
+    itself takes no memory, so that what is refused is what a test takes."""
     _, was_refused = ran([TESTS, NO_TEST], b'', 1, refuser)
     if was_refused:
         sys.exit('the harness of the tests takes memory before a test runs: count from there')
