@@ -5,7 +5,7 @@ run as both compilers built them, milter_tool on each case of cases/ that has `a
 cases/*_refused_memory.table, and milter_edits on the rows of cases/edits_values.table; the tests are those below
 `tests::packets`. What is run is what `rt ci` built; nothing is proved here. refuse.c says what counts as an allocation.
 
-A test passes, whatever was refused. A run of a program ends as it does with ample memory, or as one
+A test passes, or ends with the result `NoMemory`. A run of a program ends as it does with ample memory, or as one
 that is out of memory: after a part of the standard output from its beginning, with `out of memory` alone on standard
 error, and status 1. The last run of each, in which nothing was refused, is as ever.
 
@@ -26,6 +26,7 @@ TESTS = tables.program_of('milter_tests', '_tests')
 REFUSED = 'tests::packets::'
 TABLES = {'milter_tool': ['trace_refused_memory', 'session_refused_memory'], 'milter_edits': ['edits_values']}
 OUT_OF_MEMORY = [b'out of memory\n', b'Error: out of memory\n', b'Error: memory allocation failed\n']
+NO_MEMORY = b'Error: NoMemory\n'
 PASSED = b'\ntest result: ok\n'
 NO_TEST = 'a name that no test has'
 
@@ -40,6 +41,11 @@ def is_passed(ended):
     """Whether a test passed."""
     status, out, _ = ended
     return status == 0 and out.endswith(PASSED)
+
+
+def is_passed_or_out_of_memory(ended):
+    """Whether a test passed, or its result is that it is out of memory."""
+    return is_passed(ended) or (ended[0] != 0 and ended[2].startswith(NO_MEMORY))
 
 
 def is_as_ever_or_out_of_memory(expected):
@@ -73,15 +79,15 @@ class Play:
 
 
 def plays_of_tests(refuser):
-    """Each test that accepts refused memory. A name that no test has shows first that the harness itself takes no
-    memory, so that what is refused is what a test takes."""
+    """Each test that ends with `NoMemory` where memory is refused. A name that no test has shows first that the harness
+    itself takes no memory, so that what is refused is what a test takes."""
     _, was_refused = ran([TESTS, NO_TEST], b'', 1, refuser)
     if was_refused:
         sys.exit('the harness of the tests takes memory before a test runs: count from there')
     listed = subprocess.run([TESTS, '--list'], capture_output=True, check=True).stdout.decode()
     names = [line.removesuffix(': test') for line in listed.splitlines() if line.endswith(': test')]
     names = [name for name in names if name.startswith(REFUSED)]
-    return [Play(name, [TESTS, name], b'', is_passed, is_passed) for name in names]
+    return [Play(name, [TESTS, name], b'', is_passed_or_out_of_memory, is_passed) for name in names]
 
 
 def content(folder, name):

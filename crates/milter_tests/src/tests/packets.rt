@@ -1,5 +1,5 @@
-//! Commands and replies: decoded, copied and encoded. These tests accept that a call is out of memory, and nothing of
-//! it is left then: `tests/refused_growth.py` runs them with each allocation refused in turn.
+//! Commands and replies: decoded, copied and encoded. A test that is out of memory ends with that, and nothing is left
+//! of what a call appended: `tests/refused_growth.py` runs these tests with each allocation refused in turn.
 
 mod command_packets;
 mod reply_packets;
@@ -14,84 +14,103 @@ fn is_appended(out: &[u8], packet: &[u8]) -> bool {
     out.starts_with(&[0xaa]) && out.get(1..) == Some(packet)
 }
 
-/// Whether the command is appended as this packet, or nothing of it, where memory is refused.
-fn is_command_encoded(alloc: Global, command: &Command, packet: &[u8]) -> bool {
+/// Whether both are so; none where memory was refused before that was known.
+fn are_both(first: Option<bool>, second: Option<bool>) -> Option<bool> {
+    Some(first? && second?)
+}
+
+/// Whether the command is appended as this packet, or none and nothing of it, where memory is refused.
+fn is_command_encoded(alloc: Global, command: &Command, packet: &[u8]) -> Option<bool> {
     let mut out = Vec::new(alloc);
     if out.push(0xaa).is_err() {
-        return true;
+        return None;
     }
     if !command.fits() {
-        return false;
+        return Some(false);
     }
     match command.encode(alloc, &mut out) {
-        Ok(()) => is_appended(&out, packet),
-        Err(NoMemory) => is_appended(&out, &[]),
+        Ok(()) => Some(is_appended(&out, packet)),
+        Err(NoMemory) if is_appended(&out, &[]) => None,
+        Err(NoMemory) => Some(false),
     }
 }
 
-/// Whether a copy of the command is equal to it, where there is memory.
-fn is_command_copied(command: &Command) -> bool {
+/// Whether a copy of the command is equal to it, or none, where memory is refused.
+fn is_command_copied(command: &Command) -> Option<bool> {
     match command.clone() {
-        Ok(copy) => copy == *command,
-        Err(_) => true,
+        Ok(copy) => Some(copy == *command),
+        Err(_) => None,
     }
 }
 
-/// Whether the packet has a command whose packet it is, where there is memory.
-fn is_command(alloc: Global, packet: &[u8]) -> bool {
+/// Whether the packet has a command whose packet it is, or none, where memory is refused.
+fn is_command(alloc: Global, packet: &[u8]) -> Option<bool> {
     if packet.len() < 5 || packet.len() > 100 {
-        return false;
+        return Some(false);
     }
     match Command::decode(alloc, packet[4], &packet[5..]) {
-        Ok(command) => is_command_copied(&command) && is_command_encoded(alloc, &command, packet),
-        Err(fault) => fault == WireFault::NoMemory,
+        Ok(command) => are_both(
+            is_command_copied(&command),
+            is_command_encoded(alloc, &command, packet),
+        ),
+        Err(WireFault::NoMemory) => None,
+        Err(_) => Some(false),
     }
 }
 
 #[test]
-fn commands_are_encoded_as_they_were(rt: HostRuntime) {
+fn commands_are_encoded_as_they_were(rt: HostRuntime) -> Result<(), NoMemory> {
     for packet in COMMAND_PACKETS {
-        assert!(rt; is_command(rt.alloc(), packet));
+        let right = is_command(rt.alloc(), packet).ok_or(NoMemory)?;
+        assert!(rt; right);
     }
+    Ok(())
 }
 
-/// Whether the reply is appended as this packet, or nothing of it, where memory is refused.
-fn is_reply_encoded(alloc: Global, reply: &Reply, packet: &[u8]) -> bool {
+/// Whether the reply is appended as this packet, or none and nothing of it, where memory is refused.
+fn is_reply_encoded(alloc: Global, reply: &Reply, packet: &[u8]) -> Option<bool> {
     let mut out = Vec::new(alloc);
     if out.push(0xaa).is_err() {
-        return true;
+        return None;
     }
     if !reply.fits() {
-        return false;
+        return Some(false);
     }
     match reply.encode(alloc, &mut out) {
-        Ok(()) => is_appended(&out, packet),
-        Err(NoMemory) => is_appended(&out, &[]),
+        Ok(()) => Some(is_appended(&out, packet)),
+        Err(NoMemory) if is_appended(&out, &[]) => None,
+        Err(NoMemory) => Some(false),
     }
 }
 
-/// Whether a copy of the reply is equal to it, where there is memory.
-fn is_reply_copied(reply: &Reply) -> bool {
+/// Whether a copy of the reply is equal to it, or none, where memory is refused.
+fn is_reply_copied(reply: &Reply) -> Option<bool> {
     match reply.clone() {
-        Ok(copy) => copy == *reply,
-        Err(_) => true,
+        Ok(copy) => Some(copy == *reply),
+        Err(_) => None,
     }
 }
 
-/// Whether the packet has a reply whose packet it is, where there is memory.
-fn is_reply(alloc: Global, packet: &[u8]) -> bool {
+/// Whether the packet has a reply whose packet it is, or none, where memory is refused.
+fn is_reply(alloc: Global, packet: &[u8]) -> Option<bool> {
     if packet.len() < 5 || packet.len() > 100 {
-        return false;
+        return Some(false);
     }
     match Reply::decode(alloc, packet[4], &packet[5..]) {
-        Ok(reply) => is_reply_copied(&reply) && is_reply_encoded(alloc, &reply, packet),
-        Err(fault) => fault == WireFault::NoMemory,
+        Ok(reply) => are_both(
+            is_reply_copied(&reply),
+            is_reply_encoded(alloc, &reply, packet),
+        ),
+        Err(WireFault::NoMemory) => None,
+        Err(_) => Some(false),
     }
 }
 
 #[test]
-fn replies_are_encoded_as_they_were(rt: HostRuntime) {
+fn replies_are_encoded_as_they_were(rt: HostRuntime) -> Result<(), NoMemory> {
     for packet in REPLY_PACKETS {
-        assert!(rt; is_reply(rt.alloc(), packet));
+        let right = is_reply(rt.alloc(), packet).ok_or(NoMemory)?;
+        assert!(rt; right);
     }
+    Ok(())
 }
