@@ -17,19 +17,17 @@ pub record Behavior : Type 0 where
   pub lists : List SymList
   pub decide : Stage → Seen → Answer
 
--- the permitted answer at a stage, where what is shown has these commands, the latest first
-abbrev pub answer_at : Behavior → Agreed → Stage → List Command → Answer
-answer_at b agreed stage shown = permitted agreed (b.decide stage (seen (has_leading_space agreed) shown))
-
--- the answer to a command, after those that were shown before it, if it is asked about
-abbrev pub answer_to : Behavior → Agreed → Option Stage → Bool → List Command → Option Answer
-answer_to b agreed (Some stage) true shown = Some (answer_at b agreed stage shown)
+-- the permitted answer to a command of this stage, if it is asked about, where this is shown
+abbrev pub answer_to : Behavior → Agreed → Option Stage → Bool → Seen → Option Answer
+answer_to b agreed (Some stage) true shown = Some (permitted agreed (b.decide stage shown))
 answer_to b agreed (Some stage) false shown = None
 answer_to b agreed None is_asked shown = None
 
+-- a command and its answer, after the commands that were shown before it, the latest first
 abbrev pub exchange_of : Behavior → Agreed → List Command → Command → Exchange
 exchange_of b agreed before command =
     record {
       command = command;
-      answer = answer_to b agreed (stage_of command) (is_asked agreed command) (command ∷ before);
+      answer = answer_to b agreed (stage_of command) (is_asked agreed command)
+      (seen (has_leading_space agreed) (command ∷ before));
     }

@@ -1,0 +1,3 @@
+pub mod Going
+pub mod Histories
+pub mod Standings

@@ -1,0 +1,9 @@
+pub mod FilterFault
+pub mod Commands
+pub mod Histories
+pub mod Faults
+pub mod Replies
+pub mod Conversations
+pub mod Standings
+pub mod Pass
+pub mod Worked

@@ -1,0 +1,16 @@
+//! The filter's end of the Sendmail milter protocol, version 6: what it replies to the commands of any mail server, by a
+//! policy and by what was agreed on.
+//!
+//! Nothing here reads, writes or waits.
+#![tactic(auto)]
+
+mod filter_fault;
+mod filter_state;
+mod laws;
+mod rows;
+
+pub use filter_fault::FilterFault;
+pub use filter_state::FilterState;
+pub use laws::{
+    conversations_go_on, parts_of_histories, standings_go_on, standings_of_conversations,
+};
