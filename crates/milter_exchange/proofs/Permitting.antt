@@ -9,7 +9,7 @@ use Rattle.milter_wire.specs.Agreement.{has}
 use Rattle.milter_exchange.specs.declared.answer.Answer.{Answer}
 use Rattle.milter_exchange.specs.Permitted.{is_permitted, permitted, permitted_verdict}
 
-filter-again : {A : Type 0} (p : A → Bool) (xs : List A) → filter p (filter p xs) ≡ filter p xs
+pub filter-again : {A : Type 0} (p : A → Bool) (xs : List A) → filter p (filter p xs) ≡ filter p xs
 filter-again p [] = refl
 filter-again {A} p (x ∷ xs) = by_test (p x) refl (filter-again p xs)
   where

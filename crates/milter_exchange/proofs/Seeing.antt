@@ -4,6 +4,7 @@ use Rattle.std.specs.List.{concat}
 use Rattle.std.specs.Option.{option_or}
 use Rattle.std.specs.Str.{bytes_eq}
 use Rattle.std.proofs.lemmas.Grind.{reverse_onto}
+use Rattle.std.proofs.lemmas.List.Concat.{flat_map-cons}
 use Rattle.milter_wire.specs.declared.command.Command.{Command}
 use Rattle.milter_wire.specs.declared.command.Command.TheVariants as commands
 use Rattle.milter_wire.specs.declared.pair.Pair.{Pair}
@@ -19,7 +20,7 @@ concat-push (ys ∷ xss) xs = ap (λ zs. ys ++ zs) (concat-push xss xs) ∙ sym 
 body-with : (xs : List ℕ) (xss : List (List ℕ)) → concat (reverse (xs ∷ xss)) ≡ concat (reverse xss) ++ xs
 body-with xs xss = ap concat (reverse-cons xs xss) ∙ concat-push (reverse xss) xs
 
-value-append : (xs ys : List Pair) (name : List ℕ) → value_in (xs ++ ys) name ≡ option_or (value_in xs name) (value_in ys name)
+pub value-append : (xs ys : List Pair) (name : List ℕ) → value_in (xs ++ ys) name ≡ option_or (value_in xs name) (value_in ys name)
 value-append [] ys name = refl
 value-append (x ∷ xs) ys name = by_name (bytes_eq x.name name) (value-append xs ys name)
   where
@@ -39,5 +40,5 @@ seen-with ls (commands.Body bytes) before =
 seen-with ls (commands.Eob bytes) before =
     ap (λ b. record (seen ls before) { body = b }) (body-with bytes (filter_map piece_in before))
 seen-with ls (commands.Macro command pairs) before =
-    λ i. record (seen ls before) { macro_value = λ name. value-append (reverse pairs) (flat_map pairs_in before) name i }
+    ap (λ ms. record (seen ls before) { macros = ms }) (flat_map-cons pairs_in (commands.Macro command pairs) before)
 seen-with ls other before = refl

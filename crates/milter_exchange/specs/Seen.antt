@@ -1,7 +1,6 @@
 -- What a filter is shown, by the commands that came, the latest first.
 use Rattle.std.specs.Prelude.{ℕ, Bool, List, [], ◌∷◌, ◌++◌, reverse, Option, None, Some, option_map}
 use Rattle.std.specs.List.{concat, filter_map, find, flat_map}
-use Rattle.std.specs.Option.{option_or}
 use Rattle.std.specs.Str.{bytes_eq}
 use Rattle.milter_wire.specs.declared.client.Client.{Client}
 use Rattle.milter_wire.specs.declared.command.Command.{Command}
@@ -11,8 +10,8 @@ use Rattle.milter_wire.specs.declared.pair.Pair.{Pair}
 use Rattle.milter_wire.specs.declared.path.Path.{Path}
 use Rattle.milter_exchange.specs.Exchanges.{latest}
 
--- Values of header fields are as they were sent, with leading spaces or without; macros have the value that was last
--- given to their name.
+-- Values of header fields are as they were sent, with leading spaces or without. Of the macros the last ones come first,
+-- so that the first of a name has its value.
 pub record Seen : Type 0 where
   pub leading_space : Bool
   pub client : Option Client
@@ -21,7 +20,7 @@ pub record Seen : Type 0 where
   pub recipients : List Path
   pub headers : List Header
   pub body : List ℕ
-  pub macro_value : List ℕ → Option (List ℕ)
+  pub macros : List Pair
 
 -- ---- what each command has
 
@@ -72,7 +71,7 @@ seen leading_space shown =
       recipients = reverse (filter_map recipient_in shown);
       headers = reverse (filter_map header_in shown);
       body = concat (reverse (filter_map piece_in shown));
-      macro_value = value_in (flat_map pairs_in shown);
+      macros = flat_map pairs_in shown;
     }
 
 -- ---- with one command more
@@ -85,6 +84,5 @@ seen_with s (commands.Rcpt recipient) = record s { recipients = s.recipients ++ 
 seen_with s (commands.Header header) = record s { headers = s.headers ++ header ∷ [] }
 seen_with s (commands.Body bytes) = record s { body = s.body ++ bytes }
 seen_with s (commands.Eob bytes) = record s { body = s.body ++ bytes }
-seen_with s (commands.Macro command pairs) =
-    record s { macro_value = λ name. option_or (value_in (reverse pairs) name) (s.macro_value name) }
+seen_with s (commands.Macro command pairs) = record s { macros = reverse pairs ++ s.macros }
 seen_with s other = s

@@ -35,6 +35,13 @@ impl Edits {
     {
         self.edits.as_slice()
     }
+
+    /// The edits, in order, each to be taken. No memory is taken.
+    pub fn into_vec(self) -> Vec<Edit>
+        ensures { result.items ≡ self }
+    {
+        self.edits
+    }
 }
 
 impl From<Vec<Edit>> for Edits {

@@ -1,21 +1,26 @@
 //! Laws of what both ends share, each the contract of a function that does nothing.
 
-ghost use Rattle.std.specs.Prelude.{◌≡◌, ◌++◌, ◌∷◌, ◌<◌, All, Bool, IfSome, List, false, true};
+ghost use Rattle.std.specs.Prelude.{◌≡◌, ◌++◌, ◌∷◌, ◌<◌, All, Bool, IfSome, List, ℕ, false, true};
+ghost use Rattle.std.specs.Option.{option_or};
 ghost use Rattle.milter_wire.specs.declared.agreement.Agreed.{Agreed};
 ghost use Rattle.milter_wire.specs.declared.command.Command.{Command};
+ghost use Rattle.milter_wire.specs.declared.pair.Pair.{Pair};
 ghost use Rattle.milter_wire.specs.declared.stage.Stage.{Stage};
 ghost use Rattle.milter_exchange.specs.declared.answer.Answer.{Answer};
 ghost use Rattle.milter_exchange.specs.Behavior.{Behavior};
 ghost use Rattle.milter_exchange.specs.Exchanges.{Exchange, latest, since, up_to};
 ghost use Rattle.milter_exchange.specs.Permitted.{is_permitted, permitted};
-ghost use Rattle.milter_exchange.specs.Seen.{seen, seen_with};
+ghost use Rattle.milter_exchange.specs.Seen.{seen, seen_with, value_in};
 ghost use Rattle.milter_exchange.specs.StageOrder.{may_follow, may_repeat, rank_of};
 ghost use Rattle.milter_exchange.specs.Talk.{AreAnsweredBy, EndAtFinalAnswer, HaveNoSkippedPiece, talk};
 
 /// One command more adds its own part to what is shown, and leaves all else as it is.
 pub fn seen_in_turn()
-    ensures { (leading_space : Bool) (command : Command) (before : List Command) →
+    ensures seen { (leading_space : Bool) (command : Command) (before : List Command) →
         seen leading_space (command ∷ before) ≡ seen_with (seen leading_space before) command }
+    // A macro has the value that was given last.
+    ensures last_value { (later earlier : List Pair) (name : List ℕ) →
+        value_in (later ++ earlier) name ≡ option_or (value_in later name) (value_in earlier name) }
 {}
 
 /// A history is what came since the last of a kind, and then that last one with what came before it.

@@ -10,9 +10,11 @@ mod edits;
 mod laws;
 mod permitted;
 mod stage_order;
+mod verdicts;
 
 pub use answer::Answer;
 pub use edits::Edits;
 pub use laws::{histories_cut, permitted_answers, seen_in_turn, stages_in_order, talks};
 pub use permitted::{permits, permitted_verdict};
 pub use stage_order::{may_follow, rank_of};
+pub use verdicts::is_final_at;

@@ -1,3 +1,4 @@
 pub mod Going
 pub mod Histories
 pub mod Standings
+pub mod MacroLists

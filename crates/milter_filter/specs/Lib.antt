@@ -5,5 +5,9 @@ pub mod Faults
 pub mod Replies
 pub mod Conversations
 pub mod Standings
+pub mod MacroLists
+pub mod SeenParts
+pub mod Lawful
+pub mod PassLaw
 pub mod Pass
 pub mod Worked

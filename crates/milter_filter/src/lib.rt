@@ -7,7 +7,11 @@
 mod filter_fault;
 mod filter_state;
 mod laws;
+mod macro_list;
+mod pass;
+mod policy;
 mod rows;
+mod seen;
 
 pub use filter_fault::FilterFault;
 pub use filter_state::FilterState;
