@@ -2,3 +2,6 @@ pub mod Going
 pub mod Histories
 pub mod Standings
 pub mod MacroLists
+pub mod EditPackets
+pub mod ShownCommands
+pub mod Agreeing

@@ -1,5 +1,6 @@
 -- What is kept of a conversation goes on as the conversation does.
 use Rattle.std.proofs.Common.{◌≡◌, ◌+◌, Bool, true, false, List, [], ◌∷◌, ◌++◌, length, Option, None, Some, Ok, Err, refl, ◌∙◌, ap, if◌then◌else◌}
+use Rattle.std.specs.Option.{option_or}
 use Rattle.std.proofs.lemmas.List.Sums.{sum_by-cons}
 use Rattle.milter_wire.specs.declared.agreement.Agreed.{Agreed}
 use Rattle.milter_wire.specs.declared.command.Command.{Command}
@@ -13,13 +14,13 @@ use Rattle.milter_exchange.specs.Seen.{Seen, seen, seen_with}
 use Rattle.milter_exchange.proofs.Seeing.{seen-with}
 use Rattle.milter_filter.specs.declared.filter_fault.FilterFault.{FilterFault}
 use Rattle.milter_filter.specs.declared.filter_state.FilterState.{FilterState}
-use Rattle.milter_filter.specs.declared.filter_state.FilterState.TheVariants.{Serving}
-use Rattle.milter_filter.specs.Commands.{is_of_connection, is_quit_new, is_shown}
+use Rattle.milter_filter.specs.declared.filter_state.FilterState.TheVariants.{Failed, Quit, Serving}
+use Rattle.milter_filter.specs.Commands.{is_quit, is_of_connection, is_quit_new, is_shown}
 use Rattle.milter_filter.specs.Conversations.{Conversation, Received, after, answer_by, exchange_at, fault_at, next, next_in, replies, replies_at, replies_by, replies_in, state_after, with_received}
 use Rattle.milter_filter.specs.Faults.{fault_of}
-use Rattle.milter_filter.specs.Histories.{agreed_in, ends_message, has_leading_space_in, last_rank, of_connection, shown}
+use Rattle.milter_filter.specs.Histories.{agreed_by, agreed_in, ends_message, has_leading_space_in, last_rank, of_connection, shown}
 use Rattle.milter_filter.specs.Replies.{replies_to}
-use Rattle.milter_filter.specs.Standings.{connection_after, part_of, shown_after, standing_after, standing_answer, standing_by, standing_fault, standing_in, standing_next, standing_of, standing_replies, standing_replies_at, standing_replies_by, standing_replies_in, standing_with, with_command, with_if, with_leading_space}
+use Rattle.milter_filter.specs.Standings.{Part, Standing, connection_after, kept_of, part_of, shown_after, standing_after, standing_answer, standing_at, standing_by, standing_fault, standing_in, standing_next, standing_of, standing_replies, standing_replies_at, standing_replies_by, standing_replies_in, standing_with, with_agreed, with_command, with_if}
 use Rattle.milter_filter.proofs.Histories.{agreed_in-cons, connection-cons, last_rank-cons, shown-cons}
 
 -- ---- parts
@@ -27,44 +28,41 @@ use Rattle.milter_filter.proofs.Histories.{agreed_in-cons, connection-cons, last
 bytes_of-cons : (c : Command) (cs : List Command) → bytes_of (c ∷ cs) ≡ length (encoding c) + bytes_of cs
 bytes_of-cons c cs = sum_by-cons (λ (command : Command). length (encoding command)) c cs
 
-seen-leading : (ls : Bool) (s : Seen) (c : Command) → seen_with (record s { leading_space = ls }) c ≡ record (seen_with s c) { leading_space = ls }
-seen-leading ls s (commands.Connect client) = refl
-seen-leading ls s other = refl
-
-part-with : (ls ls' : Bool) (c : Command) (cs : List Command) → part_of ls' (c ∷ cs) ≡ with_leading_space ls' (with_command (part_of ls cs) c)
-part-with ls ls' c cs =
-    let seen_is = seen-with ls' c cs ∙ seen-leading ls' (seen ls cs) c in
+part-with : (ls : Bool) (c : Command) (cs : List Command) → part_of ls (c ∷ cs) ≡ with_command (part_of ls cs) c
+part-with ls c cs =
+    let seen_is = seen-with ls c cs in
     let bytes_are = bytes_of-cons c cs in
     λ i. record { seen = seen_is i; bytes = bytes_are i }
 
-part-with_if : (ls ls' test : Bool) (c : Command) (cs : List Command)
-    → part_of ls' (if test then c ∷ cs else cs) ≡ with_leading_space ls' (with_if test (part_of ls cs) c)
-part-with_if ls ls' true c cs = part-with ls ls' c cs
-part-with_if ls ls' false c cs = refl
+part-with_if : (ls test : Bool) (c : Command) (cs : List Command) → part_of ls (if test then c ∷ cs else cs) ≡ with_if test (part_of ls cs) c
+part-with_if ls true c cs = part-with ls c cs
+part-with_if ls false c cs = refl
 
-connection-part : (ls ls' : Bool) (e : Exchange) (before : List Exchange)
-    → part_of ls' (of_connection (e ∷ before))
-    ≡ with_leading_space ls' (connection_after (is_quit_new e.command) (part_of ls (of_connection before)) e.command)
-connection-part ls ls' e before = rw (connection-cons e before) (by_anew (is_quit_new e.command))
+part-agreed : (found agreed : Option Agreed) (cs : List Command)
+    → part_of (has_leading_space_in (option_or found agreed)) cs ≡ with_agreed found (part_of (has_leading_space_in agreed) cs)
+part-agreed None agreed cs = refl
+part-agreed (Some g) agreed cs = refl
+
+connection-part : (ls : Bool) (e : Exchange) (before : List Exchange)
+    → part_of ls (of_connection (e ∷ before)) ≡ connection_after (is_quit_new e.command) (part_of ls (of_connection before)) e.command
+connection-part ls e before = rw (connection-cons e before) (by_anew (is_quit_new e.command))
   where
     by_anew : (anew : Bool)
-        → part_of ls' (if anew then [] else if is_of_connection e.command then e.command ∷ of_connection before else of_connection before)
-        ≡ with_leading_space ls' (connection_after anew (part_of ls (of_connection before)) e.command)
+        → part_of ls (if anew then [] else if is_of_connection e.command then e.command ∷ of_connection before else of_connection before)
+        ≡ connection_after anew (part_of ls (of_connection before)) e.command
     by_anew true = refl
-    by_anew false = part-with_if ls ls' (is_of_connection e.command) e.command (of_connection before)
+    by_anew false = part-with_if ls (is_of_connection e.command) e.command (of_connection before)
 
-shown-part : (ls ls' : Bool) (e : Exchange) (before : List Exchange)
-    → part_of ls' (shown (e ∷ before))
-    ≡ with_leading_space ls'
-    (shown_after (ends_message e) (connection_after (is_quit_new e.command) (part_of ls (of_connection before)) e.command) (part_of ls (shown before)) e.command)
-shown-part ls ls' e before = rw (shown-cons e before) (by_end (ends_message e))
+shown-part : (ls : Bool) (e : Exchange) (before : List Exchange)
+    → part_of ls (shown (e ∷ before))
+    ≡ shown_after (ends_message e) (connection_after (is_quit_new e.command) (part_of ls (of_connection before)) e.command) (part_of ls (shown before)) e.command
+shown-part ls e before = rw (shown-cons e before) (by_end (ends_message e))
   where
     by_end : (ends : Bool)
-        → part_of ls' (if ends then of_connection (e ∷ before) else if is_shown e.command then e.command ∷ shown before else shown before)
-        ≡ with_leading_space ls'
-        (shown_after ends (connection_after (is_quit_new e.command) (part_of ls (of_connection before)) e.command) (part_of ls (shown before)) e.command)
-    by_end true = connection-part ls ls' e before
-    by_end false = part-with_if ls ls' (is_shown e.command) e.command (shown before)
+        → part_of ls (if ends then of_connection (e ∷ before) else if is_shown e.command then e.command ∷ shown before else shown before)
+        ≡ shown_after ends (connection_after (is_quit_new e.command) (part_of ls (of_connection before)) e.command) (part_of ls (shown before)) e.command
+    by_end true = connection-part ls e before
+    by_end false = part-with_if ls (is_shown e.command) e.command (shown before)
 
 -- ---- one command
 
@@ -72,22 +70,36 @@ abbrev going_on : List Exchange → Conversation
 going_on history = record { history = history; state = Serving }
 
 module _ (b : Behavior) where
+  state-at : (history : List Exchange) (c : Command) (quits : Bool) → is_quit c ≡ quits
+      → standing_at b history (state_after c) ≡ kept_of b history (state_after c)
+  state-at history c true is = rw is refl
+  state-at history c false is = rw is refl
+
   with-exchange : (e : Exchange) (before : List Exchange)
       → standing_of b (record { history = e ∷ before; state = state_after e.command })
       ≡ standing_with b (standing_of b (going_on before)) e.command e.answer
   with-exchange e before =
+      state-at (e ∷ before) e.command (is_quit e.command) refl ∙
       let ls = has_leading_space_in (agreed_in b before) in
+      let found = agreed_by b e.command in
       let agreed = agreed_in-cons b e before in
       let rank = last_rank-cons e before in
-      let shown_is = λ (ls' : Bool). shown-part ls ls' e before in
-      let connection_is = λ (ls' : Bool). connection-part ls ls' e before in
-      λ i. record {
-        agreed = agreed i;
-        last_rank = rank i;
-        shown = shown_is (has_leading_space_in (agreed i)) i;
-        connection = connection_is (has_leading_space_in (agreed i)) i;
+      let shown_is = part-agreed found (agreed_in b before) (shown (e ∷ before)) ∙ ap (with_agreed found) (shown-part ls e before) in
+      let connection_is = part-agreed found (agreed_in b before) (of_connection (e ∷ before)) ∙ ap (with_agreed found) (connection-part ls e before) in
+      ap (λ g. record {
+        agreed = g;
+        last_rank = last_rank (e ∷ before);
+        shown = part_of (has_leading_space_in g) (shown (e ∷ before));
+        connection = part_of (has_leading_space_in g) (of_connection (e ∷ before));
         state = state_after e.command;
-      }
+      }) agreed
+      ∙ (λ i. record {
+        agreed = option_or found (agreed_in b before);
+        last_rank = rank i;
+        shown = shown_is i;
+        connection = connection_is i;
+        state = state_after e.command;
+      })
 
   answer-is : (agreed : Option Agreed) (before : List Command) (c : Command)
       → answer_by b agreed before c ≡ standing_answer b agreed (part_of (has_leading_space_in agreed) before) c
@@ -116,19 +128,21 @@ module _ (b : Behavior) where
 
   next-in : (history : List Exchange) (state : FilterState) (received : Received)
       → standing_of b (next_in b history received state)
-      ≡ standing_in b (standing_of b (record { history = history; state = state })) received state
+      ≡ standing_next b (standing_of b (record { history = history; state = state })) received
   next-in history Serving received =
       next-by history received (fault_at b history received)
       ∙ ap (λ fault. standing_by b (standing_of b (going_on history)) received fault) (fault-is history received)
-  next-in history other received = refl
+  next-in history Quit received = refl
+  next-in history (Failed fault) received = refl
 
   replies-in : (history : List Exchange) (state : FilterState) (received : Received)
       → replies_in b history received state
-      ≡ standing_replies_in b (standing_of b (record { history = history; state = state })) received state
+      ≡ standing_replies_at b (standing_of b (record { history = history; state = state })) received
   replies-in history Serving received =
       replies-by history received (fault_at b history received)
       ∙ ap (λ fault. standing_replies_by b (standing_of b (going_on history)) received fault) (fault-is history received)
-  replies-in history other received = refl
+  replies-in history Quit received = refl
+  replies-in history (Failed fault) received = refl
 
   next-is : (c : Conversation) (received : Received) → standing_of b (next b c received) ≡ standing_next b (standing_of b c) received
   next-is c received = next-in c.history c.state received

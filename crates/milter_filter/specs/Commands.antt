@@ -5,6 +5,7 @@ use Rattle.milter_wire.specs.declared.command.Command.{Command}
 use Rattle.milter_wire.specs.declared.command.Command.TheVariants as commands
 use Rattle.milter_wire.specs.declared.stage.Stage.{Stage}
 use Rattle.milter_wire.specs.declared.stage.Stage.TheVariants.{Connect, Helo, Eob}
+use Rattle.milter_wire.specs.declared.verdict.Verdict.{Verdict}
 use Rattle.milter_wire.specs.Stages.{stage_of}
 use Rattle.milter_exchange.specs.declared.answer.Answer.{Answer}
 use Rattle.milter_exchange.specs.Verdicts.{has_verdict, is_final_at}
@@ -34,13 +35,15 @@ abbrev pub is_abort : Command → Bool
 is_abort commands.Abort = true
 is_abort other = false
 
--- a message ends at such an answer: none is there yet at the first two stages
+-- a message ends at a verdict that lets nothing more of it be sent; at the first two stages none is there yet
+abbrev pub is_end_by : Stage → Verdict → Bool
+is_end_by Connect verdict = false
+is_end_by Helo verdict = false
+is_end_by stage verdict = is_final_at stage verdict
+
 abbrev pub is_end_at : Option Stage → Option Answer → Bool
 is_end_at None answer = false
-is_end_at (Some Connect) answer = false
-is_end_at (Some Helo) answer = false
-is_end_at (Some Eob) answer = true
-is_end_at (Some stage) answer = has_verdict (is_final_at stage) answer
+is_end_at (Some stage) answer = has_verdict (is_end_by stage) answer
 
 -- a message ends with this command and its answer
 abbrev pub is_message_end : Command → Option Answer → Bool

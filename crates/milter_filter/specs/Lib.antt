@@ -9,5 +9,6 @@ pub mod MacroLists
 pub mod SeenParts
 pub mod Lawful
 pub mod PassLaw
+pub mod Asking
 pub mod Pass
 pub mod Worked

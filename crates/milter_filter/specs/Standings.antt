@@ -1,15 +1,16 @@
 -- What a filter's end keeps of a connection: what its history comes to, and nothing more of it.
-use Rattle.std.specs.Prelude.{ℕ, ◌+◌, Bool, true, false, List, [], ◌∷◌, ◌++◌, length, Option, None, Some, Ok, Err, if◌then◌else◌}
+use Rattle.std.specs.Prelude.{ℕ, ◌+◌, min, Bool, true, false, List, [], ◌∷◌, ◌++◌, length, Option, None, Some, Ok, Err, if◌then◌else◌}
 use Rattle.std.specs.Option.{option_or}
 use Rattle.milter_wire.specs.declared.agreement.Agreed.{Agreed}
 use Rattle.milter_wire.specs.declared.command.Command.{Command}
 use Rattle.milter_wire.specs.declared.reply.Reply.{Reply}
 use Rattle.milter_wire.specs.declared.stage.Stage.{Stage}
-use Rattle.milter_wire.specs.Agreement.{is_asked}
+use Rattle.milter_wire.specs.Agreement.{has_leading_space, is_asked}
 use Rattle.milter_wire.specs.Command.{bytes_of, encoding}
 use Rattle.milter_wire.specs.Stages.{stage_of}
 use Rattle.milter_exchange.specs.declared.answer.Answer.{Answer}
 use Rattle.milter_exchange.specs.Behavior.{Behavior, answer_to}
+use Rattle.milter_exchange.specs.Exchanges.{Exchange}
 use Rattle.milter_exchange.specs.Seen.{Seen, seen, seen_with}
 use Rattle.milter_exchange.specs.StageOrder.{rank_of}
 use Rattle.milter_filter.specs.declared.filter_fault.FilterFault.{FilterFault}
@@ -41,26 +42,38 @@ pub record Standing : Type 0 where
 abbrev pub part_of : Bool → List Command → Part
 part_of leading_space commands = record { seen = seen leading_space commands; bytes = bytes_of commands }
 
-abbrev pub standing_of : Behavior → Conversation → Standing
-standing_of b c =
-    let leading_space = has_leading_space_in (agreed_in b c.history) in
-    record {
-      agreed = agreed_in b c.history;
-      last_rank = last_rank c.history;
-      shown = part_of leading_space (shown c.history);
-      connection = part_of leading_space (of_connection c.history);
-      state = c.state;
-    }
-
-abbrev pub fresh : Standing
-fresh =
+-- nothing is kept but the state
+abbrev pub nothing_kept : FilterState → Standing
+nothing_kept state =
     record {
       agreed = None;
       last_rank = 0;
       shown = part_of false [];
       connection = part_of false [];
-      state = Serving;
+      state = state;
     }
+
+abbrev pub fresh : Standing
+fresh = nothing_kept Serving
+
+abbrev pub kept_of : Behavior → List Exchange → FilterState → Standing
+kept_of b history state =
+    let leading_space = has_leading_space_in (agreed_in b history) in
+    record {
+      agreed = agreed_in b history;
+      last_rank = last_rank history;
+      shown = part_of leading_space (shown history);
+      connection = part_of leading_space (of_connection history);
+      state = state;
+    }
+
+-- after a fault nothing is kept but that
+abbrev pub standing_at : Behavior → List Exchange → FilterState → Standing
+standing_at b history (Failed fault) = nothing_kept (Failed fault)
+standing_at b history state = kept_of b history state
+
+abbrev pub standing_of : Behavior → Conversation → Standing
+standing_of b c = standing_at b c.history c.state
 
 -- ---- one command
 
@@ -72,9 +85,12 @@ abbrev pub with_if : Bool → Part → Command → Part
 with_if true part command = with_command part command
 with_if false part command = part
 
+abbrev pub emptied : Part → Part
+emptied part = part_of part.seen.leading_space []
+
 -- the part of the connection: nothing of it stays where another one follows
 abbrev pub connection_after : Bool → Part → Command → Part
-connection_after true part command = part_of false []
+connection_after true part command = emptied part
 connection_after false part command = with_if (is_of_connection command) part command
 
 -- what is shown: after the end of a message, the part of the connection
@@ -87,9 +103,37 @@ abbrev pub rank_by : ℕ → Option Stage → ℕ
 rank_by last None = last
 rank_by last (Some stage) = rank_of stage
 
-abbrev pub with_leading_space : Bool → Part → Part
-with_leading_space leading_space part =
-    record { seen = record part.seen { leading_space = leading_space }; bytes = part.bytes }
+-- whether leading spaces are sent is agreed on with the options
+abbrev pub with_agreed : Option Agreed → Part → Part
+with_agreed None part = part
+with_agreed (Some agreed) part =
+    record { seen = record part.seen { leading_space = has_leading_space agreed }; bytes = part.bytes }
+
+-- with a command that is shown
+abbrev pub with_shown : Standing → Command → Standing
+with_shown s command =
+    record s {
+      last_rank = rank_by s.last_rank (stage_of command);
+      shown = with_if (is_shown command) s.shown command;
+      connection = with_if (is_of_connection command) s.connection command;
+    }
+
+-- after the end of a message
+abbrev pub after_message : Standing → Standing
+after_message s = record s { last_rank = min 2 s.last_rank; shown = s.connection }
+
+-- after the end of a client's connection
+abbrev pub after_client : Standing → Standing
+after_client s = record s { last_rank = 0; shown = emptied s.connection; connection = emptied s.connection }
+
+-- after the options
+abbrev pub after_options : Standing → Agreed → Standing
+after_options s agreed =
+    record s {
+      agreed = Some agreed;
+      shown = with_agreed (Some agreed) s.shown;
+      connection = with_agreed (Some agreed) s.connection;
+    }
 
 -- the answer to a command, which is shown with all before it
 abbrev pub standing_answer : Behavior → Option Agreed → Part → Command → Option Answer
@@ -100,18 +144,16 @@ standing_answer b (Some agreed) part command =
 -- with a command at no fault, and its answer
 abbrev pub standing_with : Behavior → Standing → Command → Option Answer → Standing
 standing_with b s command answer =
-    let agreed = option_or (agreed_by b command) s.agreed in
-    let leading_space = has_leading_space_in agreed in
     let connection = connection_after (is_quit_new command) s.connection command in
     record {
-      agreed = agreed;
+      agreed = option_or (agreed_by b command) s.agreed;
       last_rank =
           if is_quit_new command then 0
           else rank_from (is_message_end command answer) (rank_by s.last_rank (stage_of command));
       shown =
-          with_leading_space leading_space
+          with_agreed (agreed_by b command)
           (shown_after (is_message_end command answer) connection s.shown command);
-      connection = with_leading_space leading_space connection;
+      connection = with_agreed (agreed_by b command) connection;
       state = state_after command;
     }
 
@@ -121,8 +163,8 @@ standing_fault s (Ok command) =
     fault_of s.agreed s.last_rank (length (encoding command) + s.shown.bytes) command
 
 abbrev pub standing_by : Behavior → Standing → Received → Option FilterFault → Standing
-standing_by b s received (Some fault) = record s { state = Failed fault }
-standing_by b s (Err fault) None = record s { state = Failed (Wire fault) }
+standing_by b s received (Some fault) = nothing_kept (Failed fault)
+standing_by b s (Err fault) None = nothing_kept (Failed (Wire fault))
 standing_by b s (Ok command) None = standing_with b s command (standing_answer b s.agreed s.shown command)
 
 abbrev pub standing_replies_by : Behavior → Standing → Received → Option FilterFault → List Reply

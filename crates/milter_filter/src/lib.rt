@@ -4,12 +4,16 @@
 //! Nothing here reads, writes or waits.
 #![tactic(auto)]
 
+mod commands;
+mod connection;
 mod filter_fault;
 mod filter_state;
 mod laws;
 mod macro_list;
 mod pass;
 mod policy;
+mod receiving;
+mod replying;
 mod rows;
 mod seen;
 

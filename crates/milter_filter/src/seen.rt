@@ -1,9 +1,9 @@
 //! What a filter is shown.
 
-ghost use Rattle.std.specs.Prelude.{◌≡◌, OnErr, OnOk, false, option_map};
+ghost use Rattle.std.specs.Prelude.{◌≡◌, [], OnErr, OnOk, false, option_map};
 ghost use Rattle.std.specs.Option.{option_copied};
 ghost use Rattle.milter_wire.specs.LentCommand.{command_of};
-ghost use Rattle.milter_exchange.specs.Seen.{value_in};
+ghost use Rattle.milter_exchange.specs.Seen.{seen, value_in};
 ghost use Rattle.milter_filter.specs.SeenParts.{nothing_seen, parts_with};
 
 use crate::macro_list::MacroList;
@@ -172,7 +172,8 @@ impl Seen {
 
     /// Gives up all. No memory is taken.
     pub(crate) fn clear(&mut self)
-        ensures { self.new ≡ nothing_seen self.old.shown.leading_space }
+        ensures shown { self.new.shown ≡ seen self.old.connection.leading_space [] }
+        ensures connection { self.new.connection ≡ seen self.old.connection.leading_space [] }
     {
         self.client = None;
         self.helo = None;
