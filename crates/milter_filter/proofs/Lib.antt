@@ -3,5 +3,5 @@ pub mod Histories
 pub mod Standings
 pub mod MacroLists
 pub mod EditPackets
-pub mod ShownCommands
 pub mod Agreeing
+pub mod PacketCommands

@@ -10,6 +10,7 @@ mod filter_fault;
 mod filter_state;
 mod laws;
 mod macro_list;
+mod packet_receiving;
 mod pass;
 mod policy;
 mod receiving;
