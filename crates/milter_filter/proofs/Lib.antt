@@ -5,3 +5,4 @@ pub mod MacroLists
 pub mod EditPackets
 pub mod Agreeing
 pub mod PacketCommands
+pub mod PieceStreams

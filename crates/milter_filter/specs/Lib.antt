@@ -9,6 +9,7 @@ pub mod MacroLists
 pub mod SeenParts
 pub mod Lawful
 pub mod PassLaw
+pub mod Streams
 pub mod Asking
 pub mod Pass
 pub mod Worked

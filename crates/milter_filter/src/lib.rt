@@ -12,6 +12,7 @@ mod laws;
 mod macro_list;
 mod packet_receiving;
 mod pass;
+mod piece_receiving;
 mod policy;
 mod receiving;
 mod replying;
