@@ -6,3 +6,4 @@ pub mod EditPackets
 pub mod Agreeing
 pub mod PacketCommands
 pub mod PieceStreams
+pub mod Progress

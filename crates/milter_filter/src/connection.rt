@@ -1,6 +1,6 @@
 //! What a filter's end keeps of a connection.
 
-ghost use Rattle.std.specs.Prelude.{◌≡◌, ◌≤◌, ◌+◌, OnOk, length, true};
+ghost use Rattle.std.specs.Prelude.{◌≡◌, ◌≤◌, ◌+◌, ◌↔◌, IsTrue, OnOk, length, true};
 ghost use Rattle.std.specs.Option.{option_copied};
 ghost use Rattle.milter_wire.specs.Command.{encoding};
 ghost use Rattle.milter_wire.specs.LentCommand.{command_of};
@@ -70,6 +70,13 @@ impl Connection {
         ensures { result ≡ self.now.state }
     {
         self.state
+    }
+
+    /// Whether it takes commands.
+    pub(crate) fn is_serving(&self) -> bool
+        ensures { IsTrue result ↔ (self.now.state ≡ FilterState.Serving) }
+    {
+        self.state == FilterState::Serving
     }
 
     /// The fault of a command whose packet has `len` bytes, if it is at one.

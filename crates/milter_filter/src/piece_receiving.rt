@@ -52,3 +52,43 @@ pub(crate) fn receive_some<P: Policy>(
     }
     Ok(taken)
 }
+
+/// Takes bytes of a piece up to the end of the first packet that has replies, or of one with which the mail server quits, or
+/// else all of them, and answers how many. After a fault nothing is known of what was kept and appended.
+pub(crate) fn receive_piece<P: Policy>(
+    alloc: Global,
+    policy: &P,
+    splitter: &mut Splitter,
+    connection: &mut Connection,
+    piece: &[u8],
+    out: &mut Vec<u8>,
+) -> Result<usize, FilterFault>
+    requires unfinished { IsUnfinished splitter.old }
+    requires serving { connection.old.state ≡ Serving }
+    requires nothing_pending { out.old.items ≡ [] }
+    ensures taken { IfOk result (λ n. n ≤ length piece.now) }
+    ensures all { IfOk result (λ n. out.new.items ≡ [] → connection.new.state ≡ Serving → n ≡ length piece.now) }
+    ensures unread { IfOk result (λ n. splitter.new ≡ (divide (splitter.old ++ take n piece.now)).rest) }
+    ensures unfinished { OnOk result (IsUnfinished splitter.new) }
+    ensures standing { IfOk result (λ n. connection.new
+        ≡ standing_after (P.behavior policy.now) connection.old (read_in (splitter.old ++ take n piece.now))) }
+    ensures replied { IfOk result (λ n. out.new.items ≡ flat_map encoding
+        (standing_replies (P.behavior policy.now) connection.old (read_in (splitter.old ++ take n piece.now)))) }
+    ensures fault { IfErr result (λ fault. fault ≢ NoMemory →
+        standing_after (P.behavior policy.now) connection.old (received_in (splitter.old ++ piece.now))
+        ≡ nothing_kept (Failed fault)) }
+{
+    let mut taken = 0;
+    while taken < piece.len() {
+        if !out.is_empty() || !connection.is_serving() {
+            break;
+        }
+        let rest = &piece[taken..];
+        let more = match receive_some(alloc, policy, splitter, connection, rest, out) {
+            Ok(more) => more,
+            Err(fault) => return Err(fault),
+        };
+        taken += more;
+    }
+    Ok(taken)
+}
