@@ -10,6 +10,7 @@ pub mod SeenParts
 pub mod Lawful
 pub mod PassLaw
 pub mod Streams
+pub mod Cores
 pub mod Asking
 pub mod Pass
 pub mod Worked

@@ -6,7 +6,7 @@ ghost use Rattle.milter_wire.specs.Command.{encoding};
 ghost use Rattle.milter_wire.specs.LentCommand.{command_of};
 ghost use Rattle.milter_filter.specs.Commands.{is_shown};
 ghost use Rattle.milter_filter.specs.Faults.{fault_in_message, fault_of};
-ghost use Rattle.milter_filter.specs.Standings.{after_client, after_message, after_options, fresh, with_shown};
+ghost use Rattle.milter_filter.specs.Standings.{after_client, after_message, after_options, fresh, nothing_kept, with_shown};
 
 use crate::commands::{is_of_connection, is_shown};
 use crate::filter_fault::{FilterFault, VERSION_MIN};
@@ -62,6 +62,20 @@ impl Connection {
             shown_bytes: 0,
             connection_bytes: 0,
             state: FilterState::Serving,
+        }
+    }
+
+    /// A connection that was given up: nothing is kept but the fault. No memory is taken.
+    pub(crate) fn failed(alloc: Global, fault: FilterFault) -> Self
+        ensures { result ≡ nothing_kept (FilterState.Failed fault) }
+    {
+        Connection {
+            agreed: None,
+            last_rank: 0,
+            seen: Seen::new(alloc),
+            shown_bytes: 0,
+            connection_bytes: 0,
+            state: FilterState::Failed(fault),
         }
     }
 

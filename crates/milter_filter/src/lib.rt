@@ -6,6 +6,7 @@
 
 mod commands;
 mod connection;
+mod filter_core;
 mod filter_fault;
 mod filter_state;
 mod laws;
@@ -19,6 +20,7 @@ mod replying;
 mod rows;
 mod seen;
 
+pub use filter_core::FilterCore;
 pub use filter_fault::FilterFault;
 pub use filter_state::FilterState;
 pub use laws::{
