@@ -1,5 +1,5 @@
 -- A piece of a stream, packet by packet.
-use Rattle.std.proofs.Common.{◌≡◌, ◌≢◌, ℕ, ◌+◌, ◌≤◌, List, [], ◌∷◌, ◌++◌, length, take, take-add, drop, map, refl, sym, ◌∙◌, ap, subst, append_assoc, append-nil, flat_map}
+use Rattle.std.proofs.Common.{◌≡◌, ◌≢◌, ℕ, ◌+◌, ◌≤◌, List, [], ◌∷◌, ◌++◌, length, take, take-add, drop, map, refl, sym, ◌∙◌, ap, subst, append_assoc, append-nil, flat_map, take_all, arith}
 use Rattle.std.proofs.lemmas.Grind.{flat_map-append}
 use Rattle.std.proofs.lemmas.List.{map-append, take-append-drop}
 use Rattle.milter_stream.specs.Stream.{Division, IsUnfinished, divide, length_fault}
@@ -7,8 +7,11 @@ use Rattle.milter_stream.proofs.StreamLaws.{divide-append, divide-unfinished}
 use Rattle.milter_wire.specs.Frames.{frame_command}
 use Rattle.milter_wire.specs.Reply.{encoding}
 use Rattle.milter_exchange.specs.Behavior.{Behavior}
+use Rattle.milter_filter.specs.declared.filter_state.FilterState.{FilterState}
+use Rattle.milter_filter.specs.declared.filter_state.FilterState.TheVariants.{Failed, Quit, Serving}
 use Rattle.milter_filter.specs.Conversations.{Received}
-use Rattle.milter_filter.specs.Standings.{Standing, standing_after, standing_replies}
+use Rattle.milter_filter.specs.Standings.{Standing, standing_after, standing_in, standing_next, standing_replies, standing_replies_at, standing_replies_in}
+use Rattle.milter_filter.specs.Cores.{Core, Takes}
 use Rattle.milter_filter.specs.Streams.{fault_after, read_in, received_in}
 use Rattle.milter_filter.proofs.Going.{standing_after-append, standing_replies-append}
 
@@ -75,3 +78,55 @@ bytes-more unread piece i n = append_assoc unread (take i piece) (take n (drop i
 
 pub bytes-all : (unread piece : List ℕ) (i : ℕ) → (unread ++ take i piece) ++ drop i piece ≡ unread ++ piece
 bytes-all unread piece i = append_assoc unread (take i piece) (drop i piece) ∙ ap (λ xs. unread ++ xs) (take-append-drop i piece)
+
+-- ---- after the end nothing changes
+
+ended-step : (b : Behavior) (s : Standing) (first : Received) → s.state ≢ Serving → (standing_next b s first ≡ s) × (standing_replies_at b s first ≡ [])
+ended-step b s first ended = by_state s.state refl
+  where
+    by_state : (state : FilterState) → s.state ≡ state → (standing_next b s first ≡ s) × (standing_replies_at b s first ≡ [])
+    by_state Serving e = absurd (ended e)
+    by_state Quit e = (ap (standing_in b s first) e, ap (standing_replies_in b s first) e)
+    by_state (Failed fault) e = (ap (standing_in b s first) e, ap (standing_replies_in b s first) e)
+
+ended-stays : (b : Behavior) (s : Standing) (received : List Received) → s.state ≢ Serving → (standing_after b s received ≡ s) × (standing_replies b s received ≡ [])
+ended-stays b s [] ended = (refl, refl)
+ended-stays b s (first ∷ more) ended =
+    let step = ended-step b s first ended in
+    let rest = ended-stays b s more ended in
+    (
+      ap (λ x. standing_after b x more) step.0 ∙ rest.0,
+      ap (λ rs. rs ++ standing_replies b (standing_next b s first) more) step.1 ∙ ap (λ x. standing_replies b x more) step.0 ∙ rest.1,
+    )
+
+pub ended-all : (b : Behavior) (s new : Standing) (bytes more unread out : List ℕ) → Progress b s bytes new unread out → new.state ≢ Serving
+    → (new ≡ standing_after b s (read_in (bytes ++ more))) × (out ≡ flat_map encoding (standing_replies b s (read_in (bytes ++ more))))
+ended-all b s new bytes more unread out p ended =
+    let others = read_in ((divide bytes).rest ++ more) in
+    let stays = ended-stays b new others ended in
+    let read = read-append bytes more in
+    (
+      sym (stays.0) ∙ ap (λ x. standing_after b x others) p.standing ∙ sym (standing_after-append b s (read_in bytes) others) ∙ ap (standing_after b s) (sym read),
+      p.replied
+      ∙ sym (append-nil (flat_map encoding (standing_replies b s (read_in bytes))))
+      ∙ ap (λ rs. flat_map encoding (standing_replies b s (read_in bytes)) ++ flat_map encoding rs) (sym stays.1 ∙ ap (λ x. standing_replies b x others) p.standing)
+      ∙ sym (flat_map-append encoding (standing_replies b s (read_in bytes)) (standing_replies b (standing_after b s (read_in bytes)) others))
+      ∙ ap (flat_map encoding) (sym (standing_replies-append b s (read_in bytes) others) ∙ ap (standing_replies b s) (sym read)),
+    )
+
+-- all of a piece, where the mail server has quit in it
+pub all-taken : {P : Type 0} (b : Behavior) (old new : Core P) (piece unread : List ℕ) (i : ℕ) → new.policy ≡ old.policy
+    → Progress b old.standing (old.unread ++ take i piece) new.standing unread new.pending → new.standing.state ≢ Serving → new.unread ≡ []
+    → Takes b old piece (length piece) new
+all-taken b old new piece unread i policy p ended nothing =
+    let both = ended-all b old.standing new.standing (old.unread ++ take i piece) (drop i piece) unread new.pending p ended in
+    let all = bytes-all old.unread piece i ∙ ap (λ xs. old.unread ++ xs) (sym (take_all (length piece) piece (omega arith))) in
+    record {
+      policy = policy;
+      within = omega arith;
+      standing = both.0 ∙ ap (λ xs. standing_after b old.standing (read_in xs)) all;
+      pending = both.1 ∙ ap (λ xs. flat_map encoding (standing_replies b old.standing (read_in xs))) all;
+      unread = λ serving. absurd (ended serving);
+      nothing_unread = λ other. nothing;
+      all = λ none. refl;
+    }

@@ -1,13 +1,11 @@
 //! A filter's end of a connection, over any policy.
 
-ghost use Rattle.std.specs.Prelude.{◌≡◌, ◌≢◌, ◌≤◌, ◌++◌, [], Err, IfErr, IfOk, Ok, OnOk, drop, length, take};
-ghost use Rattle.std.specs.List.{flat_map};
-ghost use Rattle.milter_wire.specs.Reply.{encoding};
+ghost use Rattle.std.specs.Prelude.{◌≡◌, ◌≢◌, ◌≤◌, ◌++◌, [], Err, IfErr, IfOk, Ok, drop, length};
 ghost use Rattle.milter_filter.specs.declared.filter_fault.FilterFault.{FilterFault as Fault};
-ghost use Rattle.milter_filter.specs.declared.filter_fault.FilterFault.TheVariants.{NoMemory};
+ghost use Rattle.milter_filter.specs.declared.filter_fault.FilterFault.TheVariants as faults;
 ghost use Rattle.milter_filter.specs.declared.filter_state.FilterState.TheVariants.{Failed, Quit, Serving};
-ghost use Rattle.milter_filter.specs.Standings.{nothing_kept, standing_after, standing_replies};
-ghost use Rattle.milter_filter.specs.Streams.{read_in, received_in};
+ghost use Rattle.milter_filter.specs.Standings.{nothing_kept, standing_after};
+ghost use Rattle.milter_filter.specs.Streams.{received_in};
 
 use crate::connection::Connection;
 use crate::filter_fault::FilterFault;
@@ -47,7 +45,7 @@ impl<'p, P: Policy> Model for FilterCore<'p, P> {
 }
 
 impl<'p, P: Policy> FilterCore<'p, P> {
-    ghost use Rattle.milter_filter.specs.Cores.{fresh_core};
+    ghost use Rattle.milter_filter.specs.Cores.{Takes, fresh_core, given_up};
 
     /// A connection of which nothing has come. It takes room for one packet, 65,540 bytes.
     pub fn new(alloc: Global, policy: &'p P) -> Result<Self, NoMemory>
@@ -93,16 +91,67 @@ impl<'p, P: Policy> FilterCore<'p, P> {
         self.connection.state()
     }
 
-    /// Gives the connection up for a fault.
-    fn fail(&mut self, fault: FilterFault)
-        ensures { self.new ≡ record self.old {
-          standing = nothing_kept (Failed fault);
-          unread = [];
-          pending = [];
-        } }
+    /// Takes bytes from the start of a piece of what the mail server sends, and answers how many. While replies wait to be
+    /// sent it takes none. Else it takes bytes up to the end of the first packet that has replies, or all where none has;
+    /// after the mail server has quit it takes all and does nothing with them. After a fault nothing is kept but that, and
+    /// every later call answers it again. Source: mfdef.h, and the libmilter callback documentation.
+    pub fn feed(&mut self, piece: &[u8]) -> Result<usize, FilterFault>
+        ensures failed { (fault : Fault) → self.old.standing.state ≡ Failed fault →
+            (result ≡ Err fault) × (self.new ≡ self.old) }
+        ensures quit { self.old.standing.state ≡ Quit → (result ≡ Ok (length piece.now)) × (self.new ≡ self.old) }
+        ensures waits { self.old.standing.state ≡ Serving → self.old.pending ≢ [] →
+            (result ≡ Ok 0) × (self.new ≡ self.old) }
+        ensures takes { self.old.standing.state ≡ Serving → self.old.pending ≡ [] →
+            IfOk result (λ n. Takes (P.behavior self.old.policy) self.old piece.now n self.new) }
+        ensures gives_up { self.old.standing.state ≡ Serving →
+            IfErr result (λ fault. self.new ≡ given_up self.old fault) }
+        ensures cause { self.old.standing.state ≡ Serving → self.old.pending ≡ [] →
+            IfErr result (λ fault. fault ≢ faults.NoMemory →
+            standing_after (P.behavior self.old.policy) self.old.standing (received_in (self.old.unread ++ piece.now))
+            ≡ nothing_kept (Failed fault)) }
     {
-        self.connection = Connection::failed(self.alloc, fault);
+        match self.connection.state() {
+            FilterState::Failed(fault) => Err(fault),
+            FilterState::Quit => Ok(piece.len()),
+            FilterState::Serving => {
+                if !self.pending().is_empty() {
+                    return Ok(0);
+                }
+                self.serve(piece)
+            }
+        }
+    }
+
+    /// Takes bytes of a piece where it serves and nothing waits to be sent.
+    fn serve(&mut self, piece: &[u8]) -> Result<usize, FilterFault>
+        requires serving { self.old.standing.state ≡ Serving }
+        requires nothing_pending { self.old.pending ≡ [] }
+        ensures takes { IfOk result (λ n. Takes (P.behavior self.old.policy) self.old piece.now n self.new) }
+        ensures gives_up { IfErr result (λ fault. self.new ≡ given_up self.old fault) }
+        ensures cause { IfErr result (λ fault. fault ≢ faults.NoMemory →
+            standing_after (P.behavior self.old.policy) self.old.standing (received_in (self.old.unread ++ piece.now))
+            ≡ nothing_kept (Failed fault)) }
+    {
+        let FilterCore {
+            alloc,
+            policy,
+            splitter,
+            connection,
+            pending,
+        } = self;
+        let taken = match receive_piece(*alloc, *policy, splitter, connection, piece, pending) {
+            Ok(taken) => taken,
+            Err(fault) => {
+                *connection = Connection::failed(*alloc, fault);
+                splitter.clear();
+                pending.clear();
+                return Err(fault);
+            }
+        };
+        if self.connection.is_serving() {
+            return Ok(taken);
+        }
         self.splitter.clear();
-        self.pending.clear();
+        Ok(piece.len())
     }
 }
