@@ -1,5 +1,5 @@
 -- What is agreed on fits a packet, where both ends' options do.
-use Rattle.std.proofs.Common.{◌≡◌, ℕ, ◌+◌, ◌<◌, ◌≤◌, Bool, true, false, List, [], ◌++◌, length, refl, sym, ◌∙◌, ap, subst, arith, length-append, All, flat_map, if◌then◌else◌}
+use Rattle.std.proofs.Common.{◌≡◌, ◌+◌, ◌≤◌, Bool, true, false, List, [], ◌++◌, length, arith, length-append, flat_map, if◌then◌else◌}
 use Rattle.std.proofs.lemmas.Nat.{and_le_l}
 use Rattle.std.proofs.lemmas.List.Elements.{All-nil}
 use Rattle.milter_stream.specs.declared.number.TheConstants.{PAYLOAD_MAX}

@@ -4,7 +4,6 @@ use Rattle.std.proofs.lemmas.Grind.{flat_map-append}
 use Rattle.std.proofs.lemmas.List.{map-append}
 use Rattle.std.proofs.lemmas.List.Elements.{filter-append}
 use Rattle.milter_wire.specs.declared.agreement.Agreed.{Agreed}
-use Rattle.milter_wire.specs.declared.reply.Reply.{Reply}
 use Rattle.milter_wire.specs.Reply.{encoding}
 use Rattle.milter_mail.specs.declared.edit.Edit.{Edit}
 use Rattle.milter_mail.specs.EditReplies.{reply_of}

@@ -1,12 +1,12 @@
 -- The command of a packet.
-use Rattle.std.proofs.Common.{◌≡◌, ℕ, ◌+◌, ◌<◌, Bool, true, false, List, ◌∷◌, ◌++◌, Option, None, Some, Result, Ok, Err, length, get_or, refl, sym, ◌∙◌, ap, arith, length-append, IfOk}
+use Rattle.std.proofs.Common.{◌≡◌, ℕ, ◌+◌, ◌<◌, Bool, true, false, List, ◌∷◌, Option, None, Some, Result, Ok, Err, length, get_or, refl, sym, ◌∙◌, ap, arith, length-append, IfOk}
 use Rattle.milter_stream.specs.declared.fault.WireFault.{WireFault}
 use Rattle.milter_stream.specs.Number.{number}
 use Rattle.milter_stream.specs.Packet.{packet}
 use Rattle.milter_stream.specs.Stream.{Frame, IsFrame}
 use Rattle.milter_stream.proofs.Numbers.{length-number}
 use Rattle.milter_wire.specs.declared.command.Command.{Command}
-use Rattle.milter_wire.specs.Command.{Fits, IsEncodedAs, command_in, encoding, is_code}
+use Rattle.milter_wire.specs.Command.{IsEncodedAs, command_in, encoding, is_code}
 use Rattle.milter_wire.specs.declared.command_ref.CommandRef.{CommandRef}
 use Rattle.milter_wire.specs.Decoding.{map_ok}
 use Rattle.milter_wire.specs.LentCommand.{command_of}

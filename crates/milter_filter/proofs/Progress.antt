@@ -1,5 +1,5 @@
 -- A piece of a stream, packet by packet.
-use Rattle.std.proofs.Common.{◌≡◌, ◌≢◌, ℕ, ◌+◌, ◌≤◌, List, [], ◌∷◌, ◌++◌, length, take, take-add, drop, map, refl, sym, ◌∙◌, ap, subst, append_assoc, append-nil, flat_map, take_all, arith}
+use Rattle.std.proofs.Common.{◌≡◌, ◌≢◌, ℕ, ◌+◌, List, [], ◌∷◌, ◌++◌, length, take, take-add, drop, map, refl, sym, ◌∙◌, ap, append_assoc, append-nil, flat_map, take_all, arith}
 use Rattle.std.proofs.lemmas.Grind.{flat_map-append}
 use Rattle.std.proofs.lemmas.List.{map-append, take-append-drop}
 use Rattle.milter_stream.specs.Stream.{Division, IsUnfinished, divide, length_fault}
@@ -93,8 +93,7 @@ ended-stays : (b : Behavior) (s : Standing) (received : List Received) → s.sta
 ended-stays b s [] ended = (refl, refl)
 ended-stays b s (first ∷ more) ended =
     let step = ended-step b s first ended in
-    let rest = ended-stays b s more ended in
-    (
+    let rest = ended-stays b s more ended in (
       ap (λ x. standing_after b x more) step.0 ∙ rest.0,
       ap (λ rs. rs ++ standing_replies b (standing_next b s first) more) step.1 ∙ ap (λ x. standing_replies b x more) step.0 ∙ rest.1,
     )
@@ -104,14 +103,13 @@ pub ended-all : (b : Behavior) (s new : Standing) (bytes more unread out : List 
 ended-all b s new bytes more unread out p ended =
     let others = read_in ((divide bytes).rest ++ more) in
     let stays = ended-stays b new others ended in
-    let read = read-append bytes more in
-    (
+    let read = read-append bytes more in (
       sym (stays.0) ∙ ap (λ x. standing_after b x others) p.standing ∙ sym (standing_after-append b s (read_in bytes) others) ∙ ap (standing_after b s) (sym read),
       p.replied
-      ∙ sym (append-nil (flat_map encoding (standing_replies b s (read_in bytes))))
-      ∙ ap (λ rs. flat_map encoding (standing_replies b s (read_in bytes)) ++ flat_map encoding rs) (sym stays.1 ∙ ap (λ x. standing_replies b x others) p.standing)
-      ∙ sym (flat_map-append encoding (standing_replies b s (read_in bytes)) (standing_replies b (standing_after b s (read_in bytes)) others))
-      ∙ ap (flat_map encoding) (sym (standing_replies-append b s (read_in bytes) others) ∙ ap (standing_replies b s) (sym read)),
+          ∙ sym (append-nil (flat_map encoding (standing_replies b s (read_in bytes))))
+          ∙ ap (λ rs. flat_map encoding (standing_replies b s (read_in bytes)) ++ flat_map encoding rs) (sym stays.1 ∙ ap (λ x. standing_replies b x others) p.standing)
+          ∙ sym (flat_map-append encoding (standing_replies b s (read_in bytes)) (standing_replies b (standing_after b s (read_in bytes)) others))
+          ∙ ap (flat_map encoding) (sym (standing_replies-append b s (read_in bytes) others) ∙ ap (standing_replies b s) (sym read)),
     )
 
 -- all of a piece, where the mail server has quit in it

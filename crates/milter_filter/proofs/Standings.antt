@@ -4,13 +4,11 @@ use Rattle.std.specs.Option.{option_or}
 use Rattle.std.proofs.lemmas.List.Sums.{sum_by-cons}
 use Rattle.milter_wire.specs.declared.agreement.Agreed.{Agreed}
 use Rattle.milter_wire.specs.declared.command.Command.{Command}
-use Rattle.milter_wire.specs.declared.command.Command.TheVariants as commands
 use Rattle.milter_wire.specs.Agreement.{is_asked}
 use Rattle.milter_wire.specs.Command.{bytes_of, encoding}
 use Rattle.milter_wire.specs.Stages.{stage_of}
 use Rattle.milter_exchange.specs.Behavior.{Behavior, answer_to}
 use Rattle.milter_exchange.specs.Exchanges.{Exchange}
-use Rattle.milter_exchange.specs.Seen.{Seen, seen, seen_with}
 use Rattle.milter_exchange.proofs.Seeing.{seen-with}
 use Rattle.milter_filter.specs.declared.filter_fault.FilterFault.{FilterFault}
 use Rattle.milter_filter.specs.declared.filter_state.FilterState.{FilterState}
@@ -20,7 +18,7 @@ use Rattle.milter_filter.specs.Conversations.{Conversation, Received, after, ans
 use Rattle.milter_filter.specs.Faults.{fault_of}
 use Rattle.milter_filter.specs.Histories.{agreed_by, agreed_in, ends_message, has_leading_space_in, last_rank, of_connection, shown}
 use Rattle.milter_filter.specs.Replies.{replies_to}
-use Rattle.milter_filter.specs.Standings.{Part, Standing, connection_after, kept_of, part_of, shown_after, standing_after, standing_answer, standing_at, standing_by, standing_fault, standing_in, standing_next, standing_of, standing_replies, standing_replies_at, standing_replies_by, standing_replies_in, standing_with, with_agreed, with_command, with_if}
+use Rattle.milter_filter.specs.Standings.{connection_after, kept_of, part_of, shown_after, standing_after, standing_answer, standing_at, standing_by, standing_fault, standing_next, standing_of, standing_replies, standing_replies_at, standing_replies_by, standing_with, with_agreed, with_command, with_if}
 use Rattle.milter_filter.proofs.Histories.{agreed_in-cons, connection-cons, last_rank-cons, shown-cons}
 
 -- ---- parts

@@ -1,5 +1,5 @@
 -- The answers to commands of a stage, by what is kept when they have come.
-use Rattle.std.specs.Prelude.{Bool, Option, None, Some, if◌then◌else◌}
+use Rattle.std.specs.Prelude.{Option, None, Some, if◌then◌else◌}
 use Rattle.milter_wire.specs.declared.agreement.Agreed.{Agreed}
 use Rattle.milter_wire.specs.declared.stage.Stage.{Stage}
 use Rattle.milter_wire.specs.Agreement.{is_answered}

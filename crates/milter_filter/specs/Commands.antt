@@ -4,7 +4,7 @@ use Rattle.milter_wire.specs.declared.codes.TheConstants.{SMFIC_CONNECT, SMFIC_H
 use Rattle.milter_wire.specs.declared.command.Command.{Command}
 use Rattle.milter_wire.specs.declared.command.Command.TheVariants as commands
 use Rattle.milter_wire.specs.declared.stage.Stage.{Stage}
-use Rattle.milter_wire.specs.declared.stage.Stage.TheVariants.{Connect, Helo, Eob}
+use Rattle.milter_wire.specs.declared.stage.Stage.TheVariants.{Connect, Helo}
 use Rattle.milter_wire.specs.declared.verdict.Verdict.{Verdict}
 use Rattle.milter_wire.specs.Stages.{stage_of}
 use Rattle.milter_exchange.specs.declared.answer.Answer.{Answer}

@@ -1,5 +1,5 @@
 -- What every policy keeps to, so that all its answers can be sent.
-use Rattle.std.specs.Prelude.{◌≡◌, ◌≢◌, ◌≤◌, ℕ, true, List, [], All}
+use Rattle.std.specs.Prelude.{◌≡◌, ◌≢◌, ◌≤◌, true, [], All}
 use Rattle.std.specs.Int.Bits.{bit_and}
 use Rattle.std.specs.List.{sum_by}
 use Rattle.milter_options.specs.declared.options.TheConstants.Actions.{SETSYMLIST}

@@ -1,18 +1,15 @@
 -- The filter that lets all mail go on keeps to the rules of policies.
-use Rattle.std.specs.Prelude.{◌≡◌, ◌≤◌, ◌<◌, ℕ, List, [], length, refl, All}
-use Rattle.std.proofs.Common.{arith, rules}
+use Rattle.std.specs.Prelude.{◌≤◌, [], length, refl}
+use Rattle.std.proofs.Common.{arith}
 use Rattle.std.proofs.lemmas.List.Elements.{All-nil}
 use Rattle.milter_stream.specs.declared.number.TheConstants.{PAYLOAD_MAX}
 use Rattle.milter_stream.specs.Number.{number}
 use Rattle.milter_wire.specs.declared.reply.Reply.TheVariants as replies
-use Rattle.milter_wire.specs.declared.stage.Stage.{Stage}
-use Rattle.milter_wire.specs.declared.stage.Stage.TheVariants as stages
-use Rattle.milter_wire.specs.declared.verdict.Verdict.TheVariants.{Continue}
 use Rattle.milter_wire.specs.Layout.{SymListFits, options_with_lists}
 use Rattle.milter_wire.specs.Reply.{Fits}
 use Rattle.milter_mail.specs.declared.edit.Edit.{Edit}
 use Rattle.milter_mail.specs.EditReplies.{reply_of}
-use Rattle.milter_filter.specs.Lawful.{AnswerFits, IsLawful, WantsWithin}
+use Rattle.milter_filter.specs.Lawful.{IsLawful, WantsWithin}
 use Rattle.milter_filter.specs.Pass.{pass}
 
 options_len : length (options_with_lists pass.wants []) ≤ PAYLOAD_MAX

@@ -1,5 +1,5 @@
 -- What a filter is shown, and what of it stays for the whole connection.
-use Rattle.std.specs.Prelude.{Bool, true, false, [], if◌then◌else◌}
+use Rattle.std.specs.Prelude.{Bool, [], if◌then◌else◌}
 use Rattle.milter_wire.specs.declared.command.Command.{Command}
 use Rattle.milter_exchange.specs.Seen.{Seen, seen, seen_with}
 use Rattle.milter_filter.specs.Commands.{is_of_connection}

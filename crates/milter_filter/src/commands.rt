@@ -13,9 +13,7 @@ pub(crate) fn is_of_connection(command: &CommandRef<'_>) -> bool
 {
     match command {
         CommandRef::Connect(_) | CommandRef::Helo(_) => true,
-        CommandRef::Macro { command, .. } => {
-            *command == SMFIC_CONNECT || *command == SMFIC_HELO
-        }
+        CommandRef::Macro { command, .. } => { *command == SMFIC_CONNECT || *command == SMFIC_HELO }
         _ => false,
     }
 }

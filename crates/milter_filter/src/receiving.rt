@@ -19,7 +19,10 @@ use crate::connection::Connection;
 use crate::policy::Policy;
 use crate::replying::put_answer;
 use milter_exchange::is_final_at;
-use milter_wire::{Agreed, CommandRef, NoMemory, Options, Protocol, Reply, Stage, SymList, SymLists, Text, Verdict, agree};
+use milter_wire::{
+    Agreed, CommandRef, NoMemory, Options, Protocol, Reply, Stage, SymList, SymLists, Text,
+    Verdict, agree,
+};
 use std::alloc::Global;
 
 /// Whether a message ends at the verdict: at the first two stages none is there yet.
@@ -131,11 +134,11 @@ fn receive_shown<P: Policy>(
     ensures taken { OnOk result (connection.new ≡ shown_after_answer
         (with_shown connection.old (command_of command.now))
         (stage_answer (P.behavior policy.now) (with_shown connection.old (command_of command.now))
-            (stage_of (command_of command.now)))
+        (stage_of (command_of command.now)))
         (stage_of (command_of command.now))) }
     ensures replied { OnOk result (out.new.items ≡ out.old.items ++ flat_map encoding (replies_of_answer
         (stage_answer (P.behavior policy.now) (with_shown connection.old (command_of command.now))
-            (stage_of (command_of command.now))))) }
+        (stage_of (command_of command.now))))) }
 {
     connection.take(alloc, command, len)?;
     let Some(stage) = command.stage() else {
@@ -165,7 +168,7 @@ pub(crate) fn receive<P: Policy>(
         ≡ standing_by (P.behavior policy.now) connection.old (Ok (command_of command.now)) None) }
     ensures replied { OnOk result (out.new.items ≡ out.old.items
         ++ flat_map encoding
-            (standing_replies_by (P.behavior policy.now) connection.old (Ok (command_of command.now)) None)) }
+        (standing_replies_by (P.behavior policy.now) connection.old (Ok (command_of command.now)) None)) }
 {
     match command {
         CommandRef::Options(offer) => receive_options(alloc, policy, connection, *offer, out),

@@ -48,12 +48,7 @@ fn put_edits(
 }
 
 /// Appends the packet of the edit, if it was agreed on.
-fn put_edit(
-    alloc: Global,
-    agreed: &Agreed,
-    edit: Edit,
-    out: &mut Vec<u8>,
-) -> Result<(), NoMemory>
+fn put_edit(alloc: Global, agreed: &Agreed, edit: Edit, out: &mut Vec<u8>) -> Result<(), NoMemory>
     requires { Fits (asked.reply_of edit) }
     ensures { OnOk result (out.new.items
         ≡ (if is_permitted agreed.now edit then out.old.items ++ encoding (asked.reply_of edit) else out.old.items)) }

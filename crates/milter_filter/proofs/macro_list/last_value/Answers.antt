@@ -1,4 +1,4 @@
-use Rattle.std.proofs.Common.{◌≡◌, reverse, sym, ◌∙◌, ap, option_map}
+use Rattle.std.proofs.Common.{reverse, sym, ◌∙◌, ap, option_map}
 use Rattle.std.specs.Option.{option_or}
 use Rattle.milter_exchange.specs.Seen.{value_in}
 use Rattle.milter_filter.proofs.MacroLists.{map-or, value-more_groups}

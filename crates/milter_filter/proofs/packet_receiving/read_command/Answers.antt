@@ -1,5 +1,4 @@
-use Rattle.std.proofs.Common.{sym, arith, ◌∙◌}
-use Rattle.milter_wire.specs.LentCommand.{command_of}
+use Rattle.std.proofs.Common.{arith}
 use Rattle.milter_filter.proofs.PacketCommands.{found-encoded}
 use Rattle.milter_filter.proofs.packet_receiving.read_command.Goals as goal
 

@@ -1,4 +1,4 @@
-use Rattle.std.proofs.Common.{rules, ◌≡◌, ◌++◌, sym, ◌∙◌, ap, flat_map}
+use Rattle.std.proofs.Common.{◌++◌, ◌∙◌, ap, flat_map}
 use Rattle.milter_stream.specs.Splitter.{frame_of}
 use Rattle.milter_wire.specs.Frames.{frame_command}
 use Rattle.milter_wire.specs.LentCommand.{command_of}

@@ -1,4 +1,4 @@
-use Rattle.std.proofs.Common.{rules, ◌≡◌, ◌++◌, [], take, drop, sym, ◌∙◌, ap, subst, arith, length-drop}
+use Rattle.std.proofs.Common.{◌++◌, [], take, drop, sym, ◌∙◌, ap, subst, arith, length-drop}
 use Rattle.std.proofs.lemmas.List.{take_rest}
 use Rattle.milter_filter.proofs.Progress.{Progress, begin, bytes-all, bytes-more, fault-left, go_on}
 use Rattle.milter_filter.specs.Standings.{nothing_kept, standing_after}

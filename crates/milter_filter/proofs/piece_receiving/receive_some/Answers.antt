@@ -1,4 +1,4 @@
-use Rattle.std.proofs.Common.{◌≡◌, ◌++◌, take, None, Ok, sym, ◌∙◌, ap, subst}
+use Rattle.std.proofs.Common.{◌++◌, take, Ok, sym, ◌∙◌, ap, subst}
 use Rattle.milter_stream.specs.Splitter.{frame_of}
 use Rattle.milter_stream.specs.Stream.{IsUnfinished}
 use Rattle.milter_filter.proofs.PieceStreams.{replies-packet, replies-unfinished, rest-packet, rest-unfinished, standing-length_fault, standing-packet, standing-packet_fault, standing-unfinished}

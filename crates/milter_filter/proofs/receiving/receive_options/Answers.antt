@@ -1,5 +1,4 @@
-use Rattle.std.proofs.Common.{◌≡◌, sym, ◌∙◌, subst}
-use Rattle.milter_wire.specs.declared.agreement.Agreed.{Agreed}
+use Rattle.std.proofs.Common.{sym, subst}
 use Rattle.milter_wire.specs.Reply.{Fits}
 use Rattle.milter_filter.specs.Replies.{options_reply}
 use Rattle.milter_filter.proofs.Agreeing.{agreed_fits}

@@ -1,4 +1,4 @@
-use Rattle.std.proofs.Common.{◌≡◌, ◌++◌, false, refl, subst, length, take, IsTrue}
+use Rattle.std.proofs.Common.{◌++◌, false, refl, subst, length, take, IsTrue}
 use Rattle.milter_filter.specs.Cores.{Core, Takes}
 use Rattle.milter_filter.proofs.Progress.{Progress, all-taken}
 use Rattle.milter_filter.proofs.filter_core.FilterCore.serve.Goals as goal
