@@ -1,6 +1,6 @@
 -- A session of a mail server with one client, and what is asked of one.
 use Rattle.std.specs.Prelude.{◌≢◌, ◌≤◌, ℕ, List, [], All}
-use Rattle.milter_mail.specs.declared.weight.TheConstants.{WEIGHT_MAX}
+use Rattle.milter_message.specs.declared.message.TheConstants.{WEIGHT_MAX}
 use Rattle.milter_wire.specs.declared.codes.TheConstants.{SMFIC_BODYEOB, SMFIC_CONNECT, SMFIC_DATA, SMFIC_EOH, SMFIC_HELO, SMFIC_MAIL, SMFIC_RCPT}
 use Rattle.milter_fields.specs.declared.client.Client.{Client}
 use Rattle.milter_wire.specs.declared.command.Command.TheVariants as commands

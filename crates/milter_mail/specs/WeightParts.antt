@@ -2,7 +2,7 @@
 use Rattle.std.specs.Prelude.{◌≡◌, ◌≢◌, ◌≤◌, ℕ, ◌+◌, ◌-◌, ◌*◌, ◌^◌, All, min, List, [], length, Option, None, Some}
 use Rattle.std.specs.List.{sum_by}
 use Rattle.milter_stream.specs.declared.number.TheConstants.{HEAD_LEN}
-use Rattle.milter_mail.specs.declared.weight.TheConstants.{WEIGHT_MAX}
+use Rattle.milter_message.specs.declared.message.TheConstants.{WEIGHT_MAX}
 use Rattle.milter_wire.specs.declared.codes.TheConstants.{SMFIC_BODYEOB, SMFIC_CONNECT, SMFIC_DATA, SMFIC_EOH, SMFIC_HELO, SMFIC_MAIL, SMFIC_RCPT}
 use Rattle.milter_fields.specs.declared.client.Client.{Client}
 use Rattle.milter_wire.specs.declared.command.Command.TheVariants as commands

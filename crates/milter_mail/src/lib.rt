@@ -18,9 +18,9 @@ pub use laws::{chosen_macros_fit, sendable_messages, weight_of_parts, weight_of_
 pub use macros::Macros;
 pub use message_lines::{put_line, put_message, put_text};
 pub use milter_message::{
-    Edit, Held, Message, MessageParts, PIECE_LEN, apply, changed_fields, edits_in_turn,
+    Edit, Held, Message, MessageParts, PIECE_LEN, WEIGHT_MAX, apply, changed_fields, edits_in_turn,
     edits_of_replies, leading_spaces, sent_value,
 };
 pub use milter_text::{TextFault, Word, WordFault, quote, words};
 pub use session::{Session, SessionParts};
-pub use weight::{Overhead, WEIGHT_MAX};
+pub use weight::Overhead;

@@ -9,7 +9,7 @@ ghost use Rattle.milter_mail.specs.MailSession.{IsSession};
 ghost use Rattle.milter_mail.specs.WeightParts.{body_weight, CommonWeighs, FieldsWeigh, IsOverhead, IsSendableWith, MacrosWeigh, OpeningAndMacrosFit, OpeningWeighs, PartsWeigh};
 
 use crate::macros::Macros;
-use milter_message::{Message, PIECE_LEN};
+use milter_message::{Message, PIECE_LEN, WEIGHT_MAX};
 use milter_wire::codes::{
     SMFIC_BODYEOB, SMFIC_CONNECT, SMFIC_DATA, SMFIC_EOH, SMFIC_HELO, SMFIC_MAIL, SMFIC_RCPT,
 };
@@ -17,9 +17,6 @@ use milter_wire::{
     Client, HEAD_LEN, Header, Pairs, Path, Text, connect_packet_len, header_packet_len,
     helo_packet_len, macro_packet_len, path_packet_len,
 };
-
-/// The most bytes that the packets of one message have, with those of the connection that it comes on: 16 MiB.
-pub const WEIGHT_MAX: usize = 16_777_216;
 
 /// What each message of a session weighs beside the packets of its own parts, in bytes.
 #[derive(Clone, Copy, Debug)]

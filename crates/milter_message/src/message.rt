@@ -16,6 +16,9 @@ use std::marker::Model;
 /// (MILTER_CHUNK_SIZE).
 pub const PIECE_LEN: usize = 65_535;
 
+/// The most bytes that the packets of one message have, with those of the connection that it comes on: 16 MiB.
+pub const WEIGHT_MAX: usize = 16_777_216;
+
 /// A message as SMTP carries it: the sender, the recipients, the header and the body. Each part but the body fits a
 /// packet: no string has a NUL, and none is too long. The value of a header field has the blank after the colon, if it
 /// begins with one; the field has to fit without it.

@@ -1,0 +1,4 @@
+pub mod Histories
+pub mod Seeing
+pub mod Permitting
+pub mod Talking

@@ -1,0 +1,10 @@
+use Rattle.std.proofs.lemmas.List.Elements.{filter_passes}
+use Rattle.milter_exchange.specs.Permitted.{is_permitted}
+use Rattle.milter_exchange.proofs.Permitting.{permitted-again}
+use Rattle.milter_exchange.proofs.laws.permitted_answers.Goals as goal
+
+pub returns-clause-edits : goal.returns-clause-edits
+returns-clause-edits c agreed answer = filter_passes (is_permitted agreed) answer.edits
+
+pub returns-clause-again : goal.returns-clause-again
+returns-clause-again c agreed answer = permitted-again agreed answer

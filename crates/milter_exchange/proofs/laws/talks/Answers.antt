@@ -1,0 +1,11 @@
+use Rattle.milter_exchange.proofs.Talking.{talk-answered, talk-ends, talk-skips}
+use Rattle.milter_exchange.proofs.laws.talks.Goals as goal
+
+pub returns-clause-answered : goal.returns-clause-answered
+returns-clause-answered c = talk-answered
+
+pub returns-clause-skipped : goal.returns-clause-skipped
+returns-clause-skipped c = talk-skips
+
+pub returns-clause-ended : goal.returns-clause-ended
+returns-clause-ended c b agreed before commands = talk-ends b agreed before commands

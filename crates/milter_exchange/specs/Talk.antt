@@ -1,0 +1,89 @@
+-- The talk of a mail server with a filter about the commands of one connection and message: the filter is asked about one
+-- after the other, until its answers let no command follow.
+use Rattle.std.specs.Prelude.{◌≡◌, Bool, true, false, ◌&&◌, ◌||◌, not, List, [], ◌∷◌, Option, None, Some, if◌then◌else◌}
+use Rattle.std.specs.List.{list_any}
+use Rattle.milter_wire.specs.declared.agreement.Agreed.{Agreed}
+use Rattle.milter_wire.specs.declared.command.Command.{Command}
+use Rattle.milter_wire.specs.declared.command.Command.TheVariants as commands
+use Rattle.milter_wire.specs.declared.stage.Stage.{Stage}
+use Rattle.milter_wire.specs.Stages.{stage_of}
+use Rattle.milter_exchange.specs.declared.answer.Answer.{Answer}
+use Rattle.milter_exchange.specs.Behavior.{Behavior, exchange_of}
+use Rattle.milter_exchange.specs.Exchanges.{Exchange, commands_of}
+use Rattle.milter_exchange.specs.Verdicts.{has_verdict, is_final_at, is_refusal, is_skip}
+
+-- ---- commands and exchanges
+
+abbrev pub is_body : Command → Bool
+is_body (commands.Body bytes) = true
+is_body other = false
+
+abbrev pub is_rcpt : Command → Bool
+is_rcpt (commands.Rcpt recipient) = true
+is_rcpt other = false
+
+-- the filter wants no further piece of the body
+abbrev pub is_skipping : Exchange → Bool
+is_skipping exchange = has_verdict is_skip exchange.answer
+
+abbrev pub is_refused : Exchange → Bool
+is_refused exchange = has_verdict is_refusal exchange.answer
+
+-- a recipient that may get the message
+abbrev pub is_kept_rcpt : Exchange → Bool
+is_kept_rcpt exchange = is_rcpt exchange.command && not (is_refused exchange)
+
+abbrev pub is_final_answer : Option Stage → Option Answer → Bool
+is_final_answer None answer = false
+is_final_answer (Some stage) answer = has_verdict (is_final_at stage) answer
+
+-- the answer lets no command follow, by itself
+abbrev pub is_final : Exchange → Bool
+is_final exchange = is_final_answer (stage_of exchange.command) exchange.answer
+
+-- ---- what the commands so far leave of the others
+
+-- a piece of the body after a Skip
+abbrev pub is_left_out : List Exchange → Command → Bool
+is_left_out before command = is_body command && list_any is_skipping before
+
+-- the last recipient, where all are refused
+abbrev pub are_all_refused : List Exchange → List Command → Bool
+are_all_refused [] left = false
+are_all_refused (exchange ∷ before) left =
+    is_rcpt exchange.command && not (list_any is_rcpt left) && not (list_any is_kept_rcpt (exchange ∷ before))
+
+-- no command follows these exchanges, the latest first
+abbrev pub is_closed : List Exchange → List Command → Bool
+is_closed [] left = false
+is_closed (exchange ∷ before) left = is_final exchange || are_all_refused (exchange ∷ before) left
+
+-- ---- the talk
+
+-- the exchanges of the commands that are left, after those before them, the latest first
+unfoldable pub talk : Behavior → Agreed → List Exchange → List Command → List Exchange
+talk b agreed before [] = []
+talk b agreed before (command ∷ left) =
+    if is_left_out before command then talk b agreed before left
+    else let exchange = exchange_of b agreed (commands_of before) command in
+    exchange ∷ (if is_closed (exchange ∷ before) left then [] else talk b agreed (exchange ∷ before) left)
+
+-- ---- what it is
+
+-- each of these exchanges, after those before it, has the answer that the filter gives to all that was sent up to it
+abbrev pub AreAnsweredBy : Behavior → Agreed → List Exchange → List Exchange → Type 0
+AreAnsweredBy b agreed before [] = Unit {0}
+AreAnsweredBy b agreed before (exchange ∷ more) =
+    (exchange ≡ exchange_of b agreed (commands_of before) exchange.command)
+    × AreAnsweredBy b agreed (exchange ∷ before) more
+
+-- no piece of the body comes after a Skip
+abbrev pub HaveNoSkippedPiece : List Exchange → List Exchange → Type 0
+HaveNoSkippedPiece before [] = Unit {0}
+HaveNoSkippedPiece before (exchange ∷ more) =
+    (is_left_out before exchange.command ≡ false) × HaveNoSkippedPiece (exchange ∷ before) more
+
+-- after a final answer nothing comes
+abbrev pub EndAtFinalAnswer : List Exchange → Type 0
+EndAtFinalAnswer [] = Unit {0}
+EndAtFinalAnswer (exchange ∷ more) = (is_final exchange ≡ true → more ≡ []) × EndAtFinalAnswer more

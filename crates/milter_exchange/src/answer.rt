@@ -1,0 +1,30 @@
+//! What a filter answers when it is asked.
+
+ghost use Rattle.std.specs.Prelude.{◌≡◌, []};
+
+use crate::edits::Edits;
+use milter_wire::Verdict;
+use std::alloc::Global;
+
+/// A filter's answer to a stage: the changes that it asks for, which come at the end of a message alone, and its verdict.
+/// Source: the libmilter callback documentation (xxfi_eom, and return values).
+#[derive(Clone, Debug, Drop)]
+pub struct Answer {
+    /// The edits, in order.
+    pub edits: Edits,
+    /// The verdict.
+    pub verdict: Verdict,
+}
+
+impl Answer {
+    /// The verdict, without edits. No memory is taken.
+    pub fn of_verdict(alloc: Global, verdict: Verdict) -> Self
+        ensures edits { result.edits ≡ [] }
+        ensures verdict { result.verdict ≡ verdict }
+    {
+        Answer {
+            edits: Edits::new(Vec::new(alloc)),
+            verdict,
+        }
+    }
+}

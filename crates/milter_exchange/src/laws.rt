@@ -1,0 +1,62 @@
+//! Laws of what both ends share, each the contract of a function that does nothing.
+
+ghost use Rattle.std.specs.Prelude.{◌≡◌, ◌++◌, ◌∷◌, ◌<◌, All, Bool, IfSome, List, ℕ, false, true};
+ghost use Rattle.std.specs.Option.{option_or};
+ghost use Rattle.milter_wire.specs.declared.agreement.Agreed.{Agreed};
+ghost use Rattle.milter_wire.specs.declared.command.Command.{Command};
+ghost use Rattle.milter_fields.specs.declared.pair.Pair.{Pair};
+ghost use Rattle.milter_wire.specs.declared.stage.Stage.{Stage};
+ghost use Rattle.milter_exchange.specs.declared.answer.Answer.{Answer};
+ghost use Rattle.milter_exchange.specs.Behavior.{Behavior};
+ghost use Rattle.milter_exchange.specs.Exchanges.{Exchange, latest, since, up_to};
+ghost use Rattle.milter_exchange.specs.Permitted.{is_permitted, permitted};
+ghost use Rattle.milter_exchange.specs.Seen.{seen, seen_with, value_in};
+ghost use Rattle.milter_exchange.specs.StageOrder.{may_follow, may_repeat, rank_of};
+ghost use Rattle.milter_exchange.specs.Talk.{AreAnsweredBy, EndAtFinalAnswer, HaveNoSkippedPiece, talk};
+
+/// One command more adds its own part to what is shown, and leaves all else as it is.
+pub fn seen_in_turn()
+    ensures seen { (leading_space : Bool) (command : Command) (before : List Command) →
+        seen leading_space (command ∷ before) ≡ seen_with (seen leading_space before) command }
+    // A macro has the value that was given last.
+    ensures last_value { (later earlier : List Pair) (name : List ℕ) →
+        value_in (later ++ earlier) name ≡ option_or (value_in later name) (value_in earlier name) }
+{}
+
+/// A history is what came since the last of a kind, and then that last one with what came before it.
+pub fn histories_cut()
+    ensures whole { (is_kind : Exchange → Bool) (history : List Exchange) →
+        since is_kind history ++ up_to is_kind history ≡ history }
+    ensures since { (is_kind : Exchange → Bool) (history : List Exchange) →
+        All (λ exchange. is_kind exchange ≡ false) (since is_kind history) }
+    ensures last { (is_kind : Exchange → Bool) (history : List Exchange) →
+        IfSome (latest (up_to is_kind history)) (λ exchange. is_kind exchange ≡ true) }
+{}
+
+/// Of two stages only one may follow the other, but for a stage that repeats.
+pub fn stages_in_order()
+    ensures apart { (a b : Stage) → rank_of a ≡ rank_of b → a ≡ b }
+    ensures first { (stage : Stage) → may_follow 0 stage ≡ true }
+    ensures higher { (a b : Stage) → rank_of a < rank_of b → may_follow (rank_of a) b ≡ true }
+    ensures same { (stage : Stage) → may_follow (rank_of stage) stage ≡ may_repeat stage }
+    ensures lower { (a b : Stage) → rank_of b < rank_of a → may_follow (rank_of a) b ≡ false }
+{}
+
+/// What is permitted asks for nothing that was not agreed on, and is permitted as it is.
+pub fn permitted_answers()
+    ensures edits { (agreed : Agreed) (answer : Answer) →
+        All (λ edit. is_permitted agreed edit ≡ true) (permitted agreed answer).edits }
+    ensures again { (agreed : Agreed) (answer : Answer) →
+        permitted agreed (permitted agreed answer) ≡ permitted agreed answer }
+{}
+
+/// Each answer of a talk is the filter's to all that was sent up to its command; no piece of a body follows a Skip, and
+/// nothing follows a final answer.
+pub fn talks()
+    ensures answered { (b : Behavior) (agreed : Agreed) (before : List Exchange) (commands : List Command) →
+        AreAnsweredBy b agreed before (talk b agreed before commands) }
+    ensures skipped { (b : Behavior) (agreed : Agreed) (before : List Exchange) (commands : List Command) →
+        HaveNoSkippedPiece before (talk b agreed before commands) }
+    ensures ended { (b : Behavior) (agreed : Agreed) (before : List Exchange) (commands : List Command) →
+        EndAtFinalAnswer (talk b agreed before commands) }
+{}

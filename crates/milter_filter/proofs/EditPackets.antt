@@ -1,0 +1,40 @@
+-- The packets of edits, one after the other.
+use Rattle.std.proofs.Common.{◌≡◌, ℕ, Bool, true, false, List, [], ◌∷◌, ◌++◌, map, refl, sym, ◌∙◌, ap, append_assoc, append-nil, filter, flat_map, cond, if◌then◌else◌}
+use Rattle.std.proofs.lemmas.Grind.{flat_map-append}
+use Rattle.std.proofs.lemmas.List.{map-append}
+use Rattle.std.proofs.lemmas.List.Elements.{filter-append}
+use Rattle.milter_wire.specs.declared.agreement.Agreed.{Agreed}
+use Rattle.milter_wire.specs.Reply.{encoding}
+use Rattle.milter_message.specs.declared.edit.Edit.{Edit}
+use Rattle.milter_message.specs.EditReplies.{reply_of}
+use Rattle.milter_exchange.specs.Permitted.{is_permitted}
+
+abbrev pub edit_bytes : Agreed → List Edit → List ℕ
+edit_bytes agreed edits = flat_map encoding (map reply_of (filter (is_permitted agreed) edits))
+
+bytes-append : (agreed : Agreed) (first second : List Edit) → edit_bytes agreed (first ++ second) ≡ edit_bytes agreed first ++ edit_bytes agreed second
+bytes-append agreed first second =
+    ap (λ es. flat_map encoding (map reply_of es)) (filter-append (is_permitted agreed) first second)
+    ∙ ap (flat_map encoding) (map-append reply_of (filter (is_permitted agreed) first) (filter (is_permitted agreed) second))
+    ∙ flat_map-append encoding (map reply_of (filter (is_permitted agreed) first)) (map reply_of (filter (is_permitted agreed) second))
+
+bytes-one : (agreed : Agreed) (edit : Edit) → edit_bytes agreed (edit ∷ []) ≡ (if is_permitted agreed edit then encoding (reply_of edit) else [])
+bytes-one agreed edit = by_bit (is_permitted agreed edit)
+  where
+    by_bit : (is : Bool) → flat_map encoding (map reply_of (cond is (edit ∷ []) [])) ≡ (if is then encoding (reply_of edit) else [])
+    by_bit true = append-nil (encoding (reply_of edit))
+    by_bit false = refl
+
+-- one edit more
+pub put-more : (agreed : Agreed) (edits : List Edit) (edit : Edit) (start out new : List ℕ) → out ≡ start ++ edit_bytes agreed edits
+    → new ≡ (if is_permitted agreed edit then out ++ encoding (reply_of edit) else out) → new ≡ start ++ edit_bytes agreed (edits ++ edit ∷ [])
+put-more agreed edits edit start out new so_far put =
+    put ∙ by_bit (is_permitted agreed edit)
+    ∙ ap (λ bytes. out ++ bytes) (sym (bytes-one agreed edit))
+    ∙ ap (λ bytes. bytes ++ edit_bytes agreed (edit ∷ [])) so_far
+    ∙ append_assoc start (edit_bytes agreed edits) (edit_bytes agreed (edit ∷ []))
+    ∙ ap (λ bytes. start ++ bytes) (sym (bytes-append agreed edits (edit ∷ [])))
+  where
+    by_bit : (is : Bool) → (if is then out ++ encoding (reply_of edit) else out) ≡ out ++ (if is then encoding (reply_of edit) else [])
+    by_bit true = refl
+    by_bit false = sym (append-nil out)

@@ -1,0 +1,66 @@
+-- A stream of one packet, and one that begins with a packet or a fault.
+use Rattle.std.proofs.Common.{◌≡◌, ℕ, List, [], ◌∷◌, ◌++◌, take, drop, map, Some, refl, sym, ◌∙◌, ap, append-nil, flat_map}
+use Rattle.milter_stream.specs.declared.fault.WireFault.{WireFault}
+use Rattle.milter_stream.specs.Stream.{Division, Frame, IsFrame, IsUnfinished, divide, first_frame, frame_bytes, length_fault, with_frame}
+use Rattle.milter_stream.proofs.Division.{divide-first}
+use Rattle.milter_stream.proofs.Frames.{first_frame-packet}
+use Rattle.milter_stream.proofs.StreamLaws.{divide-fault, divide-handed, divide-nil, divide-unfinished, length_fault-fed}
+use Rattle.milter_wire.specs.Frames.{frame_command}
+use Rattle.milter_wire.specs.Reply.{encoding}
+use Rattle.milter_exchange.specs.Behavior.{Behavior}
+use Rattle.milter_filter.specs.declared.filter_fault.FilterFault.{FilterFault}
+use Rattle.milter_filter.specs.declared.filter_fault.FilterFault.TheVariants.{Wire}
+use Rattle.milter_filter.specs.declared.filter_state.FilterState.TheVariants.{Failed, Serving}
+use Rattle.milter_filter.specs.Conversations.{Received}
+use Rattle.milter_filter.specs.Standings.{Standing, nothing_kept, standing_after, standing_next, standing_replies, standing_replies_at}
+use Rattle.milter_filter.specs.Streams.{fault_after, read_in, received_in}
+
+-- ---- one packet
+
+divide-one : (f : Frame) → IsFrame f → divide (frame_bytes f) ≡ record { frames = f ∷ []; rest = [] }
+divide-one f fits =
+    let first = ap first_frame (sym (append-nil (frame_bytes f))) ∙ first_frame-packet f [] fits in
+    divide-first (frame_bytes f) f [] first ∙ ap (with_frame f) divide-nil
+
+module _ (b : Behavior) (s : Standing) where
+  pub standing-packet : (f : Frame) (bytes : List ℕ) (new : Standing) → IsFrame f → bytes ≡ frame_bytes f → new ≡ standing_next b s (frame_command f)
+      → new ≡ standing_after b s (read_in bytes)
+  standing-packet f bytes new fits is e = rw (is, divide-one f fits) e
+
+  pub replies-packet : (f : Frame) (bytes start new : List ℕ) → IsFrame f → bytes ≡ frame_bytes f → new ≡ start ++ flat_map encoding (standing_replies_at b s (frame_command f))
+      → new ≡ start ++ flat_map encoding (standing_replies b s (read_in bytes))
+  replies-packet f bytes start new fits is e = rw (is, divide-one f fits, append-nil) e
+
+  -- ---- no packet yet
+
+  pub standing-unfinished : (bytes : List ℕ) → IsUnfinished bytes → s ≡ standing_after b s (read_in bytes)
+  standing-unfinished bytes unfinished = rw (divide-unfinished bytes unfinished) refl
+
+  pub replies-unfinished : (bytes start : List ℕ) → IsUnfinished bytes → start ≡ start ++ flat_map encoding (standing_replies b s (read_in bytes))
+  replies-unfinished bytes start unfinished = rw (divide-unfinished bytes unfinished) (sym (append-nil start))
+
+pub rest-packet : (f : Frame) (bytes : List ℕ) → IsFrame f → bytes ≡ frame_bytes f → [] ≡ (divide bytes).rest
+rest-packet f bytes fits is = rw (is, divide-one f fits) refl
+
+pub rest-unfinished : (bytes : List ℕ) → IsUnfinished bytes → bytes ≡ (divide bytes).rest
+rest-unfinished bytes unfinished = rw (divide-unfinished bytes unfinished) refl
+
+-- ---- faults
+
+pub failed-stays : (b : Behavior) (fault : FilterFault) (received : List Received) → standing_after b (nothing_kept (Failed fault)) received ≡ nothing_kept (Failed fault)
+failed-stays b fault [] = refl
+failed-stays b fault (first ∷ more) = failed-stays b fault more
+
+pub standing-packet_fault : (b : Behavior) (s : Standing) (unread piece new : List ℕ) (n : ℕ) (f : Frame) (fault : FilterFault) → new ≡ unread ++ take n piece → new ≡ frame_bytes f
+    → IsFrame f → standing_next b s (frame_command f) ≡ nothing_kept (Failed fault) → standing_after b s (received_in (unread ++ piece)) ≡ nothing_kept (Failed fault)
+standing-packet_fault b s unread piece new n f fault fed is fits at_fault =
+    let more = divide (drop n piece) in
+    let others = map frame_command more.frames ++ fault_after (length_fault more.rest) in
+    ap (λ (d : Division). standing_after b s (map frame_command d.frames ++ fault_after (length_fault d.rest))) (divide-handed unread piece new n f fed is fits)
+    ∙ ap (λ (x : Standing). standing_after b x others) at_fault
+    ∙ failed-stays b fault others
+
+pub standing-length_fault : (b : Behavior) (s : Standing) (unread piece new : List ℕ) (n : ℕ) (fault : WireFault) → s.state ≡ Serving → new ≡ unread ++ take n piece
+    → length_fault new ≡ Some fault → standing_after b s (received_in (unread ++ piece)) ≡ nothing_kept (Failed (Wire fault))
+standing-length_fault b s unread piece new n fault serving fed is =
+    rw (divide-fault unread piece new n fault fed is, length_fault-fed unread piece new n fault fed is, serving) refl

@@ -1,0 +1,130 @@
+-- A piece of a stream, packet by packet.
+use Rattle.std.proofs.Common.{◌≡◌, ◌≢◌, ℕ, ◌+◌, List, [], ◌∷◌, ◌++◌, length, take, take-add, drop, map, refl, sym, ◌∙◌, ap, append_assoc, append-nil, flat_map, take_all, arith}
+use Rattle.std.proofs.lemmas.Grind.{flat_map-append}
+use Rattle.std.proofs.lemmas.List.{map-append, take-append-drop}
+use Rattle.milter_stream.specs.Stream.{Division, IsUnfinished, divide, length_fault}
+use Rattle.milter_stream.proofs.StreamLaws.{divide-append, divide-unfinished}
+use Rattle.milter_wire.specs.Frames.{frame_command}
+use Rattle.milter_wire.specs.Reply.{encoding}
+use Rattle.milter_exchange.specs.Behavior.{Behavior}
+use Rattle.milter_filter.specs.declared.filter_state.FilterState.{FilterState}
+use Rattle.milter_filter.specs.declared.filter_state.FilterState.TheVariants.{Failed, Quit, Serving}
+use Rattle.milter_filter.specs.Conversations.{Received}
+use Rattle.milter_filter.specs.Standings.{Standing, standing_after, standing_in, standing_next, standing_replies, standing_replies_at, standing_replies_in}
+use Rattle.milter_filter.specs.Cores.{Core, Takes}
+use Rattle.milter_filter.specs.Streams.{fault_after, read_in, received_in}
+use Rattle.milter_filter.proofs.Going.{standing_after-append, standing_replies-append}
+
+-- what was made of the first bytes
+pub record Progress (b : Behavior) (s : Standing) (bytes : List ℕ) (new : Standing) (unread : List ℕ) (out : List ℕ) : Type 0 where
+  pub standing : new ≡ standing_after b s (read_in bytes)
+  pub unread_is : unread ≡ (divide bytes).rest
+  pub unfinished : IsUnfinished unread
+  pub replied : out ≡ flat_map encoding (standing_replies b s (read_in bytes))
+
+pub begin : (b : Behavior) (s : Standing) (unread : List ℕ) → IsUnfinished unread → Progress b s (unread ++ []) s unread []
+begin b s unread unfinished =
+    let d = ap divide (append-nil unread) ∙ divide-unfinished unread unfinished in
+    record {
+      standing = ap (λ (x : Division). standing_after b s (map frame_command x.frames)) (sym d);
+      unread_is = ap (λ (x : Division). x.rest) (sym d);
+      unfinished = unfinished;
+      replied = ap (λ (x : Division). flat_map encoding (standing_replies b s (map frame_command x.frames))) (sym d);
+    }
+
+read-append : (bytes more : List ℕ) → read_in (bytes ++ more) ≡ read_in bytes ++ read_in ((divide bytes).rest ++ more)
+read-append bytes more =
+    ap (λ (x : Division). map frame_command x.frames) (divide-append bytes more)
+    ∙ map-append frame_command (divide bytes).frames (divide ((divide bytes).rest ++ more)).frames
+
+-- some bytes more
+pub go_on : (b : Behavior) (s new after : Standing) (bytes more unread left out written : List ℕ) → Progress b s bytes new unread out
+    → after ≡ standing_after b new (read_in (unread ++ more)) → left ≡ (divide (unread ++ more)).rest → IsUnfinished left
+    → written ≡ out ++ flat_map encoding (standing_replies b new (read_in (unread ++ more))) → Progress b s (bytes ++ more) after left written
+go_on b s new after bytes more unread left out written p standing rest unfinished replied =
+    let read = ap (λ us. read_in bytes ++ read_in (us ++ more)) (sym p.unread_is) in
+    let both = read-append bytes more ∙ read in
+    record {
+      standing =
+          standing ∙ ap (λ x. standing_after b x (read_in (unread ++ more))) p.standing
+          ∙ sym (standing_after-append b s (read_in bytes) (read_in (unread ++ more))) ∙ ap (standing_after b s) (sym both);
+      unread_is = rest ∙ ap (λ us. (divide (us ++ more)).rest) p.unread_is ∙ ap (λ (x : Division). x.rest) (sym (divide-append bytes more));
+      unfinished = unfinished;
+      replied =
+          replied
+          ∙ ap (λ xs. xs ++ flat_map encoding (standing_replies b new (read_in (unread ++ more)))) p.replied
+          ∙ ap (λ x. flat_map encoding (standing_replies b s (read_in bytes)) ++ flat_map encoding (standing_replies b x (read_in (unread ++ more)))) p.standing
+          ∙ sym (flat_map-append encoding (standing_replies b s (read_in bytes)) (standing_replies b (standing_after b s (read_in bytes)) (read_in (unread ++ more))))
+          ∙ ap (flat_map encoding) (sym (standing_replies-append b s (read_in bytes) (read_in (unread ++ more))) ∙ ap (standing_replies b s) (sym both));
+    }
+
+-- a fault among the bytes that are left
+pub fault-left : (b : Behavior) (s new failed : Standing) (bytes more unread out : List ℕ) → Progress b s bytes new unread out
+    → standing_after b new (received_in (unread ++ more)) ≡ failed → standing_after b s (received_in (bytes ++ more)) ≡ failed
+fault-left b s new failed bytes more unread out p is =
+    let d = divide-append bytes more in
+    let read = read-append bytes more ∙ ap (λ us. read_in bytes ++ read_in (us ++ more)) (sym p.unread_is) in
+    let rest = ap (λ (x : Division). x.rest) d ∙ ap (λ us. (divide (us ++ more)).rest) (sym p.unread_is) in
+    ap (λ rs. standing_after b s (rs ++ fault_after (length_fault (divide (bytes ++ more)).rest))) read
+    ∙ ap (λ us. standing_after b s ((read_in bytes ++ read_in (unread ++ more)) ++ fault_after (length_fault us))) rest
+    ∙ ap (standing_after b s) (append_assoc (read_in bytes) (read_in (unread ++ more)) _)
+    ∙ standing_after-append b s (read_in bytes) (received_in (unread ++ more))
+    ∙ ap (λ x. standing_after b x (received_in (unread ++ more))) (sym p.standing)
+    ∙ is
+
+-- the bytes so far, and what is left of the piece
+pub bytes-more : (unread piece : List ℕ) (i n : ℕ) → (unread ++ take i piece) ++ take n (drop i piece) ≡ unread ++ take (i + n) piece
+bytes-more unread piece i n = append_assoc unread (take i piece) (take n (drop i piece)) ∙ ap (λ xs. unread ++ xs) (sym (take-add i n piece))
+
+pub bytes-all : (unread piece : List ℕ) (i : ℕ) → (unread ++ take i piece) ++ drop i piece ≡ unread ++ piece
+bytes-all unread piece i = append_assoc unread (take i piece) (drop i piece) ∙ ap (λ xs. unread ++ xs) (take-append-drop i piece)
+
+-- ---- after the end nothing changes
+
+ended-step : (b : Behavior) (s : Standing) (first : Received) → s.state ≢ Serving → (standing_next b s first ≡ s) × (standing_replies_at b s first ≡ [])
+ended-step b s first ended = by_state s.state refl
+  where
+    by_state : (state : FilterState) → s.state ≡ state → (standing_next b s first ≡ s) × (standing_replies_at b s first ≡ [])
+    by_state Serving e = absurd (ended e)
+    by_state Quit e = (ap (standing_in b s first) e, ap (standing_replies_in b s first) e)
+    by_state (Failed fault) e = (ap (standing_in b s first) e, ap (standing_replies_in b s first) e)
+
+ended-stays : (b : Behavior) (s : Standing) (received : List Received) → s.state ≢ Serving → (standing_after b s received ≡ s) × (standing_replies b s received ≡ [])
+ended-stays b s [] ended = (refl, refl)
+ended-stays b s (first ∷ more) ended =
+    let step = ended-step b s first ended in
+    let rest = ended-stays b s more ended in (
+      ap (λ x. standing_after b x more) step.0 ∙ rest.0,
+      ap (λ rs. rs ++ standing_replies b (standing_next b s first) more) step.1 ∙ ap (λ x. standing_replies b x more) step.0 ∙ rest.1,
+    )
+
+pub ended-all : (b : Behavior) (s new : Standing) (bytes more unread out : List ℕ) → Progress b s bytes new unread out → new.state ≢ Serving
+    → (new ≡ standing_after b s (read_in (bytes ++ more))) × (out ≡ flat_map encoding (standing_replies b s (read_in (bytes ++ more))))
+ended-all b s new bytes more unread out p ended =
+    let others = read_in ((divide bytes).rest ++ more) in
+    let stays = ended-stays b new others ended in
+    let read = read-append bytes more in (
+      sym (stays.0) ∙ ap (λ x. standing_after b x others) p.standing ∙ sym (standing_after-append b s (read_in bytes) others) ∙ ap (standing_after b s) (sym read),
+      p.replied
+          ∙ sym (append-nil (flat_map encoding (standing_replies b s (read_in bytes))))
+          ∙ ap (λ rs. flat_map encoding (standing_replies b s (read_in bytes)) ++ flat_map encoding rs) (sym stays.1 ∙ ap (λ x. standing_replies b x others) p.standing)
+          ∙ sym (flat_map-append encoding (standing_replies b s (read_in bytes)) (standing_replies b (standing_after b s (read_in bytes)) others))
+          ∙ ap (flat_map encoding) (sym (standing_replies-append b s (read_in bytes) others) ∙ ap (standing_replies b s) (sym read)),
+    )
+
+-- all of a piece, where the mail server has quit in it
+pub all-taken : {P : Type 0} (b : Behavior) (old new : Core P) (piece unread : List ℕ) (i : ℕ) → new.policy ≡ old.policy
+    → Progress b old.standing (old.unread ++ take i piece) new.standing unread new.pending → new.standing.state ≢ Serving → new.unread ≡ []
+    → Takes b old piece (length piece) new
+all-taken b old new piece unread i policy p ended nothing =
+    let both = ended-all b old.standing new.standing (old.unread ++ take i piece) (drop i piece) unread new.pending p ended in
+    let all = bytes-all old.unread piece i ∙ ap (λ xs. old.unread ++ xs) (sym (take_all (length piece) piece (omega arith))) in
+    record {
+      policy = policy;
+      within = omega arith;
+      standing = both.0 ∙ ap (λ xs. standing_after b old.standing (read_in xs)) all;
+      pending = both.1 ∙ ap (λ xs. flat_map encoding (standing_replies b old.standing (read_in xs))) all;
+      unread = λ serving. absurd (ended serving);
+      nothing_unread = λ other. nothing;
+      all = λ none. refl;
+    }

@@ -1,0 +1,8 @@
+use Rattle.milter_filter.proofs.Going.{after-append, replies-append}
+use Rattle.milter_filter.proofs.laws.conversations_go_on.Goals as goal
+
+pub returns-clause-conversation : goal.returns-clause-conversation
+returns-clause-conversation c = after-append
+
+pub returns-clause-replies : goal.returns-clause-replies
+returns-clause-replies c = replies-append

@@ -1,0 +1,46 @@
+use Rattle.std.proofs.Common.{◌++◌, [], take, drop, sym, ◌∙◌, ap, subst, arith, length-drop}
+use Rattle.std.proofs.lemmas.List.{take_rest}
+use Rattle.milter_filter.proofs.Progress.{Progress, begin, bytes-all, bytes-more, fault-left, go_on}
+use Rattle.milter_filter.specs.Standings.{nothing_kept, standing_after}
+use Rattle.milter_filter.specs.Streams.{received_in}
+use Rattle.milter_filter.specs.declared.filter_state.FilterState.TheVariants.{Failed}
+use Rattle.milter_filter.proofs.piece_receiving.receive_piece.Goals as goal
+
+pub loop-taken-init : goal.loop-taken-init
+loop-taken-init g c =
+    let b = g.P.Policy.behavior c.args.policy.now in
+    let s = c.args.connection.now in
+    let u = c.args.splitter.now in
+    record {
+      within = omega arith;
+      progress = subst (λ out. Progress b s (u ++ []) s u out) (sym c.requires.nothing_pending) (begin b s u c.requires.unfinished);
+    }
+
+pub returns-in-Err-clause-fault : goal.returns-in-Err-clause-fault
+returns-in-Err-clause-fault g c =
+    let b = g.P.Policy.behavior c.args.policy.now in
+    let s = c.args.connection.now in
+    let u = c.args.splitter.now in
+    let piece = c.args.piece.now in
+    let i = c.loop-taken.taken in
+    λ other.
+    let left = fault-left b s c.loop-taken.connection (nothing_kept (Failed c.in-Err.fault)) (u ++ take i piece) (drop i piece) c.loop-taken.splitter c.loop-taken.out.items
+    c.loop-taken.invariant.progress (rw (take_rest piece i) at (c.in-Err.ensures.fault other)) in
+    ap (λ bytes. standing_after b s (received_in bytes)) (sym (bytes-all u piece i)) ∙ left
+
+pub loop-taken-preserved : goal.loop-taken-preserved
+loop-taken-preserved g c =
+    let b = g.P.Policy.behavior c.args.policy.now in
+    let s = c.args.connection.now in
+    let u = c.args.splitter.now in
+    let piece = c.args.piece.now in
+    let i = c.loop-taken.taken in
+    let n = c.in-Ok.more in
+    let rest = drop i piece in
+    let now = go_on b s c.loop-taken.connection c.receive_some.new.connection (u ++ take i piece) (take n rest) c.loop-taken.splitter c.receive_some.new.splitter c.loop-taken.out.items c.receive_some.new.out.items
+    c.loop-taken.invariant.progress (rw (take_rest piece i) at c.in-Ok.ensures.standing) (rw (take_rest piece i) at c.in-Ok.ensures.unread) c.in-Ok.ensures.unfinished (rw (take_rest piece i) at c.in-Ok.ensures.replied) in
+    let at = bytes-more u piece i n in
+    record {
+      within = let m = rw (take_rest piece i) at c.in-Ok.ensures.taken in omega (arith, m, c.loop-taken.invariant.within, length-drop i piece);
+      progress = subst (λ bytes. Progress b s bytes c.receive_some.new.connection c.receive_some.new.splitter c.receive_some.new.out.items) at now;
+    }

@@ -1,0 +1,16 @@
+pub mod FilterFault
+pub mod Commands
+pub mod Histories
+pub mod Faults
+pub mod Replies
+pub mod Conversations
+pub mod Standings
+pub mod MacroLists
+pub mod SeenParts
+pub mod Lawful
+pub mod PassLaw
+pub mod Streams
+pub mod Cores
+pub mod Asking
+pub mod Pass
+pub mod Worked

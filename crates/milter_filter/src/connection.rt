@@ -1,0 +1,200 @@
+//! What a filter's end keeps of a connection.
+
+ghost use Rattle.std.specs.Prelude.{◌≡◌, ◌≤◌, ◌+◌, ◌↔◌, IsTrue, OnOk, length, true};
+ghost use Rattle.std.specs.Option.{option_copied};
+ghost use Rattle.milter_wire.specs.Command.{encoding};
+ghost use Rattle.milter_wire.specs.LentCommand.{command_of};
+ghost use Rattle.milter_filter.specs.Commands.{is_shown};
+ghost use Rattle.milter_filter.specs.Faults.{fault_in_message, fault_of};
+ghost use Rattle.milter_filter.specs.Standings.{after_client, after_message, after_options, fresh, nothing_kept, with_shown};
+
+use crate::commands::{is_of_connection, is_shown};
+use crate::filter_fault::{FilterFault, VERSION_MIN};
+use crate::filter_state::FilterState;
+use crate::seen::Seen;
+use milter_exchange::{may_follow, rank_of};
+use milter_message::WEIGHT_MAX;
+use milter_wire::{Agreed, CommandRef, NoMemory};
+use std::alloc::Global;
+use std::marker::Model;
+
+/// The rank of the last stage from which the next message goes on: at most that of a greeting.
+const RANK_OF_GREETING: u8 = 2;
+
+/// What a filter's end keeps of a connection, all of it bounded by the packets that came.
+#[derive(Debug, Drop)]
+pub(crate) struct Connection {
+    agreed: Option<Agreed>,
+    last_rank: u8,
+    seen: Seen,
+    shown_bytes: usize,
+    connection_bytes: usize,
+    state: FilterState,
+}
+
+impl Model for Connection {
+    ghost use Rattle.std.specs.Prelude.{◌≤◌};
+    ghost use Rattle.milter_message.specs.declared.message.TheConstants.{WEIGHT_MAX};
+    ghost use Rattle.milter_filter.specs.Standings.{Standing};
+
+    ghost Value = { Standing };
+
+    ghost view = { λ c. record {
+      agreed = c.agreed;
+      last_rank = c.last_rank;
+      shown = record { seen = c.seen.shown; bytes = c.shown_bytes };
+      connection = record { seen = c.seen.connection; bytes = c.connection_bytes };
+      state = c.state;
+    } };
+
+    ghost invariant = { λ c. (c.connection_bytes ≤ c.shown_bytes) × (c.shown_bytes ≤ WEIGHT_MAX) };
+}
+
+impl Connection {
+    /// A connection of which nothing has come. No memory is taken.
+    pub(crate) fn new(alloc: Global) -> Self
+        ensures { result ≡ fresh }
+    {
+        Connection {
+            agreed: None,
+            last_rank: 0,
+            seen: Seen::new(alloc),
+            shown_bytes: 0,
+            connection_bytes: 0,
+            state: FilterState::Serving,
+        }
+    }
+
+    /// A connection that was given up: nothing is kept but the fault. No memory is taken.
+    pub(crate) fn failed(alloc: Global, fault: FilterFault) -> Self
+        ensures { result ≡ nothing_kept (FilterState.Failed fault) }
+    {
+        Connection {
+            agreed: None,
+            last_rank: 0,
+            seen: Seen::new(alloc),
+            shown_bytes: 0,
+            connection_bytes: 0,
+            state: FilterState::Failed(fault),
+        }
+    }
+
+    /// Whether it goes on.
+    pub(crate) fn state(&self) -> FilterState
+        ensures { result ≡ self.now.state }
+    {
+        self.state
+    }
+
+    /// Whether it takes commands.
+    pub(crate) fn is_serving(&self) -> bool
+        ensures { IsTrue result ↔ (self.now.state ≡ FilterState.Serving) }
+    {
+        self.state == FilterState::Serving
+    }
+
+    /// The fault of a command whose packet has `len` bytes, if it is at one.
+    pub(crate) fn fault_of(&self, command: &CommandRef<'_>, len: usize) -> Option<FilterFault>
+        requires { len ≤ WEIGHT_MAX }
+        ensures { result
+            ≡ fault_of self.now.agreed self.now.last_rank (len + self.now.shown.bytes) (command_of command.now) }
+    {
+        match (&self.agreed, command) {
+            (None, CommandRef::Options(offer)) => {
+                (offer.version < VERSION_MIN).then_some(FilterFault::Version)
+            }
+            (None, CommandRef::Quit) => None,
+            (None, _) => Some(FilterFault::NotNegotiated),
+            (Some(_), CommandRef::Options(_)) => Some(FilterFault::NegotiatedTwice),
+            (Some(_), _) => self.fault_in_message(command, len),
+        }
+    }
+
+    /// The fault of a command after the options: of its order, or of the amount that is shown with it.
+    fn fault_in_message(&self, command: &CommandRef<'_>, len: usize) -> Option<FilterFault>
+        requires { len ≤ WEIGHT_MAX }
+        ensures { result
+            ≡ fault_in_message self.now.last_rank (len + self.now.shown.bytes) (command_of command.now) }
+    {
+        if let Some(stage) = command.stage() {
+            if !may_follow(self.last_rank, stage) {
+                return Some(FilterFault::OutOfOrder);
+            }
+        }
+        let is_too_much = is_shown(command) && len + self.shown_bytes > WEIGHT_MAX;
+        is_too_much.then_some(FilterFault::TooMuch)
+    }
+
+    /// What was agreed on.
+    pub(crate) fn agreed(&self) -> Option<&Agreed>
+        ensures { option_copied result ≡ self.now.agreed }
+    {
+        self.agreed.as_ref()
+    }
+
+    /// What is shown.
+    pub(crate) fn seen(&self) -> &Seen
+        ensures shown { result.now.shown ≡ self.now.shown.seen }
+    {
+        &self.seen
+    }
+
+    /// Takes a command that is shown, or none of it; its packet has `len` bytes.
+    pub(crate) fn take(
+        &mut self,
+        alloc: Global,
+        command: &CommandRef<'_>,
+        len: usize,
+    ) -> Result<(), NoMemory>
+        requires len { len ≡ length (encoding (command_of command.now)) }
+        requires amount { is_shown (command_of command.now) ≡ true → len + self.old.shown.bytes ≤ WEIGHT_MAX }
+        ensures ok { OnOk result (self.new ≡ with_shown self.old (command_of command.now)) }
+    {
+        if !is_shown(command) {
+            return Ok(());
+        }
+        self.seen.take(alloc, command)?;
+        if let Some(stage) = command.stage() {
+            self.last_rank = rank_of(stage);
+        }
+        self.shown_bytes += len;
+        if is_of_connection(command) {
+            self.connection_bytes += len;
+        }
+        Ok(())
+    }
+
+    /// Gives up what came of a message.
+    pub(crate) fn end_message(&mut self)
+        ensures { self.new ≡ after_message self.old }
+    {
+        self.seen.end_message();
+        self.shown_bytes = self.connection_bytes;
+        self.last_rank = self.last_rank.min(RANK_OF_GREETING);
+    }
+
+    /// Gives up what came of a client.
+    pub(crate) fn end_client(&mut self)
+        ensures { self.new ≡ after_client self.old }
+    {
+        self.seen.clear();
+        self.shown_bytes = 0;
+        self.connection_bytes = 0;
+        self.last_rank = 0;
+    }
+
+    /// Notes what was agreed on.
+    pub(crate) fn set_agreed(&mut self, agreed: Agreed)
+        ensures { self.new ≡ after_options self.old agreed }
+    {
+        self.seen.set_leading_space(agreed.has_leading_space());
+        self.agreed = Some(agreed);
+    }
+
+    /// Notes that the mail server has quit.
+    pub(crate) fn quit(&mut self)
+        ensures { self.new ≡ record self.old { state = FilterState.Quit } }
+    {
+        self.state = FilterState::Quit;
+    }
+}

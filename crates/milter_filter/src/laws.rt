@@ -1,0 +1,57 @@
+//! Laws of a filter's end of a connection, each the contract of a function that does nothing.
+
+ghost use Rattle.std.specs.Prelude.{◌≡◌, ◌++◌, ◌∷◌, [], List, if◌then◌else◌};
+ghost use Rattle.std.specs.Option.{option_or};
+ghost use Rattle.milter_wire.specs.Stages.{stage_of};
+ghost use Rattle.milter_exchange.specs.Behavior.{Behavior};
+ghost use Rattle.milter_exchange.specs.Exchanges.{Exchange};
+ghost use Rattle.milter_filter.specs.Commands.{is_of_connection, is_shown};
+ghost use Rattle.milter_filter.specs.Conversations.{Conversation, Received, after, replies, start};
+ghost use Rattle.milter_filter.specs.Histories.{agreed_by, agreed_in, begins_anew, ends_message, last_rank, of_connection, rank_from, shown};
+ghost use Rattle.milter_filter.specs.Standings.{Standing, fresh, rank_by, standing_after, standing_of, standing_replies};
+
+/// Going on by some commands and then by others is going on by all of them in a row.
+pub fn conversations_go_on()
+    ensures conversation { (b : Behavior) (c : Conversation) (first second : List Received) →
+        after b c (first ++ second) ≡ after b (after b c first) second }
+    ensures replies { (b : Behavior) (c : Conversation) (first second : List Received) →
+        replies b c (first ++ second) ≡ replies b c first ++ replies b (after b c first) second }
+{}
+
+/// One exchange more: what was agreed on, what is shown, and the rank of the last stage.
+pub fn parts_of_histories()
+    ensures agreed { (b : Behavior) (exchange : Exchange) (before : List Exchange) →
+        agreed_in b (exchange ∷ before) ≡ option_or (agreed_by b exchange.command) (agreed_in b before) }
+    ensures connection { (exchange : Exchange) (before : List Exchange) →
+        of_connection (exchange ∷ before)
+        ≡ (if begins_anew exchange then []
+        else if is_of_connection exchange.command then exchange.command ∷ of_connection before
+        else of_connection before) }
+    ensures shown { (exchange : Exchange) (before : List Exchange) →
+        shown (exchange ∷ before)
+        ≡ (if ends_message exchange then of_connection (exchange ∷ before)
+        else if is_shown exchange.command then exchange.command ∷ shown before
+        else shown before) }
+    ensures rank { (exchange : Exchange) (before : List Exchange) →
+        last_rank (exchange ∷ before)
+        ≡ (if begins_anew exchange then 0
+        else rank_from (ends_message exchange) (rank_by (last_rank before) (stage_of exchange.command))) }
+{}
+
+/// What is kept of a conversation goes on as the conversation does, with the same replies.
+pub fn standings_of_conversations()
+    ensures fresh { (b : Behavior) → standing_of b start ≡ fresh }
+    ensures standing { (b : Behavior) (c : Conversation) (received : List Received) →
+        standing_of b (after b c received) ≡ standing_after b (standing_of b c) received }
+    ensures replies { (b : Behavior) (c : Conversation) (received : List Received) →
+        replies b c received ≡ standing_replies b (standing_of b c) received }
+{}
+
+/// Going on by some commands and then by others is going on by all of them in a row, from whatever is kept.
+pub fn standings_go_on()
+    ensures standing { (b : Behavior) (s : Standing) (first second : List Received) →
+        standing_after b s (first ++ second) ≡ standing_after b (standing_after b s first) second }
+    ensures replies { (b : Behavior) (s : Standing) (first second : List Received) →
+        standing_replies b s (first ++ second)
+        ≡ standing_replies b s first ++ standing_replies b (standing_after b s first) second }
+{}

@@ -1,0 +1,76 @@
+//! The packets of a filter's answers.
+
+ghost use Rattle.std.specs.Prelude.{◌≡◌, ◌++◌, All, OnOk, Some, if◌then◌else◌, map};
+ghost use Rattle.std.specs.List.{filter, flat_map};
+ghost use Rattle.milter_message.specs.EditReplies as asked;
+ghost use Rattle.milter_wire.specs.Reply.{Fits, encoding};
+ghost use Rattle.milter_wire.specs.Verdicts as given;
+ghost use Rattle.milter_exchange.specs.Permitted.{is_permitted, permitted, permitted_verdict};
+ghost use Rattle.milter_filter.specs.Replies.{replies_of_answer};
+
+use milter_exchange::{Answer, permits, permitted_verdict};
+use milter_message::Edit;
+use milter_wire::{Agreed, NoMemory, Verdict};
+use std::alloc::Global;
+
+/// Appends the packets of the answer: of its edits that were agreed on, and of its verdict.
+pub(crate) fn put_answer(
+    alloc: Global,
+    agreed: &Agreed,
+    answer: Answer,
+    out: &mut Vec<u8>,
+) -> Result<(), NoMemory>
+    requires edits { All (λ edit. Fits (asked.reply_of edit)) answer.edits }
+    requires verdict { Fits (given.reply_of answer.verdict) }
+    ensures { OnOk result (out.new.items
+        ≡ out.old.items ++ flat_map encoding (replies_of_answer (Some (permitted agreed.now answer)))) }
+{
+    let Answer { edits, verdict } = answer;
+    put_edits(alloc, agreed, edits.into_vec(), out)?;
+    put_verdict(alloc, agreed, verdict, out)
+}
+
+/// Appends the packets of the edits that were agreed on.
+fn put_edits(
+    alloc: Global,
+    agreed: &Agreed,
+    edits: Vec<Edit>,
+    out: &mut Vec<u8>,
+) -> Result<(), NoMemory>
+    requires { All (λ edit. Fits (asked.reply_of edit)) edits.items }
+    ensures { OnOk result (out.new.items
+        ≡ out.old.items ++ flat_map encoding (map asked.reply_of (filter (is_permitted agreed.now) edits.items))) }
+{
+    for edit in edits {
+        put_edit(alloc, agreed, edit, out)?;
+    }
+    Ok(())
+}
+
+/// Appends the packet of the edit, if it was agreed on.
+fn put_edit(alloc: Global, agreed: &Agreed, edit: Edit, out: &mut Vec<u8>) -> Result<(), NoMemory>
+    requires { Fits (asked.reply_of edit) }
+    ensures { OnOk result (out.new.items
+        ≡ (if is_permitted agreed.now edit then out.old.items ++ encoding (asked.reply_of edit) else out.old.items)) }
+{
+    if !permits(agreed, &edit) {
+        return Ok(());
+    }
+    edit.into_reply().encode(alloc, out)
+}
+
+/// Appends the packet of the verdict, as it may be sent.
+fn put_verdict(
+    alloc: Global,
+    agreed: &Agreed,
+    verdict: Verdict,
+    out: &mut Vec<u8>,
+) -> Result<(), NoMemory>
+    requires { Fits (given.reply_of verdict) }
+    ensures { OnOk result (out.new.items
+        ≡ out.old.items ++ encoding (given.reply_of (permitted_verdict agreed.now verdict))) }
+{
+    permitted_verdict(agreed, verdict)
+        .into_reply()
+        .encode(alloc, out)
+}

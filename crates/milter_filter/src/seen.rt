@@ -1,0 +1,194 @@
+//! What a filter is shown.
+
+ghost use Rattle.std.specs.Prelude.{◌≡◌, [], OnErr, OnOk, false, option_map};
+ghost use Rattle.std.specs.Option.{option_copied};
+ghost use Rattle.milter_wire.specs.LentCommand.{command_of};
+ghost use Rattle.milter_exchange.specs.Seen.{seen, value_in};
+ghost use Rattle.milter_filter.specs.SeenParts.{nothing_seen, parts_with};
+
+use crate::macro_list::MacroList;
+use milter_wire::codes::{SMFIC_CONNECT, SMFIC_HELO};
+use milter_wire::{Client, CommandRef, Header, NoMemory, Path, Text};
+use std::alloc::Global;
+use std::marker::Model;
+
+/// What a filter is shown when it is asked: what has come of the connection, and of the message up to the stage that it
+/// is asked about. Only a filter's core makes one. Source: the libmilter callback documentation (callbacks).
+#[derive(Debug, Drop)]
+pub struct Seen {
+    leading_space: bool,
+    client: Option<Client>,
+    helo: Option<Text>,
+    sender: Option<Path>,
+    recipients: Vec<Path>,
+    headers: Vec<Header>,
+    body: Vec<u8>,
+    macros: MacroList,
+}
+
+impl Model for Seen {
+    ghost use Rattle.std.specs.Prelude.{[], None};
+    ghost use Rattle.milter_filter.specs.SeenParts.{SeenParts};
+
+    // What is shown, and what of it stays for the whole connection.
+    ghost Value = { SeenParts };
+
+    ghost view = { λ s. record {
+      shown = record {
+        leading_space = s.leading_space;
+        client = s.client;
+        helo = s.helo;
+        sender = s.sender;
+        recipients = s.recipients.items;
+        headers = s.headers.items;
+        body = s.body.items;
+        macros = s.macros.shown;
+      };
+      connection = record {
+        leading_space = s.leading_space;
+        client = s.client;
+        helo = s.helo;
+        sender = None;
+        recipients = [];
+        headers = [];
+        body = [];
+        macros = s.macros.connection;
+      };
+    } };
+}
+
+impl Seen {
+    /// The client that has connected, where its stage is sent. No memory is taken. Source: xxfi_connect.
+    pub fn client(&self) -> Option<&Client>
+        ensures { option_copied result ≡ self.now.shown.client }
+    {
+        self.client.as_ref()
+    }
+
+    /// The name that the client last greeted with. No memory is taken. Source: xxfi_helo.
+    pub fn helo(&self) -> Option<&[u8]>
+        ensures { option_map (λ name. name.now) result ≡ self.now.shown.helo }
+    {
+        match &self.helo {
+            Some(name) => Some(name.as_slice()),
+            None => None,
+        }
+    }
+
+    /// The sender of the message. No memory is taken. Source: xxfi_envfrom.
+    pub fn sender(&self) -> Option<&Path>
+        ensures { option_copied result ≡ self.now.shown.sender }
+    {
+        self.sender.as_ref()
+    }
+
+    /// The recipients of the message, in order, refused ones too. No memory is taken. Source: xxfi_envrcpt.
+    pub fn recipients(&self) -> &[Path]
+        ensures { result.now ≡ self.now.shown.recipients }
+    {
+        &self.recipients
+    }
+
+    /// The header fields of the message, in order, with values as they were sent. No memory is taken. Source:
+    /// xxfi_header.
+    pub fn headers(&self) -> &[Header]
+        ensures { result.now ≡ self.now.shown.headers }
+    {
+        &self.headers
+    }
+
+    /// The body of the message, as far as it has come. No memory is taken. Source: xxfi_body.
+    pub fn body(&self) -> &[u8]
+        ensures { result.now ≡ self.now.shown.body }
+    {
+        &self.body
+    }
+
+    /// The value that was last given to a macro of this name. No memory is taken. Source: smfi_getsymval.
+    pub fn macro_value(&self, name: &[u8]) -> Option<&[u8]>
+        ensures { option_map (λ value. value.now) result ≡ value_in self.now.shown.macros name.now }
+    {
+        self.macros.value(name)
+    }
+
+    /// Whether values of header fields come with the blank that they begin with. No memory is taken. Source: mfdef.h
+    /// (SMFIP_HDR_LEADSPC).
+    pub fn leading_space(&self) -> bool
+        ensures { result ≡ self.now.shown.leading_space }
+    {
+        self.leading_space
+    }
+
+    /// Nothing yet. No memory is taken.
+    pub(crate) fn new(alloc: Global) -> Self
+        ensures { result ≡ nothing_seen false }
+    {
+        Seen {
+            leading_space: false,
+            client: None,
+            helo: None,
+            sender: None,
+            recipients: Vec::new(alloc),
+            headers: Vec::new(alloc),
+            body: Vec::new(alloc),
+            macros: MacroList::new(alloc),
+        }
+    }
+
+    /// Takes a copy of what the command has. After `NoMemory` it is as it was.
+    pub(crate) fn take(&mut self, alloc: Global, command: &CommandRef<'_>) -> Result<(), NoMemory>
+        ensures ok { OnOk result (self.new ≡ parts_with self.old (command_of command.now)) }
+        ensures err { OnErr result (self.new ≡ self.old) }
+    {
+        match command {
+            CommandRef::Connect(client) => self.client = Some(client.to_client(alloc)?),
+            CommandRef::Helo(name) => self.helo = Some(Text::copy_of(alloc, name)?),
+            CommandRef::Mail(sender) => self.sender = Some(sender.to_path(alloc)?),
+            CommandRef::Rcpt(recipient) => self.recipients.push(recipient.to_path(alloc)?)?,
+            CommandRef::Header(header) => self.headers.push(header.to_header(alloc)?)?,
+            CommandRef::Body(bytes) | CommandRef::Eob(bytes) => {
+                self.body.extend_from_slice(bytes)?;
+            }
+            CommandRef::Macro { command, pairs } => {
+                let of_connection = *command == SMFIC_CONNECT || *command == SMFIC_HELO;
+                self.macros.take(alloc, pairs, of_connection)?;
+            }
+            _ => {}
+        }
+        Ok(())
+    }
+
+    /// Gives up all but what stays for the whole connection. No memory is taken.
+    pub(crate) fn end_message(&mut self)
+        ensures shown { self.new.shown ≡ self.old.connection }
+        ensures connection { self.new.connection ≡ self.old.connection }
+    {
+        self.sender = None;
+        self.recipients.clear();
+        self.headers.clear();
+        self.body.clear();
+        self.macros.end_message();
+    }
+
+    /// Gives up all. No memory is taken.
+    pub(crate) fn clear(&mut self)
+        ensures shown { self.new.shown ≡ seen self.old.connection.leading_space [] }
+        ensures connection { self.new.connection ≡ seen self.old.connection.leading_space [] }
+    {
+        self.client = None;
+        self.helo = None;
+        self.sender = None;
+        self.recipients.clear();
+        self.headers.clear();
+        self.body.clear();
+        self.macros.clear();
+    }
+
+    /// Notes whether values of header fields come with leading spaces.
+    pub(crate) fn set_leading_space(&mut self, leading_space: bool)
+        ensures shown { self.new.shown ≡ record self.old.shown { leading_space = leading_space } }
+        ensures connection { self.new.connection ≡ record self.old.connection { leading_space = leading_space } }
+    {
+        self.leading_space = leading_space;
+    }
+}
