@@ -1,4 +1,5 @@
--- What a filter does, whatever its code: what it wants of a connection, and its answer at each stage to what it is shown.
+-- What a filter does, whatever its code: what it wants of a connection, and its answer at each stage to what it is
+-- shown.
 use Rattle.std.specs.Prelude.{Bool, true, false, List, ◌∷◌, Option, None, Some}
 use Rattle.milter_options.specs.declared.options.Options.{Options}
 use Rattle.milter_wire.specs.declared.agreement.Agreed.{Agreed}
@@ -29,5 +30,5 @@ exchange_of b agreed before command =
     record {
       command = command;
       answer = answer_to b agreed (stage_of command) (is_asked agreed command)
-      (seen (has_leading_space agreed) (command ∷ before));
+          (seen (has_leading_space agreed) (command ∷ before));
     }

@@ -10,8 +10,8 @@ use Rattle.milter_fields.specs.declared.pair.Pair.{Pair}
 use Rattle.milter_fields.specs.declared.path.Path.{Path}
 use Rattle.milter_exchange.specs.Exchanges.{latest}
 
--- Values of header fields are as they were sent, with leading spaces or without. Of the macros the last ones come first,
--- so that the first of a name has its value.
+-- Values of header fields are as they were sent, with leading spaces or without. Of the macros the last ones come
+-- first, so that the first of a name has its value.
 pub record Seen : Type 0 where
   pub leading_space : Bool
   pub client : Option Client

@@ -1,5 +1,5 @@
--- The talk of a mail server with a filter about the commands of one connection and message: the filter is asked about one
--- after the other, until its answers let no command follow.
+-- The talk of a mail server with a filter about the commands of one connection and message: the filter is asked about
+-- one after the other, until its answers let no command follow.
 use Rattle.std.specs.Prelude.{◌≡◌, Bool, true, false, ◌&&◌, ◌||◌, not, List, [], ◌∷◌, Option, None, Some, if◌then◌else◌}
 use Rattle.std.specs.List.{list_any}
 use Rattle.milter_wire.specs.declared.agreement.Agreed.{Agreed}

@@ -6,8 +6,8 @@ use crate::edits::Edits;
 use milter_wire::Verdict;
 use std::alloc::Global;
 
-/// A filter's answer to a stage: the changes that it asks for, which come at the end of a message alone, and its verdict.
-/// Source: the libmilter callback documentation (xxfi_eom, and return values).
+/// A filter's answer to a stage: the changes that it asks for, which come at the end of a message alone, and its
+/// verdict. Source: the libmilter callback documentation (xxfi_eom, and return values).
 #[derive(Clone, Debug, Drop)]
 pub struct Answer {
     /// The edits, in order.

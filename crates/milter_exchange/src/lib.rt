@@ -1,6 +1,6 @@
-//! What both ends of the Sendmail milter protocol know of a connection: the order of its stages, a filter's answers and
-//! which of them are permitted by what was agreed on, and, for contracts, what a filter is shown and its whole talk with
-//! a mail server.
+//! What both ends of the Sendmail milter protocol know of a connection: the order of its stages, a filter's answers
+//! and which of them are permitted by what was agreed on, and, for contracts, what a filter is shown and its whole
+//! talk with a mail server.
 //!
 //! Nothing here reads, writes, waits or takes memory.
 #![tactic(auto)]

@@ -5,8 +5,8 @@ ghost use Rattle.milter_exchange.specs.StageOrder.{may_follow, may_repeat, rank_
 
 use milter_wire::Stage;
 
-/// The place of a stage among the nine, from 1 for connect to 9 for the end of a message. No memory is taken. Source: the
-/// libmilter callback documentation (order of callbacks).
+/// The place of a stage among the nine, from 1 for connect to 9 for the end of a message. No memory is taken. Source:
+/// the libmilter callback documentation (order of callbacks).
 pub fn rank_of(stage: Stage) -> u8
     ensures rank { result ≡ rank_of stage }
     ensures bound { result ≤ 9 }

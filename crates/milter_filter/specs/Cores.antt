@@ -9,7 +9,8 @@ use Rattle.milter_filter.specs.declared.filter_state.FilterState.TheVariants.{Fa
 use Rattle.milter_filter.specs.Standings.{Standing, fresh, nothing_kept, standing_after, standing_replies}
 use Rattle.milter_filter.specs.Streams.{read_in}
 
--- its policy, what is kept of the connection, the bytes of a packet that isn't whole yet, and those that wait to be sent
+-- its policy, what is kept of the connection, the bytes of a packet that isn't whole yet, and those that wait to be
+-- sent
 pub record Core (P : Type 0) : Type 0 where
   pub policy : P
   pub standing : Standing
@@ -19,9 +20,9 @@ pub record Core (P : Type 0) : Type 0 where
 abbrev pub fresh_core : {P : Type 0} → P → Core P
 fresh_core policy = record { policy = policy; standing = fresh; unread = []; pending = [] }
 
--- What a core that serves and has nothing to send makes of the first bytes of a piece: it goes on by the commands of the
--- packets that are whole with these, the replies to them wait to be sent, and the rest stays unread. All are taken where
--- there is no reply. After the mail server has quit nothing stays unread.
+-- What a core that serves and has nothing to send makes of the first bytes of a piece: it goes on by the commands of
+-- the packets that are whole with these, the replies to them wait to be sent, and the rest stays unread. All are taken
+-- where there is no reply. After the mail server has quit nothing stays unread.
 pub record Takes {P : Type 0} (b : Behavior) (old : Core P) (piece : List ℕ) (n : ℕ) (new : Core P) : Type 0 where
   pub policy : new.policy ≡ old.policy
   pub within : n ≤ length piece

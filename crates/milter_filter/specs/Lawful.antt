@@ -19,8 +19,8 @@ use Rattle.milter_exchange.specs.declared.answer.Answer.{Answer}
 use Rattle.milter_filter.specs.declared.policy.TheConstants.{ACTIONS_MAX, PROTOCOL_MAX, VERSION_MAX}
 use Rattle.milter_filter.specs.declared.filter_fault.TheConstants.{VERSION_MIN}
 
--- a version that the library knows and bits that it knows; symbol lists only with their action, and a reply that has room
--- for them
+-- a version that the library knows and bits that it knows; symbol lists only with their action, and a reply that has
+-- room for them
 pub record WantsWithin (b : Behavior) : Type 0 where
   pub version_from : VERSION_MIN ≤ b.wants.version
   pub version_to : b.wants.version ≤ VERSION_MAX

@@ -16,9 +16,9 @@ use milter_wire::{NoMemory, Splitter};
 use std::alloc::Global;
 use std::marker::Model;
 
-/// A filter's end of one connection. It takes the bytes of a mail server in any pieces, and has the bytes of the replies that
-/// its policy calls for, by what was agreed on. It neither reads nor writes. Source: own; it does what libmilter does with
-/// callbacks.
+/// A filter's end of one connection. It takes the bytes of a mail server in any pieces, and has the bytes of the
+/// replies that its policy calls for, by what was agreed on. It neither reads nor writes. Source: own; it does what
+/// libmilter does with callbacks.
 #[derive(Drop)]
 pub struct FilterCore<'p, P: Policy> {
     alloc: Global,
@@ -76,8 +76,8 @@ impl<'p, P: Policy> FilterCore<'p, P> {
         self.pending.drain(..count);
     }
 
-    /// How many bytes were taken of a packet that isn't whole yet: none after the mail server has quit, and none after a
-    /// fault. No memory is taken.
+    /// How many bytes were taken of a packet that isn't whole yet: none after the mail server has quit, and none after
+    /// a fault. No memory is taken.
     pub fn unread(&self) -> usize
         ensures { result ≡ length self.now.unread }
     {
@@ -91,10 +91,10 @@ impl<'p, P: Policy> FilterCore<'p, P> {
         self.connection.state()
     }
 
-    /// Takes bytes from the start of a piece of what the mail server sends, and answers how many. While replies wait to be
-    /// sent it takes none. Else it takes bytes up to the end of the first packet that has replies, or all where none has;
-    /// after the mail server has quit it takes all and does nothing with them. After a fault nothing is kept but that, and
-    /// every later call answers it again. Source: mfdef.h, and the libmilter callback documentation.
+    /// Takes bytes from the start of a piece of what the mail server sends, and answers how many. While replies wait
+    /// to be sent it takes none. Else it takes bytes up to the end of the first packet that has replies, or all where
+    /// none has; after the mail server has quit it takes all and does nothing with them. After a fault nothing is kept
+    /// but that, and every later call answers it again. Source: mfdef.h, and the libmilter callback documentation.
     pub fn feed(&mut self, piece: &[u8]) -> Result<usize, FilterFault>
         ensures failed { (fault : Fault) → self.old.standing.state ≡ Failed fault →
             (result ≡ Err fault) × (self.new ≡ self.old) }

@@ -1,5 +1,5 @@
-//! The filter's end of the Sendmail milter protocol, version 6: what it replies to the commands of any mail server, by a
-//! policy and by what was agreed on.
+//! The filter's end of the Sendmail milter protocol, version 6: what it replies to the commands of any mail server, by
+//! a policy and by what was agreed on.
 //!
 //! Nothing here reads, writes or waits.
 #![tactic(auto)]

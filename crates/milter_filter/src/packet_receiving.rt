@@ -22,8 +22,8 @@ use crate::receiving::receive;
 use milter_wire::{CommandRef, HEAD_LEN, Packet, WireFault};
 use std::alloc::Global;
 
-/// Does with a packet what a filter's end does with it, and appends the replies; or answers the fault of its command, after
-/// which nothing is known of what was kept and appended.
+/// Does with a packet what a filter's end does with it, and appends the replies; or answers the fault of its command,
+/// after which nothing is known of what was kept and appended.
 pub(crate) fn receive_packet<P: Policy>(
     alloc: Global,
     policy: &P,

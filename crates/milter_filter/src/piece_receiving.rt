@@ -16,8 +16,9 @@ use crate::policy::Policy;
 use milter_wire::Splitter;
 use std::alloc::Global;
 
-/// Takes bytes of a piece up to the end of one packet, and answers how many; does with the packet, if it is whole, what a
-/// filter's end does with it, and appends the replies. After a fault nothing is known of what was kept and appended.
+/// Takes bytes of a piece up to the end of one packet, and answers how many; does with the packet, if it is whole,
+/// what a filter's end does with it, and appends the replies. After a fault nothing is known of what was kept and
+/// appended.
 pub(crate) fn receive_some<P: Policy>(
     alloc: Global,
     policy: &P,
@@ -53,8 +54,8 @@ pub(crate) fn receive_some<P: Policy>(
     Ok(taken)
 }
 
-/// Takes bytes of a piece up to the end of the first packet that has replies, or of one with which the mail server quits, or
-/// else all of them, and answers how many. After a fault nothing is known of what was kept and appended.
+/// Takes bytes of a piece up to the end of the first packet that has replies, or of one with which the mail server
+/// quits, or else all of them, and answers how many. After a fault nothing is known of what was kept and appended.
 pub(crate) fn receive_piece<P: Policy>(
     alloc: Global,
     policy: &P,

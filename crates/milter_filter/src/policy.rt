@@ -16,13 +16,13 @@ pub const ACTIONS_MAX: u32 = 0x1ff;
 /// All protocol bits that a policy may want. Source: mfdef.h (SMFIP_NOCONNECT to SMFIP_HDR_LEADSPC).
 pub const PROTOCOL_MAX: u32 = 0x1f_f7ff;
 
-/// What a filter wants, and what it answers when it is asked: a function of the stage and of what it is shown, which keeps
-/// nothing from one question to the next. Source: own; it stands for the callbacks of libmilter.
+/// What a filter wants, and what it answers when it is asked: a function of the stage and of what it is shown, which
+/// keeps nothing from one question to the next. Source: own; it stands for the callbacks of libmilter.
 ///
-/// What it wants is of version 2 to 6 and has known bits alone, and symbol lists only with [`Actions::SETSYMLIST`]; the
-/// packet with all of it has room for it. It answers with edits at the end of a message alone, with `Skip` to a piece of a
-/// body alone, and not with `Discard` before there is a message. Each edit and each code fits a packet, and the packets of
-/// all edits have at most 16,777,216 bytes.
+/// What it wants is of version 2 to 6 and has known bits alone, and symbol lists only with [`Actions::SETSYMLIST`];
+/// the packet with all of it has room for it. It answers with edits at the end of a message alone, with `Skip` to a
+/// piece of a body alone, and not with `Discard` before there is a message. Each edit and each code fits a packet, and
+/// the packets of all edits have at most 16,777,216 bytes.
 ///
 /// [`Actions::SETSYMLIST`]: milter_wire::Actions::SETSYMLIST
 pub trait Policy {

@@ -150,8 +150,8 @@ fn receive_shown<P: Policy>(
     Ok(())
 }
 
-/// Does with a command that is at no fault what a filter's end does with it, and appends the replies; its packet has `len`
-/// bytes.
+/// Does with a command that is at no fault what a filter's end does with it, and appends the replies; its packet has
+/// `len` bytes.
 pub(crate) fn receive<P: Policy>(
     alloc: Global,
     policy: &P,
