@@ -7,3 +7,4 @@ pub mod Agreeing
 pub mod PacketCommands
 pub mod PieceStreams
 pub mod Progress
+pub mod FirstReplies

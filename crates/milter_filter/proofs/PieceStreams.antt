@@ -1,5 +1,5 @@
 -- A stream of one packet, and one that begins with a packet or a fault.
-use Rattle.std.proofs.Common.{◌≡◌, ℕ, List, [], ◌∷◌, ◌++◌, take, drop, map, Some, refl, sym, ◌∙◌, ap, append-nil, flat_map}
+use Rattle.std.proofs.Common.{◌≡◌, ℕ, List, [], ◌∷◌, ◌++◌, take, drop, map, Some, refl, sym, ◌∙◌, ap, append-nil, flat_map, inl, inr}
 use Rattle.milter_stream.specs.declared.fault.WireFault.{WireFault}
 use Rattle.milter_stream.specs.Stream.{Division, Frame, IsFrame, IsUnfinished, divide, first_frame, frame_bytes, length_fault, with_frame}
 use Rattle.milter_stream.proofs.Division.{divide-first}
@@ -13,7 +13,7 @@ use Rattle.milter_filter.specs.declared.filter_fault.FilterFault.TheVariants.{Wi
 use Rattle.milter_filter.specs.declared.filter_state.FilterState.TheVariants.{Failed, Serving}
 use Rattle.milter_filter.specs.Conversations.{Received}
 use Rattle.milter_filter.specs.Standings.{Standing, nothing_kept, standing_after, standing_next, standing_replies, standing_replies_at}
-use Rattle.milter_filter.specs.Streams.{fault_after, read_in, received_in}
+use Rattle.milter_filter.specs.Streams.{IsOnePacketAtMost, fault_after, read_in, received_in}
 
 -- ---- one packet
 
@@ -44,6 +44,14 @@ rest-packet f bytes fits is = rw (is, divide-one f fits) refl
 
 pub rest-unfinished : (bytes : List ℕ) → IsUnfinished bytes → bytes ≡ (divide bytes).rest
 rest-unfinished bytes unfinished = rw (divide-unfinished bytes unfinished) refl
+
+pub one-packet : (f : Frame) (bytes : List ℕ) → IsFrame f → bytes ≡ frame_bytes f → IsOnePacketAtMost bytes
+one-packet f bytes fits is =
+    let d : divide bytes ≡ record { frames = f ∷ []; rest = [] } = ap divide is ∙ divide-one f fits in
+    inr (frame_command f, ap (λ (x : Division). map frame_command x.frames) d, ap (λ (x : Division). x.rest) d)
+
+pub one-unfinished : (bytes : List ℕ) → IsUnfinished bytes → IsOnePacketAtMost bytes
+one-unfinished bytes unfinished = inl (ap (λ (x : Division). map frame_command x.frames) (divide-unfinished bytes unfinished))
 
 -- ---- faults
 

@@ -32,7 +32,7 @@ begin b s unread unfinished =
       replied = ap (λ (x : Division). flat_map encoding (standing_replies b s (map frame_command x.frames))) (sym d);
     }
 
-read-append : (bytes more : List ℕ) → read_in (bytes ++ more) ≡ read_in bytes ++ read_in ((divide bytes).rest ++ more)
+pub read-append : (bytes more : List ℕ) → read_in (bytes ++ more) ≡ read_in bytes ++ read_in ((divide bytes).rest ++ more)
 read-append bytes more =
     ap (λ (x : Division). map frame_command x.frames) (divide-append bytes more)
     ∙ map-append frame_command (divide bytes).frames (divide ((divide bytes).rest ++ more)).frames
@@ -114,9 +114,9 @@ ended-all b s new bytes more unread out p ended =
 
 -- all of a piece, where the mail server has quit in it
 pub all-taken : {P : Type 0} (b : Behavior) (old new : Core P) (piece unread : List ℕ) (i : ℕ) → new.policy ≡ old.policy
-    → Progress b old.standing (old.unread ++ take i piece) new.standing unread new.pending → new.standing.state ≢ Serving → new.unread ≡ []
+    → Progress b old.standing (old.unread ++ take i piece) new.standing unread new.pending → new.standing.state ≢ Serving → new.unread ≡ [] → new.pending ≡ []
     → Takes b old piece (length piece) new
-all-taken b old new piece unread i policy p ended nothing =
+all-taken b old new piece unread i policy p ended nothing silent =
     let both = ended-all b old.standing new.standing (old.unread ++ take i piece) (drop i piece) unread new.pending p ended in
     let all = bytes-all old.unread piece i ∙ ap (λ xs. old.unread ++ xs) (sym (take_all (length piece) piece (omega arith))) in
     record {
@@ -126,5 +126,6 @@ all-taken b old new piece unread i policy p ended nothing =
       pending = both.1 ∙ ap (λ xs. flat_map encoding (standing_replies b old.standing (read_in xs))) all;
       unread = λ serving. absurd (ended serving);
       nothing_unread = λ other. nothing;
+      first = λ some. absurd (some silent);
       all = λ none. refl;
     }

@@ -1,11 +1,12 @@
 -- What a filter's core is to its callers.
-use Rattle.std.specs.Prelude.{◌≡◌, ◌≢◌, ◌≤◌, ℕ, List, [], ◌++◌, length, take}
+use Rattle.std.specs.Prelude.{◌≡◌, ◌≢◌, ◌≤◌, ℕ, List, [], ◌∷◌, ◌++◌, length, take}
 use Rattle.std.specs.List.{flat_map}
 use Rattle.milter_stream.specs.Stream.{divide}
 use Rattle.milter_wire.specs.Reply.{encoding}
 use Rattle.milter_exchange.specs.Behavior.{Behavior}
 use Rattle.milter_filter.specs.declared.filter_fault.FilterFault.{FilterFault}
 use Rattle.milter_filter.specs.declared.filter_state.FilterState.TheVariants.{Failed, Serving}
+use Rattle.milter_filter.specs.Conversations.{Received}
 use Rattle.milter_filter.specs.Standings.{Standing, fresh, nothing_kept, standing_after, standing_replies}
 use Rattle.milter_filter.specs.Streams.{read_in}
 
@@ -20,9 +21,18 @@ pub record Core (P : Type 0) : Type 0 where
 abbrev pub fresh_core : {P : Type 0} → P → Core P
 fresh_core policy = record { policy = policy; standing = fresh; unread = []; pending = [] }
 
+-- the last packet of these bytes is the first that has replies, and nothing follows it
+pub record EndsAtReplies (b : Behavior) (s : Standing) (bytes : List ℕ) : Type 0 where
+  pub before : List Received
+  pub last : Received
+  pub commands : read_in bytes ≡ before ++ last ∷ []
+  pub silent : standing_replies b s before ≡ []
+  pub nothing_left : (divide bytes).rest ≡ []
+
 -- What a core that serves and has nothing to send makes of the first bytes of a piece: it goes on by the commands of
--- the packets that are whole with these, the replies to them wait to be sent, and the rest stays unread. All are taken
--- where there is no reply. After the mail server has quit nothing stays unread.
+-- the packets that are whole with these, the replies to them wait to be sent, and the rest stays unread. It takes the
+-- bytes up to the end of the first packet that has replies, or all where none has. After the mail server has quit
+-- nothing stays unread.
 pub record Takes {P : Type 0} (b : Behavior) (old : Core P) (piece : List ℕ) (n : ℕ) (new : Core P) : Type 0 where
   pub policy : new.policy ≡ old.policy
   pub within : n ≤ length piece
@@ -30,6 +40,7 @@ pub record Takes {P : Type 0} (b : Behavior) (old : Core P) (piece : List ℕ) (
   pub pending : new.pending ≡ flat_map encoding (standing_replies b old.standing (read_in (old.unread ++ take n piece)))
   pub unread : new.standing.state ≡ Serving → new.unread ≡ (divide (old.unread ++ take n piece)).rest
   pub nothing_unread : new.standing.state ≢ Serving → new.unread ≡ []
+  pub first : new.pending ≢ [] → EndsAtReplies b old.standing (old.unread ++ take n piece)
   pub all : new.pending ≡ [] → n ≡ length piece
 
 -- a core that was given up for a fault

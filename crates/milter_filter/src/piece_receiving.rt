@@ -6,8 +6,9 @@ ghost use Rattle.milter_stream.specs.Stream.{IsUnfinished, divide};
 ghost use Rattle.milter_wire.specs.Reply.{encoding};
 ghost use Rattle.milter_filter.specs.declared.filter_fault.FilterFault.TheVariants.{NoMemory};
 ghost use Rattle.milter_filter.specs.declared.filter_state.FilterState.TheVariants.{Failed, Serving};
+ghost use Rattle.milter_filter.specs.Cores.{EndsAtReplies};
 ghost use Rattle.milter_filter.specs.Standings.{nothing_kept, standing_after, standing_replies};
-ghost use Rattle.milter_filter.specs.Streams.{read_in, received_in};
+ghost use Rattle.milter_filter.specs.Streams.{IsOnePacketAtMost, read_in, received_in};
 
 use crate::connection::Connection;
 use crate::filter_fault::FilterFault;
@@ -33,6 +34,7 @@ pub(crate) fn receive_some<P: Policy>(
     ensures progress { piece.now ≢ [] → IfOk result (λ n. 0 < n) }
     ensures unread { IfOk result (λ n. splitter.new ≡ (divide (splitter.old ++ take n piece.now)).rest) }
     ensures unfinished { OnOk result (IsUnfinished splitter.new) }
+    ensures one { IfOk result (λ n. IsOnePacketAtMost (splitter.old ++ take n piece.now)) }
     ensures standing { IfOk result (λ n. connection.new
         ≡ standing_after (P.behavior policy.now) connection.old (read_in (splitter.old ++ take n piece.now))) }
     ensures replied { IfOk result (λ n. out.new.items ≡ out.old.items ++ flat_map encoding
@@ -68,7 +70,10 @@ pub(crate) fn receive_piece<P: Policy>(
     requires serving { connection.old.state ≡ Serving }
     requires nothing_pending { out.old.items ≡ [] }
     ensures taken { IfOk result (λ n. n ≤ length piece.now) }
+    ensures first { IfOk result (λ n. out.new.items ≢ [] →
+        EndsAtReplies (P.behavior policy.now) connection.old (splitter.old ++ take n piece.now)) }
     ensures all { IfOk result (λ n. out.new.items ≡ [] → connection.new.state ≡ Serving → n ≡ length piece.now) }
+    ensures silent_end { OnOk result (connection.new.state ≢ Serving → out.new.items ≡ []) }
     ensures unread { IfOk result (λ n. splitter.new ≡ (divide (splitter.old ++ take n piece.now)).rest) }
     ensures unfinished { OnOk result (IsUnfinished splitter.new) }
     ensures standing { IfOk result (λ n. connection.new
@@ -81,7 +86,7 @@ pub(crate) fn receive_piece<P: Policy>(
 {
     let mut taken = 0;
     while taken < piece.len() {
-        if !out.is_empty() || !connection.is_serving() {
+        if !out.as_slice().is_empty() || !connection.is_serving() {
             break;
         }
         let rest = &piece[taken..];

@@ -1,5 +1,6 @@
-use Rattle.std.proofs.Common.{◌++◌, [], take, drop, sym, ◌∙◌, ap, subst, arith, length-drop}
+use Rattle.std.proofs.Common.{◌++◌, [], take, drop, sym, ◌∙◌, ap, subst, inl, arith, rules, length-drop}
 use Rattle.std.proofs.lemmas.List.{take_rest}
+use Rattle.milter_filter.proofs.FirstReplies.{Stops, nothing-waits, stop-step}
 use Rattle.milter_filter.proofs.Progress.{Progress, begin, bytes-all, bytes-more, fault-left, go_on}
 use Rattle.milter_filter.specs.Standings.{nothing_kept, standing_after}
 use Rattle.milter_filter.specs.Streams.{received_in}
@@ -13,6 +14,7 @@ loop-taken-init g c =
     let u = c.args.splitter.now in
     record {
       within = omega arith;
+      stops = inl c.requires.nothing_pending;
       progress = subst (λ out. Progress b s (u ++ []) s u out) (sym c.requires.nothing_pending) (begin b s u c.requires.unfinished);
     }
 
@@ -39,8 +41,13 @@ loop-taken-preserved g c =
     let rest = drop i piece in
     let now = go_on b s c.loop-taken.connection c.receive_some.new.connection (u ++ take i piece) (take n rest) c.loop-taken.splitter c.receive_some.new.splitter c.loop-taken.out.items c.receive_some.new.out.items
     c.loop-taken.invariant.progress (rw (take_rest piece i) at c.in-Ok.ensures.standing) (rw (take_rest piece i) at c.in-Ok.ensures.unread) c.in-Ok.ensures.unfinished (rw (take_rest piece i) at c.in-Ok.ensures.replied) in
+    let none = nothing-waits c.loop-taken.out.items c.as_slice.result.now c.is_empty.result c.as_slice.ensures.value c.is_empty.ensures c.if-not-is_empty.false in
+    let serving = c.is_serving.ensures.0 c.if-not-is_serving.false in
+    let stops = stop-step b s c.loop-taken.connection c.receive_some.new.connection (u ++ take i piece) (take n rest) c.loop-taken.splitter c.loop-taken.out.items c.receive_some.new.out.items
+    c.loop-taken.invariant.progress none serving (rw (take_rest piece i) at c.in-Ok.ensures.standing) (rw (take_rest piece i) at c.in-Ok.ensures.replied) (rw (take_rest piece i) at c.in-Ok.ensures.one) in
     let at = bytes-more u piece i n in
     record {
       within = let m = rw (take_rest piece i) at c.in-Ok.ensures.taken in omega (arith, m, c.loop-taken.invariant.within, length-drop i piece);
+      stops = subst (λ bytes. Stops b s bytes c.receive_some.new.connection c.receive_some.new.out.items) at stops;
       progress = subst (λ bytes. Progress b s bytes c.receive_some.new.connection c.receive_some.new.splitter c.receive_some.new.out.items) at now;
     }

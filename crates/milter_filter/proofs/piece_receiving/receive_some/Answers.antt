@@ -1,7 +1,7 @@
 use Rattle.std.proofs.Common.{◌++◌, take, Ok, sym, ◌∙◌, ap, subst}
 use Rattle.milter_stream.specs.Splitter.{frame_of}
 use Rattle.milter_stream.specs.Stream.{IsUnfinished}
-use Rattle.milter_filter.proofs.PieceStreams.{replies-packet, replies-unfinished, rest-packet, rest-unfinished, standing-length_fault, standing-packet, standing-packet_fault, standing-unfinished}
+use Rattle.milter_filter.proofs.PieceStreams.{one-packet, one-unfinished, replies-packet, replies-unfinished, rest-packet, rest-unfinished, standing-length_fault, standing-packet, standing-packet_fault, standing-unfinished}
 use Rattle.milter_filter.proofs.piece_receiving.receive_some.Goals as goal
 
 pub returns-in-Err-clause-fault : goal.returns-in-Err-clause-fault
@@ -56,3 +56,15 @@ returns-in_default-clause-replied g c =
     let handed = rw c.in-Ok-Some.field-0-is at c.in-Ok-Some.ensures.packet in
     replies-packet (g.P.Policy.behavior c.args.policy.now) c.args.connection.now (frame_of c.in-Ok-Some.packet) bytes c.args.out.now.items c.receive_packet.new.out.items handed.0
     (sym c.in_ok-taken.ensures.taken ∙ handed.1) c.in_default.ensures.replied
+
+pub returns-in-Ok-None-clause-one : goal.returns-in-Ok-None-clause-one
+returns-in-Ok-None-clause-one g c =
+    let bytes = c.args.splitter.now ++ take c.in_ok-taken.taken c.args.piece.now in
+    let unfinished = (c.next.ensures.none).0 (c.in-Ok-None.is ∙ ap Ok c.in-Ok-None.field-0-is) in
+    one-unfinished bytes (subst IsUnfinished c.in_ok-taken.ensures.taken unfinished)
+
+pub returns-in_default-clause-one : goal.returns-in_default-clause-one
+returns-in_default-clause-one g c =
+    let bytes = c.args.splitter.now ++ take c.in_ok-taken.taken c.args.piece.now in
+    let handed = rw c.in-Ok-Some.field-0-is at c.in-Ok-Some.ensures.packet in
+    one-packet (frame_of c.in-Ok-Some.packet) bytes handed.0 (sym c.in_ok-taken.ensures.taken ∙ handed.1)

@@ -1,4 +1,5 @@
-use Rattle.std.proofs.Common.{◌++◌, false, refl, subst, length, take, IsTrue}
+use Rattle.std.proofs.Common.{◌≢◌, ◌++◌, false, refl, subst, length, take, IsTrue}
+use Rattle.milter_filter.specs.declared.filter_state.FilterState.TheVariants.{Serving}
 use Rattle.milter_filter.specs.Cores.{Core, Takes}
 use Rattle.milter_filter.proofs.Progress.{Progress, all-taken}
 use Rattle.milter_filter.proofs.filter_core.FilterCore.serve.Goals as goal
@@ -16,7 +17,8 @@ returns-clause-takes g c =
       unfinished = c.in-Ok.ensures.unfinished;
       replied = c.in-Ok.ensures.replied;
     } in
+    let ended : c.receive_piece.new.connection.state ≢ Serving = λ serving. let no : IsTrue false = subst IsTrue c.if-is_serving.false (c.is_serving.ensures.1 serving) in absurd cc in
     let takes : Takes b old piece (length piece) new =
     all-taken b old new piece c.receive_piece.new.splitter c.in-Ok.taken refl p
-    (λ serving. let no : IsTrue false = subst IsTrue c.if-is_serving.false (c.is_serving.ensures.1 serving) in absurd cc) c.clear-2.ensures in
+    ended c.clear-2.ensures (c.in-Ok.ensures.silent_end ended) in
     subst (λ (core : Core g.row.P.Denot). Takes (g.P.Policy.behavior core.policy) core piece (length piece) new) c.self.view_is takes

@@ -1,0 +1,134 @@
+-- The first packet that has replies is the last that is taken.
+use Rattle.std.proofs.Common.{◌≡◌, ◌≢◌, ◌⊎◌, ℕ, suc, ◌+◌, List, [], ◌∷◌, ◌++◌, length, Option, None, Some, Ok, Err, map, refl, sym, ◌∙◌, ap, inl, inr, flat_map, length-append, arith}
+use Rattle.std.specs.Prelude.{◌==◌, Bool, true}
+use Rattle.std.proofs.lemmas.Bool.{eqb-true}
+use Rattle.milter_stream.specs.Number.{number}
+use Rattle.milter_stream.specs.Stream.{Division, divide}
+use Rattle.milter_stream.proofs.StreamLaws.{divide-append}
+use Rattle.milter_wire.specs.declared.agreement.Agreed.{Agreed}
+use Rattle.milter_wire.specs.declared.command.Command.{Command}
+use Rattle.milter_wire.specs.declared.command.Command.TheVariants as commands
+use Rattle.milter_wire.specs.declared.reply.Reply.{Reply}
+use Rattle.milter_wire.specs.Reply.{code_of, encoding, payload_of}
+use Rattle.milter_exchange.specs.Behavior.{Behavior}
+use Rattle.milter_filter.specs.declared.filter_fault.FilterFault.{FilterFault}
+use Rattle.milter_filter.specs.declared.filter_state.FilterState.{FilterState}
+use Rattle.milter_filter.specs.declared.filter_state.FilterState.TheVariants.{Failed, Quit, Serving}
+use Rattle.milter_filter.specs.Conversations.{Received, state_after}
+use Rattle.milter_filter.specs.Cores.{EndsAtReplies}
+use Rattle.milter_filter.specs.Replies.{replies_to}
+use Rattle.milter_filter.specs.Standings.{Part, Standing, standing_after, standing_answer, standing_by, standing_fault, standing_in, standing_next, standing_replies, standing_replies_at, standing_replies_by, standing_replies_in}
+use Rattle.milter_filter.specs.Streams.{IsOnePacketAtMost, read_in}
+use Rattle.milter_filter.proofs.Progress.{Progress, read-append}
+
+-- ---- nothing waits
+
+empty : (bytes : List ℕ) → (length bytes == 0) ≡ true → bytes ≡ []
+empty [] e = refl
+empty (x ∷ xs) e = let n : suc (length xs) ≡ 0 = eqb-true (suc (length xs)) 0 e in absurd (omega (arith, n))
+
+pub nothing-waits : (out slice : List ℕ) (is_empty : Bool) → slice ≡ out → is_empty ≡ (length slice == 0) → is_empty ≡ true → out ≡ []
+nothing-waits out slice is_empty same is none = sym same ∙ empty slice (sym is ∙ none)
+
+-- ---- replies have bytes
+
+no_bytes : (reply : Reply) (more : List ℕ) → encoding reply ++ more ≡ [] → ⊥
+no_bytes reply more e =
+    let n : length (encoding reply ++ more) ≡ 0 = ap length e in
+    let head = number (length (payload_of reply) + 1) in
+    omega (arith, n, length-append (encoding reply) more, length-append head (code_of reply ∷ payload_of reply))
+
+no_replies : (replies : List Reply) → flat_map encoding replies ≡ [] → replies ≡ []
+no_replies [] e = refl
+no_replies (reply ∷ more) e = absurd (no_bytes reply (flat_map encoding more) e)
+
+-- ---- the end of a connection has no replies
+
+quit-replies : (b : Behavior) (agreed : Option Agreed) (part : Part) → replies_to b agreed commands.Quit (standing_answer b agreed part commands.Quit) ≡ []
+quit-replies b None part = refl
+quit-replies b (Some agreed) part = refl
+
+command-silent : (b : Behavior) (agreed : Option Agreed) (part : Part) (command : Command) → state_after command ≢ Serving → replies_to b agreed command (standing_answer b agreed part command) ≡ []
+command-silent b agreed part commands.Quit ended = quit-replies b agreed part
+command-silent b agreed part (commands.Options o) ended = absurd (ended refl)
+command-silent b agreed part (commands.Macro command pairs) ended = absurd (ended refl)
+command-silent b agreed part (commands.Connect c) ended = absurd (ended refl)
+command-silent b agreed part (commands.Helo name) ended = absurd (ended refl)
+command-silent b agreed part (commands.Mail sender) ended = absurd (ended refl)
+command-silent b agreed part (commands.Rcpt recipient) ended = absurd (ended refl)
+command-silent b agreed part commands.DataCmd ended = absurd (ended refl)
+command-silent b agreed part (commands.Header h) ended = absurd (ended refl)
+command-silent b agreed part commands.Eoh ended = absurd (ended refl)
+command-silent b agreed part (commands.Body bytes) ended = absurd (ended refl)
+command-silent b agreed part (commands.Eob bytes) ended = absurd (ended refl)
+command-silent b agreed part (commands.Unknown text) ended = absurd (ended refl)
+command-silent b agreed part commands.Abort ended = absurd (ended refl)
+command-silent b agreed part commands.QuitNew ended = absurd (ended refl)
+
+silent-by : (b : Behavior) (s : Standing) (received : Received) (fault : Option FilterFault) → (standing_by b s received fault).state ≢ Serving → standing_replies_by b s received fault ≡ []
+silent-by b s received (Some fault) ended = refl
+silent-by b s (Err fault) None ended = refl
+silent-by b s (Ok command) None ended = command-silent b s.agreed s.shown command ended
+
+end-silent : (b : Behavior) (s : Standing) (received : Received) → s.state ≡ Serving → (standing_next b s received).state ≢ Serving → standing_replies_at b s received ≡ []
+end-silent b s received serving ended =
+    ap (standing_replies_in b s received) serving
+    ∙ silent-by b s received (standing_fault s received) (λ still. ended (ap (λ state. (standing_in b s received state).state) serving ∙ still))
+
+-- ---- what was taken so far has no replies, or ends with the first packet that has some
+
+abbrev pub Stops : Behavior → Standing → List ℕ → Standing → List ℕ → Type 0
+Stops b s bytes new out = (out ≡ []) ⊎ (EndsAtReplies b s bytes × (new.state ≡ Serving))
+
+pub stops-first : (b : Behavior) (s new : Standing) (bytes out : List ℕ) → Stops b s bytes new out → out ≢ [] → EndsAtReplies b s bytes
+stops-first b s new bytes out (inl none) some = absurd (some none)
+stops-first b s new bytes out (inr ends) some = ends.0
+
+pub stops-silent : (b : Behavior) (s new : Standing) (bytes out : List ℕ) → Stops b s bytes new out → new.state ≢ Serving → out ≡ []
+stops-silent b s new bytes out (inl none) ended = none
+stops-silent b s new bytes out (inr ends) ended = absurd (ended ends.1)
+
+module _ (b : Behavior) (s new after : Standing) (bytes more unread out written : List ℕ) (p : Progress b s bytes new unread out) (none : out ≡ []) (serving : new.state ≡ Serving)
+    (standing : after ≡ standing_after b new (read_in (unread ++ more))) (replied : written ≡ out ++ flat_map encoding (standing_replies b new (read_in (unread ++ more)))) where
+  written-by : (received : List Received) → read_in (unread ++ more) ≡ received → written ≡ flat_map encoding (standing_replies b new received)
+  written-by received is =
+      replied ∙ ap (λ o. o ++ flat_map encoding (standing_replies b new (read_in (unread ++ more)))) none
+      ∙ ap (λ rs. flat_map encoding (standing_replies b new rs)) is
+
+  still-serves : (received : Received) (x : ℕ) (xs : List ℕ) → read_in (unread ++ more) ≡ received ∷ [] → written ≡ x ∷ xs → (state : FilterState) → after.state ≡ state → after.state ≡ Serving
+  still-serves received x xs one is state at = by_state state at
+    where
+      loud : after.state ≢ Serving → ⊥
+      loud ended =
+          let next : after ≡ standing_next b new received = standing ∙ ap (standing_after b new) one in
+          let silent = end-silent b new received serving (λ still. ended (ap (λ (t : Standing). t.state) next ∙ still)) in
+          let nothing : written ≡ [] = written-by (received ∷ []) one ∙ ap (λ rs. flat_map encoding (rs ++ [])) silent in
+          let n : suc (length xs) ≡ 0 = ap length (sym is ∙ nothing) in
+          omega (arith, n)
+
+      by_state : (state : FilterState) → after.state ≡ state → after.state ≡ Serving
+      by_state Serving at = at
+      by_state Quit at = absurd (loud (λ serving. absurd cc))
+      by_state (Failed fault) at = absurd (loud (λ serving. absurd cc))
+
+  pub stop-step : IsOnePacketAtMost (unread ++ more) → Stops b s (bytes ++ more) after written
+  stop-step (inl nothing) = inl (written-by [] nothing)
+  stop-step (inr (received, one, nothing_left)) = by_bytes written refl
+    where
+      by_bytes : (xs : List ℕ) → written ≡ xs → Stops b s (bytes ++ more) after written
+      by_bytes [] is = inl is
+      by_bytes (x ∷ xs) is = inr (
+        record {
+          before = read_in bytes;
+          last = received;
+          commands =
+              read-append bytes more ∙ ap (λ us. read_in bytes ++ read_in (us ++ more)) (sym p.unread_is)
+              ∙ ap (λ rs. read_in bytes ++ rs) one;
+          silent = no_replies (standing_replies b s (read_in bytes)) (sym p.replied ∙ none);
+          nothing_left =
+              ap (λ (d : Division). d.rest) (divide-append bytes more)
+              ∙ ap (λ us. (divide (us ++ more)).rest) (sym p.unread_is)
+              ∙ nothing_left;
+        },
+        still-serves received x xs one is after.state refl,
+      )
