@@ -1,5 +1,5 @@
 """Runs programs with a shared object preloaded that is compiled from a C file beside this one, by the toolchain's own
-compiler. The object reports by one byte to the file descriptor that PRELOADED_REPORT names that what it was told to do
+compiler. The object reports by one byte to the file descriptor that PRELOADED_REPORT names that what it was set to do
 came about.
 """
 import concurrent.futures

@@ -17,8 +17,7 @@ use std::alloc::Global;
 use std::marker::Model;
 
 /// A filter's end of one connection. It takes the bytes of a mail server in any pieces, and has the bytes of the
-/// replies that its policy calls for, by what was agreed on. It neither reads nor writes. Source: own; it does what
-/// libmilter does with callbacks.
+/// replies that its policy calls for, by what was agreed on. It neither reads nor writes.
 #[derive(Drop)]
 pub struct FilterCore<'p, P: Policy> {
     alloc: Global,

@@ -10,7 +10,7 @@ use thiserror::Error;
 /// The lowest version that a filter takes. Source: mfdef.h (SMFI_VERSION 2 and later).
 pub(crate) const VERSION_MIN: u32 = 2;
 
-/// Why a filter gives a connection up. Source: own, where libmilter's headers and documentation are silent.
+/// Why a filter gives a connection up.
 #[derive(Clone, Copy, Debug, PartialEq, Eq, Error)]
 pub enum FilterFault {
     /// A command came before the options.

@@ -2,7 +2,7 @@
 
 use crate::filter_fault::FilterFault;
 
-/// Whether a filter's end of a connection goes on. Source: own.
+/// Whether a filter's end of a connection goes on.
 #[derive(Clone, Copy, Debug, PartialEq, Eq)]
 pub enum FilterState {
     /// It takes commands and replies to them.

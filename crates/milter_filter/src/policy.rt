@@ -17,7 +17,7 @@ pub const ACTIONS_MAX: u32 = 0x1ff;
 pub const PROTOCOL_MAX: u32 = 0x1f_f7ff;
 
 /// What a filter wants, and what it answers when it is asked: a function of the stage and of what it is shown, which
-/// keeps nothing from one question to the next. Source: own; it stands for the callbacks of libmilter.
+/// keeps nothing from one question to the next. It stands for the callbacks of libmilter.
 ///
 /// What it wants is of version 2 to 6 and has known bits alone, and symbol lists only with [`Actions::SETSYMLIST`];
 /// the packet with all of it has room for it. It answers with edits at the end of a message alone, with `Skip` to a

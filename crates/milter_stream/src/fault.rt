@@ -27,7 +27,7 @@ impl<T: Drop> From<AllocFailed<T>> for NoMemory {
 }
 
 /// What is wrong with a packet, or with the end of a stream. Its text is that of a fault line of the tracer after
-/// the direction. Source: own; the layouts are those of mfdef.h and libmilter.
+/// the direction.
 #[derive(Clone, Copy, Debug, PartialEq, Eq, Error)]
 pub enum WireFault {
     /// A length field states 0: a packet has at least its code.
