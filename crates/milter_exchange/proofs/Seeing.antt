@@ -1,5 +1,5 @@
 -- What is shown with one command more.
-use Rattle.std.proofs.Common.{◌≡◌, ℕ, Bool, true, false, List, [], ◌∷◌, ◌++◌, reverse, Some, option_map, find, refl, sym, ◌∙◌, ap, append_assoc, append-nil, filter_map, flat_map, if◌then◌else◌}
+use Rattle.std.proofs.Common.{◌≡◌, ℕ, Bool, true, false, List, [], ◌∷◌, ◌++◌, reverse, Some, option_map, find, refl, sym, ◌∙◌, ap, append_assoc, append-nil, filter_map, if◌then◌else◌}
 use Rattle.std.specs.List.{concat}
 use Rattle.std.specs.Option.{option_or}
 use Rattle.std.specs.Str.{bytes_eq}

@@ -5,3 +5,12 @@ pub mod Exchanges
 pub mod Seen
 pub mod Behavior
 pub mod Talk
+pub mod FilterFault
+pub mod Commands
+pub mod Histories
+pub mod Faults
+pub mod Replies
+pub mod Conversations
+pub mod Standings
+pub mod Pass
+pub mod Worked

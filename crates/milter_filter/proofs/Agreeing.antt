@@ -13,7 +13,7 @@ use Rattle.milter_options.specs.declared.symbol_lists.SymList.{SymList}
 use Rattle.milter_wire.specs.Agreement.{agree, has_bit}
 use Rattle.milter_options.specs.Payload.{OptionsFit, SymListFits, options_with_lists, sym_list}
 use Rattle.milter_wire.specs.Reply.{Fits}
-use Rattle.milter_filter.specs.Replies.{options_reply}
+use Rattle.milter_exchange.specs.Replies.{options_reply}
 
 lists-len : (o : Options) (lists : List SymList) → length (options_with_lists o lists) ≡ 12 + length (flat_map sym_list lists)
 lists-len o lists =

@@ -1,5 +1,5 @@
 -- The first packet that has replies is the last that is taken.
-use Rattle.std.proofs.Common.{◌≡◌, ◌≢◌, ◌⊎◌, ℕ, suc, ◌+◌, List, [], ◌∷◌, ◌++◌, length, Option, None, Some, Ok, Err, map, refl, sym, ◌∙◌, ap, inl, inr, flat_map, length-append, arith}
+use Rattle.std.proofs.Common.{◌≡◌, ◌≢◌, ◌⊎◌, ℕ, suc, ◌+◌, ◌<◌, drop, length-drop, List, [], ◌∷◌, ◌++◌, length, Option, None, Some, Ok, Err, map, refl, sym, ◌∙◌, ap, inl, inr, flat_map, length-append, arith}
 use Rattle.std.specs.Prelude.{◌==◌, Bool, true}
 use Rattle.std.proofs.lemmas.Bool.{eqb-true}
 use Rattle.milter_stream.specs.Number.{number}
@@ -11,13 +11,13 @@ use Rattle.milter_wire.specs.declared.command.Command.TheVariants as commands
 use Rattle.milter_wire.specs.declared.reply.Reply.{Reply}
 use Rattle.milter_wire.specs.Reply.{code_of, encoding, payload_of}
 use Rattle.milter_exchange.specs.Behavior.{Behavior}
-use Rattle.milter_filter.specs.declared.filter_fault.FilterFault.{FilterFault}
-use Rattle.milter_filter.specs.declared.filter_state.FilterState.{FilterState}
-use Rattle.milter_filter.specs.declared.filter_state.FilterState.TheVariants.{Failed, Quit, Serving}
-use Rattle.milter_filter.specs.Conversations.{Received, state_after}
+use Rattle.milter_exchange.specs.declared.filter_fault.FilterFault.{FilterFault}
+use Rattle.milter_exchange.specs.declared.filter_state.FilterState.{FilterState}
+use Rattle.milter_exchange.specs.declared.filter_state.FilterState.TheVariants.{Failed, Quit, Serving}
+use Rattle.milter_exchange.specs.Conversations.{Received, state_after}
 use Rattle.milter_filter.specs.Cores.{EndsAtReplies}
-use Rattle.milter_filter.specs.Replies.{replies_to}
-use Rattle.milter_filter.specs.Standings.{Part, Standing, standing_after, standing_answer, standing_by, standing_fault, standing_in, standing_next, standing_replies, standing_replies_at, standing_replies_by, standing_replies_in}
+use Rattle.milter_exchange.specs.Replies.{replies_to}
+use Rattle.milter_exchange.specs.Standings.{Part, Standing, standing_after, standing_answer, standing_by, standing_fault, standing_in, standing_next, standing_replies, standing_replies_at, standing_replies_by, standing_replies_in}
 use Rattle.milter_filter.specs.Streams.{IsOnePacketAtMost, read_in}
 use Rattle.milter_filter.proofs.Progress.{Progress, read-append}
 
@@ -41,6 +41,15 @@ no_bytes reply more e =
 no_replies : (replies : List Reply) → flat_map encoding replies ≡ [] → replies ≡ []
 no_replies [] e = refl
 no_replies (reply ∷ more) e = absurd (no_bytes reply (flat_map encoding more) e)
+
+pub nothing-replied : (b : Behavior) (s new : Standing) (bytes unread out : List ℕ) → Progress b s bytes new unread out → out ≡ [] → standing_replies b s (read_in bytes) ≡ []
+nothing-replied b s new bytes unread out p none = no_replies (standing_replies b s (read_in bytes)) (sym p.replied ∙ none)
+
+pub serves : (fault : FilterFault) → Serving ≢ Failed fault
+serves fault e = absurd cc
+
+pub some-left : (piece : List ℕ) (i : ℕ) → i < length piece → drop i piece ≢ []
+some-left piece i within nothing = let n : length (drop i piece) ≡ 0 = ap length nothing in omega (arith, n, within, length-drop i piece)
 
 -- ---- the end of a connection has no replies
 
@@ -124,7 +133,7 @@ module _ (b : Behavior) (s new after : Standing) (bytes more unread out written 
           commands =
               read-append bytes more ∙ ap (λ us. read_in bytes ++ read_in (us ++ more)) (sym p.unread_is)
               ∙ ap (λ rs. read_in bytes ++ rs) one;
-          silent = no_replies (standing_replies b s (read_in bytes)) (sym p.replied ∙ none);
+          silent = nothing-replied b s new bytes unread out p none;
           nothing_left =
               ap (λ (d : Division). d.rest) (divide-append bytes more)
               ∙ ap (λ us. (divide (us ++ more)).rest) (sym p.unread_is)

@@ -1,6 +1,3 @@
-pub mod Going
-pub mod Histories
-pub mod Standings
 pub mod MacroLists
 pub mod EditPackets
 pub mod Agreeing

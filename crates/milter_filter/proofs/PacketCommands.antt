@@ -1,5 +1,5 @@
 -- The command of a packet.
-use Rattle.std.proofs.Common.{◌≡◌, ℕ, ◌+◌, ◌<◌, Bool, true, false, List, ◌∷◌, Option, None, Some, Result, Ok, Err, length, get_or, refl, sym, ◌∙◌, ap, arith, length-append, IfOk}
+use Rattle.std.proofs.Common.{◌≡◌, ◌≢◌, if◌then◌else◌, [], ℕ, ◌+◌, ◌<◌, Bool, true, false, List, ◌∷◌, Option, None, Some, Result, Ok, Err, length, get_or, refl, sym, ◌∙◌, ap, arith, length-append, IfOk}
 use Rattle.milter_stream.specs.declared.fault.WireFault.{WireFault}
 use Rattle.milter_stream.specs.Number.{number}
 use Rattle.milter_stream.specs.Packet.{packet}
@@ -13,11 +13,12 @@ use Rattle.milter_wire.specs.LentCommand.{command_of}
 use Rattle.milter_wire.specs.Frames.{frame_command, value_or_fault}
 use Rattle.milter_wire.proofs.CommandGrammar.{commands_read}
 use Rattle.milter_exchange.specs.Behavior.{Behavior}
-use Rattle.milter_filter.specs.declared.filter_fault.FilterFault.{FilterFault}
-use Rattle.milter_filter.specs.declared.filter_state.FilterState.TheVariants.{Failed, Serving}
-use Rattle.milter_filter.specs.Conversations.{Received}
-use Rattle.milter_filter.specs.Faults.{fault_of}
-use Rattle.milter_filter.specs.Standings.{Standing, nothing_kept, standing_by, standing_fault, standing_next, standing_replies_at, standing_replies_by}
+use Rattle.milter_exchange.specs.declared.filter_fault.FilterFault.{FilterFault}
+use Rattle.milter_exchange.specs.declared.filter_state.FilterState.TheVariants.{Failed, Quit, Serving}
+use Rattle.milter_exchange.specs.Commands.{is_quit}
+use Rattle.milter_exchange.specs.Conversations.{Received}
+use Rattle.milter_exchange.specs.Faults.{fault_of}
+use Rattle.milter_exchange.specs.Standings.{Standing, nothing_kept, standing_by, standing_fault, standing_next, standing_replies_at, standing_replies_by}
 
 value-found : (code : ℕ) (known : Bool) (read : Option Command) (c : Command) → value_or_fault code known read ≡ Ok c → read ≡ Some c
 value-found code false read c e = absurd cc
@@ -56,6 +57,17 @@ replies-in_order b s received c read serving none = rw (← read, serving, none)
 pub next-fault : (b : Behavior) (s : Standing) (received : Received) (c : Command) (fault : FilterFault) → Ok c ≡ received → s.state ≡ Serving
     → standing_fault s (Ok c) ≡ Some fault → standing_next b s received ≡ nothing_kept (Failed fault)
 next-fault b s received c fault read serving some = rw (← read, serving, some) refl
+
+pub silent-fault : (b : Behavior) (s : Standing) (received : Received) (c : Command) (fault : FilterFault) → Ok c ≡ received → s.state ≡ Serving
+    → standing_fault s (Ok c) ≡ Some fault → standing_replies_at b s received ≡ []
+silent-fault b s received c fault read serving some = rw (← read, serving, some) refl
+
+still-going : (quits : Bool) (fault : FilterFault) → (if quits then Quit else Serving) ≢ Failed fault
+still-going true fault e = absurd cc
+still-going false fault e = absurd cc
+
+pub goes-on : (b : Behavior) (s new : Standing) (c : Command) → new ≡ standing_by b s (Ok c) None → (fault : FilterFault) → new.state ≢ Failed fault
+goes-on b s new c is fault failed = still-going (is_quit c) fault (sym (ap (λ (x : Standing). x.state) is) ∙ failed)
 
 -- the fault of the command, by the bytes of its packet
 pub fault-by_len : (s : Standing) (f : Frame) (c : Command) (result : Option FilterFault) → IsEncodedAs c (packet f.code f.payload)

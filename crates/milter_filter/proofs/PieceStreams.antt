@@ -8,11 +8,12 @@ use Rattle.milter_stream.proofs.StreamLaws.{divide-fault, divide-handed, divide-
 use Rattle.milter_wire.specs.Frames.{frame_command}
 use Rattle.milter_wire.specs.Reply.{encoding}
 use Rattle.milter_exchange.specs.Behavior.{Behavior}
-use Rattle.milter_filter.specs.declared.filter_fault.FilterFault.{FilterFault}
-use Rattle.milter_filter.specs.declared.filter_fault.FilterFault.TheVariants.{Wire}
-use Rattle.milter_filter.specs.declared.filter_state.FilterState.TheVariants.{Failed, Serving}
-use Rattle.milter_filter.specs.Conversations.{Received}
-use Rattle.milter_filter.specs.Standings.{Standing, nothing_kept, standing_after, standing_next, standing_replies, standing_replies_at}
+use Rattle.milter_exchange.specs.declared.filter_fault.FilterFault.{FilterFault}
+use Rattle.milter_exchange.specs.declared.filter_fault.FilterFault.TheVariants.{Wire}
+use Rattle.milter_exchange.specs.declared.filter_state.FilterState.TheVariants.{Failed, Serving}
+use Rattle.milter_exchange.specs.Conversations.{Received}
+use Rattle.milter_exchange.specs.Standings.{Standing, nothing_kept, standing_after, standing_next, standing_replies, standing_replies_at}
+use Rattle.milter_filter.specs.Cores.{GivesUp}
 use Rattle.milter_filter.specs.Streams.{IsOnePacketAtMost, fault_after, read_in, received_in}
 
 -- ---- one packet
@@ -55,20 +56,33 @@ one-unfinished bytes unfinished = inl (ap (λ (x : Division). map frame_command 
 
 -- ---- faults
 
-pub failed-stays : (b : Behavior) (fault : FilterFault) (received : List Received) → standing_after b (nothing_kept (Failed fault)) received ≡ nothing_kept (Failed fault)
+failed-stays : (b : Behavior) (fault : FilterFault) (received : List Received) → standing_after b (nothing_kept (Failed fault)) received ≡ nothing_kept (Failed fault)
 failed-stays b fault [] = refl
 failed-stays b fault (first ∷ more) = failed-stays b fault more
 
-pub standing-packet_fault : (b : Behavior) (s : Standing) (unread piece new : List ℕ) (n : ℕ) (f : Frame) (fault : FilterFault) → new ≡ unread ++ take n piece → new ≡ frame_bytes f
-    → IsFrame f → standing_next b s (frame_command f) ≡ nothing_kept (Failed fault) → standing_after b s (received_in (unread ++ piece)) ≡ nothing_kept (Failed fault)
-standing-packet_fault b s unread piece new n f fault fed is fits at_fault =
-    let more = divide (drop n piece) in
-    let others = map frame_command more.frames ++ fault_after (length_fault more.rest) in
-    ap (λ (d : Division). standing_after b s (map frame_command d.frames ++ fault_after (length_fault d.rest))) (divide-handed unread piece new n f fed is fits)
-    ∙ ap (λ (x : Standing). standing_after b x others) at_fault
-    ∙ failed-stays b fault others
+failed-silent : (b : Behavior) (fault : FilterFault) (received : List Received) → standing_replies b (nothing_kept (Failed fault)) received ≡ []
+failed-silent b fault [] = refl
+failed-silent b fault (first ∷ more) = failed-silent b fault more
 
-pub standing-length_fault : (b : Behavior) (s : Standing) (unread piece new : List ℕ) (n : ℕ) (fault : WireFault) → s.state ≡ Serving → new ≡ unread ++ take n piece
-    → length_fault new ≡ Some fault → standing_after b s (received_in (unread ++ piece)) ≡ nothing_kept (Failed (Wire fault))
-standing-length_fault b s unread piece new n fault serving fed is =
-    rw (divide-fault unread piece new n fault fed is, length_fault-fed unread piece new n fault fed is, serving) refl
+module _ (b : Behavior) (s : Standing) (unread piece new : List ℕ) (n : ℕ) (fed : new ≡ unread ++ take n piece) where
+  pub packet-gives_up : (f : Frame) (fault : FilterFault) → new ≡ frame_bytes f → IsFrame f → standing_next b s (frame_command f) ≡ nothing_kept (Failed fault)
+      → standing_replies_at b s (frame_command f) ≡ [] → GivesUp b s (received_in (unread ++ piece)) fault
+  packet-gives_up f fault is fits at_fault silent =
+      let more = divide (drop n piece) in
+      let others = map frame_command more.frames ++ fault_after (length_fault more.rest) in
+      let handed : received_in (unread ++ piece) ≡ frame_command f ∷ others =
+      ap (λ (d : Division). map frame_command d.frames ++ fault_after (length_fault d.rest)) (divide-handed unread piece new n f fed is fits) in
+      record {
+        failed = ap (standing_after b s) handed ∙ ap (λ (x : Standing). standing_after b x others) at_fault ∙ failed-stays b fault others;
+        silent =
+            ap (standing_replies b s) handed
+            ∙ ap (λ rs. rs ++ standing_replies b (standing_next b s (frame_command f)) others) silent
+            ∙ ap (λ (x : Standing). standing_replies b x others) at_fault
+            ∙ failed-silent b fault others;
+      }
+
+  pub length-gives_up : (fault : WireFault) → s.state ≡ Serving → length_fault new ≡ Some fault → GivesUp b s (received_in (unread ++ piece)) (Wire fault)
+  length-gives_up fault serving is = record {
+    failed = rw (divide-fault unread piece new n fault fed is, length_fault-fed unread piece new n fault fed is, serving) refl;
+    silent = rw (divide-fault unread piece new n fault fed is, length_fault-fed unread piece new n fault fed is, serving) refl;
+  }

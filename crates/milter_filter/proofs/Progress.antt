@@ -1,5 +1,5 @@
 -- A piece of a stream, packet by packet.
-use Rattle.std.proofs.Common.{◌≡◌, ◌≢◌, ℕ, ◌+◌, List, [], ◌∷◌, ◌++◌, length, take, take-add, drop, map, refl, sym, ◌∙◌, ap, append_assoc, append-nil, flat_map, take_all, arith}
+use Rattle.std.proofs.Common.{◌≡◌, ◌≢◌, ℕ, ◌+◌, ◌<◌, List, [], ◌∷◌, ◌++◌, length, take, take-add, drop, map, refl, sym, ◌∙◌, ap, subst, append_assoc, append-nil, flat_map, take_all, arith}
 use Rattle.std.proofs.lemmas.Grind.{flat_map-append}
 use Rattle.std.proofs.lemmas.List.{map-append, take-append-drop}
 use Rattle.milter_stream.specs.Stream.{Division, IsUnfinished, divide, length_fault}
@@ -7,13 +7,14 @@ use Rattle.milter_stream.proofs.StreamLaws.{divide-append, divide-unfinished}
 use Rattle.milter_wire.specs.Frames.{frame_command}
 use Rattle.milter_wire.specs.Reply.{encoding}
 use Rattle.milter_exchange.specs.Behavior.{Behavior}
-use Rattle.milter_filter.specs.declared.filter_state.FilterState.{FilterState}
-use Rattle.milter_filter.specs.declared.filter_state.FilterState.TheVariants.{Failed, Quit, Serving}
-use Rattle.milter_filter.specs.Conversations.{Received}
-use Rattle.milter_filter.specs.Standings.{Standing, standing_after, standing_in, standing_next, standing_replies, standing_replies_at, standing_replies_in}
-use Rattle.milter_filter.specs.Cores.{Core, Takes}
+use Rattle.milter_exchange.specs.declared.filter_fault.FilterFault.{FilterFault}
+use Rattle.milter_exchange.specs.declared.filter_state.FilterState.{FilterState}
+use Rattle.milter_exchange.specs.declared.filter_state.FilterState.TheVariants.{Failed, Quit, Serving}
+use Rattle.milter_exchange.specs.Conversations.{Received}
+use Rattle.milter_exchange.specs.Standings.{Standing, standing_after, standing_in, standing_next, standing_replies, standing_replies_at, standing_replies_in}
+use Rattle.milter_filter.specs.Cores.{Core, GivesUp, Takes}
 use Rattle.milter_filter.specs.Streams.{fault_after, read_in, received_in}
-use Rattle.milter_filter.proofs.Going.{standing_after-append, standing_replies-append}
+use Rattle.milter_exchange.proofs.Going.{standing_after-append, standing_replies-append}
 
 -- what was made of the first bytes
 pub record Progress (b : Behavior) (s : Standing) (bytes : List ℕ) (new : Standing) (unread : List ℕ) (out : List ℕ) : Type 0 where
@@ -58,19 +59,30 @@ go_on b s new after bytes more unread left out written p standing rest unfinishe
           ∙ ap (flat_map encoding) (sym (standing_replies-append b s (read_in bytes) (read_in (unread ++ more))) ∙ ap (standing_replies b s) (sym both));
     }
 
--- a fault among the bytes that are left
-pub fault-left : (b : Behavior) (s new failed : Standing) (bytes more unread out : List ℕ) → Progress b s bytes new unread out
-    → standing_after b new (received_in (unread ++ more)) ≡ failed → standing_after b s (received_in (bytes ++ more)) ≡ failed
-fault-left b s new failed bytes more unread out p is =
+-- a fault among the bytes that are left, where none of those before has replies
+pub fault-left : (b : Behavior) (s new : Standing) (bytes more unread out : List ℕ) (fault : FilterFault) → Progress b s bytes new unread out
+    → standing_replies b s (read_in bytes) ≡ [] → GivesUp b new (received_in (unread ++ more)) fault → GivesUp b s (received_in (bytes ++ more)) fault
+fault-left b s new bytes more unread out fault p silent gives_up =
     let d = divide-append bytes more in
     let read = read-append bytes more ∙ ap (λ us. read_in bytes ++ read_in (us ++ more)) (sym p.unread_is) in
     let rest = ap (λ (x : Division). x.rest) d ∙ ap (λ us. (divide (us ++ more)).rest) (sym p.unread_is) in
-    ap (λ rs. standing_after b s (rs ++ fault_after (length_fault (divide (bytes ++ more)).rest))) read
-    ∙ ap (λ us. standing_after b s ((read_in bytes ++ read_in (unread ++ more)) ++ fault_after (length_fault us))) rest
-    ∙ ap (standing_after b s) (append_assoc (read_in bytes) (read_in (unread ++ more)) _)
-    ∙ standing_after-append b s (read_in bytes) (received_in (unread ++ more))
-    ∙ ap (λ x. standing_after b x (received_in (unread ++ more))) (sym p.standing)
-    ∙ is
+    let all : received_in (bytes ++ more) ≡ read_in bytes ++ received_in (unread ++ more) =
+    ap (λ rs. rs ++ fault_after (length_fault (divide (bytes ++ more)).rest)) read
+    ∙ ap (λ us. (read_in bytes ++ read_in (unread ++ more)) ++ fault_after (length_fault us)) rest
+    ∙ append_assoc (read_in bytes) (read_in (unread ++ more)) _ in
+    record {
+      failed =
+          ap (standing_after b s) all
+          ∙ standing_after-append b s (read_in bytes) (received_in (unread ++ more))
+          ∙ ap (λ x. standing_after b x (received_in (unread ++ more))) (sym p.standing)
+          ∙ gives_up.failed;
+      silent =
+          ap (standing_replies b s) all
+          ∙ standing_replies-append b s (read_in bytes) (received_in (unread ++ more))
+          ∙ ap (λ rs. rs ++ standing_replies b (standing_after b s (read_in bytes)) (received_in (unread ++ more))) silent
+          ∙ ap (λ x. standing_replies b x (received_in (unread ++ more))) (sym p.standing)
+          ∙ gives_up.silent;
+    }
 
 -- the bytes so far, and what is left of the piece
 pub bytes-more : (unread piece : List ℕ) (i n : ℕ) → (unread ++ take i piece) ++ take n (drop i piece) ≡ unread ++ take (i + n) piece
@@ -112,16 +124,23 @@ ended-all b s new bytes more unread out p ended =
           ∙ ap (flat_map encoding) (sym (standing_replies-append b s (read_in bytes) others) ∙ ap (standing_replies b s) (sym read)),
     )
 
+some-bytes : (piece : List ℕ) → piece ≢ [] → 0 < length piece
+some-bytes [] some = absurd (some refl)
+some-bytes (x ∷ xs) some = omega arith
+
 -- all of a piece, where the mail server has quit in it
 pub all-taken : {P : Type 0} (b : Behavior) (old new : Core P) (piece unread : List ℕ) (i : ℕ) → new.policy ≡ old.policy
     → Progress b old.standing (old.unread ++ take i piece) new.standing unread new.pending → new.standing.state ≢ Serving → new.unread ≡ [] → new.pending ≡ []
-    → Takes b old piece (length piece) new
-all-taken b old new piece unread i policy p ended nothing silent =
+    → ((fault : FilterFault) → new.standing.state ≢ Failed fault) → Takes b old piece (length piece) new
+all-taken b old new piece unread i policy p ended nothing silent going =
     let both = ended-all b old.standing new.standing (old.unread ++ take i piece) (drop i piece) unread new.pending p ended in
     let all = bytes-all old.unread piece i ∙ ap (λ xs. old.unread ++ xs) (sym (take_all (length piece) piece (omega arith))) in
     record {
       policy = policy;
       within = omega arith;
+      progress = some-bytes piece;
+      going = going;
+      unfinished = subst IsUnfinished (sym nothing) tt;
       standing = both.0 ∙ ap (λ xs. standing_after b old.standing (read_in xs)) all;
       pending = both.1 ∙ ap (λ xs. flat_map encoding (standing_replies b old.standing (read_in xs))) all;
       unread = λ serving. absurd (ended serving);

@@ -6,8 +6,8 @@ use Rattle.milter_wire.specs.Agreement.{is_answered}
 use Rattle.milter_exchange.specs.declared.answer.Answer.{Answer}
 use Rattle.milter_exchange.specs.Behavior.{Behavior, answer_to}
 use Rattle.milter_exchange.specs.Seen.{Seen}
-use Rattle.milter_filter.specs.Commands.{is_end_at}
-use Rattle.milter_filter.specs.Standings.{Standing, after_message}
+use Rattle.milter_exchange.specs.Commands.{is_end_at}
+use Rattle.milter_exchange.specs.Standings.{Standing, after_message}
 
 -- the answer at a stage, where the policy is to be asked
 abbrev pub answer_at : Behavior → Option Agreed → Stage → Seen → Option Answer

@@ -1,13 +1,13 @@
 -- What a filter's core is to its callers.
-use Rattle.std.specs.Prelude.{◌≡◌, ◌≢◌, ◌≤◌, ℕ, List, [], ◌∷◌, ◌++◌, length, take}
+use Rattle.std.specs.Prelude.{◌≡◌, ◌≢◌, ◌≤◌, ◌<◌, ℕ, List, [], ◌∷◌, ◌++◌, length, take}
 use Rattle.std.specs.List.{flat_map}
-use Rattle.milter_stream.specs.Stream.{divide}
+use Rattle.milter_stream.specs.Stream.{IsUnfinished, divide}
 use Rattle.milter_wire.specs.Reply.{encoding}
 use Rattle.milter_exchange.specs.Behavior.{Behavior}
-use Rattle.milter_filter.specs.declared.filter_fault.FilterFault.{FilterFault}
-use Rattle.milter_filter.specs.declared.filter_state.FilterState.TheVariants.{Failed, Serving}
-use Rattle.milter_filter.specs.Conversations.{Received}
-use Rattle.milter_filter.specs.Standings.{Standing, fresh, nothing_kept, standing_after, standing_replies}
+use Rattle.milter_exchange.specs.declared.filter_fault.FilterFault.{FilterFault}
+use Rattle.milter_exchange.specs.declared.filter_state.FilterState.TheVariants.{Failed, Serving}
+use Rattle.milter_exchange.specs.Conversations.{Received}
+use Rattle.milter_exchange.specs.Standings.{Standing, fresh, nothing_kept, standing_after, standing_replies}
 use Rattle.milter_filter.specs.Streams.{read_in}
 
 -- its policy, what is kept of the connection, the bytes of a packet that isn't whole yet, and those that wait to be
@@ -29,16 +29,25 @@ pub record EndsAtReplies (b : Behavior) (s : Standing) (bytes : List ℕ) : Type
   pub silent : standing_replies b s before ≡ []
   pub nothing_left : (divide bytes).rest ≡ []
 
+-- The fault is found in these packets, and none of them has replies: those before it have none, and nothing is replied
+-- to what is at fault and after it.
+pub record GivesUp (b : Behavior) (s : Standing) (received : List Received) (fault : FilterFault) : Type 0 where
+  pub failed : standing_after b s received ≡ nothing_kept (Failed fault)
+  pub silent : standing_replies b s received ≡ []
+
 -- What a core that serves and has nothing to send makes of the first bytes of a piece: it goes on by the commands of
 -- the packets that are whole with these, the replies to them wait to be sent, and the rest stays unread. It takes the
 -- bytes up to the end of the first packet that has replies, or all where none has. After the mail server has quit
--- nothing stays unread.
+-- nothing stays unread. No fault is in what it took.
 pub record Takes {P : Type 0} (b : Behavior) (old : Core P) (piece : List ℕ) (n : ℕ) (new : Core P) : Type 0 where
   pub policy : new.policy ≡ old.policy
   pub within : n ≤ length piece
+  pub progress : piece ≢ [] → 0 < n
   pub standing : new.standing ≡ standing_after b old.standing (read_in (old.unread ++ take n piece))
   pub pending : new.pending ≡ flat_map encoding (standing_replies b old.standing (read_in (old.unread ++ take n piece)))
+  pub going : (fault : FilterFault) → new.standing.state ≢ Failed fault
   pub unread : new.standing.state ≡ Serving → new.unread ≡ (divide (old.unread ++ take n piece)).rest
+  pub unfinished : IsUnfinished new.unread
   pub nothing_unread : new.standing.state ≢ Serving → new.unread ≡ []
   pub first : new.pending ≢ [] → EndsAtReplies b old.standing (old.unread ++ take n piece)
   pub all : new.pending ≡ [] → n ≡ length piece

@@ -1,10 +1,3 @@
-pub mod FilterFault
-pub mod Commands
-pub mod Histories
-pub mod Faults
-pub mod Replies
-pub mod Conversations
-pub mod Standings
 pub mod MacroLists
 pub mod SeenParts
 pub mod Lawful
@@ -12,5 +5,3 @@ pub mod PassLaw
 pub mod Streams
 pub mod Cores
 pub mod Asking
-pub mod Pass
-pub mod Worked

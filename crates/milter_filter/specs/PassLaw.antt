@@ -10,7 +10,7 @@ use Rattle.milter_wire.specs.Reply.{Fits}
 use Rattle.milter_message.specs.declared.edit.Edit.{Edit}
 use Rattle.milter_message.specs.EditReplies.{reply_of}
 use Rattle.milter_filter.specs.Lawful.{IsLawful, WantsWithin}
-use Rattle.milter_filter.specs.Pass.{pass}
+use Rattle.milter_exchange.specs.Pass.{pass}
 
 options_len : length (options_with_lists pass.wants []) ≤ PAYLOAD_MAX
 unfolding number

@@ -2,7 +2,7 @@
 use Rattle.std.specs.Prelude.{Bool, [], if◌then◌else◌}
 use Rattle.milter_wire.specs.declared.command.Command.{Command}
 use Rattle.milter_exchange.specs.Seen.{Seen, seen, seen_with}
-use Rattle.milter_filter.specs.Commands.{is_of_connection}
+use Rattle.milter_exchange.specs.Commands.{is_of_connection}
 
 pub record SeenParts : Type 0 where
   pub shown : Seen

@@ -3,7 +3,7 @@ use Rattle.std.specs.Prelude.{◌≡◌, ◌⊎◌, ℕ, List, [], ◌∷◌, �
 use Rattle.milter_stream.specs.declared.fault.WireFault.{WireFault}
 use Rattle.milter_stream.specs.Stream.{divide, length_fault}
 use Rattle.milter_wire.specs.Frames.{frame_command}
-use Rattle.milter_filter.specs.Conversations.{Received}
+use Rattle.milter_exchange.specs.Conversations.{Received}
 
 -- of its whole packets
 abbrev pub read_in : List ℕ → List Received

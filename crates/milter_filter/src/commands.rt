@@ -2,7 +2,7 @@
 
 ghost use Rattle.std.specs.Prelude.{◌≡◌};
 ghost use Rattle.milter_wire.specs.LentCommand.{command_of};
-ghost use Rattle.milter_filter.specs.Commands.{is_of_connection, is_shown};
+ghost use Rattle.milter_exchange.specs.Commands.{is_of_connection, is_shown};
 
 use milter_wire::CommandRef;
 use milter_wire::codes::{SMFIC_CONNECT, SMFIC_HELO};

@@ -4,15 +4,13 @@ ghost use Rattle.std.specs.Prelude.{◌≡◌, ◌≤◌, ◌+◌, ◌↔◌, Is
 ghost use Rattle.std.specs.Option.{option_copied};
 ghost use Rattle.milter_wire.specs.Command.{encoding};
 ghost use Rattle.milter_wire.specs.LentCommand.{command_of};
-ghost use Rattle.milter_filter.specs.Commands.{is_shown};
-ghost use Rattle.milter_filter.specs.Faults.{fault_in_message, fault_of};
-ghost use Rattle.milter_filter.specs.Standings.{after_client, after_message, after_options, fresh, nothing_kept, with_shown};
+ghost use Rattle.milter_exchange.specs.Commands.{is_shown};
+ghost use Rattle.milter_exchange.specs.Faults.{fault_in_message, fault_of};
+ghost use Rattle.milter_exchange.specs.Standings.{after_client, after_message, after_options, fresh, nothing_kept, with_shown};
 
 use crate::commands::{is_of_connection, is_shown};
-use crate::filter_fault::{FilterFault, VERSION_MIN};
-use crate::filter_state::FilterState;
 use crate::seen::Seen;
-use milter_exchange::{may_follow, rank_of};
+use milter_exchange::{FilterFault, FilterState, VERSION_MIN, may_follow, rank_of};
 use milter_message::WEIGHT_MAX;
 use milter_wire::{Agreed, CommandRef, NoMemory};
 use std::alloc::Global;
@@ -35,7 +33,7 @@ pub(crate) struct Connection {
 impl Model for Connection {
     ghost use Rattle.std.specs.Prelude.{◌≤◌};
     ghost use Rattle.milter_message.specs.declared.message.TheConstants.{WEIGHT_MAX};
-    ghost use Rattle.milter_filter.specs.Standings.{Standing};
+    ghost use Rattle.milter_exchange.specs.Standings.{Standing};
 
     ghost Value = { Standing };
 

@@ -1,17 +1,15 @@
 //! A filter's end of a connection, over any policy.
 
 ghost use Rattle.std.specs.Prelude.{◌≡◌, ◌≢◌, ◌≤◌, ◌++◌, [], Err, IfErr, IfOk, Ok, drop, length};
-ghost use Rattle.milter_filter.specs.declared.filter_fault.FilterFault.{FilterFault as Fault};
-ghost use Rattle.milter_filter.specs.declared.filter_fault.FilterFault.TheVariants as faults;
-ghost use Rattle.milter_filter.specs.declared.filter_state.FilterState.TheVariants.{Failed, Quit, Serving};
-ghost use Rattle.milter_filter.specs.Standings.{nothing_kept, standing_after};
+ghost use Rattle.milter_exchange.specs.declared.filter_fault.FilterFault.{FilterFault as Fault};
+ghost use Rattle.milter_exchange.specs.declared.filter_fault.FilterFault.TheVariants as faults;
+ghost use Rattle.milter_exchange.specs.declared.filter_state.FilterState.TheVariants.{Failed, Quit, Serving};
 ghost use Rattle.milter_filter.specs.Streams.{received_in};
 
 use crate::connection::Connection;
-use crate::filter_fault::FilterFault;
-use crate::filter_state::FilterState;
 use crate::piece_receiving::receive_piece;
 use crate::policy::Policy;
+use milter_exchange::{FilterFault, FilterState};
 use milter_wire::{NoMemory, Splitter};
 use std::alloc::Global;
 use std::marker::Model;
@@ -25,9 +23,12 @@ pub struct FilterCore<'p, P: Policy> {
     splitter: Splitter,
     connection: Connection,
     pending: Vec<u8>,
+    // How many of the pending bytes were sent.
+    sent: usize,
 }
 
 impl<'p, P: Policy> Model for FilterCore<'p, P> {
+    ghost use Rattle.std.specs.Prelude.{◌≤◌, drop, length};
     ghost use Rattle.milter_stream.specs.Stream.{IsUnfinished};
     ghost use Rattle.milter_filter.specs.Cores.{Core};
 
@@ -37,14 +38,14 @@ impl<'p, P: Policy> Model for FilterCore<'p, P> {
       policy = c.policy.now;
       standing = c.connection;
       unread = c.splitter;
-      pending = c.pending.items;
+      pending = drop c.sent c.pending.items;
     } };
 
-    ghost invariant = { λ c. IsUnfinished c.splitter };
+    ghost invariant = { λ c. IsUnfinished c.splitter × (c.sent ≤ length c.pending.items) };
 }
 
 impl<'p, P: Policy> FilterCore<'p, P> {
-    ghost use Rattle.milter_filter.specs.Cores.{Takes, fresh_core, given_up};
+    ghost use Rattle.milter_filter.specs.Cores.{GivesUp, Takes, fresh_core, given_up};
 
     /// A connection of which nothing has come. It takes room for one packet, 65,540 bytes.
     pub fn new(alloc: Global, policy: &'p P) -> Result<Self, NoMemory>
@@ -57,6 +58,7 @@ impl<'p, P: Policy> FilterCore<'p, P> {
             splitter,
             connection: Connection::new(alloc),
             pending: Vec::new(alloc),
+            sent: 0,
         })
     }
 
@@ -64,7 +66,7 @@ impl<'p, P: Policy> FilterCore<'p, P> {
     pub fn pending(&self) -> &[u8]
         ensures { result.now ≡ self.now.pending }
     {
-        &self.pending
+        &self.pending[self.sent..]
     }
 
     /// Notes that the first `count` bytes of what waits were sent. No memory is taken.
@@ -72,7 +74,7 @@ impl<'p, P: Policy> FilterCore<'p, P> {
         requires { count ≤ length self.old.pending }
         ensures { self.new ≡ record self.old { pending = drop count self.old.pending } }
     {
-        self.pending.drain(..count);
+        self.sent += count;
     }
 
     /// How many bytes were taken of a packet that isn't whole yet: none after the mail server has quit, and none after
@@ -106,8 +108,7 @@ impl<'p, P: Policy> FilterCore<'p, P> {
             IfErr result (λ fault. self.new ≡ given_up self.old fault) }
         ensures cause { self.old.standing.state ≡ Serving → self.old.pending ≡ [] →
             IfErr result (λ fault. fault ≢ faults.NoMemory →
-            standing_after (P.behavior self.old.policy) self.old.standing (received_in (self.old.unread ++ piece.now))
-            ≡ nothing_kept (Failed fault)) }
+            GivesUp (P.behavior self.old.policy) self.old.standing (received_in (self.old.unread ++ piece.now)) fault) }
     {
         match self.connection.state() {
             FilterState::Failed(fault) => Err(fault),
@@ -116,20 +117,19 @@ impl<'p, P: Policy> FilterCore<'p, P> {
                 if !self.pending().is_empty() {
                     return Ok(0);
                 }
-                self.serve(piece)
+                self.receive(piece)
             }
         }
     }
 
     /// Takes bytes of a piece where it serves and nothing waits to be sent.
-    fn serve(&mut self, piece: &[u8]) -> Result<usize, FilterFault>
+    fn receive(&mut self, piece: &[u8]) -> Result<usize, FilterFault>
         requires serving { self.old.standing.state ≡ Serving }
         requires nothing_pending { self.old.pending ≡ [] }
         ensures takes { IfOk result (λ n. Takes (P.behavior self.old.policy) self.old piece.now n self.new) }
         ensures gives_up { IfErr result (λ fault. self.new ≡ given_up self.old fault) }
         ensures cause { IfErr result (λ fault. fault ≢ faults.NoMemory →
-            standing_after (P.behavior self.old.policy) self.old.standing (received_in (self.old.unread ++ piece.now))
-            ≡ nothing_kept (Failed fault)) }
+            GivesUp (P.behavior self.old.policy) self.old.standing (received_in (self.old.unread ++ piece.now)) fault) }
     {
         let FilterCore {
             alloc,
@@ -137,7 +137,10 @@ impl<'p, P: Policy> FilterCore<'p, P> {
             splitter,
             connection,
             pending,
+            sent,
         } = self;
+        pending.clear();
+        *sent = 0;
         let taken = match receive_piece(*alloc, *policy, splitter, connection, piece, pending) {
             Ok(taken) => taken,
             Err(fault) => {

@@ -7,9 +7,6 @@
 mod commands;
 mod connection;
 mod filter_core;
-mod filter_fault;
-mod filter_state;
-mod laws;
 mod macro_list;
 mod packet_receiving;
 mod pass;
@@ -17,12 +14,10 @@ mod piece_receiving;
 mod policy;
 mod receiving;
 mod replying;
-mod rows;
 mod seen;
 
 pub use filter_core::FilterCore;
-pub use filter_fault::FilterFault;
-pub use filter_state::FilterState;
-pub use laws::{
-    conversations_go_on, parts_of_histories, standings_go_on, standings_of_conversations,
-};
+pub use milter_exchange::{Answer, Edits, FilterFault, FilterState};
+pub use pass::Pass;
+pub use policy::{ACTIONS_MAX, PROTOCOL_MAX, Policy, VERSION_MAX};
+pub use seen::Seen;

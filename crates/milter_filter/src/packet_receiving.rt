@@ -1,6 +1,6 @@
 //! What a filter's end does with a packet.
 
-ghost use Rattle.std.specs.Prelude.{◌≡◌, ◌≢◌, ◌≤◌, ◌++◌, IfErr, IfOk, OnOk, length};
+ghost use Rattle.std.specs.Prelude.{◌≡◌, ◌≢◌, ◌≤◌, ◌++◌, [], IfErr, IfOk, OnOk, length};
 ghost use Rattle.std.specs.List.{flat_map};
 ghost use Rattle.milter_stream.specs.Splitter.{frame_of};
 ghost use Rattle.milter_stream.specs.Stream.{IsFrame};
@@ -11,14 +11,15 @@ ghost use Rattle.milter_wire.specs.Tables.{map_ok};
 ghost use Rattle.milter_wire.specs.LentCommand.{command_of};
 ghost use Rattle.milter_wire.specs.Frames.{frame_command};
 ghost use Rattle.milter_wire.specs.Reply.{encoding};
-ghost use Rattle.milter_filter.specs.declared.filter_fault.FilterFault.TheVariants.{NoMemory};
-ghost use Rattle.milter_filter.specs.declared.filter_state.FilterState.TheVariants.{Failed, Serving};
-ghost use Rattle.milter_filter.specs.Standings.{nothing_kept, standing_next, standing_replies_at};
+ghost use Rattle.milter_exchange.specs.declared.filter_fault.FilterFault.{FilterFault as Fault};
+ghost use Rattle.milter_exchange.specs.declared.filter_fault.FilterFault.TheVariants.{NoMemory};
+ghost use Rattle.milter_exchange.specs.declared.filter_state.FilterState.TheVariants.{Failed, Serving};
+ghost use Rattle.milter_exchange.specs.Standings.{nothing_kept, standing_next, standing_replies_at};
 
 use crate::connection::Connection;
-use crate::filter_fault::FilterFault;
 use crate::policy::Policy;
 use crate::receiving::receive;
+use milter_exchange::FilterFault;
 use milter_wire::{CommandRef, HEAD_LEN, Packet, WireFault};
 use std::alloc::Global;
 
@@ -40,6 +41,9 @@ pub(crate) fn receive_packet<P: Policy>(
     ensures fault { IfErr result (λ fault. fault ≢ NoMemory →
         standing_next (P.behavior policy.now) connection.old (frame_command (frame_of packet.now))
         ≡ nothing_kept (Failed fault)) }
+    ensures silent { IfErr result (λ fault. fault ≢ NoMemory →
+        standing_replies_at (P.behavior policy.now) connection.old (frame_command (frame_of packet.now)) ≡ []) }
+    ensures going { OnOk result ((fault : Fault) → connection.new.state ≢ Failed fault) }
 {
     let command = match read_command(packet.code, packet.payload) {
         Ok(command) => command,

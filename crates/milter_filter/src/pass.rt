@@ -1,6 +1,6 @@
 //! A policy that lets all mail go on.
 
-ghost use Rattle.milter_filter.specs.Pass.{pass};
+ghost use Rattle.milter_exchange.specs.Pass.{pass};
 ghost use Rattle.milter_filter.specs.PassLaw.{pass_is_lawful};
 
 use crate::policy::{Policy, VERSION_MAX};

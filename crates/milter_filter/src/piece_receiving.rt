@@ -4,16 +4,17 @@ ghost use Rattle.std.specs.Prelude.{◌≡◌, ◌≢◌, ◌<◌, ◌≤◌, �
 ghost use Rattle.std.specs.List.{flat_map};
 ghost use Rattle.milter_stream.specs.Stream.{IsUnfinished, divide};
 ghost use Rattle.milter_wire.specs.Reply.{encoding};
-ghost use Rattle.milter_filter.specs.declared.filter_fault.FilterFault.TheVariants.{NoMemory};
-ghost use Rattle.milter_filter.specs.declared.filter_state.FilterState.TheVariants.{Failed, Serving};
-ghost use Rattle.milter_filter.specs.Cores.{EndsAtReplies};
-ghost use Rattle.milter_filter.specs.Standings.{nothing_kept, standing_after, standing_replies};
+ghost use Rattle.milter_exchange.specs.declared.filter_fault.FilterFault.{FilterFault as Fault};
+ghost use Rattle.milter_exchange.specs.declared.filter_fault.FilterFault.TheVariants.{NoMemory};
+ghost use Rattle.milter_exchange.specs.declared.filter_state.FilterState.TheVariants.{Failed, Serving};
+ghost use Rattle.milter_filter.specs.Cores.{EndsAtReplies, GivesUp};
+ghost use Rattle.milter_exchange.specs.Standings.{standing_after, standing_replies};
 ghost use Rattle.milter_filter.specs.Streams.{IsOnePacketAtMost, read_in, received_in};
 
 use crate::connection::Connection;
-use crate::filter_fault::FilterFault;
 use crate::packet_receiving::receive_packet;
 use crate::policy::Policy;
+use milter_exchange::FilterFault;
 use milter_wire::Splitter;
 use std::alloc::Global;
 
@@ -39,9 +40,9 @@ pub(crate) fn receive_some<P: Policy>(
         ≡ standing_after (P.behavior policy.now) connection.old (read_in (splitter.old ++ take n piece.now))) }
     ensures replied { IfOk result (λ n. out.new.items ≡ out.old.items ++ flat_map encoding
         (standing_replies (P.behavior policy.now) connection.old (read_in (splitter.old ++ take n piece.now)))) }
+    ensures going { OnOk result ((fault : Fault) → connection.new.state ≢ Failed fault) }
     ensures fault { IfErr result (λ fault. fault ≢ NoMemory →
-        standing_after (P.behavior policy.now) connection.old (received_in (splitter.old ++ piece.now))
-        ≡ nothing_kept (Failed fault)) }
+        GivesUp (P.behavior policy.now) connection.old (received_in (splitter.old ++ piece.now)) fault) }
 {
     let taken = splitter.feed(piece)?;
     match splitter.next() {
@@ -70,6 +71,7 @@ pub(crate) fn receive_piece<P: Policy>(
     requires serving { connection.old.state ≡ Serving }
     requires nothing_pending { out.old.items ≡ [] }
     ensures taken { IfOk result (λ n. n ≤ length piece.now) }
+    ensures progress { piece.now ≢ [] → IfOk result (λ n. 0 < n) }
     ensures first { IfOk result (λ n. out.new.items ≢ [] →
         EndsAtReplies (P.behavior policy.now) connection.old (splitter.old ++ take n piece.now)) }
     ensures all { IfOk result (λ n. out.new.items ≡ [] → connection.new.state ≡ Serving → n ≡ length piece.now) }
@@ -80,9 +82,9 @@ pub(crate) fn receive_piece<P: Policy>(
         ≡ standing_after (P.behavior policy.now) connection.old (read_in (splitter.old ++ take n piece.now))) }
     ensures replied { IfOk result (λ n. out.new.items ≡ flat_map encoding
         (standing_replies (P.behavior policy.now) connection.old (read_in (splitter.old ++ take n piece.now)))) }
+    ensures going { OnOk result ((fault : Fault) → connection.new.state ≢ Failed fault) }
     ensures fault { IfErr result (λ fault. fault ≢ NoMemory →
-        standing_after (P.behavior policy.now) connection.old (received_in (splitter.old ++ piece.now))
-        ≡ nothing_kept (Failed fault)) }
+        GivesUp (P.behavior policy.now) connection.old (received_in (splitter.old ++ piece.now)) fault) }
 {
     let mut taken = 0;
     while taken < piece.len() {

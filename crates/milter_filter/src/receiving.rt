@@ -10,10 +10,10 @@ ghost use Rattle.milter_wire.specs.LentCommand.{command_of};
 ghost use Rattle.milter_wire.specs.Reply.{encoding};
 ghost use Rattle.milter_wire.specs.Stages.{stage_of};
 ghost use Rattle.milter_filter.specs.Asking.{answer_at, shown_after_answer, stage_answer};
-ghost use Rattle.milter_filter.specs.Commands.{is_end_at, is_end_by, is_shown};
-ghost use Rattle.milter_filter.specs.Replies.{options_reply, replies_of_answer, replies_to_unknown};
-ghost use Rattle.milter_filter.specs.declared.filter_state.FilterState.TheVariants.{Serving};
-ghost use Rattle.milter_filter.specs.Standings.{after_options, standing_by, standing_fault, standing_replies_by, with_shown};
+ghost use Rattle.milter_exchange.specs.Commands.{is_end_at, is_end_by, is_shown};
+ghost use Rattle.milter_exchange.specs.Replies.{options_reply, replies_of_answer, replies_to_unknown};
+ghost use Rattle.milter_exchange.specs.declared.filter_state.FilterState.TheVariants.{Serving};
+ghost use Rattle.milter_exchange.specs.Standings.{after_options, standing_by, standing_fault, standing_replies_by, with_shown};
 
 use crate::connection::Connection;
 use crate::policy::Policy;

@@ -6,7 +6,7 @@ ghost use Rattle.milter_message.specs.EditReplies as asked;
 ghost use Rattle.milter_wire.specs.Reply.{Fits, encoding};
 ghost use Rattle.milter_wire.specs.Verdicts as given;
 ghost use Rattle.milter_exchange.specs.Permitted.{is_permitted, permitted, permitted_verdict};
-ghost use Rattle.milter_filter.specs.Replies.{replies_of_answer};
+ghost use Rattle.milter_exchange.specs.Replies.{replies_of_answer};
 
 use milter_exchange::{Answer, permits, permitted_verdict};
 use milter_message::Edit;

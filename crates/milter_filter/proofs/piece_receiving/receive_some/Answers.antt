@@ -1,14 +1,14 @@
 use Rattle.std.proofs.Common.{◌++◌, take, Ok, sym, ◌∙◌, ap, subst}
 use Rattle.milter_stream.specs.Splitter.{frame_of}
 use Rattle.milter_stream.specs.Stream.{IsUnfinished}
-use Rattle.milter_filter.proofs.PieceStreams.{one-packet, one-unfinished, replies-packet, replies-unfinished, rest-packet, rest-unfinished, standing-length_fault, standing-packet, standing-packet_fault, standing-unfinished}
+use Rattle.milter_filter.proofs.PieceStreams.{length-gives_up, one-packet, one-unfinished, packet-gives_up, replies-packet, replies-unfinished, rest-packet, rest-unfinished, standing-packet, standing-unfinished}
 use Rattle.milter_filter.proofs.piece_receiving.receive_some.Goals as goal
 
 pub returns-in-Err-clause-fault : goal.returns-in-Err-clause-fault
 returns-in-Err-clause-fault g c =
     let b = g.P.Policy.behavior c.args.policy.now in
     let is = (c.next.ensures.fault c.in-Err.fault).0 c.in-Err.is in
-    λ other. standing-length_fault b c.args.connection.now c.args.splitter.now c.args.piece.now c.feed.new.self c.in_ok-taken.taken c.in-Err.fault c.requires.serving c.in_ok-taken.ensures.taken is
+    λ other. length-gives_up b c.args.connection.now c.args.splitter.now c.args.piece.now c.feed.new.self c.in_ok-taken.taken c.in_ok-taken.ensures.taken c.in-Err.fault c.requires.serving is
 
 pub returns-in-Ok-None-clause-unread : goal.returns-in-Ok-None-clause-unread
 returns-in-Ok-None-clause-unread g c =
@@ -33,8 +33,8 @@ pub returns-in-Err-receive_packet-clause-fault : goal.returns-in-Err-receive_pac
 returns-in-Err-receive_packet-clause-fault g c =
     let b = g.P.Policy.behavior c.args.policy.now in
     let handed = rw c.in-Ok-Some.field-0-is at c.in-Ok-Some.ensures.packet in
-    λ other. standing-packet_fault b c.args.connection.now c.args.splitter.now c.args.piece.now c.feed.new.self c.in_ok-taken.taken (frame_of c.in-Ok-Some.packet) c.in-Err-receive_packet.fault
-    c.in_ok-taken.ensures.taken handed.1 handed.0 (c.in-Err-receive_packet.ensures.fault other)
+    λ other. packet-gives_up b c.args.connection.now c.args.splitter.now c.args.piece.now c.feed.new.self c.in_ok-taken.taken c.in_ok-taken.ensures.taken (frame_of c.in-Ok-Some.packet) c.in-Err-receive_packet.fault
+    handed.1 handed.0 (c.in-Err-receive_packet.ensures.fault other) (c.in-Err-receive_packet.ensures.silent other)
 
 pub returns-in_default-clause-unread : goal.returns-in_default-clause-unread
 returns-in_default-clause-unread g c =

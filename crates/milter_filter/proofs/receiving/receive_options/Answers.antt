@@ -1,6 +1,6 @@
 use Rattle.std.proofs.Common.{sym, subst}
 use Rattle.milter_wire.specs.Reply.{Fits}
-use Rattle.milter_filter.specs.Replies.{options_reply}
+use Rattle.milter_exchange.specs.Replies.{options_reply}
 use Rattle.milter_filter.proofs.Agreeing.{agreed_fits}
 use Rattle.milter_filter.proofs.receiving.receive_options.Goals as goal
 

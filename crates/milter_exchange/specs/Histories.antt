@@ -10,7 +10,7 @@ use Rattle.milter_wire.specs.Stages.{stage_of}
 use Rattle.milter_exchange.specs.Behavior.{Behavior}
 use Rattle.milter_exchange.specs.Exchanges.{Exchange, commands_of, latest, since, up_to}
 use Rattle.milter_exchange.specs.StageOrder.{rank_of}
-use Rattle.milter_filter.specs.Commands.{is_message_end, is_of_connection, is_quit_new, is_shown}
+use Rattle.milter_exchange.specs.Commands.{is_message_end, is_of_connection, is_quit_new, is_shown}
 
 -- ---- kinds of exchanges
 

@@ -1,5 +1,5 @@
-use Rattle.milter_filter.proofs.Going.{standing_after-append, standing_replies-append}
-use Rattle.milter_filter.proofs.laws.standings_go_on.Goals as goal
+use Rattle.milter_exchange.proofs.Going.{standing_after-append, standing_replies-append}
+use Rattle.milter_exchange.proofs.conversation_laws.standings_go_on.Goals as goal
 
 pub returns-clause-standing : goal.returns-clause-standing
 returns-clause-standing c = standing_after-append

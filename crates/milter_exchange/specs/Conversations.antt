@@ -8,14 +8,14 @@ use Rattle.milter_wire.specs.Command.{bytes_of}
 use Rattle.milter_exchange.specs.declared.answer.Answer.{Answer}
 use Rattle.milter_exchange.specs.Behavior.{Behavior, exchange_of}
 use Rattle.milter_exchange.specs.Exchanges.{Exchange}
-use Rattle.milter_filter.specs.declared.filter_fault.FilterFault.{FilterFault}
-use Rattle.milter_filter.specs.declared.filter_fault.FilterFault.TheVariants.{Wire}
-use Rattle.milter_filter.specs.declared.filter_state.FilterState.{FilterState}
-use Rattle.milter_filter.specs.declared.filter_state.FilterState.TheVariants.{Serving, Quit, Failed}
-use Rattle.milter_filter.specs.Commands.{is_quit}
-use Rattle.milter_filter.specs.Faults.{fault_of}
-use Rattle.milter_filter.specs.Histories.{agreed_in, last_rank, shown}
-use Rattle.milter_filter.specs.Replies.{replies_to}
+use Rattle.milter_exchange.specs.declared.filter_fault.FilterFault.{FilterFault}
+use Rattle.milter_exchange.specs.declared.filter_fault.FilterFault.TheVariants.{Wire}
+use Rattle.milter_exchange.specs.declared.filter_state.FilterState.{FilterState}
+use Rattle.milter_exchange.specs.declared.filter_state.FilterState.TheVariants.{Serving, Quit, Failed}
+use Rattle.milter_exchange.specs.Commands.{is_quit}
+use Rattle.milter_exchange.specs.Faults.{fault_of}
+use Rattle.milter_exchange.specs.Histories.{agreed_in, last_rank, shown}
+use Rattle.milter_exchange.specs.Replies.{replies_to}
 
 -- what a packet has: a command, or the fault for which it can't be read
 abbrev pub Received : Type 0

@@ -7,9 +7,9 @@ use Rattle.milter_wire.specs.declared.stage.Stage.{Stage}
 use Rattle.milter_wire.specs.Stages.{stage_of}
 use Rattle.milter_exchange.specs.Behavior.{Behavior}
 use Rattle.milter_exchange.specs.Exchanges.{Exchange, commands_of, latest, since, up_to}
-use Rattle.milter_filter.specs.Commands.{is_of_connection, is_shown}
-use Rattle.milter_filter.specs.Histories.{agreed_by, agreed_in, begins_anew, ends_message, has_stage, last_rank, of_connection, rank_after, rank_at, rank_from, rank_in, shown}
-use Rattle.milter_filter.specs.Standings.{rank_by}
+use Rattle.milter_exchange.specs.Commands.{is_of_connection, is_shown}
+use Rattle.milter_exchange.specs.Histories.{agreed_by, agreed_in, begins_anew, ends_message, has_stage, last_rank, of_connection, rank_after, rank_at, rank_from, rank_in, shown}
+use Rattle.milter_exchange.specs.Standings.{rank_by}
 
 -- ---- what was agreed on
 

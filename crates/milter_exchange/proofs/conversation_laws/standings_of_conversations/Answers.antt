@@ -1,5 +1,5 @@
-use Rattle.milter_filter.proofs.Standings.{standing-after, standing-replies}
-use Rattle.milter_filter.proofs.laws.standings_of_conversations.Goals as goal
+use Rattle.milter_exchange.proofs.Standings.{standing-after, standing-replies}
+use Rattle.milter_exchange.proofs.conversation_laws.standings_of_conversations.Goals as goal
 
 pub returns-clause-standing : goal.returns-clause-standing
 returns-clause-standing c = standing-after

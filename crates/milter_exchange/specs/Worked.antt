@@ -16,8 +16,8 @@ use Rattle.milter_message.specs.declared.edit.Edit.{Edit}
 use Rattle.milter_exchange.specs.Behavior.{Behavior}
 use Rattle.milter_exchange.specs.Seen.{Seen}
 use Rattle.milter_exchange.specs.declared.answer.Answer.{Answer}
-use Rattle.milter_filter.specs.declared.filter_state.FilterState.{FilterState}
-use Rattle.milter_filter.specs.Conversations.{after, replies, start}
+use Rattle.milter_exchange.specs.declared.filter_state.FilterState.{FilterState}
+use Rattle.milter_exchange.specs.Conversations.{after, replies, start}
 
 abbrev pub options : ℕ → ℕ → ℕ → Options
 options version actions protocol =

@@ -7,10 +7,10 @@ use Rattle.milter_wire.specs.declared.command.Command.TheVariants as commands
 use Rattle.milter_wire.specs.declared.stage.Stage.{Stage}
 use Rattle.milter_wire.specs.Stages.{stage_of}
 use Rattle.milter_exchange.specs.StageOrder.{may_follow}
-use Rattle.milter_filter.specs.declared.filter_fault.FilterFault.{FilterFault}
-use Rattle.milter_filter.specs.declared.filter_fault.FilterFault.TheVariants.{NotNegotiated, NegotiatedTwice, OutOfOrder, TooMuch, Version}
-use Rattle.milter_filter.specs.Commands.{is_shown}
-use Rattle.milter_filter.specs.declared.filter_fault.TheConstants.{VERSION_MIN}
+use Rattle.milter_exchange.specs.declared.filter_fault.FilterFault.{FilterFault}
+use Rattle.milter_exchange.specs.declared.filter_fault.FilterFault.TheVariants.{NotNegotiated, NegotiatedTwice, OutOfOrder, TooMuch, Version}
+use Rattle.milter_exchange.specs.Commands.{is_shown}
+use Rattle.milter_exchange.specs.declared.filter_fault.TheConstants.{VERSION_MIN}
 
 -- a command of no stage comes anywhere
 abbrev pub is_in_order : ℕ → Option Stage → Bool

@@ -1,7 +1,7 @@
 -- The numbers of the faults.
 use Rattle.std.specs.Prelude.{ℕ}
-use Rattle.milter_filter.specs.declared.filter_fault.FilterFault.{FilterFault}
-use Rattle.milter_filter.specs.declared.filter_fault.FilterFault.TheVariants.{NotNegotiated, Version, OutOfOrder, TooMuch, Wire, NegotiatedTwice, NoMemory}
+use Rattle.milter_exchange.specs.declared.filter_fault.FilterFault.{FilterFault}
+use Rattle.milter_exchange.specs.declared.filter_fault.FilterFault.TheVariants.{NotNegotiated, Version, OutOfOrder, TooMuch, Wire, NegotiatedTwice, NoMemory}
 
 abbrev pub filter_fault_number : FilterFault → ℕ
 filter_fault_number NotNegotiated = 1

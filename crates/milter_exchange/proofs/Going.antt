@@ -1,8 +1,8 @@
 -- Going on by some commands and then by others.
 use Rattle.std.proofs.Common.{◌≡◌, List, [], ◌∷◌, ◌++◌, refl, sym, ◌∙◌, ap, append_assoc}
 use Rattle.milter_exchange.specs.Behavior.{Behavior}
-use Rattle.milter_filter.specs.Conversations.{Conversation, Received, after, next, replies, replies_at}
-use Rattle.milter_filter.specs.Standings.{Standing, standing_after, standing_next, standing_replies, standing_replies_at}
+use Rattle.milter_exchange.specs.Conversations.{Conversation, Received, after, next, replies, replies_at}
+use Rattle.milter_exchange.specs.Standings.{Standing, standing_after, standing_next, standing_replies, standing_replies_at}
 
 pub after-append : (b : Behavior) (c : Conversation) (first second : List Received)
     → after b c (first ++ second) ≡ after b (after b c first) second

@@ -5,10 +5,10 @@ ghost use Rattle.std.specs.Option.{option_or};
 ghost use Rattle.milter_wire.specs.Stages.{stage_of};
 ghost use Rattle.milter_exchange.specs.Behavior.{Behavior};
 ghost use Rattle.milter_exchange.specs.Exchanges.{Exchange};
-ghost use Rattle.milter_filter.specs.Commands.{is_of_connection, is_shown};
-ghost use Rattle.milter_filter.specs.Conversations.{Conversation, Received, after, replies, start};
-ghost use Rattle.milter_filter.specs.Histories.{agreed_by, agreed_in, begins_anew, ends_message, last_rank, of_connection, rank_from, shown};
-ghost use Rattle.milter_filter.specs.Standings.{Standing, fresh, rank_by, standing_after, standing_of, standing_replies};
+ghost use Rattle.milter_exchange.specs.Commands.{is_of_connection, is_shown};
+ghost use Rattle.milter_exchange.specs.Conversations.{Conversation, Received, after, replies, start};
+ghost use Rattle.milter_exchange.specs.Histories.{agreed_by, agreed_in, begins_anew, ends_message, last_rank, of_connection, rank_from, shown};
+ghost use Rattle.milter_exchange.specs.Standings.{Standing, fresh, rank_by, standing_after, standing_of, standing_replies};
 
 /// Going on by some commands and then by others is going on by all of them in a row.
 pub fn conversations_go_on()

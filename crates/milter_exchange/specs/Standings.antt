@@ -13,15 +13,15 @@ use Rattle.milter_exchange.specs.Behavior.{Behavior, answer_to}
 use Rattle.milter_exchange.specs.Exchanges.{Exchange}
 use Rattle.milter_exchange.specs.Seen.{Seen, seen, seen_with}
 use Rattle.milter_exchange.specs.StageOrder.{rank_of}
-use Rattle.milter_filter.specs.declared.filter_fault.FilterFault.{FilterFault}
-use Rattle.milter_filter.specs.declared.filter_fault.FilterFault.TheVariants.{Wire}
-use Rattle.milter_filter.specs.declared.filter_state.FilterState.{FilterState}
-use Rattle.milter_filter.specs.declared.filter_state.FilterState.TheVariants.{Serving, Failed}
-use Rattle.milter_filter.specs.Commands.{is_message_end, is_of_connection, is_quit_new, is_shown}
-use Rattle.milter_filter.specs.Conversations.{Conversation, Received, state_after}
-use Rattle.milter_filter.specs.Faults.{fault_of}
-use Rattle.milter_filter.specs.Histories.{agreed_by, agreed_in, has_leading_space_in, last_rank, of_connection, rank_from, shown}
-use Rattle.milter_filter.specs.Replies.{replies_to}
+use Rattle.milter_exchange.specs.declared.filter_fault.FilterFault.{FilterFault}
+use Rattle.milter_exchange.specs.declared.filter_fault.FilterFault.TheVariants.{Wire}
+use Rattle.milter_exchange.specs.declared.filter_state.FilterState.{FilterState}
+use Rattle.milter_exchange.specs.declared.filter_state.FilterState.TheVariants.{Serving, Failed}
+use Rattle.milter_exchange.specs.Commands.{is_message_end, is_of_connection, is_quit_new, is_shown}
+use Rattle.milter_exchange.specs.Conversations.{Conversation, Received, state_after}
+use Rattle.milter_exchange.specs.Faults.{fault_of}
+use Rattle.milter_exchange.specs.Histories.{agreed_by, agreed_in, has_leading_space_in, last_rank, of_connection, rank_from, shown}
+use Rattle.milter_exchange.specs.Replies.{replies_to}
 
 -- what is shown, and the bytes of the packets that it came in
 pub record Part : Type 0 where

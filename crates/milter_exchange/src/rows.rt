@@ -6,11 +6,11 @@ ghost use Rattle.milter_wire.specs.declared.command.Command.TheVariants as comma
 ghost use Rattle.milter_wire.specs.declared.reply.Reply.TheVariants as replies_with;
 ghost use Rattle.milter_wire.specs.declared.verdict.Verdict.TheVariants.{Accept, Continue, Discard, Reject, Skip};
 ghost use Rattle.milter_message.specs.declared.edit.Edit.TheVariants.{AddHeader, DelRcpt, Progress};
-ghost use Rattle.milter_filter.specs.declared.filter_fault.FilterFault.TheVariants.{NegotiatedTwice, NotNegotiated, OutOfOrder, Version, Wire};
-ghost use Rattle.milter_filter.specs.declared.filter_state.FilterState.TheVariants.{Failed, Quit, Serving};
-ghost use Rattle.milter_filter.specs.Conversations.{after, start};
-ghost use Rattle.milter_filter.specs.Pass.{pass};
-ghost use Rattle.milter_filter.specs.Worked.{agreed, always, at, client, count_fields, deciding, edits_at_end, field, helo, mail, offer, options, rcpt, replied, state};
+ghost use Rattle.milter_exchange.specs.declared.filter_fault.FilterFault.TheVariants.{NegotiatedTwice, NotNegotiated, OutOfOrder, Version, Wire};
+ghost use Rattle.milter_exchange.specs.declared.filter_state.FilterState.TheVariants.{Failed, Quit, Serving};
+ghost use Rattle.milter_exchange.specs.Conversations.{after, start};
+ghost use Rattle.milter_exchange.specs.Pass.{pass};
+ghost use Rattle.milter_exchange.specs.Worked.{agreed, always, at, client, count_fields, deciding, edits_at_end, field, helo, mail, offer, options, rcpt, replied, state};
 
 /// What a filter that passes all replies to the first commands.
 #[tactic(auto, unfolding(milter_stream::specs::Number::number))]

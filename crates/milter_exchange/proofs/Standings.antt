@@ -10,16 +10,16 @@ use Rattle.milter_wire.specs.Stages.{stage_of}
 use Rattle.milter_exchange.specs.Behavior.{Behavior, answer_to}
 use Rattle.milter_exchange.specs.Exchanges.{Exchange}
 use Rattle.milter_exchange.proofs.Seeing.{seen-with}
-use Rattle.milter_filter.specs.declared.filter_fault.FilterFault.{FilterFault}
-use Rattle.milter_filter.specs.declared.filter_state.FilterState.{FilterState}
-use Rattle.milter_filter.specs.declared.filter_state.FilterState.TheVariants.{Failed, Quit, Serving}
-use Rattle.milter_filter.specs.Commands.{is_quit, is_of_connection, is_quit_new, is_shown}
-use Rattle.milter_filter.specs.Conversations.{Conversation, Received, after, answer_by, exchange_at, fault_at, next, next_in, replies, replies_at, replies_by, replies_in, state_after, with_received}
-use Rattle.milter_filter.specs.Faults.{fault_of}
-use Rattle.milter_filter.specs.Histories.{agreed_by, agreed_in, ends_message, has_leading_space_in, last_rank, of_connection, shown}
-use Rattle.milter_filter.specs.Replies.{replies_to}
-use Rattle.milter_filter.specs.Standings.{connection_after, kept_of, part_of, shown_after, standing_after, standing_answer, standing_at, standing_by, standing_fault, standing_next, standing_of, standing_replies, standing_replies_at, standing_replies_by, standing_with, with_agreed, with_command, with_if}
-use Rattle.milter_filter.proofs.Histories.{agreed_in-cons, connection-cons, last_rank-cons, shown-cons}
+use Rattle.milter_exchange.specs.declared.filter_fault.FilterFault.{FilterFault}
+use Rattle.milter_exchange.specs.declared.filter_state.FilterState.{FilterState}
+use Rattle.milter_exchange.specs.declared.filter_state.FilterState.TheVariants.{Failed, Quit, Serving}
+use Rattle.milter_exchange.specs.Commands.{is_quit, is_of_connection, is_quit_new, is_shown}
+use Rattle.milter_exchange.specs.Conversations.{Conversation, Received, after, answer_by, exchange_at, fault_at, next, next_in, replies, replies_at, replies_by, replies_in, state_after, with_received}
+use Rattle.milter_exchange.specs.Faults.{fault_of}
+use Rattle.milter_exchange.specs.Histories.{agreed_by, agreed_in, ends_message, has_leading_space_in, last_rank, of_connection, shown}
+use Rattle.milter_exchange.specs.Replies.{replies_to}
+use Rattle.milter_exchange.specs.Standings.{connection_after, kept_of, part_of, shown_after, standing_after, standing_answer, standing_at, standing_by, standing_fault, standing_next, standing_of, standing_replies, standing_replies_at, standing_replies_by, standing_with, with_agreed, with_command, with_if}
+use Rattle.milter_exchange.proofs.HistoryParts.{agreed_in-cons, connection-cons, last_rank-cons, shown-cons}
 
 -- ---- parts
 

@@ -1,14 +1,14 @@
 //! Why a filter gives a connection up.
 
 ghost use Rattle.std.specs.Prelude.{◌≡◌};
-ghost use Rattle.milter_filter.specs.FilterFault.{filter_fault_number};
+ghost use Rattle.milter_exchange.specs.FilterFault.{filter_fault_number};
 
 use milter_wire::{NoMemory, WireFault};
 use std::alloc::AllocError;
 use thiserror::Error;
 
 /// The lowest version that a filter takes. Source: mfdef.h (SMFI_VERSION 2 and later).
-pub(crate) const VERSION_MIN: u32 = 2;
+pub const VERSION_MIN: u32 = 2;
 
 /// Why a filter gives a connection up.
 #[derive(Clone, Copy, Debug, PartialEq, Eq, Error)]
@@ -54,7 +54,7 @@ impl FilterFault {
 }
 
 impl From<NoMemory> for FilterFault {
-    ghost use Rattle.milter_filter.specs.declared.filter_fault.FilterFault.TheVariants as faults;
+    ghost use Rattle.milter_exchange.specs.declared.filter_fault.FilterFault.TheVariants as faults;
 
     ghost from_gives = { λ _ fault. fault ≡ faults.NoMemory };
 
@@ -64,7 +64,7 @@ impl From<NoMemory> for FilterFault {
 }
 
 impl From<AllocError> for FilterFault {
-    ghost use Rattle.milter_filter.specs.declared.filter_fault.FilterFault.TheVariants as faults;
+    ghost use Rattle.milter_exchange.specs.declared.filter_fault.FilterFault.TheVariants as faults;
 
     ghost from_gives = { λ _ fault. fault ≡ faults.NoMemory };
 
