@@ -25,9 +25,11 @@ pub file_given : (f : Found) (file : Text) → Some file ≡ first_value f (code
 file_given f file is = sym (is ∙ first_value-rows f (codes "file"))
 
 pub no_file : (f : Found) → None ≡ first_value f (codes "file") → IsUnasked (codes "session", rows_of f)
-no_file f none =
-    ((λ named. (let other : 115 ≡ 116 = ap (λ t. slice_index t 0) named in absurd (omega (arith, other)))),
-    (λ named. (let other : 115 ≡ 97 = ap (λ t. slice_index t 0) named in absurd (omega (arith, other)))), λ named. sym (none ∙ first_value-rows f (codes "file")))
+no_file f none = (
+  (λ named. (let other : 115 ≡ 116 = ap (λ t. slice_index t 0) named in absurd (omega (arith, other)))),
+  (λ named. (let other : 115 ≡ 97 = ap (λ t. slice_index t 0) named in absurd (omega (arith, other)))),
+  λ named. sym (none ∙ first_value-rows f (codes "file")),
+)
 
 first_given : (o : Option Row) → option_map_or (λ r. explicit_source r.source) o false ≡ true → IfSome o IsFilled → option_and_then (λ r. slice_get r.values 0) o ≡ None → ⊥
 first_given None given f none = true≢false (sym given)

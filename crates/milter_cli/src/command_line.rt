@@ -22,7 +22,7 @@ pub enum Request<'a> {
         /// The path of the file.
         file: &'a str,
     },
-    /// To answer, as a filter, to the mail server on standard input.
+    /// To reply to the mail server on standard input, as a filter that lets all mail go on.
     Answer,
 }
 
@@ -112,7 +112,9 @@ fn answer<'a>(alloc: Global) -> Command<'a>
     ensures local { IsLocal result }
 {
     Command::new(alloc, "answer")
-        .about("Answers to a mail server as a filter that accepts each message unchanged")
+        .about(
+            "Replies to a mail server, on standard input and output, as a filter that lets all mail go on",
+        )
         .after_long_help(help_text::ANSWER)
 }
 

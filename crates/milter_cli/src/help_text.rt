@@ -97,8 +97,8 @@ which is printed on standard error after the replies to what comes before it:
   filter fault 1                 a command before the offer of options
   filter fault 2                 an offer of a version below 2
   filter fault 3                 a command out of order
-  filter fault 4                 a connection or message has more than 16,777,216
-                                 bytes of packets
+  filter fault 4                 the packets of a connection and of a message have
+                                 more than 16,777,216 bytes together
   filter fault 5                 a packet has length 0 or above 65536, an unknown
                                  code, or a payload that isn't in its layout
   filter fault 6                 a second offer of options
