@@ -1,6 +1,6 @@
 //! Senders and recipients, and their encoding: the address and the parameters, a string each.
 
-ghost use Rattle.std.specs.Prelude.{◌≡◌, ◌-◌, ◌^◌, ◌↔◌, IfOk, IsTrue, OnOk, length, min, option_map};
+ghost use Rattle.std.specs.Prelude.{◌≡◌, ◌-◌, ◌^◌, ◌↔◌, IfOk, IsTrue, length, min, option_map};
 ghost use Rattle.milter_stream.specs.Appending.{PutsBytes};
 ghost use Rattle.milter_fields.specs.Layout.{path, PathFits};
 ghost use Rattle.milter_fields.specs.Decoding.{path_in};
@@ -63,16 +63,6 @@ impl<'a> PathRef<'a> {
         let address = Text::copy_of(alloc, self.address)?;
         let params = self.params.to_params(alloc)?;
         Ok(Path { address, params })
-    }
-
-    /// Makes the sender or recipient a copy of this one, in the room that its address has where that is enough. After
-    /// `NoMemory` nothing is known of it.
-    pub fn copy_to(&self, alloc: Global, path: &mut Path) -> Result<(), NoMemory>
-        ensures { OnOk result (path.new ≡ path_of self.now) }
-    {
-        path.address.set(self.address)?;
-        path.params = self.params.to_params(alloc)?;
-        Ok(())
     }
 
     /// Whether no string has a NUL.
