@@ -1,5 +1,5 @@
 -- The first packet that has replies is the last that is taken.
-use Rattle.std.proofs.Common.{◌≡◌, ◌≢◌, ◌⊎◌, ℕ, suc, ◌+◌, ◌<◌, drop, length-drop, List, [], ◌∷◌, ◌++◌, length, Option, None, Some, Ok, Err, map, refl, sym, ◌∙◌, ap, inl, inr, flat_map, length-append, arith}
+use Rattle.std.proofs.Common.{◌≡◌, ◌≢◌, ◌⊎◌, ℕ, suc, ◌+◌, ◌<◌, drop, length-drop, List, [], ◌∷◌, ◌++◌, length, Option, None, Some, Ok, Err, refl, sym, ◌∙◌, ap, inl, inr, flat_map, length-append, arith}
 use Rattle.std.specs.Prelude.{◌==◌, Bool, true}
 use Rattle.std.proofs.lemmas.Bool.{eqb-true}
 use Rattle.milter_stream.specs.Number.{number}

@@ -5,3 +5,5 @@ pub mod PacketCommands
 pub mod PieceStreams
 pub mod Progress
 pub mod FirstReplies
+pub mod Cutting
+pub mod ServedBytes

@@ -101,7 +101,7 @@ ended-step b s first ended = by_state s.state refl
     by_state Quit e = (ap (standing_in b s first) e, ap (standing_replies_in b s first) e)
     by_state (Failed fault) e = (ap (standing_in b s first) e, ap (standing_replies_in b s first) e)
 
-ended-stays : (b : Behavior) (s : Standing) (received : List Received) → s.state ≢ Serving → (standing_after b s received ≡ s) × (standing_replies b s received ≡ [])
+pub ended-stays : (b : Behavior) (s : Standing) (received : List Received) → s.state ≢ Serving → (standing_after b s received ≡ s) × (standing_replies b s received ≡ [])
 ended-stays b s [] ended = (refl, refl)
 ended-stays b s (first ∷ more) ended =
     let step = ended-step b s first ended in
@@ -145,6 +145,7 @@ all-taken b old new piece unread i policy p ended nothing silent going =
       pending = both.1 ∙ ap (λ xs. flat_map encoding (standing_replies b old.standing (read_in xs))) all;
       unread = λ serving. absurd (ended serving);
       nothing_unread = λ other. nothing;
+      quit = λ other. refl;
       first = λ some. absurd (some silent);
       all = λ none. refl;
     }

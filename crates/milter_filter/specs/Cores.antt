@@ -8,7 +8,7 @@ use Rattle.milter_exchange.specs.declared.filter_fault.FilterFault.{FilterFault}
 use Rattle.milter_exchange.specs.declared.filter_state.FilterState.TheVariants.{Failed, Serving}
 use Rattle.milter_exchange.specs.Conversations.{Received}
 use Rattle.milter_exchange.specs.Standings.{Standing, fresh, nothing_kept, standing_after, standing_replies}
-use Rattle.milter_filter.specs.Streams.{read_in}
+use Rattle.milter_filter.specs.Streams.{read_in, received_in}
 
 -- its policy, what is kept of the connection, the bytes of a packet that isn't whole yet, and those that wait to be
 -- sent
@@ -49,6 +49,7 @@ pub record Takes {P : Type 0} (b : Behavior) (old : Core P) (piece : List ℕ) (
   pub unread : new.standing.state ≡ Serving → new.unread ≡ (divide (old.unread ++ take n piece)).rest
   pub unfinished : IsUnfinished new.unread
   pub nothing_unread : new.standing.state ≢ Serving → new.unread ≡ []
+  pub quit : new.standing.state ≢ Serving → n ≡ length piece
   pub first : new.pending ≢ [] → EndsAtReplies b old.standing (old.unread ++ take n piece)
   pub all : new.pending ≡ [] → n ≡ length piece
 
@@ -56,3 +57,15 @@ pub record Takes {P : Type 0} (b : Behavior) (old : Core P) (piece : List ℕ) (
 abbrev pub given_up : {P : Type 0} → Core P → FilterFault → Core P
 given_up core fault =
     record { policy = core.policy; standing = nothing_kept (Failed fault); unread = []; pending = [] }
+
+-- A core goes on to another: these bytes came to it in whatever pieces, and these bytes of replies were sent. It makes of
+-- them what their packets, with those that were unread, make of what it kept, and what was sent comes before what waits.
+pub record GoesOn {P : Type 0} (b : Behavior) (old : Core P) (input sent : List ℕ) (new : Core P) : Type 0 where
+  pub policy : new.policy ≡ old.policy
+  pub standing : new.standing ≡ standing_after b old.standing (received_in (old.unread ++ input))
+  pub replied :
+      sent ++ new.pending
+      ≡ old.pending ++ flat_map encoding (standing_replies b old.standing (received_in (old.unread ++ input)))
+  pub unread : new.standing.state ≡ Serving → new.unread ≡ (divide (old.unread ++ input)).rest
+  pub nothing_unread : new.standing.state ≢ Serving → new.unread ≡ []
+  pub unfinished : IsUnfinished new.unread

@@ -5,3 +5,5 @@ pub mod PassLaw
 pub mod Streams
 pub mod Cores
 pub mod Asking
+pub mod Serving
+pub mod PieceServing

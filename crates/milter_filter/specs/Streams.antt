@@ -1,9 +1,12 @@
 -- The commands of a stream.
 use Rattle.std.specs.Prelude.{◌≡◌, ◌⊎◌, ℕ, List, [], ◌∷◌, ◌++◌, map, Option, None, Some, Err}
+use Rattle.std.specs.List.{flat_map}
 use Rattle.milter_stream.specs.declared.fault.WireFault.{WireFault}
 use Rattle.milter_stream.specs.Stream.{divide, length_fault}
 use Rattle.milter_wire.specs.Frames.{frame_command}
-use Rattle.milter_exchange.specs.Conversations.{Received}
+use Rattle.milter_wire.specs.Reply.{encoding}
+use Rattle.milter_exchange.specs.Behavior.{Behavior}
+use Rattle.milter_exchange.specs.Conversations.{Conversation, Received, after, replies, start}
 
 -- of its whole packets
 abbrev pub read_in : List ℕ → List Received
@@ -22,3 +25,12 @@ fault_after (Some fault) = Err fault ∷ []
 -- and the fault of a length field after them
 abbrev pub received_in : List ℕ → List Received
 received_in bytes = read_in bytes ++ fault_after (length_fault (divide bytes).rest)
+
+-- ---- what a filter makes of a stream
+
+abbrev pub conversation_of : Behavior → List ℕ → Conversation
+conversation_of b input = after b start (received_in input)
+
+-- the bytes of all its replies
+abbrev pub reply_bytes : Behavior → List ℕ → List ℕ
+reply_bytes b input = flat_map encoding (replies b start (received_in input))

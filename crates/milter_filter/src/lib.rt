@@ -1,11 +1,12 @@
 //! The filter's end of the Sendmail milter protocol, version 6: what it replies to the commands of any mail server, by
 //! a policy and by what was agreed on.
 //!
-//! Nothing here reads, writes or waits.
+//! [`FilterCore`] neither reads, writes nor waits; [`serve`] does, over any reader and writer.
 #![tactic(auto)]
 
 mod commands;
 mod connection;
+mod cutting_laws;
 mod filter_core;
 mod macro_list;
 mod packet_receiving;
@@ -15,9 +16,14 @@ mod policy;
 mod receiving;
 mod replying;
 mod seen;
+mod served;
+mod serving;
 
+pub use cutting_laws::cores_go_on;
 pub use filter_core::FilterCore;
 pub use milter_exchange::{Answer, Edits, FilterFault, FilterState};
 pub use pass::Pass;
 pub use policy::{ACTIONS_MAX, PROTOCOL_MAX, Policy, VERSION_MAX};
 pub use seen::Seen;
+pub use served::Served;
+pub use serving::serve;

@@ -1,4 +1,4 @@
-use Rattle.std.proofs.Common.{◌++◌, [], take, drop, sym, ◌∙◌, ap, subst, inl, arith, rules, length-drop}
+use Rattle.std.proofs.Common.{◌++◌, [], take, drop, sym, ◌∙◌, subst, inl, arith, length-drop}
 use Rattle.std.proofs.lemmas.List.{take_rest}
 use Rattle.milter_filter.proofs.FirstReplies.{Stops, nothing-replied, nothing-waits, serves, some-left, stop-step}
 use Rattle.milter_filter.proofs.Progress.{Progress, begin, bytes-all, bytes-more, fault-left, go_on}

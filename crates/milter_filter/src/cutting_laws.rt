@@ -1,0 +1,32 @@
+//! The law of cutting, as the contract of a function that does nothing.
+
+ghost use Rattle.std.specs.Prelude.{◌≡◌, ◌≢◌, ◌++◌, [], List, ℕ, drop, take};
+ghost use Rattle.milter_exchange.specs.Behavior.{Behavior};
+ghost use Rattle.milter_exchange.specs.declared.filter_fault.FilterFault.{FilterFault as Fault};
+ghost use Rattle.milter_exchange.specs.declared.filter_state.FilterState.TheVariants.{Serving};
+ghost use Rattle.milter_filter.specs.Cores.{Core, GivesUp, GoesOn, Takes, fresh_core, given_up};
+ghost use Rattle.milter_filter.specs.Streams.{received_in};
+
+use crate::policy::Policy;
+
+/// Whatever the pieces in which the bytes of a connection came and those in which the replies were sent, a core is what
+/// it would be after the whole: each call goes on from what came before, and what goes on twice goes on by both in a row.
+pub fn cores_go_on<P: Policy>()
+    ensures begins { (b : Behavior) (policy : P) → GoesOn b (fresh_core policy) [] [] (fresh_core policy) }
+    ensures joins { (b : Behavior) (old core new : Core P) (input sent more sent_then : List ℕ) →
+        GoesOn b old input sent core → GoesOn b core more sent_then new →
+        GoesOn b old (input ++ more) (sent ++ sent_then) new }
+    ensures takes { (b : Behavior) (old core new : Core P) (input sent piece : List ℕ) (n : ℕ) →
+        GoesOn b old input sent core → core.pending ≡ [] → Takes b core piece n new →
+        GoesOn b old (input ++ take n piece) sent new }
+    ensures sends { (b : Behavior) (old core : Core P) (input sent : List ℕ) (n : ℕ) →
+        GoesOn b old input sent core →
+        GoesOn b old input (sent ++ take n core.pending) (record core { pending = drop n core.pending }) }
+    // After the end nothing more is done.
+    ensures ended { (b : Behavior) (old core : Core P) (input sent more : List ℕ) →
+        GoesOn b old input sent core → core.standing.state ≢ Serving → GoesOn b old (input ++ more) sent core }
+    ensures gives_up { (b : Behavior) (old core : Core P) (input sent piece : List ℕ) (fault : Fault) →
+        GoesOn b old input sent core → core.pending ≡ [] →
+        GivesUp b core.standing (received_in (core.unread ++ piece)) fault →
+        GoesOn b old (input ++ piece) sent (given_up core fault) }
+{}
