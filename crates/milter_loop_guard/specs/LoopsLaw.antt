@@ -1,6 +1,5 @@
 -- The guard against loops keeps to the rules of policies.
-use Rattle.std.specs.Prelude.{◌≡◌, ◌≢◌, ◌≤◌, ℕ, zero, suc, nat_lt, Bool, true, false, List, [], ◌∷◌, length, refl}
-use Rattle.std.specs.Prelude.{if◌then◌else◌}
+use Rattle.std.specs.Prelude.{◌≡◌, ◌≢◌, ◌≤◌, ℕ, zero, suc, nat_lt, Bool, true, false, List, [], ◌∷◌, length, refl, if◌then◌else◌}
 use Rattle.std.specs.List.{sum_by}
 use Rattle.std.proofs.Common.{arith, sym, true≢false}
 use Rattle.std.proofs.lemmas.List.Elements.{All-cons, All-nil}
@@ -19,7 +18,6 @@ use Rattle.milter_message.specs.declared.message.TheConstants.{WEIGHT_MAX}
 use Rattle.milter_message.specs.EditReplies.{reply_of, weight_of}
 use Rattle.milter_exchange.specs.Seen.{Seen}
 use Rattle.milter_filter.specs.Lawful.{AnswerFits, IsLawful, WantsWithin}
-use Rattle.milter_loop_guard.specs.declared.guarding.TheConstants.{HOPS_MAX}
 use Rattle.milter_loop_guard.specs.Loops.{answer_at, hops, loop_guard, mark, passed, refused, too_many_hops}
 
 -- an edit that a packet has room for
@@ -111,7 +109,7 @@ end_fits true = refused_fits
 end_fits false = passed_fits
 
 answers_fit : (stage : Stage) (seen : Seen) → AnswerFits stage (answer_at stage seen)
-answers_fit Eob seen = end_fits (nat_lt HOPS_MAX (hops seen))
+answers_fit Eob seen = end_fits (nat_lt 50 (hops seen))
 answers_fit other seen =
     record {
       at_end = λ other. refl;

@@ -11,10 +11,10 @@ use milter_wire::{Actions, Header, NoMemory, Options, Protocol, Stage, SymList, 
 use std::alloc::Global;
 
 /// The most mail servers that a message may have come through.
-pub const HOPS_MAX: usize = 50;
+const HOPS_MAX: usize = 50;
 
 /// What isn't needed to see header fields: the other stages aren't sent, and header fields aren't answered.
-pub const NOT_NEEDED: Protocol = Protocol(
+const NOT_NEEDED: Protocol = Protocol(
     Protocol::NOCONNECT.0
         | Protocol::NOHELO.0
         | Protocol::NOMAIL.0
