@@ -1,7 +1,7 @@
 #!/usr/bin/env bash
 # Checks that the compiler refuses each program of tests/refused_programs/, with each error that a line
-# `// refused: TEXT` of it has: what the libraries' types are to forbid. Its line `// libraries: NAME..` has what it uses.
-# (Their files end in .txt, since a .rt file may be in a crate alone.) Nothing is proved here. The last line is
+# `// refused: TEXT` of it has: what the libraries' types are to forbid. Its line `// libraries: NAME..` has what it
+# uses. (Their files end in .txt, since a .rt file may be in a crate alone.) Nothing is proved here. The last line is
 # 'N passed, M failed'.
 set -u
 top=$(cd "$(dirname "${BASH_SOURCE[0]}")/.." && pwd) || exit 1
