@@ -1,7 +1,6 @@
 //! A filter's end of a connection over a reader and a writer.
 
 ghost use Rattle.std.specs.Prelude.{◌≡◌, ◌<◌, ◌↔◌, [], IfErr, IfOk, IsTrue, OnOk, length};
-
 ghost use Rattle.milter_stream.specs.Stream.{IsUnfinished};
 ghost use Rattle.milter_exchange.specs.declared.filter_state.FilterState.TheVariants.{Quit, Serving};
 ghost use Rattle.milter_filter.specs.Cores.{fresh_core};
