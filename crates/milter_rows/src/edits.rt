@@ -1,10 +1,8 @@
-//! Applies edits to a message. Standard input is a session file of one message, a NUL, and a stream of the reply
-//! packets that ask for the edits.
+//! Edits of a stream of packets, applied to a message. Standard input is a session file of one message, a NUL, and a
+//! stream of the reply packets that ask for the edits.
 //!
-//! The first word is what is printed: `text` the text of the message after them, which the tables of cases/ have, and
-//! `count` how many header fields and recipients it then has, for the bench of edits. A second word says that leading
-//! spaces are agreed on.
-#![tactic(auto)]
+//! The first word is what is printed: `text` the text of the message after them, and `count` how many header fields and
+//! recipients it then has. A second word says that leading spaces are agreed on.
 
 ghost use Rattle.std.specs.Prelude.{◌≤◌, All, IfOk, length};
 ghost use Rattle.milter_wire.specs.Reply.{Fits};
@@ -15,8 +13,7 @@ use milter_mail::{Edit, Held, Message, apply, edits_of_replies, write_message};
 use milter_session::read_session;
 use milter_wire::{PAYLOAD_MAX, Packet, Reply, Splitter};
 use std::alloc::Global;
-use std::env;
-use std::io::{self, Read};
+use std::io;
 
 /// The edit that a packet asks for.
 fn edit_of(alloc: Global, packet: Packet<'_>) -> anyhow::Result<Edit>
@@ -82,13 +79,6 @@ fn held_in(alloc: Global, input: &[u8], leading_space: bool) -> anyhow::Result<H
     held_after(alloc, message, stream, leading_space)
 }
 
-/// The message of standard input after its edits.
-fn read_held<R: Input + AllocGlobal>(rt: &R, leading_space: bool) -> anyhow::Result<Held> {
-    let mut input = Vec::new(rt.alloc());
-    rt.reader().read_to_end(&mut input)?;
-    held_in(rt.alloc(), &input, leading_space)
-}
-
 /// Prints the text of the message, or how much it has.
 fn print_held<R: Print + AllocGlobal>(rt: &R, held: &Held, printed: &str) -> anyhow::Result<()> {
     if printed == "text" {
@@ -101,13 +91,17 @@ fn print_held<R: Print + AllocGlobal>(rt: &R, held: &Held, printed: &str) -> any
     Ok(())
 }
 
-fn main(rt: HostRuntime) -> anyhow::Result<()> {
-    let words: Vec<String> = env::args(&rt)?.collect(rt.alloc())?;
-    let (printed, leading_space) = match words.as_slice() {
-        [_, printed] => (printed, false),
-        [_, printed, _] => (printed, true),
-        _ => bail!("usage: milter_edits text|count [leading_space]"),
+/// Prints the message of the input after its edits, as the words ask for.
+pub fn print_edited<R: Print + AllocGlobal>(
+    rt: &R,
+    words: &[String],
+    input: &[u8],
+) -> anyhow::Result<()> {
+    let (printed, leading_space) = match words {
+        [printed] => (printed, false),
+        [printed, _] => (printed, true),
+        _ => bail!("usage: milter_rows edits text|count [leading_space]"),
     };
-    let held = read_held(&rt, leading_space)?;
-    print_held(&rt, &held, printed)
+    let held = held_in(rt.alloc(), input, leading_space)?;
+    print_held(rt, &held, printed)
 }

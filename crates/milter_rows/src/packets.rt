@@ -1,18 +1,14 @@
-//! What `bench/wire.sh` measures: the packets of standard input are read, as often as the command line asks for, and
-//! the number of their payload bytes is printed.
+//! Packets of a stream, read as often as the command line asks for, and the number of their payload bytes is printed.
 //!
 //! The first word is what is done with each packet: `split` nothing, `lent` it is decoded as it is lent, `owned` it is
 //! decoded into a command of its own, and `encode` the lent command is encoded again. With `copy` the bytes are copied
 //! to a buffer, and not split. The second word is how often.
-#![tactic(auto)]
 
 ghost use Rattle.std.specs.Prelude.{◌≤◌, length};
 
 use anyhow::{Context, bail};
 use milter_wire::{Command, CommandRef, PAYLOAD_MAX, Packet, Splitter};
 use std::alloc::Global;
-use std::env;
-use std::io::Read;
 
 /// What is done with each packet.
 trait Work {
@@ -123,24 +119,26 @@ fn copy_again(alloc: Global, stream: &[u8], count: u64) -> anyhow::Result<u64> {
     Ok(total)
 }
 
-fn main(rt: HostRuntime) -> anyhow::Result<()> {
+/// Does the work that the words ask for with the packets of the input, and prints how many bytes their payloads have.
+pub fn print_total<R: Print + AllocGlobal>(
+    rt: &R,
+    words: &[String],
+    input: &[u8],
+) -> anyhow::Result<()> {
     let alloc = rt.alloc();
-    let words: Vec<String> = env::args(&rt)?.collect(alloc)?;
-    let [_, work, count] = words.as_slice() else {
-        bail!("usage: milter_bench split|lent|owned|encode|copy COUNT");
+    let [work, count] = words else {
+        bail!("usage: milter_rows packets split|lent|owned|encode|copy COUNT");
     };
     let count = count.parse::<u64>().ok().context("COUNT is no number")?;
-    let mut stream = Vec::new(alloc);
-    rt.reader().read_to_end(&mut stream)?;
     let total = match work.as_str() {
-        "split" => read_again(alloc, &mut Split, &stream, count)?,
-        "lent" => read_again(alloc, &mut Lent, &stream, count)?,
-        "owned" => read_again(alloc, &mut Owned { alloc }, &stream, count)?,
+        "split" => read_again(alloc, &mut Split, input, count)?,
+        "lent" => read_again(alloc, &mut Lent, input, count)?,
+        "owned" => read_again(alloc, &mut Owned { alloc }, input, count)?,
         "encode" => {
             let out = Vec::new(alloc);
-            read_again(alloc, &mut Encode { alloc, out }, &stream, count)?
+            read_again(alloc, &mut Encode { alloc, out }, input, count)?
         }
-        "copy" => copy_again(alloc, &stream, count)?,
+        "copy" => copy_again(alloc, input, count)?,
         _ => bail!("{work} is no work"),
     };
     println!(rt; "{total}")?;
