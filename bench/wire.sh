@@ -1,17 +1,17 @@
 #!/usr/bin/env bash
-# Measures what it takes to read and to encode packets, with `milter_bench`: user instructions for a message of 16
-# packets, with ten header fields and 4 KiB of body, and MB of packets a second for bodies of 10 MiB, beside a plain
+# Measures what it takes to read and to encode packets, with `milter_rows packets`: user instructions for a message of
+# 16 packets, with ten header fields and 4 KiB of body, and MB of packets a second for bodies of 10 MiB, beside a plain
 # copy of the same bytes in the same run. The instructions are callgrind's, without those of a run over the message
 # once; callgrind counts a copy by `rep movsb` a byte at a time, so that this is turned off in the C library. It prints
 # a line for each, and takes valgrind, Python and half a minute. The program is built first, which proves what it is
 # made of.
 set -eu
 cd "$(dirname "${BASH_SOURCE[0]}")/.."
-(cd crates/milter_bench && rt run -- encode 1 <stdin >/dev/null 2>&1) || {
-    echo "milter_bench was not built: run rt run in crates/milter_bench"
+(cd crates/milter_rows && rt run -- packets split 1 </dev/null >/dev/null 2>&1) || {
+    echo "milter_rows was not built: run rt run in crates/milter_rows"
     exit 1
 }
-program=crates/milter_bench/out/milter_bench
+program=crates/milter_rows/out/milter_rows
 work=$(mktemp -d)
 trap 'rm -rf "$work"' EXIT
 AGAIN=100
@@ -44,7 +44,7 @@ PYTHON
 # instructions WORK COUNT: what callgrind counts of a run
 instructions() {
     GLIBC_TUNABLES=glibc.cpu.x86_rep_movsb_threshold=1000000000 valgrind --tool=callgrind \
-        --callgrind-out-file=/dev/null "$program" "$1" "$2" <"$work/message" 2>&1 >/dev/null |
+        --callgrind-out-file=/dev/null "$program" packets "$1" "$2" <"$work/message" 2>&1 >/dev/null |
         sed -n 's/.*Collected : //p'
 }
 
@@ -53,7 +53,7 @@ best() {
     local least=0 from took
     for _ in 1 2 3; do
         from=$(date +%s%N)
-        "$program" "$1" "$2" <"$work/body" >/dev/null
+        "$program" packets "$1" "$2" <"$work/body" >/dev/null
         took=$(($(date +%s%N) - from))
         if [ "$least" = 0 ] || [ "$took" -lt "$least" ]; then least=$took; fi
     done

@@ -1,7 +1,8 @@
 #!/usr/bin/env python3
-"""Checks the documents against the repository: each block of code in README.md is lines of the example's program, each
-link between documents leads to a file, and each clause of docs/PROOFS.md and each definition of docs/DEFINITIONS.md is
-in the crate under which it is listed.
+"""Checks the documents against the repository: each block of code in README.md and docs/FILTERS.md is lines of its
+example's program, each link between documents leads to a file, and each clause of docs/PROOFS.md and each definition of
+docs/DEFINITIONS.md is in the crate under which it is listed. And no line of the code or of the definitions is too long,
+but imports.
 
 The last line is 'N passed, M failed'; the status is 1 where something failed.
 """
@@ -11,7 +12,9 @@ import re
 import sys
 
 TOP = os.path.dirname(os.path.dirname(os.path.abspath(__file__)))
-EXAMPLE = 'crates/milter_example/src/main.rt'
+# The documents with code of a crate.
+EXAMPLES = {'README.md': 'milter_example', 'docs/FILTERS.md': 'milter_loop_guard'}
+COLUMNS = 120
 DOCUMENTS = ['README.md', 'CHANGELOG.md', 'SECURITY.md', 'cases/README.md'] + sorted(
     os.path.relpath(path, TOP) for path in glob.glob(os.path.join(TOP, 'docs', '*.md')))
 
@@ -22,11 +25,19 @@ def text_of(path):
         return file.read()
 
 
+def files_of(crate):
+    """The files of a crate's code and definitions."""
+    kinds = [('src', '*.rt'), ('specs', '*.antt')]
+    patterns = [os.path.join(TOP, 'crates', crate, folder, '**', name) for folder, name in kinds]
+    return sorted(path for pattern in patterns for path in glob.glob(pattern, recursive=True))
+
+
 def blocks():
-    """Whether each block of code of the README is in the example."""
-    example = text_of(EXAMPLE)
-    for block in re.findall(r'```rust\n(.*?)```', text_of('README.md'), re.DOTALL):
-        yield 'README.md: ' + block.strip().splitlines()[0], block in example
+    """Whether each block of code of a document is in a file of its example."""
+    for document, crate in EXAMPLES.items():
+        texts = [text_of(path) for path in files_of(crate)]
+        for block in re.findall(r'```(?:rust|antt)\n(.*?)```', text_of(document), re.DOTALL):
+            yield '%s: %s' % (document, block.strip().splitlines()[0]), any(block in text for text in texts)
 
 
 def links():
@@ -69,9 +80,18 @@ def definitions():
             yield 'docs/DEFINITIONS.md: %s: %s' % (crate, name), found
 
 
+def lines():
+    """Whether each line of code and of definitions is within the columns, but for imports; of each file."""
+    for path in files_of('*'):
+        long = [
+            number for number, line in enumerate(text_of(path).splitlines(), 1)
+            if len(line) > COLUMNS and not re.match(r'\s*(ghost |pub )?use ', line)]
+        yield '%s: too long: lines %s' % (os.path.relpath(path, TOP), long), not long
+
+
 def main():
     passed = failed = 0
-    for check in (blocks, links, clauses, definitions):
+    for check in (blocks, links, clauses, definitions, lines):
         for what, is_well in check():
             passed, failed = passed + is_well, failed + (not is_well)
             if not is_well:

@@ -215,7 +215,7 @@ def plays(folder):
 
 
 def main():
-    names = ['milter_tool', 'milter_edits']
+    names = ['milter_tool', 'milter_rows']
     preloaded.need(tables.program_of(name, build) for name in names for build in tables.BUILDS)
     with tempfile.TemporaryDirectory() as folder:
         failer = preloaded.compiled('fail_call.c', folder)

@@ -1,8 +1,8 @@
 #!/usr/bin/env python3
 """Runs tests of milter_tests and the cases of milter_tool with one allocation refused: the first one, then the
-second one, and so on, until a run makes fewer allocations than that; and the same for milter_edits. The programs are
+second one, and so on, until a run makes fewer allocations than that; and the same for milter_rows. The programs are
 run as both compilers built them, milter_tool on each case of cases/ that has `args` and on the rows of the tables
-cases/*_refused_memory.table, and milter_edits on the rows of cases/edits_values.table; the tests are those below
+cases/*_refused_memory.table, and milter_rows on the rows of cases/edits_values.table; the tests are those below
 `tests::packets`. What is run is what `rt ci` built; nothing is proved here. refuse.c says what counts as an allocation.
 
 A test passes, or ends with the result `NoMemory`. A run of a program ends as it does with ample memory, or as one
@@ -26,7 +26,7 @@ TESTS = tables.program_of('milter_tests', '_tests')
 REFUSED = 'tests::packets::'
 TABLES = {
     'milter_tool': ['trace_refused_memory', 'session_refused_memory', 'answer_refused_memory'],
-    'milter_edits': ['edits_values']}
+    'milter_rows': ['edits_values']}
 OUT_OF_MEMORY = [b'out of memory\n', b'Error: out of memory\n', b'Error: memory allocation failed\n']
 NO_MEMORY = b'Error: NoMemory\n'
 PASSED = b'\ntest result: ok\n'

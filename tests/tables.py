@@ -1,5 +1,5 @@
 #!/usr/bin/env python3
-"""Plays the rows of the tables cases/*.table on milter_tool and milter_edits as both compilers build them; the tables
+"""Plays the rows of the tables cases/*.table on milter_tool and milter_rows as both compilers build them; the tables
 of failed calls are played by failed_calls.py alone.
 
 cases/README.md has the format of the tables. The programs are those that `rt ci` leaves. The last line is
@@ -16,14 +16,15 @@ BUILDS = ['', '.by-rattle']
 TABLES = [
     'trace_commands', 'trace_replies', 'trace_sizes', 'trace_streams', 'trace_lines', 'trace_refused_memory',
     'session_faults', 'session_sizes', 'session_values', 'session_refused_memory', 'answer_replies', 'answer_faults',
-    'answer_sizes', 'answer_refused_memory', 'edits_values', 'edits_faults']
+    'answer_sizes', 'answer_refused_memory', 'edits_values', 'edits_faults', 'packets_totals']
 # What plays the tables of each kind: a program and its words, of which FILE stands for a file of the input.
 FILE = object()
 PLAYERS = {
     'trace': ('milter_tool', ['trace']),
     'session': ('milter_tool', ['session', FILE]),
     'answer': ('milter_tool', ['answer']),
-    'edits': ('milter_edits', ['text']),
+    'edits': ('milter_rows', ['edits', 'text']),
+    'packets': ('milter_rows', ['packets']),
 }
 MARKS = b'|^<>&=!*#$%'
 SPECIAL = re.compile(rb'\{([0-9a-f]{2}|[^{}]+\*[0-9]+|code)\}')

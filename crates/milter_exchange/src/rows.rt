@@ -38,7 +38,8 @@ pub(crate) fn orders()
     ensures same_client { state pass (offer ∷ commands.Connect client ∷ commands.Connect client ∷ [])
         ≡ Failed OutOfOrder }
     // After a message another one begins, or the client greets again; but no client comes without a new connection.
-    ensures next_message { state pass (offer ∷ mail ∷ rcpt ∷ commands.Eob [] ∷ mail ∷ commands.Abort ∷ helo ∷ []) ≡ Serving }
+    ensures next_message { state pass (offer ∷ mail ∷ rcpt ∷ commands.Eob [] ∷ mail ∷ commands.Abort ∷ helo ∷ [])
+        ≡ Serving }
     ensures no_client { state pass (offer ∷ mail ∷ commands.Abort ∷ commands.Connect client ∷ []) ≡ Failed OutOfOrder }
     ensures first_client { state pass (offer ∷ commands.Abort ∷ commands.Connect client ∷ []) ≡ Serving }
     ensures two_senders { state pass (offer ∷ mail ∷ mail ∷ []) ≡ Failed OutOfOrder }
@@ -54,14 +55,16 @@ pub(crate) fn answers()
     ensures not_answered { replied (deciding 24576 (always Reject)) (offer ∷ helo ∷ mail ∷ rcpt ∷ commands.Eob [] ∷ [])
         ≡ agreed 6 511 24576 ∷ replies_with.Reject ∷ replies_with.Reject ∷ [] }
     ensures unknown { replied pass (offer ∷ commands.Unknown [] ∷ []) ≡ agreed 6 0 0 ∷ replies_with.Continue ∷ [] }
-    ensures unknown_not_answered { replied (deciding 131072 (always Reject)) (offer ∷ commands.Unknown [] ∷ []) ≡ agreed 6 511 131072 ∷ [] }
+    ensures unknown_not_answered { replied (deciding 131072 (always Reject)) (offer ∷ commands.Unknown [] ∷ [])
+        ≡ agreed 6 511 131072 ∷ [] }
     // Skip only where it was agreed on.
     ensures skip { replied (deciding 1024 (always Skip)) (offer ∷ commands.Body [] ∷ [])
         ≡ agreed 6 511 1024 ∷ replies_with.Skip ∷ [] }
     ensures no_skip { replied (deciding 0 (always Skip)) (offer ∷ commands.Body [] ∷ [])
         ≡ agreed 6 511 0 ∷ replies_with.Continue ∷ [] }
     // Edits before the verdict, and those alone that were agreed on.
-    ensures edits { replied (deciding 0 (edits_at_end (Progress ∷ DelRcpt (codes "b@y") ∷ []) Accept)) (offer ∷ commands.Eob [] ∷ [])
+    ensures edits { replied (deciding 0 (edits_at_end (Progress ∷ DelRcpt (codes "b@y") ∷ []) Accept))
+        (offer ∷ commands.Eob [] ∷ [])
         ≡ agreed 6 511 0 ∷ replies_with.Progress ∷ replies_with.DelRcpt (codes "b@y") ∷ replies_with.Accept ∷ [] }
     ensures no_edits { replied (deciding 0 (edits_at_end (Progress ∷ DelRcpt (codes "b@y") ∷ []) Accept))
         (commands.Options (options 6 7 0) ∷ commands.Eob [] ∷ [])

@@ -76,6 +76,9 @@ first_pair bytes name middle value rest more e f h =
 pub odd_pairs : (bytes name middle : List ℕ) → string_at bytes ≡ Some (name, middle) → string_at middle ≡ None → IsSome (pairs_in bytes) → ⊥
 odd_pairs bytes name middle e f h = none_decodes (pairs_in bytes) (pairs_in-odd bytes name middle e f) h
 
+pub no_pairs : pairs_in [] ≡ Some []
+no_pairs = pairs_in-nil [] refl
+
 pub no_pair : (bytes : List ℕ) (more : List Pair) → string_at bytes ≡ None → IsSome (pairs_in bytes) → decoded (pairs_in bytes) ++ more ≡ more
 no_pair [] more e h = rw (pairs_in-nil [] refl) refl
 no_pair (byte ∷ bytes) more e h =

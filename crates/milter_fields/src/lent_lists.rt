@@ -145,7 +145,7 @@ impl<'a> Model for PairsRef<'a> {
 
 impl<'a> PairsRef<'a> {
     /// The macros that these pairs are: all of a stage, or a selection. No memory is taken.
-    #[tactic(auto, unfolding(crate::specs::Decoding::pairs_in, crate::specs::Decoding::strings_in, crate::specs::Decoding::paired))]
+    #[tactic(auto, using(crate::proofs::LentLists::no_pairs))]
     pub fn new(pairs: &'a [Pair]) -> Self
         ensures { result ≡ pairs.now }
     {

@@ -1,5 +1,5 @@
-//! The fields of the packets of the Sendmail milter protocol, version 6: texts, clients, addresses, header fields, macros
-//! and reply codes, each with its encoding, owned and lent.
+//! The fields of the packets of the Sendmail milter protocol, version 6: texts, clients, addresses, header fields,
+//! macros and reply codes, each with its encoding, owned and lent.
 //!
 //! What a packet has as a whole stands in the crates above. A function that takes no allocator and no output takes no
 //! memory. One that appends to an output leaves what it had there after `NoMemory`, and perhaps some of the bytes after

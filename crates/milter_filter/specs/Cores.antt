@@ -58,8 +58,9 @@ abbrev pub given_up : {P : Type 0} → Core P → FilterFault → Core P
 given_up core fault =
     record { policy = core.policy; standing = nothing_kept (Failed fault); unread = []; pending = [] }
 
--- A core goes on to another: these bytes came to it in whatever pieces, and these bytes of replies were sent. It makes of
--- them what their packets, with those that were unread, make of what it kept, and what was sent comes before what waits.
+-- A core goes on to another: these bytes came to it in whatever pieces, and these bytes of replies were sent. It makes
+-- of them what their packets, with those that were unread, make of what it kept, and what was sent comes before what
+-- waits.
 pub record GoesOn {P : Type 0} (b : Behavior) (old : Core P) (input sent : List ℕ) (new : Core P) : Type 0 where
   pub policy : new.policy ≡ old.policy
   pub standing : new.standing ≡ standing_after b old.standing (received_in (old.unread ++ input))

@@ -18,19 +18,22 @@ pub record Sends {P : Type 0} (old new : Core P) (written all : Option (List ℕ
   pub nothing_pending : done ≡ true → new.pending ≡ []
 
 -- the core goes on by these bytes, and what was sent was written
-pub record Goes {P : Type 0} (b : Behavior) (old : Core P) (input : List ℕ) (new : Core P) (written all : Option (List ℕ)) : Type 0 where
+pub record Goes {P : Type 0} (b : Behavior) (old : Core P) (input : List ℕ) (new : Core P)
+    (written all : Option (List ℕ)) : Type 0 where
   pub sent : List ℕ
   pub goes_on : GoesOn b old input sent new
   pub was_written : Appends written all sent
 
 -- the whole piece was taken, and all replies to it were written
-pub record PieceServed {P : Type 0} (b : Behavior) (old : Core P) (piece : List ℕ) (new : Core P) (written all : Option (List ℕ)) : Type 0 where
+pub record PieceServed {P : Type 0} (b : Behavior) (old : Core P) (piece : List ℕ) (new : Core P)
+    (written all : Option (List ℕ)) : Type 0 where
   pub goes : Goes b old piece new written all
   pub nothing_pending : new.pending ≡ []
   pub going : (fault : Fault) → new.standing.state ≢ states.Failed fault
 
 -- a prefix of the piece was taken
-pub record PieceCut {P : Type 0} (b : Behavior) (old : Core P) (piece : List ℕ) (new : Core P) (written all : Option (List ℕ)) : Type 0 where
+pub record PieceCut {P : Type 0} (b : Behavior) (old : Core P) (piece : List ℕ) (new : Core P)
+    (written all : Option (List ℕ)) : Type 0 where
   pub taken : List ℕ
   pub others : List ℕ
   pub piece_is : taken ++ others ≡ piece

@@ -35,7 +35,8 @@ pub record RepliedToPart (b : Behavior) (unread left written all : Option (List 
   pub prefix : answered ++ others ≡ input
 
 -- all that was read is replied to, and this became of the connection
-abbrev pub RepliedAs : FilterState → Behavior → Option (List ℕ) → Option (List ℕ) → Option (List ℕ) → Option (List ℕ) → Type 0
+abbrev pub RepliedAs : FilterState → Behavior → Option (List ℕ) → Option (List ℕ) → Option (List ℕ)
+    → Option (List ℕ) → Type 0
 RepliedAs state b unread left written all =
     (x : Replied b unread left written all) × ((conversation_of b x.input).state ≡ state)
 

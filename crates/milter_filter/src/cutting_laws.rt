@@ -10,7 +10,8 @@ ghost use Rattle.milter_filter.specs.Streams.{received_in};
 use crate::policy::Policy;
 
 /// Whatever the pieces in which the bytes of a connection came and those in which the replies were sent, a core is what
-/// it would be after the whole: each call goes on from what came before, and what goes on twice goes on by both in a row.
+/// it would be after the whole: each call goes on from what came before, and what goes on twice goes on by both in a
+/// row.
 pub fn cores_go_on<P: Policy>()
     ensures begins { (b : Behavior) (policy : P) → GoesOn b (fresh_core policy) [] [] (fresh_core policy) }
     ensures joins { (b : Behavior) (old core new : Core P) (input sent more sent_then : List ℕ) →

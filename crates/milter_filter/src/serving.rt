@@ -1,7 +1,6 @@
 //! A filter's end of a connection over a reader and a writer.
 
 ghost use Rattle.std.specs.Prelude.{◌≡◌, ◌<◌, ◌↔◌, [], IfErr, IfOk, IsTrue, OnOk, length};
-
 ghost use Rattle.milter_stream.specs.Stream.{IsUnfinished};
 ghost use Rattle.milter_exchange.specs.declared.filter_state.FilterState.TheVariants.{Quit, Serving};
 ghost use Rattle.milter_filter.specs.Cores.{fresh_core};
@@ -21,8 +20,8 @@ const PIECE_MAX: usize = 65_536;
 const READS_MAX: u64 = 1_073_741_824;
 
 /// Serves one connection: reads what the mail server sends, at most 65,536 bytes at once, and writes what the policy
-/// replies, until the mail server quits, the input ends, or one of the faults of [`Served`]. All replies to what was read
-/// are written before more is read, each write is given all that waits, and no call that failed is made again. It
+/// replies, until the mail server quits, the input ends, or one of the faults of [`Served`]. All replies to what was
+/// read are written before more is read, each write is given all that waits, and no call that failed is made again. It
 /// neither flushes the writer nor closes either end. `Served::Failed` with `FilterFault::NoMemory` comes also where the
 /// memory for the bytes that are read was refused.
 pub fn serve<P: Policy, R: Read, W: Write>(
@@ -83,7 +82,7 @@ fn serve_reads<P: Policy, R: Read, W: Write>(
 fn has_quit<P: Policy>(core: &FilterCore<'_, P>) -> bool
     ensures { IsTrue result ↔ (core.now.standing.state ≡ Quit) }
 {
-    core.state() == FilterState::Quit
+    matches!(core.state(), FilterState::Quit)
 }
 
 /// Takes a piece of the input and writes all replies to it, or answers how serving ended in it.

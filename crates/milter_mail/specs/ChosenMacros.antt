@@ -1,5 +1,5 @@
--- The macros that are sent before the commands of each stage: those that the filter asked for by its symbol lists, out of
--- those that the session has.
+-- The macros that are sent before the commands of each stage: those that the filter asked for by its symbol lists, out
+-- of those that the session has.
 use Rattle.std.specs.Prelude.{ℕ, ◌==◌, Bool, not, List, [], ◌∷◌, ◌++◌, Option, None, Some}
 use Rattle.std.specs.List.{filter, last_or, slice_split}
 use Rattle.std.specs.Option.{option_to_list}

@@ -1,5 +1,5 @@
-//! Mail as a mail server sends it to a filter: sessions and their messages, how many bytes their packets are, and edited
-//! messages as texts.
+//! Mail as a mail server sends it to a filter: sessions and their messages, how many bytes their packets are, and
+//! edited messages as texts.
 //!
 //! A [`Session`] is what a mail server sends of one client, with its [`Message`]s. A [`Held`] message is one after all
 //! edits, which [`write_message`] writes.

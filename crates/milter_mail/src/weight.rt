@@ -45,8 +45,8 @@ impl Overhead {
         })
     }
 
-    /// Whether the message has a recipient, each of its header fields fits a packet with its whole value, and it weighs at
-    /// most 16,777,216 bytes in a session with this overhead. No memory is taken.
+    /// Whether the message has a recipient, each of its header fields fits a packet with its whole value, and it weighs
+    /// at most 16,777,216 bytes in a session with this overhead. No memory is taken.
     pub fn allows(&self, message: &Message) -> bool
         ensures { IsTrue result ↔ IsSendableWith self.now message.now }
     {

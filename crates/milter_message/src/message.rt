@@ -130,7 +130,8 @@ impl Message {
         self.recipients.as_slice()
     }
 
-    /// The header fields, in order; each fits a packet without the blank that its value begins with. No memory is taken.
+    /// The header fields, in order; each fits a packet without the blank that its value begins with. No memory is
+    /// taken.
     pub fn headers(&self) -> &[Header]
         ensures headers { result.now ≡ self.now.headers }
         ensures fit { All FieldFits result.now }

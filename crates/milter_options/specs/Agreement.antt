@@ -1,4 +1,5 @@
--- What the options of two ends have in common: the smaller version, and the actions and the protocol bits that both have.
+-- What the options of two ends have in common: the smaller version, and the actions and the protocol bits that both
+-- have.
 use Rattle.std.specs.Prelude.{min}
 use Rattle.std.specs.Int.Bits.{bit_and}
 use Rattle.milter_options.specs.declared.options.Options.{Options}

@@ -1,8 +1,8 @@
 //! What the two ends of the Sendmail milter protocol agree on before the first stage: the version, the changes that the
 //! filter may ask for, the steps that are left out or left unanswered, and the macros that it asks for.
 //!
-//! [`Options`] is what one end offers or the other wants, [`common_options`] is what both have, and [`SymLists`] is what
-//! a filter's reply has beside them. Nothing here reads, writes or waits.
+//! [`Options`] is what one end offers or the other wants, [`common_options`] is what both have, and [`SymLists`] is
+//! what a filter's reply has beside them. Nothing here reads, writes or waits.
 #![tactic(auto)]
 
 mod agreement;

@@ -34,8 +34,8 @@ abbrev pub client_packet : List ℕ
 client_packet =
     0 ∷ 0 ∷ 0 ∷ 12 ∷ 67 ∷ 104 ∷ 46 ∷ 101 ∷ 120 ∷ 97 ∷ 109 ∷ 112 ∷ 108 ∷ 101 ∷ 0 ∷ 85 ∷ []
 
--- before it both macros in the session's order, j alone, and both in the order of a list: 0000000b44436b0076006a006d7800,
--- 0000000744436a006d7800, 0000000b44436a006d78006b007600
+-- before it both macros in the session's order, j alone, and both in the order of a list:
+-- 0000000b44436b0076006a006d7800, 0000000744436a006d7800, 0000000b44436a006d78006b007600
 abbrev pub both_packets : List ℕ
 both_packets =
     0 ∷ 0 ∷ 0 ∷ 11 ∷ 68 ∷ 67 ∷ 107 ∷ 0 ∷ 118 ∷ 0 ∷ 106 ∷ 0 ∷ 109 ∷ 120 ∷ 0 ∷ client_packet

@@ -66,7 +66,8 @@ pub fn edited_messages()
 /// The commands of one small session, and their weight.
 #[tactic(auto, unfolding(milter_stream::specs::Number::number))]
 pub fn planned_sessions()
-    ensures opened { opening_steps (agreed 6 0) no_macros client helo ≡ commands.Connect client ∷ commands.Helo helo ∷ [] }
+    ensures opened { opening_steps (agreed 6 0) no_macros client helo
+        ≡ commands.Connect client ∷ commands.Helo helo ∷ [] }
     ensures whole { message_steps (agreed 6 0) no_macros message
         ≡ commands.Mail (at (codes "a@x")) ∷ commands.Rcpt (at (codes "b@y")) ∷ commands.DataCmd ∷ commands.Eoh
         ∷ commands.Eob [] ∷ [] }
@@ -158,7 +159,6 @@ pub fn agreed_options()
 {}
 
 /// The sets of bits that texts name: names with bars between, in any order and repeated or not, or the word `none`.
-#[tactic(auto, unfolding(milter_options::specs::Bits::each_found, milter_options::specs::Bits::with_bits, bitflags::specs::Sets::find_row))]
 pub fn named_bits()
     ensures none { bits_named actions_table (codes "none") ≡ Some 0 }
     ensures repeated { bits_named actions_table (codes "CHGBODY|ADDHDRS|CHGBODY") ≡ Some 3 }
@@ -231,7 +231,6 @@ pub fn largest_messages()
 }
 
 /// The text of a held message.
-#[tactic(auto, unfolding(milter_mail::specs::HeldText::held_text, milter_mail::specs::HeldText::line_of, milter_text::specs::Quoting::quoted))]
 pub fn message_texts()
     ensures unedited { held_text (record { message = message; quarantine = None })
         ≡ line (codes "sender") (codes "a@x") ++ line (codes "recipient") (codes "b@y") ++ line (codes "body") []

@@ -28,15 +28,14 @@ returns-in-Err-clause-cut_off g c =
     let core = c.loop-taken.core in
     let inv = c.loop-taken.invariant in
     let b = g.P.Policy.behavior c.args.core.now.policy in
-    let serving = inv.serving (omega arith) in
-    (
+    let serving = inv.serving (omega arith) in (
       λ other.
-      let found = rw (take_rest piece i) at (c.in-Err.ensures.cause serving inv.nothing_pending other) in
-      let cause = subst (λ policy. GivesUp (g.P.Policy.behavior policy) core.standing (received_in (core.unread ++ rest)) c.in-Err.fault) inv.goes.goes_on.policy found in
-      let before = g.W.Write.contents c.args.writer.now in
-      let written = g.W.Write.contents c.loop-taken.writer in
-      subst (λ bytes. Goes b c.args.core.now bytes (given_up c.args.core.now c.in-Err.fault) before written) (take-append-drop i piece)
-      (goes-failed b c.args.core.now core (take i piece) _ _ inv.goes inv.nothing_pending rest c.in-Err.fault cause),
+          let found = rw (take_rest piece i) at (c.in-Err.ensures.cause serving inv.nothing_pending other) in
+          let cause = subst (λ policy. GivesUp (g.P.Policy.behavior policy) core.standing (received_in (core.unread ++ rest)) c.in-Err.fault) inv.goes.goes_on.policy found in
+          let before = g.W.Write.contents c.args.writer.now in
+          let written = g.W.Write.contents c.loop-taken.writer in
+          subst (λ bytes. Goes b c.args.core.now bytes (given_up c.args.core.now c.in-Err.fault) before written) (take-append-drop i piece)
+          (goes-failed b c.args.core.now core (take i piece) _ _ inv.goes inv.nothing_pending rest c.in-Err.fault cause),
       λ refused. (core, record { taken = take i piece; others = rest; piece_is = take-append-drop i piece; goes = inv.goes }, inv.nothing_pending),
     )
 
@@ -52,8 +51,7 @@ returns-then-not-write_pending-clause-cut_off g c =
     let n = c.in-Ok.count in
     let taken = rw (take_rest piece i) at (c.in-Ok.ensures.takes serving inv.nothing_pending) in
     let takes = subst (λ policy. Takes (g.P.Policy.behavior policy) core rest n c.feed.new.self) inv.goes.goes_on.policy taken in
-    let goes = goes-step b c.args.core.now core (take i piece) _ _ inv.goes inv.nothing_pending _ _ rest n _ _ takes c.write_pending.ensures in
-    (
+    let goes = goes-step b c.args.core.now core (take i piece) _ _ inv.goes inv.nothing_pending _ _ rest n _ _ takes c.write_pending.ensures in (
       c.write_pending.new.core,
       record {
         taken = take i piece ++ take n rest;
