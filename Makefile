@@ -21,6 +21,7 @@ bench:
 	bash bench/sessions.sh
 	bash bench/wire.sh
 	bash bench/edits.sh
+	bash bench/filter.sh
 
 install: all
 	install -d $(DESTDIR)$(PREFIX)/bin

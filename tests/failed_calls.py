@@ -31,7 +31,8 @@ WRITE_ERRORS = [0, errno.EIO, errno.EINTR, errno.ENOSPC, errno.EPIPE]
 HELP_ERRORS = [0, errno.ENOSPC, errno.EPIPE]
 READ_FAULTS = {'trace': b'read fault\n', 'answer': b'read fault\n', 'session': b'cannot read session\n'}
 WRITE_FAULTS = {
-    'trace': b'write fault\n', 'session': b'write fault\n', 'answer': b'write fault\n', 'edits': b'Error: write fault\n'}
+    'trace': b'write fault\n', 'session': b'write fault\n', 'answer': b'write fault\n',
+    'edits': b'Error: write fault\n'}
 ANY = 1 << 30
 EACH = re.compile(r'(\d+) (reads|writes) of (\d+)')
 ONE = re.compile(r'read (\d+) of (\d+)')

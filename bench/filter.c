@@ -1,0 +1,80 @@
+/*
+ * A filter on Sendmail's libmilter, as bench/filter.sh measures it beside milter_tool: it lets each command go on,
+ * keeps the body, and accepts at the end of each message. Its word is the path of the Unix socket that it listens at.
+ * It serves one connection, and ends with it.
+ */
+#include <libmilter/mfapi.h>
+#include <stdlib.h>
+#include <string.h>
+
+struct body {
+	unsigned char *bytes;
+	size_t size;
+	size_t room;
+};
+
+static sfsistat on_connect(SMFICTX *context, char *host, _SOCK_ADDR *address)
+{
+	return smfi_setpriv(context, calloc(1, sizeof(struct body))) == MI_SUCCESS ? SMFIS_CONTINUE : SMFIS_TEMPFAIL;
+}
+
+static sfsistat on_helo(SMFICTX *context, char *name)
+{
+	return SMFIS_CONTINUE;
+}
+
+static sfsistat on_path(SMFICTX *context, char **words)
+{
+	return SMFIS_CONTINUE;
+}
+
+static sfsistat on_stage(SMFICTX *context)
+{
+	return SMFIS_CONTINUE;
+}
+
+static sfsistat on_header(SMFICTX *context, char *name, char *value)
+{
+	return SMFIS_CONTINUE;
+}
+
+static sfsistat on_body(SMFICTX *context, unsigned char *piece, size_t size)
+{
+	struct body *body = smfi_getpriv(context);
+
+	if (body->room - body->size < size) {
+		body->room = 2 * (body->size + size);
+		body->bytes = realloc(body->bytes, body->room);
+		if (!body->bytes)
+			abort();
+	}
+	memcpy(body->bytes + body->size, piece, size);
+	body->size += size;
+	return SMFIS_CONTINUE;
+}
+
+static sfsistat on_end(SMFICTX *context)
+{
+	struct body *body = smfi_getpriv(context);
+
+	body->size = 0;
+	return SMFIS_ACCEPT;
+}
+
+static sfsistat on_close(SMFICTX *context)
+{
+	exit(0);
+}
+
+int main(int count, char **words)
+{
+	struct smfiDesc filter = {
+		.xxfi_name = "measured", .xxfi_version = SMFI_VERSION, .xxfi_connect = on_connect, .xxfi_helo = on_helo,
+		.xxfi_envfrom = on_path, .xxfi_envrcpt = on_path, .xxfi_data = on_stage, .xxfi_header = on_header,
+		.xxfi_eoh = on_stage, .xxfi_body = on_body, .xxfi_eom = on_end, .xxfi_close = on_close,
+	};
+
+	if (count != 2 || smfi_setconn(words[1]) != MI_SUCCESS || smfi_register(filter) != MI_SUCCESS)
+		return 2;
+	return smfi_main();
+}

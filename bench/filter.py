@@ -1,0 +1,103 @@
+#!/usr/bin/env python3
+"""Plays messages on a filter, as a mail server does that sends nothing more before the reply has come.
+
+    python3 bench/filter.py COUNT BODY SOCKET|- COMMAND..
+
+starts the command, connects to its Unix socket (`-`: hands it a socket as standard input and output), and plays so many
+messages on one connection: sixteen commands each, with ten header fields and a body of so many bytes (more than 65,535
+are more commands). It prints the nanoseconds that the messages took, and those of processor time that the filter took
+in all.
+"""
+import resource
+import socket
+import struct
+import subprocess
+import sys
+import time
+
+FIELDS = [
+    ('Received', 'from mail.example.org (mail.example.org [192.0.2.17])\n\t'
+                 'by mx.example.net with ESMTPS id 4BxYz12345'),
+    ('From', 'Ada <ada@example.org>'), ('To', 'Bob <bob@example.net>'),
+    ('Subject', 'A message of an ordinary length, to be measured'), ('Date', 'Mon, 23 Nov 2026 14:00:00 +0000'),
+    ('Message-ID', '<20261123140000.1234@example.org>'), ('MIME-Version', '1.0'),
+    ('Content-Type', 'text/plain; charset=utf-8'), ('Content-Transfer-Encoding', '8bit'), ('User-Agent', 'Example/1.0')]
+PIECE = 65535
+
+
+def packet(code, payload=b''):
+    """A packet."""
+    return struct.pack('>I', 1 + len(payload)) + code + payload
+
+
+def strings(*texts):
+    """Texts, each with its NUL."""
+    return b''.join(text.encode() + b'\0' for text in texts)
+
+
+def opening():
+    """The packets before the first message."""
+    yield packet(b'O', struct.pack('>III', 6, 0x1ff, 0x1fffff))
+    yield packet(b'C', strings('mail.example.org') + b'4' + struct.pack('>H', 12345) + strings('192.0.2.17'))
+    yield packet(b'H', strings('mail.example.org'))
+
+
+def message(size):
+    """The packets of a message whose body has so many bytes."""
+    yield packet(b'M', strings('<ada@example.org>', 'SIZE=%d' % size))
+    yield packet(b'R', strings('<bob@example.net>'))
+    yield packet(b'T')
+    for field in FIELDS:
+        yield packet(b'L', strings(*field))
+    yield packet(b'N')
+    body = bytes((7 * at + 3) % 251 + 1 for at in range(min(size, PIECE))) * (size // PIECE + 1)
+    for at in range(0, size, PIECE):
+        yield packet(b'B', body[at:min(at + PIECE, size)])
+    yield packet(b'E')
+
+
+def started(path, command):
+    """The filter, and the connection to it."""
+    if path == '-':
+        connection, other = socket.socketpair()
+        process = subprocess.Popen(command, stdin=other, stdout=other)
+        other.close()
+        return process, connection
+    process = subprocess.Popen(command)
+    connection = socket.socket(socket.AF_UNIX)
+    while True:
+        try:
+            connection.connect(path)
+            return process, connection
+        except (FileNotFoundError, ConnectionRefusedError):
+            time.sleep(0.05)
+
+
+def play(connection, packets):
+    """Sends these packets, and receives the reply to each before the next."""
+    for sent in packets:
+        connection.sendall(sent)
+        reply = connection.recv(PIECE)
+        if sent[4:5] != b'O' and reply not in (packet(b'c'), packet(b'a')):
+            sys.exit('%r was replied to by %r' % (sent[:50], reply))
+
+
+def main():
+    count, size = int(sys.argv[1]), int(sys.argv[2])
+    process, connection = started(sys.argv[3], sys.argv[4:])
+    packets = list(message(size))
+    play(connection, opening())
+    start = time.monotonic_ns()
+    for _ in range(count):
+        play(connection, packets)
+    took = time.monotonic_ns() - start
+    connection.sendall(packet(b'Q'))
+    connection.close()
+    if process.wait() != 0:
+        sys.exit('the filter ended with status %d' % process.returncode)
+    used = resource.getrusage(resource.RUSAGE_CHILDREN)
+    print(took, round(1e9 * (used.ru_utime + used.ru_stime)))
+
+
+if __name__ == '__main__':
+    main()
