@@ -1,6 +1,6 @@
 """Runs programs with a shared object preloaded that is compiled from a C file beside this one, by the toolchain's own
-compiler. The object reports by one byte to the file descriptor that PRELOADED_REPORT names that what it was set to do
-came about.
+compiler. The object reports to the file descriptor that PRELOADED_REPORT names what came about of what it was set to
+do.
 """
 import concurrent.futures
 import os
@@ -24,8 +24,8 @@ def compiled(source, folder):
 
 
 def ran(command, given, preloaded, named):
-    """Runs a command with the object preloaded and these variables. Answers its status, output and errors, and whether
-    the object reported."""
+    """Runs a command with the object preloaded and these variables. Answers its status, output and errors, and what
+    the object reported: bytes, fewer than 65,536."""
     ends, reports = os.pipe()
     environment = {'LD_PRELOAD': preloaded, 'PRELOADED_REPORT': str(reports)}
     environment.update((name, str(value)) for name, value in named.items())
@@ -39,7 +39,7 @@ def ran(command, given, preloaded, named):
     finally:
         os.close(reports)
         with os.fdopen(ends, 'rb') as report:
-            reported = report.read() != b''
+            reported = report.read()
     return (done.returncode, done.stdout, done.stderr), reported
 
 

@@ -15,17 +15,18 @@ TOP = os.path.dirname(os.path.dirname(os.path.abspath(__file__)))
 BUILDS = ['', '.by-rattle']
 TABLES = [
     'trace_commands', 'trace_replies', 'trace_sizes', 'trace_streams', 'trace_lines', 'trace_refused_memory',
-    'session_faults', 'session_sizes', 'session_values', 'session_refused_memory', 'edits_values', 'edits_faults',
-    'packets_totals']
+    'session_faults', 'session_sizes', 'session_values', 'session_refused_memory', 'answer_replies', 'answer_faults',
+    'answer_sizes', 'answer_refused_memory', 'edits_values', 'edits_faults', 'packets_totals']
 # What plays the tables of each kind: a program and its words, of which FILE stands for a file of the input.
 FILE = object()
 PLAYERS = {
     'trace': ('milter_tool', ['trace']),
     'session': ('milter_tool', ['session', FILE]),
+    'answer': ('milter_tool', ['answer']),
     'edits': ('milter_rows', ['edits', 'text']),
     'packets': ('milter_rows', ['packets']),
 }
-MARKS = b'|^<>=!*#$%'
+MARKS = b'|^<>&=!*#$%'
 SPECIAL = re.compile(rb'\{([0-9a-f]{2}|[^{}]+\*[0-9]+|code)\}')
 NO_LF = b'{no LF}'
 
@@ -96,20 +97,34 @@ def command_of(kind, lines, build, path):
     return [program_of(name, build)] + [path if word is FILE else word for word in words] + more
 
 
+def part_of(kind, mark, text, code):
+    """The stream to which a line of a row adds, and the bytes that it adds; of other lines None."""
+    if mark in b'|^':
+        return 'given', ended(text, code, False)
+    if mark in b'<>':
+        packet = packet_of(text, code)
+        if kind == 'trace':
+            return 'given', b'%s %s\n' % (mark, packet.hex().encode())
+        return ('out' if kind == 'answer' and mark == b'<' else 'given'), packet
+    if mark in b'=!':
+        return ('out' if mark == b'=' else 'err'), ended(text, code, True)
+    return None
+
+
 def streams_of(kind, lines, code):
     """The input of the row of these lines, and how its run ends: its status, output and errors."""
-    given, out, err = b'', b'', b''
+    streams = {'given': b'', 'out': b'', 'err': b''}
+    last = None
     for mark, text in lines:
-        if mark in b'|^':
-            given += ended(text, code, False)
-        elif mark in b'<>':
-            packet = packet_of(text, code)
-            given += b'%s %s\n' % (mark, packet.hex().encode()) if kind == 'trace' else packet
-        elif mark == b'=':
-            out += ended(text, code, True)
-        elif mark == b'!':
-            err += ended(text, code, True)
-    return given, (1 if err else 0, out, err)
+        part, times = part_of(kind, mark, text, code), 1
+        if part is not None:
+            last = part
+        elif mark == b'&':
+            times = int(text)
+        else:
+            continue
+        streams[last[0]] += last[1] * times
+    return streams['given'], (1 if streams['err'] else 0, streams['out'], streams['err'])
 
 
 def play(kind, lines, code, build, folder):

@@ -17,7 +17,7 @@ use Rattle.clap.specs.declared.error.kind.ErrorKind.{ErrorKind}
 use Rattle.clap.specs.declared.parser.matches.Found.{Found}
 use Rattle.clap.specs.declared.parser.matches.ArgMatches.{ArgMatches}
 use Rattle.milter_cli.specs.declared.command_line.Request.{Request}
-use Rattle.milter_cli.specs.CommandLine.{HasMatches, IsRequestOf, IsUnasked, session_app, tool_app, trace_app}
+use Rattle.milter_cli.specs.CommandLine.{HasMatches, IsRequestOf, IsUnasked, answer_app, session_app, tool_app, trace_app}
 use Rattle.milter_cli.proofs.FaultlessRows.{AreFilled, Each, Fills, IsFilled, find_each, no_faults, settled_filled, some_fault}
 use Rattle.milter_cli.proofs.FaultlessWalk.{StopsBeforeHelp, defaults_filled, walk_rows, walk_stops}
 
@@ -25,7 +25,11 @@ pub file_given : (f : Found) (file : Text) → Some file ≡ first_value f (code
 file_given f file is = sym (is ∙ first_value-rows f (codes "file"))
 
 pub no_file : (f : Found) → None ≡ first_value f (codes "file") → IsUnasked (codes "session", rows_of f)
-no_file f none = (λ named. (let other : 115 ≡ 116 = ap (λ t. slice_index t 0) named in absurd (omega (arith, other))), λ named. sym (none ∙ first_value-rows f (codes "file")))
+no_file f none = (
+  (λ named. (let other : 115 ≡ 116 = ap (λ t. slice_index t 0) named in absurd (omega (arith, other)))),
+  (λ named. (let other : 115 ≡ 97 = ap (λ t. slice_index t 0) named in absurd (omega (arith, other)))),
+  λ named. sym (none ∙ first_value-rows f (codes "file")),
+)
 
 first_given : (o : Option Row) → option_map_or (λ r. explicit_source r.source) o false ≡ true → IfSome o IsFilled → option_and_then (λ r. slice_get r.values 0) o ≡ None → ⊥
 first_given None given f none = true≢false (sym given)
@@ -54,6 +58,9 @@ trace_shape = built_leaf (inherited (with_leaf_noted (marked_built tool_app.top)
 abbrev session_shape : Shape
 session_shape = built_leaf (inherited (with_leaf_noted (marked_built tool_app.top)) session_app.top)
 
+abbrev answer_shape : Shape
+answer_shape = built_leaf (inherited (with_leaf_noted (marked_built tool_app.top)) answer_app.top)
+
 required_here : (b : Bool) (k : ErrorKind) → cond (not b || false) (k ∷ []) [] ≡ [] → b ≡ true
 required_here true k e = refl
 required_here false k e = absurd (some_fault k [] e)
@@ -68,8 +75,9 @@ never_help name other named =
     let is : codes "help" ≡ name = (bytes_eq-Decides (codes "help") name).0 (or_false _ named) in
     true≢false (ap (λ x. bytes_eq x (codes "help")) is ∙ other)
 
-abbrev pick : Bool → Bool → Bool → Option Shape
-pick trace session help = cond trace (Some trace_shape) (cond session (Some session_shape) (cond help (Some (built_leaf help_shape)) None))
+abbrev pick : Bool → Bool → Bool → Bool → Option Shape
+pick trace session answer help =
+    cond trace (Some trace_shape) (cond session (Some session_shape) (cond answer (Some answer_shape) (cond help (Some (built_leaf help_shape)) None)))
 
 abbrev asked_below : Option Shape → List Text → Kinds
 asked_below o words = option_map_or (λ s. level_fault s [] nothing_held words false []) o []
@@ -78,19 +86,21 @@ abbrev entered_by : Option Shape → List Text → Option (Text × List Row)
 entered_by o words = option_map (λ s. rows_at s words) o
 
 -- a subcommand that is entered without a fault asks for something
-picked_asks : (words : List Text) (rows : List Row) (trace session help : Bool) → (help ≡ true → ⊥) → asked_below (pick trace session help) words ≡ []
-    → check_fault (built tool_app).top rows (is_some (entered_by (pick trace session help) words)) ≡ [] → IsRequestOf (entered_by (pick trace session help) words) None → ⊥
-picked_asks words rows true session help none below check unasked = unasked.0 refl
-picked_asks words rows false true help none below check unasked =
-    file_is_given session_shape words (inr refl, (inl refl, tt)) (λ rows e. required_here _ _ e) below (unasked.1 refl)
-picked_asks words rows false false true none below check unasked = none refl
-picked_asks words rows false false false none below check unasked = some_fault _ _ check
+picked_asks : (words : List Text) (rows : List Row) (trace session answer help : Bool) → (help ≡ true → ⊥) → asked_below (pick trace session answer help) words ≡ []
+    → check_fault (built tool_app).top rows (is_some (entered_by (pick trace session answer help) words)) ≡ [] → IsRequestOf (entered_by (pick trace session answer help) words) None → ⊥
+picked_asks words rows true session answer help none below check unasked = unasked.0 refl
+picked_asks words rows false true answer help none below check unasked =
+    file_is_given session_shape words (inr refl, (inl refl, tt)) (λ rows e. required_here _ _ e) below (unasked.2 refl)
+picked_asks words rows false false true help none below check unasked = unasked.1 refl
+picked_asks words rows false false false true none below check unasked = none refl
+picked_asks words rows false false false false none below check unasked = some_fault _ _ check
 
 entered_asks : (stop : Option (Text × List Text)) (rows : List Row) → StopsBeforeHelp stop → entered_fault (built tool_app) stop ≡ []
     → check_fault (built tool_app).top rows (is_some (entered (built tool_app) stop)) ≡ [] → IsRequestOf (entered (built tool_app) stop) None → ⊥
 entered_asks None rows other below check unasked = some_fault _ _ check
 entered_asks (Some p) rows other below check unasked =
-    picked_asks p.1 rows (answers_to p.0 (label_of trace_shape)) (answers_to p.0 (label_of session_shape)) (answers_to p.0 (label_of (built_leaf help_shape)))
+    picked_asks p.1 rows (answers_to p.0 (label_of trace_shape)) (answers_to p.0 (label_of session_shape)) (answers_to p.0 (label_of answer_shape))
+    (answers_to p.0 (label_of (built_leaf help_shape)))
     (never_help p.0 other) below check unasked
 
 -- words without a fault ask for something

@@ -6,7 +6,7 @@ use Rattle.clap.specs.declared.builder.action.ArgAction.TheVariants.{Set}
 use Rattle.clap.specs.declared.builder.command.Command.{Command}
 use Rattle.clap.specs.declared.builder.command.Command.TheViews.{out-Command}
 use Rattle.milter_cli.specs.declared.command_line.Request.{Request}
-use Rattle.milter_cli.specs.declared.command_line.Request.TheVariants.{Trace, Session}
+use Rattle.milter_cli.specs.declared.command_line.Request.TheVariants.{Trace, Session, Answer}
 use Rattle.clap.specs.declared.error.Error.{Error}
 use Rattle.clap.specs.declared.parser.matches.ArgMatches.{ArgMatches}
 
@@ -26,9 +26,12 @@ file_rule = record (new_rule (codes "file")) { action = Some Set; value_names = 
 abbrev pub session_app : App
 session_app = with_rule (new_app (codes "session")) file_rule
 
+abbrev pub answer_app : App
+answer_app = new_app (codes "answer")
+
 -- the whole command line
 abbrev pub tool_app : App
-tool_app = with_subcommand (with_subcommand top_app trace_app.top) session_app.top
+tool_app = with_subcommand (with_subcommand (with_subcommand top_app trace_app.top) session_app.top) answer_app.top
 
 -- no argument is global
 abbrev pub IsLocal : Command → Type 0
@@ -39,11 +42,13 @@ abbrev pub IsAsked : Text × List Row → Request → Type 0
 IsAsked (name, values) Trace = name ≡ codes "trace"
 IsAsked (name, values) (Session file) =
     (name ≡ codes "session") × (first_of (codes "file") values ≡ Some file.now)
+IsAsked (name, values) Answer = name ≡ codes "answer"
 
 -- the subcommand of this name, with these values, asks for nothing
 abbrev pub IsUnasked : Text × List Row → Type 0
 IsUnasked (name, values) =
-    (name ≢ codes "trace") × (name ≡ codes "session" → first_of (codes "file") values ≡ None)
+    (name ≢ codes "trace") × (name ≢ codes "answer")
+    × (name ≡ codes "session" → first_of (codes "file") values ≡ None)
 
 -- the request of the subcommand, or that it has none
 abbrev pub IsRequestOf : Option (Text × List Row) → Option Request → Type 0

@@ -1,3 +1,4 @@
+pub mod AnswerRun
 pub mod CommandLine
 pub mod SessionRun
 pub mod ToolError

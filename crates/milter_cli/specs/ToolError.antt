@@ -5,10 +5,11 @@ use Rattle.std.specs.declared.io.ErrorKind.TheVariants as io
 use Rattle.clap.specs.declared.error.Error.{Error}
 use Rattle.clap.specs.declared.error.kind.ErrorKind.{ErrorKind}
 use Rattle.clap.specs.declared.error.kind.ErrorKind.TheVariants.{DisplayHelp, DisplayVersion, OutOfMemory}
+use Rattle.milter_cli.specs.AnswerRun.{answer_error_text}
 use Rattle.milter_cli.specs.SessionRun.{session_error_text}
 use Rattle.milter_trace.specs.FaultText.{fault_text}
 use Rattle.milter_cli.specs.declared.tool_error.ToolError.{ToolError}
-use Rattle.milter_cli.specs.declared.tool_error.ToolError.TheVariants.{Usage, NotUtf8, Trace, Session, Write, NoMemory}
+use Rattle.milter_cli.specs.declared.tool_error.ToolError.TheVariants.{Usage, NotUtf8, Trace, Session, Answer, Write, NoMemory}
 
 -- a wrong use of the command line, or a fault
 abbrev pub error_status : ToolError → ℕ
@@ -16,6 +17,7 @@ error_status (Usage error) = 2
 error_status NotUtf8 = 2
 error_status (Trace fault) = 1
 error_status (Session error) = 1
+error_status (Answer error) = 1
 error_status Write = 1
 error_status NoMemory = 1
 
@@ -32,6 +34,7 @@ error_lines (Usage error) = None
 error_lines NotUtf8 = Some (line (codes "error: invalid UTF-8 was detected in one or more arguments"))
 error_lines (Trace fault) = option_map line (fault_text fault)
 error_lines (Session error) = Some (line (session_error_text error))
+error_lines (Answer error) = Some (line (answer_error_text error))
 error_lines Write = Some (line (codes "write fault"))
 error_lines NoMemory = Some (line (codes "out of memory"))
 

@@ -2,7 +2,7 @@
 
 ghost use Rattle.std.specs.Prelude.{◌≡◌, IfErr, IfOk, map, false};
 ghost use Rattle.clap.specs.Words.{HasKind, app_of, fault_of, found_of, rows_of, rule_of, subcommand_rows_of};
-ghost use Rattle.milter_cli.specs.CommandLine.{HasMatches, IsLocal, IsRequestOf, IsSessionRequest, ParsesAs, file_rule, session_app, tool_app, top_app, trace_app};
+ghost use Rattle.milter_cli.specs.CommandLine.{HasMatches, IsLocal, IsRequestOf, IsSessionRequest, ParsesAs, answer_app, file_rule, session_app, tool_app, top_app, trace_app};
 
 use crate::help_text;
 use clap::{Arg, ArgAction, ArgMatches, Command, Error};
@@ -22,6 +22,8 @@ pub enum Request<'a> {
         /// The path of the file.
         file: &'a str,
     },
+    /// To reply to the mail server on standard input, as a filter that lets all mail go on.
+    Answer,
 }
 
 /// What the words of a command line ask for, the program's name first. An error has a text and a kind: a wrong use,
@@ -47,6 +49,7 @@ fn request_of<'a>(matches: &ArgMatches<'a>) -> Option<Request<'a>>
     match matches.subcommand() {
         Some(("trace", _)) => Some(Request::Trace),
         Some(("session", given)) => session_request(given),
+        Some(("answer", _)) => Some(Request::Answer),
         _ => None,
     }
 }
@@ -67,7 +70,8 @@ fn command<'a>(alloc: Global) -> Result<Command<'a>, AllocError>
 {
     top(alloc)?
         .subcommand(trace(alloc))?
-        .subcommand(session(alloc)?)
+        .subcommand(session(alloc)?)?
+        .subcommand(answer(alloc))
 }
 
 fn top<'a>(alloc: Global) -> Result<Command<'a>, AllocError>
@@ -101,6 +105,17 @@ fn session<'a>(alloc: Global) -> Result<Command<'a>, AllocError>
         .about("Prints what a session file has, in canonical form")
         .after_long_help(help_text::SESSION)
         .arg(file(alloc))
+}
+
+fn answer<'a>(alloc: Global) -> Command<'a>
+    ensures shape { app_of result ≡ answer_app }
+    ensures local { IsLocal result }
+{
+    Command::new(alloc, "answer")
+        .about(
+            "Replies to a mail server, on standard input and output, as a filter that lets all mail go on",
+        )
+        .after_long_help(help_text::ANSWER)
 }
 
 fn file<'a>(alloc: Global) -> Arg<'a>

@@ -78,3 +78,35 @@ with the number N of its line, from 1:
 
 Status: 0 after the whole session was printed, 1 after a fault, 2 after a wrong
 use of the command line.";
+
+/// What is read and written by the filter's end on standard input and output, and its fault lines.
+pub(crate) const ANSWER: &str = "\
+Standard input is what a mail server (MTA) sends to a filter, and standard output
+is what the filter replies: the packets of the milter protocol, byte for byte.
+The filter agrees on version 6, or on the lower version that is offered, and on
+no actions and no protocol bits, and it replies Continue to each command that is
+to be replied to. It keeps nothing that comes of a message after that message.
+
+What is read is replied to before more is read. So standard input and output may
+be one socket, of a connection that a super-server took: systemd with Accept=yes,
+tcpserver or socat.
+
+It ends where the mail server quits, where the input ends, or at the first fault,
+which is printed on standard error after the replies to what comes before it:
+
+  filter fault 1                 a command before the offer of options
+  filter fault 2                 an offer of a version below 2
+  filter fault 3                 a command out of order
+  filter fault 4                 the packets of a connection and of a message have
+                                 more than 16,777,216 bytes together
+  filter fault 5                 a packet has length 0 or above 65536, an unknown
+                                 code, or a payload that isn't in its layout
+  filter fault 6                 a second offer of options
+  input truncated B bytes        the input ends after B bytes of a packet
+  read fault                     standard input was not read
+  write fault                    standard output was not written
+  out of memory                  memory was refused
+  turn limit                     the input goes on after 1,073,741,824 reads
+
+Status: 0 after the mail server has quit or the input has ended after a packet,
+1 after a fault, 2 after a wrong use of the command line.";

@@ -5,6 +5,7 @@ ghost use Rattle.std.specs.Process.{exit_status};
 ghost use Rattle.clap.specs.Words.{kind_of};
 ghost use Rattle.milter_cli.specs.ToolError.{EndsBy, IsShown, argument_error, error_lines, status_of};
 
+use crate::answer_error::AnswerError;
 use crate::session_error::SessionError;
 use clap::error::ErrorKind;
 use milter_trace::TraceFault;
@@ -24,6 +25,8 @@ pub enum ToolError {
     Trace(TraceFault),
     /// A session that was not printed to its end.
     Session(SessionError),
+    /// A mail server that was not answered to its end.
+    Answer(AnswerError),
     /// Help or the version was not written.
     Write,
     /// Memory was refused before there was a subcommand.
@@ -44,6 +47,7 @@ impl fmt::Display for ToolError {
             }
             ToolError::Trace(fault) => writeln!(f, "{fault}"),
             ToolError::Session(error) => writeln!(f, "{error}"),
+            ToolError::Answer(error) => writeln!(f, "{error}"),
             ToolError::Write => writeln!(f, "write fault"),
             ToolError::NoMemory => writeln!(f, "out of memory"),
         }
@@ -65,7 +69,8 @@ pub fn report<W: Write>(ended: Result<(), ToolError>, errors: &mut W) -> ExitCod
     let _ = write!(errors, "{error}");
     ExitCode::from(match error {
         ToolError::Usage(_) | ToolError::NotUtf8 => 2,
-        ToolError::Trace(_) | ToolError::Session(_) | ToolError::Write | ToolError::NoMemory => 1,
+        ToolError::Trace(_) | ToolError::Session(_) | ToolError::Answer(_) => 1,
+        ToolError::Write | ToolError::NoMemory => 1,
     })
 }
 

@@ -66,6 +66,15 @@ impl<'a> HeaderRef<'a> {
         Ok(Header { name, value })
     }
 
+    /// Makes the header field a copy of this one, in the room that its texts have where that is enough. After `NoMemory`
+    /// nothing is known of it.
+    pub fn copy_to(&self, header: &mut Header) -> Result<(), NoMemory>
+        ensures { OnOk result (header.new ≡ header_of self.now) }
+    {
+        header.name.set(self.name)?;
+        header.value.set(self.value)
+    }
+
     /// Whether neither string has a NUL.
     pub fn fits(&self) -> bool
         ensures { IsTrue result ↔ HeaderFits (header_of self.now) }

@@ -1,6 +1,6 @@
 //! Texts as the protocol carries them: bytes in no particular encoding.
 
-ghost use Rattle.std.specs.Prelude.{◌≡◌, ◌↔◌, IfOk, IsTrue, List, ℕ, nat_eq};
+ghost use Rattle.std.specs.Prelude.{◌≡◌, ◌↔◌, [], IfOk, IsTrue, List, OnErr, OnOk, ℕ, nat_eq};
 ghost use Rattle.milter_fields.specs.Field.{HasNoNul};
 ghost use Rattle.std.specs.Cmp.{partial_equiv_from_equiv};
 ghost use Rattle.std.specs.Cmp.Lexicographic.{pointwise, nat_list_eq_equiv};
@@ -39,6 +39,17 @@ impl Text {
         Ok(Text {
             bytes: Vec::from_slice(alloc, bytes)?,
         })
+    }
+
+    /// Replaces the bytes of the text by a copy of these, in the room that it has where that is enough. After
+    /// `NoMemory` it has no bytes.
+    pub fn set(&mut self, bytes: &[u8]) -> Result<(), NoMemory>
+        ensures ok { OnOk result (self.new ≡ bytes.now) }
+        ensures err { OnErr result (self.new ≡ []) }
+    {
+        self.bytes.clear();
+        self.bytes.extend_from_slice(bytes)?;
+        Ok(())
     }
 
     /// The bytes of the text. No memory is taken.

@@ -88,7 +88,7 @@ impl Connection {
     pub(crate) fn is_serving(&self) -> bool
         ensures { IsTrue result ↔ (self.now.state ≡ FilterState.Serving) }
     {
-        self.state == FilterState::Serving
+        matches!(self.state, FilterState::Serving)
     }
 
     /// The fault of a command whose packet has `len` bytes, if it is at one.

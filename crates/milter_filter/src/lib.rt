@@ -8,6 +8,7 @@ mod commands;
 mod connection;
 mod cutting_laws;
 mod filter_core;
+mod headers;
 mod macro_list;
 mod packet_receiving;
 mod pass;

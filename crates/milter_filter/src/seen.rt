@@ -6,6 +6,7 @@ ghost use Rattle.milter_wire.specs.LentCommand.{command_of};
 ghost use Rattle.milter_exchange.specs.Seen.{seen, value_in};
 ghost use Rattle.milter_filter.specs.SeenParts.{nothing_seen, parts_with};
 
+use crate::headers::Headers;
 use crate::macro_list::MacroList;
 use milter_wire::codes::{SMFIC_CONNECT, SMFIC_HELO};
 use milter_wire::{Client, CommandRef, Header, NoMemory, Path, Text};
@@ -21,7 +22,7 @@ pub struct Seen {
     helo: Option<Text>,
     sender: Option<Path>,
     recipients: Vec<Path>,
-    headers: Vec<Header>,
+    headers: Headers,
     body: Vec<u8>,
     macros: MacroList,
 }
@@ -40,7 +41,7 @@ impl Model for Seen {
         helo = s.helo;
         sender = s.sender;
         recipients = s.recipients.items;
-        headers = s.headers.items;
+        headers = s.headers;
         body = s.body.items;
         macros = s.macros.shown;
       };
@@ -94,7 +95,7 @@ impl Seen {
     pub fn headers(&self) -> &[Header]
         ensures { result.now ≡ self.now.shown.headers }
     {
-        &self.headers
+        self.headers.as_slice()
     }
 
     /// The body of the message, as far as it has come. No memory is taken. Source: xxfi_body.
@@ -129,7 +130,7 @@ impl Seen {
             helo: None,
             sender: None,
             recipients: Vec::new(alloc),
-            headers: Vec::new(alloc),
+            headers: Headers::new(alloc),
             body: Vec::new(alloc),
             macros: MacroList::new(alloc),
         }
@@ -145,7 +146,7 @@ impl Seen {
             CommandRef::Helo(name) => self.helo = Some(Text::copy_of(alloc, name)?),
             CommandRef::Mail(sender) => self.sender = Some(sender.to_path(alloc)?),
             CommandRef::Rcpt(recipient) => self.recipients.push(recipient.to_path(alloc)?)?,
-            CommandRef::Header(header) => self.headers.push(header.to_header(alloc)?)?,
+            CommandRef::Header(header) => self.headers.push(alloc, header)?,
             CommandRef::Body(bytes) | CommandRef::Eob(bytes) => {
                 self.body.extend_from_slice(bytes)?;
             }

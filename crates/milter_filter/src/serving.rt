@@ -82,7 +82,7 @@ fn serve_reads<P: Policy, R: Read, W: Write>(
 fn has_quit<P: Policy>(core: &FilterCore<'_, P>) -> bool
     ensures { IsTrue result ↔ (core.now.standing.state ≡ Quit) }
 {
-    core.state() == FilterState::Quit
+    matches!(core.state(), FilterState::Quit)
 }
 
 /// Takes a piece of the input and writes all replies to it, or answers how serving ended in it.

@@ -5,8 +5,10 @@
 #![tactic(auto)]
 
 use milter_cli::{
-    Request, ToolError, answer, argument_error, parse, print_session, read_error, report,
+    Request, ToolError, answer, answer_run, argument_error, ended_as, parse, print_session,
+    read_error, report,
 };
+use milter_filter::Pass;
 use milter_trace::trace_run;
 use std::env::{self, Env};
 use std::process::ExitCode;
@@ -29,6 +31,14 @@ fn print_session_file<R: Files + Print + AllocGlobal>(rt: &R, path: &str) -> Res
     ended.map_err(ToolError::Session)
 }
 
+/// Replies to the mail server on standard input, as a filter that lets all mail go on.
+fn answer_mail_server<R: Input + Print + AllocGlobal>(rt: &R) -> Result<(), ToolError> {
+    let mut reader = rt.reader();
+    let mut writer = io::writer(rt);
+    let served = answer_run(rt.alloc(), &Pass, &mut reader, &mut writer);
+    ended_as(served).map_err(ToolError::Answer)
+}
+
 /// The words of the command line, the program's name first.
 fn words<R: Env + AllocGlobal>(rt: &R) -> Result<Vec<String>, ToolError> {
     match env::args(rt) {
@@ -42,6 +52,7 @@ fn run<R: Input + Files + Print + Env + AllocGlobal>(rt: &R) -> Result<(), ToolE
     match parse(rt.alloc(), words.as_slice()) {
         Ok(Request::Trace) => print_trace(rt),
         Ok(Request::Session { file }) => print_session_file(rt, file),
+        Ok(Request::Answer) => answer_mail_server(rt),
         Err(error) => answer(error, &mut io::writer(rt)),
     }
 }
