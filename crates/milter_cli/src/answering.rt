@@ -6,8 +6,8 @@ use milter_filter::{Policy, Served, serve};
 use std::alloc::Global;
 use std::io::{Read, Write};
 
-/// Replies to one connection of a mail server as a filter of this policy: reads at most 65,536 bytes at once, and writes
-/// all replies to what was read before it reads more, until the mail server quits, the input ends, or a fault.
+/// Replies to one connection of a mail server as a filter of this policy: reads at most 65,536 bytes at once, and
+/// writes all replies to what was read before it reads more, until the mail server quits, the input ends, or a fault.
 /// `Served::Failed` with `FilterFault::NoMemory` is also refused memory for what is read. Memory is bounded by what a
 /// connection and a message may have, 16,777,216 bytes of packets.
 pub fn answer_run<P: Policy, R: Read, W: Write>(
