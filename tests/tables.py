@@ -1,6 +1,6 @@
 #!/usr/bin/env python3
-"""Plays the rows of the tables cases/*.table on milter_tool and milter_rows as both compilers build them; the tables
-of failed calls are played by failed_calls.py alone.
+"""Plays the rows of the tables cases/*.table on their programs as both compilers build them; the tables of failed calls
+are played by failed_calls.py alone.
 
 cases/README.md has the format of the tables. The programs are those that `rt ci` leaves. The last line is
 'N passed, M failed'; the status is 1 where a row failed or a table can't be read.
@@ -16,16 +16,19 @@ BUILDS = ['', '.by-rattle']
 TABLES = [
     'trace_commands', 'trace_replies', 'trace_sizes', 'trace_streams', 'trace_lines', 'trace_refused_memory',
     'session_faults', 'session_sizes', 'session_values', 'session_refused_memory', 'answer_replies', 'answer_faults',
-    'answer_sizes', 'answer_refused_memory', 'edits_values', 'edits_faults', 'packets_totals']
+    'answer_sizes', 'answer_refused_memory', 'guard_replies', 'edits_values', 'edits_faults', 'packets_totals']
 # What plays the tables of each kind: a program and its words, of which FILE stands for a file of the input.
 FILE = object()
 PLAYERS = {
     'trace': ('milter_tool', ['trace']),
     'session': ('milter_tool', ['session', FILE]),
     'answer': ('milter_tool', ['answer']),
+    'guard': ('milter_loop_guard', []),
     'edits': ('milter_rows', ['edits', 'text']),
     'packets': ('milter_rows', ['packets']),
 }
+# The kinds whose programs write packets: a filter's.
+FILTERS = ['answer', 'guard']
 MARKS = b'|^<>&=!*#$%'
 SPECIAL = re.compile(rb'\{([0-9a-f]{2}|[^{}]+\*[0-9]+|code)\}')
 NO_LF = b'{no LF}'
@@ -105,7 +108,7 @@ def part_of(kind, mark, text, code):
         packet = packet_of(text, code)
         if kind == 'trace':
             return 'given', b'%s %s\n' % (mark, packet.hex().encode())
-        return ('out' if kind == 'answer' and mark == b'<' else 'given'), packet
+        return ('out' if kind in FILTERS and mark == b'<' else 'given'), packet
     if mark in b'=!':
         return ('out' if mark == b'=' else 'err'), ended(text, code, True)
     return None

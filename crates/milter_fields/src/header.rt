@@ -66,8 +66,8 @@ impl<'a> HeaderRef<'a> {
         Ok(Header { name, value })
     }
 
-    /// Makes the header field a copy of this one, in the room that its texts have where that is enough. After `NoMemory`
-    /// nothing is known of it.
+    /// Makes the header field a copy of this one, in the room that its texts have where that is enough. After
+    /// `NoMemory` nothing is known of it.
     pub fn copy_to(&self, header: &mut Header) -> Result<(), NoMemory>
         ensures { OnOk result (header.new ≡ header_of self.now) }
     {
