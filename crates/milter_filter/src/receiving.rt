@@ -17,7 +17,7 @@ ghost use Rattle.milter_exchange.specs.Standings.{after_options, standing_by, st
 
 use crate::connection::Connection;
 use crate::policy::Policy;
-use crate::replying::put_answer;
+use crate::replying::{put_answer, put_continue};
 use milter_exchange::is_final_at;
 use milter_wire::{
     Agreed, CommandRef, NoMemory, Options, Protocol, Reply, Stage, SymList, SymLists, Text,
@@ -79,17 +79,13 @@ fn receive_options<P: Policy>(
 }
 
 /// Lets an unknown command of the client go on, unless such commands aren't answered.
-fn receive_unknown(
-    alloc: Global,
-    connection: &Connection,
-    out: &mut Vec<u8>,
-) -> Result<(), NoMemory>
+fn receive_unknown(connection: &Connection, out: &mut Vec<u8>) -> Result<(), NoMemory>
     ensures { OnOk result (out.new.items
         ≡ out.old.items ++ flat_map encoding (replies_to_unknown connection.now.agreed)) }
 {
     match connection.agreed() {
         Some(agreed) if agreed.options.protocol.0 & Protocol::NR_UNKN.0 == 0 => {
-            Reply::Continue.encode(alloc, out)
+            put_continue(out)
         }
         _ => Ok(()),
     }
@@ -172,7 +168,7 @@ pub(crate) fn receive<P: Policy>(
 {
     match command {
         CommandRef::Options(offer) => receive_options(alloc, policy, connection, *offer, out),
-        CommandRef::Unknown(_) => receive_unknown(alloc, connection, out),
+        CommandRef::Unknown(_) => receive_unknown(connection, out),
         CommandRef::Abort => {
             connection.end_message();
             Ok(())

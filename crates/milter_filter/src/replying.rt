@@ -3,6 +3,7 @@
 ghost use Rattle.std.specs.Prelude.{◌≡◌, ◌++◌, All, OnOk, Some, if◌then◌else◌, map};
 ghost use Rattle.std.specs.List.{filter, flat_map};
 ghost use Rattle.milter_message.specs.EditReplies as asked;
+ghost use Rattle.milter_wire.specs.declared.reply.Reply.TheVariants as Reply;
 ghost use Rattle.milter_wire.specs.Reply.{Fits, encoding};
 ghost use Rattle.milter_wire.specs.Verdicts as given;
 ghost use Rattle.milter_exchange.specs.Permitted.{is_permitted, permitted, permitted_verdict};
@@ -10,8 +11,12 @@ ghost use Rattle.milter_exchange.specs.Replies.{replies_of_answer};
 
 use milter_exchange::{Answer, permits, permitted_verdict};
 use milter_message::Edit;
+use milter_wire::codes::SMFIR_CONTINUE;
 use milter_wire::{Agreed, NoMemory, Verdict};
 use std::alloc::Global;
+
+/// The packet of `Reply::Continue`.
+const CONTINUE: [u8; 5] = [0, 0, 0, 1, SMFIR_CONTINUE];
 
 /// Appends the packets of the answer: of its edits that were agreed on, and of its verdict.
 pub(crate) fn put_answer(
@@ -70,7 +75,17 @@ fn put_verdict(
     ensures { OnOk result (out.new.items
         ≡ out.old.items ++ encoding (given.reply_of (permitted_verdict agreed.now verdict))) }
 {
-    permitted_verdict(agreed, verdict)
-        .into_reply()
-        .encode(alloc, out)
+    match permitted_verdict(agreed, verdict) {
+        Verdict::Continue => put_continue(out),
+        other => other.into_reply().encode(alloc, out),
+    }
+}
+
+/// Appends the packet that lets the message go on, which is most of what a filter sends.
+#[tactic(auto, unfolding(milter_stream::specs::Number::number))]
+pub(crate) fn put_continue(out: &mut Vec<u8>) -> Result<(), NoMemory>
+    ensures { OnOk result (out.new.items ≡ out.old.items ++ encoding Reply.Continue) }
+{
+    out.extend_from_slice(&CONTINUE)?;
+    Ok(())
 }
