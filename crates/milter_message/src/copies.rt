@@ -6,12 +6,22 @@ use milter_wire::{Header, NoMemory, Params, Path, Text};
 use std::alloc::Global;
 
 /// A header field of the same name and value.
-fn copy_header(alloc: Global, header: &Header) -> Result<Header, NoMemory>
+pub(crate) fn copy_header(alloc: Global, header: &Header) -> Result<Header, NoMemory>
     ensures { IfOk result (λ copy. copy ≡ header.now) }
 {
     let name = Text::copy_of(alloc, header.name.as_slice())?;
     let value = Text::copy_of(alloc, header.value.as_slice())?;
     Ok(Header { name, value })
+}
+
+/// A text of the same bytes, or none.
+pub(crate) fn copy_optional(alloc: Global, text: &Option<Text>) -> Result<Option<Text>, NoMemory>
+    ensures { IfOk result (λ copy. copy ≡ text.now) }
+{
+    match text {
+        Some(text) => Ok(Some(Text::copy_of(alloc, text.as_slice())?)),
+        None => Ok(None),
+    }
 }
 
 /// The same header fields, in order.

@@ -1,10 +1,14 @@
 //! What a filter may ask to change of a message.
 
-ghost use Rattle.std.specs.Prelude.{◌≡◌, ◌+◌, ◌-◌, ◌^◌, length, min};
+ghost use Rattle.std.specs.Prelude.{◌≡◌, ◌+◌, ◌-◌, ◌^◌, IfOk, length, min};
 ghost use Rattle.milter_wire.specs.Reply.{payload_of};
 ghost use Rattle.milter_message.specs.EditReplies.{edit_of, needed_by, reply_of, weight_of};
 
-use milter_wire::{Actions, HEAD_LEN, Header, Reply, Text, arguments_len, header_len, string_len};
+use crate::copies::{copy_header, copy_optional};
+use milter_wire::{
+    Actions, HEAD_LEN, Header, NoMemory, Reply, Text, arguments_len, header_len, string_len,
+};
+use std::alloc::Global;
 
 /// The bytes of the number of a header field.
 const INDEX_LEN: usize = 4;
@@ -119,6 +123,36 @@ impl Edit {
         ensures { result ≡ min (weight_of self.now) (2 ^ 64 - 1) }
     {
         payload_len(self).saturating_add(HEAD_LEN)
+    }
+
+    /// The same edit. Each of its texts is copied once.
+    pub fn copy(&self, alloc: Global) -> Result<Edit, NoMemory>
+        ensures { IfOk result (λ copy. copy ≡ self.now) }
+    {
+        Ok(match self {
+            Edit::AddHeader(header) => Edit::AddHeader(copy_header(alloc, header)?),
+            Edit::InsertHeader { index, header } => Edit::InsertHeader {
+                index: *index,
+                header: copy_header(alloc, header)?,
+            },
+            Edit::ChangeHeader { index, header } => Edit::ChangeHeader {
+                index: *index,
+                header: copy_header(alloc, header)?,
+            },
+            Edit::AddRcpt(address) => Edit::AddRcpt(Text::copy_of(alloc, address.as_slice())?),
+            Edit::AddRcptPar { address, arguments } => Edit::AddRcptPar {
+                address: Text::copy_of(alloc, address.as_slice())?,
+                arguments: copy_optional(alloc, arguments)?,
+            },
+            Edit::DelRcpt(address) => Edit::DelRcpt(Text::copy_of(alloc, address.as_slice())?),
+            Edit::ChangeFrom { address, arguments } => Edit::ChangeFrom {
+                address: Text::copy_of(alloc, address.as_slice())?,
+                arguments: copy_optional(alloc, arguments)?,
+            },
+            Edit::ReplaceBody(bytes) => Edit::ReplaceBody(Text::copy_of(alloc, bytes.as_slice())?),
+            Edit::Quarantine(reason) => Edit::Quarantine(Text::copy_of(alloc, reason.as_slice())?),
+            Edit::Progress => Edit::Progress,
+        })
     }
 }
 

@@ -1,11 +1,13 @@
 //! What a filter decides when it is asked.
 
-ghost use Rattle.std.specs.Prelude.{◌≡◌};
+ghost use Rattle.std.specs.Prelude.{◌≡◌, IfOk};
 ghost use Rattle.milter_wire.specs.Verdicts.{given_at, reply_of, verdict_of};
 
 use crate::reply::Reply;
 use crate::stage::Stage;
 use milter_fields::Text;
+use milter_stream::NoMemory;
+use std::alloc::Global;
 
 /// A filter's answer to a stage. Source: mfdef.h (SMFIR_CONTINUE and those after it), and the libmilter callback
 /// documentation (return values).
@@ -71,5 +73,20 @@ impl Verdict {
             Reply::Code(text) => Ok(Verdict::Code(text)),
             other => Err(other),
         }
+    }
+
+    /// The same verdict. The text of a code is copied once.
+    pub fn copy(&self, alloc: Global) -> Result<Verdict, NoMemory>
+        ensures { IfOk result (λ copy. copy ≡ self.now) }
+    {
+        Ok(match self {
+            Verdict::Continue => Verdict::Continue,
+            Verdict::Accept => Verdict::Accept,
+            Verdict::Reject => Verdict::Reject,
+            Verdict::Tempfail => Verdict::Tempfail,
+            Verdict::Discard => Verdict::Discard,
+            Verdict::Skip => Verdict::Skip,
+            Verdict::Code(text) => Verdict::Code(Text::copy_of(alloc, text.as_slice())?),
+        })
     }
 }

@@ -1,0 +1,7 @@
+pub mod StageRules
+pub mod Conditions
+pub mod Reading
+pub mod ActionFits
+pub mod RuleSet
+pub mod RulesLaw
+pub mod RulesValue
