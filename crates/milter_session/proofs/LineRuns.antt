@@ -11,9 +11,9 @@ use Rattle.milter_text.specs.Words.{HasWords}
 use Rattle.milter_text.proofs.WordLaws.{words_same}
 use Rattle.milter_session.specs.declared.session_fault.SessionFault.{SessionFault}
 use Rattle.milter_session.specs.declared.session_fault.SessionFault.TheVariants.{NoMemory}
-use Rattle.milter_session.specs.LineCursor.{BeginWithValues, EndsBefore, HasNoNext, IsNextLine, LinesAhead}
-use Rattle.milter_session.specs.LineCursor.{NextHasWords}
-use Rattle.milter_session.specs.LineValues.{begins}
+use Rattle.milter_text.specs.LineCursor.{HasNoNext, IsNextLine, LinesAhead, NextHasWords}
+use Rattle.milter_text.specs.WordValues.{begins}
+use Rattle.milter_session.specs.LineGroups.{BeginWithValues, EndsBefore}
 use Rattle.milter_session.specs.SessionFault.{Reads}
 use Rattle.milter_session.specs.SessionFile.{AllHaveValues, LineHasValue}
 

@@ -10,12 +10,13 @@ use Rattle.milter_text.specs.Words.{HasWords}
 use Rattle.milter_message.specs.MailObject.{MailObject}
 use Rattle.milter_session.specs.declared.session_fault.SessionFault.{SessionFault}
 use Rattle.milter_session.specs.declared.session_fault.SessionFault.TheVariants.{NoMemory}
-use Rattle.milter_session.specs.LineCursor.{EndsBefore}
-use Rattle.milter_session.specs.LineValues.{begins, end_line, header_of, piece_of}
+use Rattle.milter_text.specs.WordValues.{begins}
+use Rattle.milter_session.specs.LineGroups.{EndsBefore}
+use Rattle.milter_session.specs.LineValues.{end_line, header_of, piece_of}
 use Rattle.milter_session.specs.MessageLines.{BeginWithMessage, BeginWithParts}
 use Rattle.milter_session.specs.Openings.{header_begins, piece_begins}
 use Rattle.milter_session.specs.SessionFile.{AllHaveValues, ParsesAsMessage, ParsesAsMessageList}
-use Rattle.milter_session.proofs.FirstWord.{begins_other}
+use Rattle.milter_text.proofs.FirstWord.{begins_other}
 use Rattle.milter_session.proofs.LineRuns.{Opens}
 
 -- ---- where the lines with a keyword end

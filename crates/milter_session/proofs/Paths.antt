@@ -9,7 +9,8 @@ use Rattle.std.proofs.lemmas.List.Elements.{All-nil, All-cons, All-head, All-tai
 use Rattle.milter_fields.specs.declared.path.Path.{Path}
 use Rattle.milter_fields.specs.Field.{HasNoNul}
 use Rattle.milter_text.specs.declared.word.Word.{Word}
-use Rattle.milter_session.specs.LineValues.{is_keyword, path_of, path_with, texts_of}
+use Rattle.milter_text.specs.WordValues.{is_keyword, texts_of}
+use Rattle.milter_session.specs.LineValues.{path_of, path_with}
 
 abbrev texts : List Word → List (List ℕ)
 texts words = map (λ word. word.text) words

@@ -9,7 +9,7 @@ use Rattle.milter_mail.specs.WeightParts.{IsOverhead, IsSendableWith}
 use Rattle.milter_mail.proofs.MailLaws.{all_sendable_with}
 use Rattle.milter_session.specs.declared.session_fault.SessionFault.{SessionFault}
 use Rattle.milter_session.specs.declared.session_macros.MacroLine.{MacroLine}
-use Rattle.milter_session.specs.LineCursor.{BeginWithValues, EndsBefore}
+use Rattle.milter_session.specs.LineGroups.{BeginWithValues, EndsBefore}
 use Rattle.milter_session.specs.LineValues.{client_of, helo_of, macro_of, message_line}
 use Rattle.milter_session.specs.SessionFile.{LineHasValue, ParsesAsMessageList, ParsesAsSession, macros_of_lines}
 

@@ -2,7 +2,7 @@ pub mod LineValues
 pub mod ClientOrigin
 pub mod SessionFile
 pub mod SessionFault
-pub mod LineCursor
+pub mod LineGroups
 pub mod MessageLines
 pub mod MacroLists
 pub mod Openings

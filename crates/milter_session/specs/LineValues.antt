@@ -1,11 +1,9 @@
 -- The value of each line of a session file, by its words. A keyword, the family of a client and the stage of a macro
 -- are plain words, a TEXT is a quoted one, and a NUMBER is a plain word of digits.
-use Rattle.std.specs.Prelude.{ℕ, Bool, false, not, nat_le, nat_lt, ◌==◌, ◌&&◌, List, [], ◌∷◌, length}
-use Rattle.std.specs.Prelude.{codes, find, Option, None, Some, if◌then◌else◌}
-use Rattle.std.specs.Char.{is_ascii_digit}
+use Rattle.std.specs.Prelude.{ℕ, Bool, not, nat_le, nat_lt, ◌==◌, ◌&&◌, List, [], ◌∷◌, length, codes, find, Option}
+use Rattle.std.specs.Prelude.{None, Some, if◌then◌else◌}
 use Rattle.std.specs.List.{list_all}
 use Rattle.std.specs.Option.{option_map}
-use Rattle.std.specs.Str.{bytes_eq}
 use Rattle.std.specs.Str.Parse.{digits_value}
 use Rattle.milter_fields.specs.declared.client.Client.{Client}
 use Rattle.milter_fields.specs.declared.client.Origin.{Origin}
@@ -13,43 +11,16 @@ use Rattle.milter_fields.specs.declared.client.Origin.TheVariants.{Unknown, Unix
 use Rattle.milter_fields.specs.declared.header.Header.{Header}
 use Rattle.milter_fields.specs.declared.path.Path.{Path}
 use Rattle.milter_text.specs.declared.word.Word.{Word}
+use Rattle.milter_text.specs.WordValues.{is_keyword, is_number, keyword, text_of, texts_of}
 use Rattle.milter_session.specs.declared.session_macros.MacroLine.{MacroLine}
 use Rattle.milter_session.specs.declared.session_macros.MacroStage.{MacroStage}
 use Rattle.milter_session.specs.declared.session_macros.MacroStage.TheVariants as stages
 
--- ---- words
-
-abbrev pub keyword : List ℕ → Word
-keyword text = record { text = text; quoted = false }
-
-abbrev pub is_keyword : List ℕ → Word → Bool
-is_keyword text word = not word.quoted && bytes_eq word.text text
-
--- whether a line begins with the keyword
-abbrev pub begins : List ℕ → List Word → Bool
-begins text [] = false
-begins text (word ∷ words) = is_keyword text word
-
--- the text of a quoted word
-abbrev pub text_of : Word → Option (List ℕ)
-text_of word = if word.quoted then Some word.text else None
-
--- the texts of words that are all quoted
-abbrev pub texts_of : List Word → Option (List (List ℕ))
-texts_of [] = Some []
-texts_of (word ∷ words) = if word.quoted then option_map (λ texts. word.text ∷ texts) (texts_of words) else None
-
--- a number in decimal, of one to ten digits
-abbrev pub is_number : Word → Bool
-is_number word =
-    not word.quoted
-    && (nat_lt 0 (length word.text) && (nat_le (length word.text) 10 && list_all is_ascii_digit word.text))
+-- ---- the connection
 
 -- a number that a port has room for
 abbrev pub is_port : Word → Bool
 is_port word = is_number word && nat_le (digits_value 10 word.text) 65535
-
--- ---- the connection
 
 -- `client U TEXT`, or `client F TEXT NUMBER TEXT` with the family `L`, `4` or `6`
 abbrev pub origin_of : Word → ℕ → List ℕ → Option Origin

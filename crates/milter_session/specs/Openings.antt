@@ -7,8 +7,9 @@ use Rattle.milter_fields.specs.declared.header.Header.{Header}
 use Rattle.milter_fields.specs.declared.path.Path.{Path}
 use Rattle.milter_text.specs.declared.word.Word.{Word}
 use Rattle.milter_session.specs.declared.session_macros.MacroLine.{MacroLine}
-use Rattle.milter_session.specs.LineValues.{begins, header_of, is_keyword, is_name, macro_of, macro_with, path_of}
-use Rattle.milter_session.specs.LineValues.{path_with, piece_of, stage_of, text_of, texts_of}
+use Rattle.milter_text.specs.WordValues.{begins, is_keyword, text_of, texts_of}
+use Rattle.milter_session.specs.LineValues.{header_of, is_name, macro_of, macro_with, path_of, path_with, piece_of}
+use Rattle.milter_session.specs.LineValues.{stage_of}
 
 begins_if : {X : Type 0} (test : Bool) (value : Option X) (x : X) → (if test then value else None) ≡ Some x
     → test ≡ true

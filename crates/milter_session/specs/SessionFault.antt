@@ -1,5 +1,7 @@
 -- The faults of a session file.
 use Rattle.std.specs.Prelude.{◌≡◌, ℕ, ◌≤◌, IfSome, Option, None, Some, Result, Ok, Err}
+use Rattle.milter_text.specs.declared.line_fault.LineFault.{LineFault}
+use Rattle.milter_text.specs.declared.line_fault.LineFault.TheVariants as line_faults
 use Rattle.milter_session.specs.declared.session_fault.SessionFault.{SessionFault}
 use Rattle.milter_session.specs.declared.session_fault.SessionFault.TheVariants.{UnknownLine, BadClient, NoRecipient}
 use Rattle.milter_session.specs.declared.session_fault.SessionFault.TheVariants.{BadHeader, NoEnd, TooLarge, Nul}
@@ -24,6 +26,11 @@ session_fault_line (NoEnd n) = Some n
 session_fault_line (TooLarge n) = Some n
 session_fault_line (Nul n) = Some n
 session_fault_line NoMemory = None
+
+-- a line that is not in words is an unknown line
+abbrev pub of_line_fault : LineFault → SessionFault
+of_line_fault (line_faults.NotInWords n) = UnknownLine n
+of_line_fault line_faults.NoMemory = NoMemory
 
 -- the fault is of a line from 1 to this one, unless it is NoMemory
 abbrev pub IsWithin : ℕ → SessionFault → Type 0

@@ -3,23 +3,18 @@
 
 ghost use Rattle.std.specs.Prelude.{◌≡◌, ◌↔◌, ◌-◌, ◌^◌, min, IfErr, IfOk, IsTrue, List, None, Some, ℕ, if◌then◌else◌};
 ghost use Rattle.std.specs.Prelude.{option_map};
-ghost use Rattle.std.specs.Char.{is_ascii_digit};
-ghost use Rattle.std.specs.List.{list_all};
 ghost use Rattle.std.specs.Str.Parse.{digits_value};
 ghost use Rattle.milter_wire.specs.declared.command.Command.TheVariants as commands;
 ghost use Rattle.milter_wire.specs.Command.{Fits};
 ghost use Rattle.milter_fields.specs.Layout.{OriginFits};
 ghost use Rattle.milter_session.specs.ClientOrigin.{endpoint_origin, origin_with};
-ghost use Rattle.milter_session.specs.LineValues.{client_of, is_number, is_port, origin_of};
+ghost use Rattle.milter_session.specs.LineValues.{client_of, is_port, origin_of};
 ghost use Rattle.milter_session.specs.SessionFault.{IsAt, Reads};
 
-use crate::line_cursor::FileLine;
-use crate::line_values::{is_keyword, text_in};
 use crate::session_fault::SessionFault;
-use milter_text::Word;
+use milter_text::{FileLine, Word};
 use milter_wire::{Client, NoMemory, Origin, Text, connect_packet_len};
 use std::alloc::Global;
-use std::str;
 
 /// A family of addresses with ports.
 #[derive(Clone, Copy)]
@@ -59,18 +54,18 @@ fn client_parts(words: &[Word]) -> Option<(&Text, Option<Endpoint<'_>>)>
 {
     match words {
         [first, family, host] => {
-            if !is_keyword(b"client", first) || !is_keyword(b"U", family) {
+            if !first.is_keyword(b"client") || !family.is_keyword(b"U") {
                 return None;
             }
-            Some((text_in(host)?, None))
+            Some((host.quoted_text()?, None))
         }
         [first, family, host, port, address] => {
-            if !is_keyword(b"client", first) {
+            if !first.is_keyword(b"client") {
                 return None;
             }
-            let host = text_in(host)?;
+            let host = host.quoted_text()?;
             let port = port_in(port)?;
-            let address = text_in(address)?;
+            let address = address.quoted_text()?;
             let family = family_in(family)?;
             Some((
                 host,
@@ -90,11 +85,11 @@ fn family_in(word: &Word) -> Option<Family>
     ensures { (port : ℕ) (address : List ℕ) →
         option_map (λ family. origin_with family port address) result ≡ origin_of word.now port address }
 {
-    if is_keyword(b"L", word) {
+    if word.is_keyword(b"L") {
         Some(Family::Unix)
-    } else if is_keyword(b"4", word) {
+    } else if word.is_keyword(b"4") {
         Some(Family::Inet)
-    } else if is_keyword(b"6", word) {
+    } else if word.is_keyword(b"6") {
         Some(Family::Inet6)
     } else {
         None
@@ -105,29 +100,7 @@ fn family_in(word: &Word) -> Option<Family>
 fn port_in(word: &Word) -> Option<u16>
     ensures { result ≡ (if is_port word.now then Some (digits_value 10 word.now.text) else None) }
 {
-    if !is_number(word) {
-        return None;
-    }
-    let digits = str::from_utf8(word.text.as_slice()).ok()?;
-    digits.parse().ok()
-}
-
-/// Whether the word is a number: one to ten digits.
-fn is_number(word: &Word) -> bool
-    ensures { result ≡ is_number word.now }
-{
-    let digits = word.text.as_slice();
-    if word.quoted || digits.is_empty() || digits.len() > 10 {
-        return false;
-    }
-    are_digits(digits)
-}
-
-/// Whether each of the bytes is a digit.
-fn are_digits(bytes: &[u8]) -> bool
-    ensures { result ≡ list_all is_ascii_digit bytes.now }
-{
-    bytes.iter().all(|byte| byte.is_ascii_digit())
+    u16::try_from(word.number()?).ok()
 }
 
 /// Whether there is no endpoint, or one whose address has no NUL.

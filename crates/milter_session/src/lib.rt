@@ -3,8 +3,6 @@
 #![tactic(auto)]
 
 mod client_line;
-mod laws;
-mod line_cursor;
 mod line_group;
 mod line_values;
 mod message_groups;
@@ -14,7 +12,6 @@ mod session_macros;
 mod session_messages;
 mod session_text;
 
-pub use laws::written_numbers;
 pub use session_fault::SessionFault;
 pub use session_file::read_session;
 pub use session_text::write_session;

@@ -4,13 +4,13 @@ ghost use Rattle.std.specs.Prelude.{◌≡◌, ◌≤◌, ◌++◌, ◌∷◌, [
 ghost use Rattle.std.specs.Prelude.{ℕ};
 ghost use Rattle.milter_text.specs.declared.word.Word.{Word};
 ghost use Rattle.milter_session.specs.declared.session_fault.SessionFault.TheVariants as faults;
-ghost use Rattle.milter_session.specs.LineCursor.{BeginWithValues, EndsBefore, is_plain_word};
-ghost use Rattle.milter_session.specs.LineValues.{begins};
+ghost use Rattle.milter_text.specs.WordValues.{begins, is_plain_word};
+ghost use Rattle.milter_session.specs.LineGroups.{BeginWithValues, EndsBefore};
 ghost use Rattle.milter_session.specs.SessionFault.{IsAt, IsWithin};
 ghost use Rattle.milter_session.specs.SessionFile.{AllHaveValues};
 
-use crate::line_cursor::{FileLine, LineCursor};
 use crate::session_fault::SessionFault;
+use milter_text::{FileLine, LineCursor};
 use std::alloc::Global;
 
 /// What is read from consecutive lines that begin with one keyword.

@@ -8,14 +8,12 @@ ghost use Rattle.milter_wire.specs.declared.command.Command.TheVariants as comma
 ghost use Rattle.milter_wire.specs.Command.{Fits};
 ghost use Rattle.milter_fields.specs.Field.{HasNoNul};
 ghost use Rattle.milter_message.specs.LeadingSpace.{WholeFieldFits};
-ghost use Rattle.milter_session.specs.LineValues.{header_of, helo_of, if_named, is_keyword, is_name, path_of, piece_of};
-ghost use Rattle.milter_session.specs.LineValues.{text_of};
+ghost use Rattle.milter_session.specs.LineValues.{header_of, helo_of, if_named, is_name, path_of, piece_of};
 ghost use Rattle.milter_session.specs.declared.session_fault.SessionFault.TheVariants as SessionFault;
 ghost use Rattle.milter_session.specs.SessionFault.{IsAt, Reads};
 
-use crate::line_cursor::FileLine;
 use crate::session_fault::SessionFault;
-use milter_text::Word;
+use milter_text::{FileLine, Word};
 use milter_wire::{
     Header, NoMemory, Params, Path, Text, header_packet_len, helo_packet_len, path_packet_len,
 };
@@ -45,10 +43,10 @@ fn helo_text(words: &[Word]) -> Option<&Text>
     let [first, name] = words else {
         return None;
     };
-    if !is_keyword(b"helo", first) {
+    if !first.is_keyword(b"helo") {
         return None;
     }
-    text_in(name)
+    name.quoted_text()
 }
 
 /// The sender or the recipient in a line with this keyword.
@@ -76,7 +74,7 @@ fn path_words<'a>(keyword: &[u8], words: &'a [Word]) -> Option<(&'a Text, &'a [W
     let [first, address, params @ ..] = words else {
         return None;
     };
-    if !is_keyword(keyword, first) || !address.quoted || !are_quoted(params) {
+    if !first.is_keyword(keyword) || !address.quoted || !are_quoted(params) {
         return None;
     }
     Some((&address.text, params))
@@ -144,10 +142,10 @@ fn header_texts(words: &[Word]) -> Option<(&Text, &Text)>
     let [first, name, value] = words else {
         return None;
     };
-    if !is_keyword(b"header", first) {
+    if !first.is_keyword(b"header") {
         return None;
     }
-    Some((text_in(name)?, text_in(value)?))
+    Some((name.quoted_text()?, value.quoted_text()?))
 }
 
 /// Whether it is the name of a header field: visible ASCII characters, at least one, and no colon.
@@ -205,25 +203,8 @@ fn piece_text(words: &[Word]) -> Option<&Text>
     let [first, text] = words else {
         return None;
     };
-    if !is_keyword(b"body", first) {
+    if !first.is_keyword(b"body") {
         return None;
     }
-    text_in(text)
-}
-
-/// The text of a quoted word.
-pub(crate) fn text_in(word: &Word) -> Option<&Text>
-    ensures { option_map (λ text. text.now) result ≡ text_of word.now }
-{
-    if !word.quoted {
-        return None;
-    }
-    Some(&word.text)
-}
-
-/// Whether the word is the keyword: plain words alone are.
-pub(crate) fn is_keyword(keyword: &[u8], word: &Word) -> bool
-    ensures { result ≡ is_keyword keyword.now word.now }
-{
-    !word.quoted && word.text.as_slice() == keyword
+    text.quoted_text()
 }

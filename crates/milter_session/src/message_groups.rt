@@ -8,10 +8,10 @@ ghost use Rattle.milter_message.specs.LeadingSpace.{WholeFieldFits};
 ghost use Rattle.milter_session.specs.LineValues.{header_of, path_of, piece_of};
 ghost use Rattle.milter_session.specs.Openings.{header_begins, path_begins, piece_begins};
 
-use crate::line_cursor::FileLine;
 use crate::line_group::LineGroup;
 use crate::line_values::{header_in, path_in, piece_in};
 use crate::session_fault::SessionFault;
+use milter_text::FileLine;
 use milter_wire::{Header, Path, Text};
 use std::alloc::Global;
 

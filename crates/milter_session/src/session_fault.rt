@@ -2,8 +2,9 @@
 
 ghost use Rattle.std.specs.Prelude.{◌≡◌};
 ghost use Rattle.milter_session.specs.declared.session_fault.SessionFault.TheVariants as faults;
-ghost use Rattle.milter_session.specs.SessionFault.{session_fault_line, session_fault_number};
+ghost use Rattle.milter_session.specs.SessionFault.{of_line_fault, session_fault_line, session_fault_number};
 
+use milter_text::LineFault;
 use milter_wire::NoMemory;
 use std::alloc::{AllocError, AllocFailed};
 use thiserror::Error;
@@ -68,6 +69,17 @@ impl SessionFault {
             | SessionFault::TooLarge(line)
             | SessionFault::Nul(line) => Some(*line),
             SessionFault::NoMemory => None,
+        }
+    }
+}
+
+impl From<LineFault> for SessionFault {
+    ghost from_gives = { λ fault e. e ≡ of_line_fault fault };
+
+    fn from(fault: LineFault) -> SessionFault {
+        match fault {
+            LineFault::NotInWords(line) => SessionFault::UnknownLine(line),
+            LineFault::NoMemory => SessionFault::NoMemory,
         }
     }
 }

@@ -12,13 +12,13 @@ ghost use Rattle.milter_session.specs.SessionFault.{IsWithin};
 ghost use Rattle.milter_session.specs.SessionFile.{IsSessionFile, LineHasValue, ParsesAsMessageList, ParsesAsSession};
 
 use crate::client_line::client_in;
-use crate::line_cursor::LineCursor;
 use crate::line_group::read_group;
 use crate::line_values::helo_in;
 use crate::session_fault::SessionFault;
 use crate::session_macros::MacroLists;
 use crate::session_messages::read_messages;
 use milter_mail::{Macros, Overhead, Session};
+use milter_text::LineCursor;
 use milter_wire::{Client, Text};
 use std::alloc::Global;
 

@@ -12,12 +12,10 @@ ghost use Rattle.milter_session.specs.SessionFault.{IsAt, Reads};
 ghost use Rattle.milter_session.specs.SessionFile.{macros_of_lines};
 ghost use Rattle.milter_session.specs.Openings.{macro_begins};
 
-use crate::line_cursor::FileLine;
 use crate::line_group::LineGroup;
-use crate::line_values::{is_keyword, text_in};
 use crate::session_fault::SessionFault;
 use milter_mail::Macros;
-use milter_text::Word;
+use milter_text::{FileLine, Word};
 use milter_wire::{PAYLOAD_MAX, Pair, Pairs, Text, pair_len};
 use std::alloc::Global;
 use std::marker::Model;
@@ -252,10 +250,10 @@ fn macro_parts(words: &[Word]) -> Option<(MacroStage, &Text, &Text)>
     let [first, stage, name, value] = words else {
         return None;
     };
-    if !is_keyword(b"macro", first) {
+    if !first.is_keyword(b"macro") {
         return None;
     }
-    Some((stage_in(stage)?, text_in(name)?, text_in(value)?))
+    Some((stage_in(stage)?, name.quoted_text()?, value.quoted_text()?))
 }
 
 /// The stage that has macros, by its word.
@@ -265,5 +263,5 @@ fn stage_in(word: &Word) -> Option<MacroStage>
     STAGES
         .iter()
         .copied()
-        .find(|stage| is_keyword(stage.word(), word))
+        .find(|stage| word.is_keyword(stage.word()))
 }

@@ -11,19 +11,19 @@ ghost use Rattle.milter_message.specs.LeadingSpace.{WholeFieldFits};
 ghost use Rattle.milter_message.specs.MailObject.{IsMessage, MailObject};
 ghost use Rattle.milter_mail.specs.WeightParts.{IsSendableWith};
 ghost use Rattle.milter_session.specs.declared.session_fault.SessionFault.TheVariants as faults;
-ghost use Rattle.milter_session.specs.LineCursor.{IsNextLine, NextHasWords};
-ghost use Rattle.milter_session.specs.LineValues.{end_line, keyword, path_of};
+ghost use Rattle.milter_text.specs.LineCursor.{IsNextLine, NextHasWords};
+ghost use Rattle.milter_text.specs.WordValues.{keyword};
+ghost use Rattle.milter_session.specs.LineValues.{end_line, path_of};
 ghost use Rattle.milter_session.specs.MessageLines.{BeginWithMessage, BeginWithParts};
 ghost use Rattle.milter_session.specs.SessionFault.{IsAt, IsWithin};
 ghost use Rattle.milter_session.specs.SessionFile.{LineHasValue, ParsesAsMessage, ParsesAsMessageList};
 
-use crate::line_cursor::{FileLine, LineCursor};
 use crate::line_group::read_group;
-use crate::line_values::{is_keyword, path_in};
+use crate::line_values::path_in;
 use crate::message_groups::{Body, HeaderFields, Recipients};
 use crate::session_fault::SessionFault;
 use milter_mail::{Message, Overhead, leading_spaces};
-use milter_text::Word;
+use milter_text::{FileLine, LineCursor, Word};
 use milter_wire::Path;
 use std::alloc::Global;
 
@@ -63,7 +63,7 @@ fn is_only_word(text: &[u8], words: &[Word]) -> bool
     ensures { IsTrue result ↔ (words.now ≡ keyword text.now ∷ []) }
 {
     match words {
-        [word] => is_keyword(text, word),
+        [word] => word.is_keyword(text),
         _ => false,
     }
 }

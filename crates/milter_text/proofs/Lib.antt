@@ -4,3 +4,6 @@ pub mod WordLaws
 pub mod RoundTrip
 pub mod Writing
 pub mod LineLaws
+pub mod Digits
+pub mod FirstLine
+pub mod FirstWord

@@ -1,8 +1,11 @@
 pub mod Lines
 pub mod Words
+pub mod WordValues
 pub mod Unquoting
 pub mod Quoting
 pub mod WordFault
+pub mod LineFault
+pub mod LineCursor
 pub mod TextFault
 pub mod Writing
 pub mod TextWriter

@@ -1,8 +1,9 @@
-//! Laws of lines, words and quotes, each the contract of a function that does nothing.
+//! Laws of lines, words, quotes and numbers, each the contract of a function that does nothing.
 
 ghost use Rattle.std.specs.Prelude.{◌≡◌, ◌≢◌, ◌==◌, ◌<◌, ◌+◌, ◌^◌, ◌∷◌, ◌++◌, [], false, true, All, List, None, Some, ℕ};
-ghost use Rattle.std.specs.Prelude.{drop, position, take};
+ghost use Rattle.std.specs.Prelude.{decimal, drop, position, take};
 ghost use Rattle.std.specs.List.{flat_map};
+ghost use Rattle.std.specs.Str.Parse.{digits_value};
 ghost use Rattle.milter_text.specs.declared.word.Word.{Word};
 ghost use Rattle.milter_text.specs.Lines.{AreLines, HasNoLf, Line, line_text, lines_of};
 ghost use Rattle.milter_text.specs.Quoting.{quoted};
@@ -47,4 +48,9 @@ pub fn quoted_texts()
     ensures only { (text : List ℕ) (words : List Word) → All (λ byte. byte < 2 ^ 8) text →
         HasWords (quoted text) words →
         words ≡ record { text = text; quoted = true } ∷ [] }
+{}
+
+/// The number that is read from the digits in which a number is written is that number.
+pub fn written_numbers()
+    ensures { (n : ℕ) → n < 2 ^ 64 → digits_value 10 (decimal n) ≡ n }
 {}

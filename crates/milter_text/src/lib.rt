@@ -1,12 +1,14 @@
 //! Texts as files have them: the lines of a text, the words of a line, and texts in quotes.
 //!
 //! Session files, rule files and traces are lines. A line of the first two is words: a word is plain or in
-//! quotes, and in quotes it may have any byte. [`words`] reads the words of a line, and [`quote`] writes a text so that
-//! it is read back as it was.
+//! quotes, and in quotes it may have any byte. [`words`] reads the words of a line, a [`LineCursor`] those of one line
+//! of a file after the other, and [`quote`] writes a text so that it is read back as it was.
 #![tactic(auto)]
 
 mod escapes;
 mod laws;
+mod line_cursor;
+mod line_fault;
 mod line_words;
 mod lines;
 mod quoting;
@@ -14,7 +16,11 @@ mod text_fault;
 mod text_writer;
 mod word;
 
-pub use laws::{first_line_feeds, first_lines, lines_of_texts, lines_of_words, quoted_texts};
+pub use laws::{
+    first_line_feeds, first_lines, lines_of_texts, lines_of_words, quoted_texts, written_numbers,
+};
+pub use line_cursor::{FileLine, LineCursor};
+pub use line_fault::LineFault;
 pub use line_words::words;
 pub use lines::{is_skipped, line_content};
 pub use quoting::{put_escaped, quote};

@@ -38,7 +38,7 @@ pub fn words(alloc: Global, line: &[u8]) -> Result<Vec<Word>, WordFault>
 }
 
 /// The bytes after the blanks that these begin with.
-fn after_blanks(bytes: &[u8]) -> &[u8]
+pub(crate) fn after_blanks(bytes: &[u8]) -> &[u8]
     ensures { result.now ≡ past_blanks bytes.now }
 {
     let start = first_non_blank(bytes).unwrap_or(bytes.len());
@@ -131,7 +131,7 @@ fn take_quoted(alloc: Global, body: &[u8]) -> Result<(Word, &[u8]), WordFault>
 }
 
 /// Whether a word may end before these bytes.
-fn is_after_word(bytes: &[u8]) -> bool
+pub(crate) fn is_after_word(bytes: &[u8]) -> bool
     ensures { IsTrue result ↔ IsAfterWord bytes.now }
 {
     matches!(bytes, [] | [b' ', ..])

@@ -1,7 +1,8 @@
 use Rattle.std.proofs.Common.{◌≡◌, ◌∷◌, ◌++◌, [], ap, arith, subst, sym, true, ◌∙◌}
 use Rattle.std.proofs.lemmas.Result.{err_from_is_err_and}
-use Rattle.milter_session.specs.LineCursor.{HasNoNext, LinesAhead}
-use Rattle.milter_session.specs.LineValues.{begins}
+use Rattle.milter_text.specs.LineCursor.{HasNoNext, LinesAhead}
+use Rattle.milter_text.specs.WordValues.{begins}
+use Rattle.milter_session.specs.SessionFault.{of_line_fault}
 use Rattle.milter_session.proofs.LineRuns.{Run, begin_more, left_in_words, left_of_run, next_of_run, run_end}
 use Rattle.milter_session.proofs.line_group.read_group.Goals as goal
 
@@ -14,7 +15,7 @@ returns-in_err-line-clause-only g c = λ prefix rest items order values can ends
     let run : Run text value_of all items rest = record { prefix = prefix; in_order = order; have_values = values; ends = ends } in
     let left = left_of_run text value_of all c.loop-group.lines.lines rest read.items items g.met.G.LineGroup.opens read.begun run in
     let p = err_from_is_err_and c.from_residual.result c.from_residual.ensures.1 in
-    rw (p.1, p.2) (c.in_err-line.ensures.only (left_in_words text value_of all c.loop-group.lines.lines rest read.items items run left))
+    rw (p.1, p.2) (ap of_line_fault (c.in_err-line.ensures.only (left_in_words text value_of all c.loop-group.lines.lines rest read.items items run left)))
 
 pub returns-in_err-add-clause-only : goal.returns-in_err-add-clause-only
 returns-in_err-add-clause-only g c = λ prefix rest items order values can ends.

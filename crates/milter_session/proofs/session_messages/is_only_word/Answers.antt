@@ -1,5 +1,5 @@
 use Rattle.std.proofs.Common.{sym, ◌∙◌}
-use Rattle.milter_session.proofs.FirstWord.{first_is_keyword, one_word}
+use Rattle.milter_text.proofs.FirstWord.{first_is_keyword, one_word}
 use Rattle.milter_session.proofs.session_messages.is_only_word.Goals as goal
 
 pub returns-in-len1 : goal.returns-in-len1

@@ -1,7 +1,7 @@
 use Rattle.std.proofs.Common.{[], ◌∷◌, sym, ◌∙◌}
 use Rattle.std.proofs.lemmas.Bool.{false≢true}
 use Rattle.std.proofs.lemmas.Result.{err_from_is_err_and}
-use Rattle.milter_session.specs.LineValues.{keyword}
+use Rattle.milter_text.specs.WordValues.{keyword}
 use Rattle.milter_session.proofs.LineRuns.{first_in_words, first_there, next_words}
 use Rattle.milter_session.proofs.session_messages.read_keyword.Goals as goal
 

@@ -15,8 +15,7 @@ use Rattle.milter_text.specs.Unquoting.{past_blanks}
 use Rattle.milter_text.specs.Words.{BeginsWith, HasWords, IsAfterWord, IsWordText, is_plain}
 use Rattle.milter_text.proofs.WordBounds.{list_all-plain, past_blanks-all, past_blanks-append, plain_is_no_blank}
 use Rattle.milter_text.proofs.WordLaws.{begins_same}
-use Rattle.milter_session.specs.LineCursor.{is_plain_word}
-use Rattle.milter_session.specs.LineValues.{begins, is_keyword, keyword}
+use Rattle.milter_text.specs.WordValues.{begins, is_keyword, is_plain_word, keyword}
 
 -- ---- keywords
 

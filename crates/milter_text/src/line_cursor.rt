@@ -1,34 +1,37 @@
-//! A cursor over the lines of a session file: one line at a time becomes words.
+//! A cursor over the lines of a file: one line at a time becomes words.
 
-ghost use Rattle.std.specs.Prelude.{◌≡◌, ◌≢◌, ◌↔◌, ◌==◌, ◌<◌, ◌≤◌, ◌+◌, ◌∷◌, [], not, IfErr, IfOk, IfSome, IsTrue};
-ghost use Rattle.std.specs.Prelude.{List, false, true, ℕ, length, position};
+ghost use Rattle.std.specs.Prelude.{◌≡◌, ◌≢◌, ◌==◌, ◌<◌, ◌≤◌, ◌+◌, ◌∷◌, [], IfErr, IfOk, IfSome, List, OnErr, false, true, ℕ};
+ghost use Rattle.std.specs.Prelude.{length, position};
 ghost use Rattle.std.specs.Option.{MatchOption};
+ghost use Rattle.milter_text.specs.declared.line_fault.LineFault.TheVariants as faults;
 ghost use Rattle.milter_text.specs.declared.word.Word.{Word};
+ghost use Rattle.milter_text.specs.LineCursor.{HasNoNext, IsNextLine, NextHasWords, all_contents};
+ghost use Rattle.milter_text.specs.LineFault.{IsAt, IsBefore};
 ghost use Rattle.milter_text.specs.Lines.{contents, lines_of};
-ghost use Rattle.milter_text.specs.Unquoting.{past_blanks};
-ghost use Rattle.milter_text.specs.Words.{HasWords, IsAfterWord};
-ghost use Rattle.milter_session.specs.declared.session_fault.SessionFault.TheVariants as faults;
-ghost use Rattle.milter_session.specs.LineCursor.{HasNoNext, IsNextLine, NextHasWords, all_contents, is_plain_word};
-ghost use Rattle.milter_session.specs.LineValues.{begins};
-ghost use Rattle.milter_session.specs.SessionFault.{IsAt, IsWithin};
+ghost use Rattle.milter_text.specs.WordValues.{begins, is_plain_word};
+ghost use Rattle.milter_text.specs.Words.{HasWords};
 
-use crate::session_fault::SessionFault;
-use milter_text::{Word, WordFault, is_skipped, line_content, words};
+use crate::line_fault::LineFault;
+use crate::line_words::{after_blanks, is_after_word, words};
+use crate::lines::{is_skipped, line_content};
+use crate::word::{Word, WordFault};
 use std::alloc::Global;
 use std::marker::Model;
 
-/// A line that isn't skipped. Lines are numbered from 1, the skipped ones too.
+/// A line of a file that isn't skipped.
 #[derive(Drop)]
-pub(crate) struct FileLine {
-    pub(crate) number: u64,
-    pub(crate) words: Vec<Word>,
+pub struct FileLine {
+    /// The number of the line. Lines are numbered from 1, the skipped ones too.
+    pub number: u64,
+    /// The words of the line, in order.
+    pub words: Vec<Word>,
 }
 
 /// The lines of a file that aren't skipped, from the one at the cursor on. Skipped are blank lines, and lines that
 /// begin with a `#` after any number of blanks. A line ends before its LF, and one CR before that doesn't count; the
-/// last line may have no LF.
+/// last line may have no LF. The cursor borrows the bytes of the file, and takes memory only for the words of a line.
 #[derive(Drop)]
-pub(crate) struct LineCursor<'a> {
+pub struct LineCursor<'a> {
     /// The content of the line at the cursor; none at the end of the file.
     line: Option<&'a [u8]>,
     /// The number of lines before the one at the cursor, or before the end of the file.
@@ -39,7 +42,7 @@ pub(crate) struct LineCursor<'a> {
 
 impl<'a> Model for LineCursor<'a> {
     ghost use Rattle.std.specs.Prelude.{option_map};
-    ghost use Rattle.milter_session.specs.LineCursor.{LinesAhead, lines_ahead};
+    ghost use Rattle.milter_text.specs.LineCursor.{LinesAhead, lines_ahead};
 
     ghost Value = { LinesAhead };
 
@@ -48,7 +51,7 @@ impl<'a> Model for LineCursor<'a> {
 
 impl<'a> LineCursor<'a> {
     /// A cursor at the first line of these bytes.
-    pub(crate) fn new(bytes: &'a [u8]) -> Self
+    pub fn new(bytes: &'a [u8]) -> Self
         ensures lines { result.lines ≡ contents bytes.now }
         ensures end { result.end ≤ length (lines_of bytes.now) + 1 }
     {
@@ -56,15 +59,16 @@ impl<'a> LineCursor<'a> {
     }
 
     /// The number of the line at the cursor; at the end of the file that of the line after the last one.
-    pub(crate) fn number(&self) -> u64
+    pub fn number(&self) -> u64
         ensures from { 1 ≤ result }
+        ensures line { self.now.lines ≢ [] → result < self.now.end }
         ensures to { result ≤ self.now.end }
     {
         self.before.saturating_add(1)
     }
 
     /// Whether no line is left.
-    pub(crate) fn is_at_end(&self) -> bool
+    pub fn is_at_end(&self) -> bool
         ensures some { result ≡ false → self.now.lines ≢ [] }
         ensures none { result ≡ true → self.now.lines ≡ [] }
     {
@@ -72,13 +76,14 @@ impl<'a> LineCursor<'a> {
     }
 
     /// The words of the line at the cursor, which moves behind it; none at the end of the file. The fault is
-    /// `UnknownLine` where the line is not in words, and then the cursor stays.
-    pub(crate) fn next(&mut self, alloc: Global) -> Result<Option<FileLine>, SessionFault>
-        ensures found { IfOk result (λ found. MatchOption found (self.old.lines ≡ [])
+    /// `NotInWords` where the line is not in words. After either fault the cursor stays.
+    pub fn next(&mut self, alloc: Global) -> Result<Option<FileLine>, LineFault>
+        ensures found { IfOk result (λ found. MatchOption found ((self.old.lines ≡ []) × (self.new ≡ self.old))
             (λ line. IsNextLine self.old line.number line.words.items self.new)) }
         ensures only { NextHasWords self.old.lines → IfErr result (λ e. e ≡ faults.NoMemory) }
         ensures end { self.new.end ≤ self.old.end }
-        ensures within { IfErr result (IsWithin self.old.end) }
+        ensures stays { OnErr result (self.new ≡ self.old) }
+        ensures within { IfErr result (IsBefore self.old.end) }
     {
         let Some(line) = self.line else {
             return Ok(None);
@@ -91,11 +96,7 @@ impl<'a> LineCursor<'a> {
 
     /// As [`next`](LineCursor::next), where the first word of the line is this keyword; none where it is another, and
     /// then the cursor stays.
-    pub(crate) fn next_if(
-        &mut self,
-        alloc: Global,
-        keyword: &[u8],
-    ) -> Result<Option<FileLine>, SessionFault>
+    pub fn next_if(&mut self, alloc: Global, keyword: &[u8]) -> Result<Option<FileLine>, LineFault>
         requires { is_plain_word keyword.now ≡ true }
         ensures found { IfOk result (λ found. MatchOption found
             (HasNoNext keyword.now self.old.lines × (self.new ≡ self.old))
@@ -103,7 +104,8 @@ impl<'a> LineCursor<'a> {
             × (begins keyword.now line.words.items ≡ true))) }
         ensures only { NextHasWords self.old.lines → IfErr result (λ e. e ≡ faults.NoMemory) }
         ensures end { self.new.end ≤ self.old.end }
-        ensures within { IfErr result (IsWithin self.old.end) }
+        ensures stays { OnErr result (self.new ≡ self.old) }
+        ensures within { IfErr result (IsBefore self.old.end) }
     {
         match self.line {
             Some(line) if begins(keyword, line) => self.next(alloc),
@@ -160,15 +162,15 @@ fn first_end(bytes: &[u8]) -> Option<usize>
 }
 
 /// The words of the line with this number.
-fn words_in(alloc: Global, line: &[u8], number: u64) -> Result<Vec<Word>, SessionFault>
+fn words_in(alloc: Global, line: &[u8], number: u64) -> Result<Vec<Word>, LineFault>
     ensures found { IfOk result (λ words. HasWords line.now words.items) }
     ensures only { (words : List Word) → HasWords line.now words → IfErr result (λ e. e ≡ faults.NoMemory) }
     ensures at { IfErr result (λ e. IsAt number e) }
 {
     match words(alloc, line) {
         Ok(words) => Ok(words),
-        Err(WordFault::BadWord) => Err(SessionFault::UnknownLine(number)),
-        Err(WordFault::NoMemory) => Err(SessionFault::NoMemory),
+        Err(WordFault::BadWord) => Err(LineFault::NotInWords(number)),
+        Err(WordFault::NoMemory) => Err(LineFault::NoMemory),
     }
 }
 
@@ -178,29 +180,7 @@ fn begins(keyword: &[u8], line: &[u8]) -> bool
     ensures { (words : List Word) → HasWords line.now words → result ≡ begins keyword.now words }
 {
     match after_blanks(line).strip_prefix(keyword) {
-        Some(rest) => ends_word(rest),
+        Some(rest) => is_after_word(rest),
         None => false,
     }
-}
-
-/// The bytes after the blanks that these begin with.
-fn after_blanks(bytes: &[u8]) -> &[u8]
-    ensures { result.now ≡ past_blanks bytes.now }
-{
-    let start = first_non_blank(bytes).unwrap_or(bytes.len());
-    &bytes[start..]
-}
-
-/// The index of the first byte that is no blank.
-fn first_non_blank(bytes: &[u8]) -> Option<usize>
-    ensures { result ≡ position (λ byte. not (byte == 32)) bytes.now }
-{
-    bytes.iter().position(|byte| *byte != b' ')
-}
-
-/// Whether a word may end before these bytes.
-fn ends_word(bytes: &[u8]) -> bool
-    ensures { IsTrue result ↔ IsAfterWord bytes.now }
-{
-    matches!(bytes, [] | [b' ', ..])
 }
