@@ -2,3 +2,4 @@ pub mod Bits
 pub mod Agreement
 pub mod Payload
 pub mod SymLists
+pub mod MacroStages

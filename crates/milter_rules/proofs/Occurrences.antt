@@ -72,9 +72,11 @@ occurs_around before text after =
 -- what is contained occurs somewhere, and the other way round
 pub occurs_contained : (bytes text : List ℕ) → contains bytes text ≡ true → Contains bytes text
 occurs_contained bytes text has =
-    let around = around_contained bytes text has in
-    (length around.before, subst (λ all. OccursAt all text (length around.before)) (sym around.whole)
-    (occurs_around around.before text around.after))
+    let around = around_contained bytes text has in (
+      length around.before,
+      subst (λ all. OccursAt all text (length around.before)) (sym around.whole)
+          (occurs_around around.before text around.after),
+    )
 
 pub contained_occurs : (bytes text : List ℕ) → Contains bytes text → contains bytes text ≡ true
 contained_occurs bytes text occurs =

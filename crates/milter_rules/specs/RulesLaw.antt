@@ -181,8 +181,12 @@ taken stage conditions (actions.Edit edit) rules more may fits =
       given = fits.given;
       verdict = fits.verdict;
       edits = All-cons (λ (e : Edit). Fits (edit_replies.reply_of e)) edit answer.edits parts.fits fits.edits;
-      weight = omega (arith, fits.weight, weight_of_edit conditions edit rules,
-          sum_by-cons weight_of edit answer.edits);
+      weight = omega (
+        arith,
+        fits.weight,
+        weight_of_edit conditions edit rules,
+        sum_by-cons weight_of edit answer.edits,
+      );
     }
 taken stage conditions (actions.Verdict verdict) rules more may fits =
     let parts = may_act_parts stage (actions.Verdict verdict) may in
@@ -275,15 +279,22 @@ at_end rules answer within fits =
 
 answers_fit : (r : StageRules) (stage : Stage) (seen : Seen) → EachFits r
     → AnswerFits stage (decided (rules_at r stage) seen)
-answers_fit r stages.Connect seen each = before_end stages.Connect r.connect _ (λ e. cc) (decided_fits stages.Connect r.connect seen each.connect)
-answers_fit r stages.Helo seen each = before_end stages.Helo r.helo _ (λ e. cc) (decided_fits stages.Helo r.helo seen each.helo)
-answers_fit r stages.Mail seen each = before_end stages.Mail r.mail _ (λ e. cc) (decided_fits stages.Mail r.mail seen each.mail)
-answers_fit r stages.Rcpt seen each = before_end stages.Rcpt r.rcpt _ (λ e. cc) (decided_fits stages.Rcpt r.rcpt seen each.rcpt)
+answers_fit r stages.Connect seen each =
+    before_end stages.Connect r.connect _ (λ e. cc) (decided_fits stages.Connect r.connect seen each.connect)
+answers_fit r stages.Helo seen each =
+    before_end stages.Helo r.helo _ (λ e. cc) (decided_fits stages.Helo r.helo seen each.helo)
+answers_fit r stages.Mail seen each =
+    before_end stages.Mail r.mail _ (λ e. cc) (decided_fits stages.Mail r.mail seen each.mail)
+answers_fit r stages.Rcpt seen each =
+    before_end stages.Rcpt r.rcpt _ (λ e. cc) (decided_fits stages.Rcpt r.rcpt seen each.rcpt)
 answers_fit r stages.DataCmd seen each =
     before_end stages.DataCmd r.data_cmd _ (λ e. cc) (decided_fits stages.DataCmd r.data_cmd seen each.data_cmd)
-answers_fit r stages.Header seen each = before_end stages.Header r.header _ (λ e. cc) (decided_fits stages.Header r.header seen each.header)
-answers_fit r stages.Eoh seen each = before_end stages.Eoh r.eoh _ (λ e. cc) (decided_fits stages.Eoh r.eoh seen each.eoh)
-answers_fit r stages.Body seen each = before_end stages.Body r.body _ (λ e. cc) (decided_fits stages.Body r.body seen each.body)
+answers_fit r stages.Header seen each =
+    before_end stages.Header r.header _ (λ e. cc) (decided_fits stages.Header r.header seen each.header)
+answers_fit r stages.Eoh seen each =
+    before_end stages.Eoh r.eoh _ (λ e. cc) (decided_fits stages.Eoh r.eoh seen each.eoh)
+answers_fit r stages.Body seen each =
+    before_end stages.Body r.body _ (λ e. cc) (decided_fits stages.Body r.body seen each.body)
 answers_fit r stages.Eob seen each = at_end r.eob _ each.weight (decided_fits stages.Eob r.eob seen each.eob)
 
 -- ---- what is wanted

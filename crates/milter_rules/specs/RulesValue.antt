@@ -1,4 +1,4 @@
--- What contracts see of the rules of a file.
+-- What contracts see of rules.
 use Rattle.milter_rules.specs.declared.rules.Rules.{Rules}
 use Rattle.milter_rules.specs.RuleSet.{RuleSet}
 

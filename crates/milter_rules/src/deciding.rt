@@ -126,9 +126,9 @@ fn finds_in_address(condition: &Condition, origin: &Origin) -> bool
 {
     match origin {
         Origin::Unknown => false,
-        Origin::Unix { address, .. } | Origin::Inet { address, .. } | Origin::Inet6 { address, .. } => {
-            finds_in(condition, address.as_slice())
-        }
+        Origin::Unix { address, .. }
+        | Origin::Inet { address, .. }
+        | Origin::Inet6 { address, .. } => { finds_in(condition, address.as_slice()) }
     }
 }
 

@@ -1,5 +1,5 @@
-//! Rule files: a filter's policy, written as rules. [`read_rules`] reads the rules of a file, which are a
-//! [`Policy`](milter_filter::Policy).
+//! A filter's policy as rules: at each stage conditions on what the filter is shown, and edits and verdicts. [`Rules`]
+//! are a [`Policy`](milter_filter::Policy).
 #![tactic(auto)]
 
 mod deciding;

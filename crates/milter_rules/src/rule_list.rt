@@ -1,4 +1,4 @@
-//! The rules of a file, stage by stage.
+//! Rules, stage by stage.
 
 ghost use Rattle.std.specs.Prelude.{◌≡◌, ◌++◌, ◌∷◌, [], OnErr, OnOk};
 ghost use Rattle.milter_rules.specs.StageRules.{no_rules, rules_at, with_rule};

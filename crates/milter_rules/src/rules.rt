@@ -1,4 +1,4 @@
-//! The rules of a file as a policy.
+//! Rules as a policy.
 
 ghost use Rattle.std.specs.Prelude.{◌≡◌, true};
 ghost use Rattle.milter_rules.specs.RuleSet.{is_lawful};

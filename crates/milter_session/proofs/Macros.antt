@@ -13,9 +13,9 @@ use Rattle.milter_fields.specs.Layout.{PairFits, pair}
 use Rattle.milter_mail.specs.declared.macros.Macros.{Macros}
 use Rattle.milter_mail.specs.MailSession.{MacrosFit}
 use Rattle.milter_session.specs.declared.session_macros.MacroLine.{MacroLine}
-use Rattle.milter_session.specs.declared.session_macros.MacroStage.{MacroStage}
-use Rattle.milter_session.specs.declared.session_macros.MacroStage.TheVariants.{Connect, Helo, Mail, Rcpt, DataCmd, Eom}
-use Rattle.milter_session.specs.declared.session_macros.MacroStage.TheVariants.{Eoh}
+use Rattle.milter_options.specs.declared.macro_stage.MacroStage.{MacroStage}
+use Rattle.milter_options.specs.declared.macro_stage.MacroStage.TheVariants.{Connect, Helo, Mail, Rcpt, DataCmd, Eom}
+use Rattle.milter_options.specs.declared.macro_stage.MacroStage.TheVariants.{Eoh}
 use Rattle.milter_session.specs.MacroLists.{by_stage, is_stage, macros_at, with_macro}
 use Rattle.milter_session.specs.SessionFile.{macros_of_lines, of_stage}
 

@@ -1,6 +1,6 @@
 -- The value of each line of a session file, by its words. A keyword, the family of a client and the stage of a macro
 -- are plain words, a TEXT is a quoted one, and a NUMBER is a plain word of digits.
-use Rattle.std.specs.Prelude.{ℕ, Bool, not, nat_le, nat_lt, ◌==◌, ◌&&◌, List, [], ◌∷◌, length, codes, find, Option}
+use Rattle.std.specs.Prelude.{ℕ, Bool, not, nat_le, nat_lt, ◌==◌, ◌&&◌, List, [], ◌∷◌, length, codes, Option}
 use Rattle.std.specs.Prelude.{None, Some, if◌then◌else◌}
 use Rattle.std.specs.List.{list_all}
 use Rattle.std.specs.Option.{option_map}
@@ -10,11 +10,11 @@ use Rattle.milter_fields.specs.declared.client.Origin.{Origin}
 use Rattle.milter_fields.specs.declared.client.Origin.TheVariants.{Unknown, Unix, Inet, Inet6}
 use Rattle.milter_fields.specs.declared.header.Header.{Header}
 use Rattle.milter_fields.specs.declared.path.Path.{Path}
+use Rattle.milter_options.specs.declared.macro_stage.MacroStage.{MacroStage}
+use Rattle.milter_options.specs.MacroStages.{macro_stage_named}
 use Rattle.milter_text.specs.declared.word.Word.{Word}
 use Rattle.milter_text.specs.WordValues.{is_keyword, is_number, keyword, text_of, texts_of}
 use Rattle.milter_session.specs.declared.session_macros.MacroLine.{MacroLine}
-use Rattle.milter_session.specs.declared.session_macros.MacroStage.{MacroStage}
-use Rattle.milter_session.specs.declared.session_macros.MacroStage.TheVariants as stages
 
 -- ---- the connection
 
@@ -51,23 +51,9 @@ helo_of _ = None
 
 -- ---- macros
 
--- the word of each stage that has macros
-abbrev pub stage_word : MacroStage → List ℕ
-stage_word stages.Connect = codes "connect"
-stage_word stages.Helo = codes "helo"
-stage_word stages.Mail = codes "mail"
-stage_word stages.Rcpt = codes "rcpt"
-stage_word stages.DataCmd = codes "data"
-stage_word stages.Eom = codes "eom"
-stage_word stages.Eoh = codes "eoh"
-
--- all of them, in the order of a session
-abbrev pub macro_stages : List MacroStage
-macro_stages =
-    stages.Connect ∷ stages.Helo ∷ stages.Mail ∷ stages.Rcpt ∷ stages.DataCmd ∷ stages.Eoh ∷ stages.Eom ∷ []
-
+-- a stage that has macros, by its word
 abbrev pub stage_of : Word → Option MacroStage
-stage_of word = find (λ stage. is_keyword (stage_word stage) word) macro_stages
+stage_of word = if word.quoted then None else macro_stage_named word.text
 
 abbrev pub macro_with : List ℕ → List ℕ → MacroStage → MacroLine
 macro_with name value stage = record { stage = stage; pair = record { name = name; value = value } }

@@ -3,11 +3,11 @@ use Rattle.std.specs.Prelude.{Bool, List, [], ◌∷◌, ◌++◌, if◌then◌e
 use Rattle.std.specs.Str.{bytes_eq}
 use Rattle.milter_fields.specs.declared.pair.Pair.{Pair}
 use Rattle.milter_mail.specs.declared.macros.Macros.{Macros}
-use Rattle.milter_session.specs.declared.session_macros.MacroStage.{MacroStage}
-use Rattle.milter_session.specs.declared.session_macros.MacroStage.TheVariants.{Connect, Helo, Mail, Rcpt, DataCmd, Eom}
-use Rattle.milter_session.specs.declared.session_macros.MacroStage.TheVariants.{Eoh}
+use Rattle.milter_options.specs.declared.macro_stage.MacroStage.{MacroStage}
+use Rattle.milter_options.specs.declared.macro_stage.MacroStage.TheVariants.{Connect, Helo, Mail, Rcpt, DataCmd, Eom}
+use Rattle.milter_options.specs.declared.macro_stage.MacroStage.TheVariants.{Eoh}
 use Rattle.milter_session.specs.declared.session_macros.MacroLists.{MacroLists}
-use Rattle.milter_session.specs.LineValues.{stage_word}
+use Rattle.milter_options.specs.MacroStages.{macro_stage_name}
 
 -- the macros of a stage
 abbrev pub macros_at : Macros → MacroStage → List Pair
@@ -33,7 +33,7 @@ by_stage pairs =
     }
 
 abbrev pub is_stage : MacroStage → MacroStage → Bool
-is_stage stage other = bytes_eq (stage_word stage) (stage_word other)
+is_stage stage other = bytes_eq (macro_stage_name stage) (macro_stage_name other)
 
 -- one more macro of a stage, as its last
 abbrev pub with_macro : MacroStage → Pair → Macros → Macros

@@ -6,12 +6,12 @@ use Rattle.milter_fields.specs.declared.client.Client.{Client}
 use Rattle.milter_fields.specs.declared.client.Origin.{Origin}
 use Rattle.milter_fields.specs.declared.client.Origin.TheVariants.{Unknown, Unix, Inet, Inet6}
 use Rattle.milter_fields.specs.declared.pair.Pair.{Pair}
+use Rattle.milter_options.specs.declared.macro_stage.MacroStage.{MacroStage}
+use Rattle.milter_options.specs.MacroStages.{macro_stage_name, macro_stages}
 use Rattle.milter_mail.specs.declared.macros.Macros.{Macros}
 use Rattle.milter_mail.specs.HeldText.{line_of, message_lines, text_of}
 use Rattle.milter_message.specs.MailObject.{MailObject}
 use Rattle.milter_mail.specs.MailSession.{MailSession}
-use Rattle.milter_session.specs.declared.session_macros.MacroStage.{MacroStage}
-use Rattle.milter_session.specs.LineValues.{macro_stages, stage_word}
 use Rattle.milter_session.specs.MacroLists.{macros_at}
 
 -- the keyword and the family, the host, the port and the address
@@ -32,7 +32,7 @@ macro_line stage pair = line_of (codes "macro " ++ stage) (pair.name ∷ pair.va
 
 -- a line for each macro of a stage
 abbrev pub macro_lines : Macros → MacroStage → List ℕ
-macro_lines macros stage = flat_map (macro_line (stage_word stage)) (macros_at macros stage)
+macro_lines macros stage = flat_map (macro_line (macro_stage_name stage)) (macros_at macros stage)
 
 -- those of each stage, in the order of a session
 abbrev pub all_macro_lines : Macros → List ℕ

@@ -6,7 +6,7 @@ ghost use Rattle.milter_wire.specs.Command.{Fits};
 ghost use Rattle.milter_fields.specs.Layout.{PairFits, pair};
 ghost use Rattle.milter_mail.specs.MailSession.{MacrosFit};
 ghost use Rattle.milter_session.specs.declared.session_fault.SessionFault.TheVariants as faults;
-ghost use Rattle.milter_session.specs.LineValues.{macro_of, macro_with, stage_of, stage_word};
+ghost use Rattle.milter_session.specs.LineValues.{macro_of, macro_with, stage_of};
 ghost use Rattle.milter_session.specs.MacroLists.{macros_at, macros_of, with_macro};
 ghost use Rattle.milter_session.specs.SessionFault.{IsAt, Reads};
 ghost use Rattle.milter_session.specs.SessionFile.{macros_of_lines};
@@ -16,62 +16,22 @@ use crate::line_group::LineGroup;
 use crate::session_fault::SessionFault;
 use milter_mail::Macros;
 use milter_text::{FileLine, Word};
-use milter_wire::{PAYLOAD_MAX, Pair, Pairs, Text, pair_len};
+use milter_wire::{MacroStage, PAYLOAD_MAX, Pair, Pairs, Text, pair_len};
 use std::alloc::Global;
 use std::marker::Model;
 
-/// A stage that has macros. Source: mfapi.h (`SMFIM_CONNECT` and the others).
-#[derive(Clone, Copy)]
-pub(crate) enum MacroStage {
-    Connect,
-    Helo,
-    Mail,
-    Rcpt,
-    DataCmd,
-    Eom,
-    Eoh,
-}
-
-/// The stages that have macros, in the order of a session.
-pub(crate) const STAGES: [MacroStage; 7] = [
-    MacroStage::Connect,
-    MacroStage::Helo,
-    MacroStage::Mail,
-    MacroStage::Rcpt,
-    MacroStage::DataCmd,
-    MacroStage::Eoh,
-    MacroStage::Eom,
-];
-
-impl MacroStage {
-    /// The word of the stage in a session file.
-    pub(crate) fn word(self) -> &'static [u8]
-        ensures { result.now ≡ stage_word self }
-    {
-        match self {
-            MacroStage::Connect => b"connect",
-            MacroStage::Helo => b"helo",
-            MacroStage::Mail => b"mail",
-            MacroStage::Rcpt => b"rcpt",
-            MacroStage::DataCmd => b"data",
-            MacroStage::Eom => b"eom",
-            MacroStage::Eoh => b"eoh",
-        }
-    }
-
-    /// The macros of the stage.
-    pub(crate) fn pairs_of(self, macros: &Macros) -> &[Pair]
-        ensures { result.now ≡ macros_at macros.now self }
-    {
-        match self {
-            MacroStage::Connect => macros.connect.as_slice(),
-            MacroStage::Helo => macros.helo.as_slice(),
-            MacroStage::Mail => macros.mail.as_slice(),
-            MacroStage::Rcpt => macros.rcpt.as_slice(),
-            MacroStage::DataCmd => macros.data_cmd.as_slice(),
-            MacroStage::Eom => macros.eom.as_slice(),
-            MacroStage::Eoh => macros.eoh.as_slice(),
-        }
+/// The macros of a stage.
+pub(crate) fn pairs_of(macros: &Macros, stage: MacroStage) -> &[Pair]
+    ensures { result.now ≡ macros_at macros.now stage }
+{
+    match stage {
+        MacroStage::Connect => macros.connect.as_slice(),
+        MacroStage::Helo => macros.helo.as_slice(),
+        MacroStage::Mail => macros.mail.as_slice(),
+        MacroStage::Rcpt => macros.rcpt.as_slice(),
+        MacroStage::DataCmd => macros.data_cmd.as_slice(),
+        MacroStage::Eom => macros.eom.as_slice(),
+        MacroStage::Eoh => macros.eoh.as_slice(),
     }
 }
 
@@ -260,8 +220,5 @@ fn macro_parts(words: &[Word]) -> Option<(MacroStage, &Text, &Text)>
 fn stage_in(word: &Word) -> Option<MacroStage>
     ensures { result ≡ stage_of word.now }
 {
-    STAGES
-        .iter()
-        .copied()
-        .find(|stage| word.is_keyword(stage.word()))
+    MacroStage::from_name(word.keyword()?)
 }

@@ -8,11 +8,11 @@ ghost use Rattle.milter_text.specs.Writing.{WritesPrefix};
 ghost use Rattle.milter_session.specs.SessionText.{all_macro_lines, client_line, endpoint_line, macro_line, macro_lines};
 ghost use Rattle.milter_session.specs.SessionText.{message_text, opening_text, session_text};
 
-use crate::session_macros::STAGES;
+use crate::session_macros::pairs_of;
 use itoa::Buffer;
 use milter_mail::{Macros, Message, Session, put_line, put_message, put_text};
 use milter_text::{TextFault, TextWriter};
-use milter_wire::{Client, Origin, Pair, Text};
+use milter_wire::{Client, MacroStage, Origin, Pair, Text};
 use std::alloc::Global;
 use std::io::Write;
 use std::slice;
@@ -116,8 +116,8 @@ fn put_endpoint<W: Write>(
 fn put_macros<W: Write>(output: &mut TextWriter<'_, W>, macros: &Macros) -> Result<(), TextFault>
     ensures { Puts W.contents (all_macro_lines macros.now) output.old output.new result }
 {
-    for stage in &STAGES {
-        put_stage(output, stage.word(), stage.pairs_of(macros))?;
+    for stage in &MacroStage::ALL {
+        put_stage(output, stage.name(), pairs_of(macros, *stage))?;
     }
     Ok(())
 }

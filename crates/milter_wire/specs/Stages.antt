@@ -1,11 +1,32 @@
 -- What the protocol knows of the stages of a connection and of its messages.
-use Rattle.std.specs.Prelude.{ℕ, Option, None, Some}
+use Rattle.std.specs.Prelude.{ℕ, List, [], ◌∷◌, codes, find, Option, None, Some}
+use Rattle.std.specs.Str.{bytes_eq}
 use Rattle.milter_options.specs.declared.options.Protocol.{Protocol}
 use Rattle.milter_wire.specs.declared.codes.TheConstants.{SMFIC_BODYEOB, SMFIC_CONNECT, SMFIC_DATA, SMFIC_EOH, SMFIC_HELO, SMFIC_MAIL, SMFIC_RCPT}
 use Rattle.milter_wire.specs.declared.command.Command.{Command}
 use Rattle.milter_wire.specs.declared.command.Command.TheVariants as commands
 use Rattle.milter_wire.specs.declared.stage.Stage.{Stage}
 use Rattle.milter_wire.specs.declared.stage.Stage.TheVariants.{Connect, Helo, Mail, Rcpt, DataCmd, Header, Eoh, Body, Eob}
+
+-- all of them, in the order of a connection and of each of its messages
+abbrev pub all_stages : List Stage
+all_stages = Connect ∷ Helo ∷ Mail ∷ Rcpt ∷ DataCmd ∷ Header ∷ Eoh ∷ Body ∷ Eob ∷ []
+
+-- the word of each in text files
+abbrev pub name_of : Stage → List ℕ
+name_of Connect = codes "connect"
+name_of Helo = codes "helo"
+name_of Mail = codes "mail"
+name_of Rcpt = codes "rcpt"
+name_of DataCmd = codes "data"
+name_of Header = codes "header"
+name_of Eoh = codes "eoh"
+name_of Body = codes "body"
+name_of Eob = codes "eob"
+
+-- the stage with this name
+abbrev pub stage_named : List ℕ → Option Stage
+stage_named name = find (λ stage. bytes_eq name (name_of stage)) all_stages
 
 -- the command byte of a stage's macro packet, in ASCII: the code of the stage's own command
 abbrev pub macro_command_of : Stage → Option ℕ

@@ -1,11 +1,21 @@
 -- What the protocol knows of a filter's verdicts.
-use Rattle.std.specs.Prelude.{Bool, true, false, Result, Ok, Err}
+use Rattle.std.specs.Prelude.{ℕ, Bool, true, false, List, codes, Result, Ok, Err}
 use Rattle.milter_wire.specs.declared.reply.Reply.{Reply}
 use Rattle.milter_wire.specs.declared.reply.Reply.TheVariants as replies
 use Rattle.milter_wire.specs.declared.stage.Stage.{Stage}
 use Rattle.milter_wire.specs.declared.stage.Stage.TheVariants as stages
 use Rattle.milter_wire.specs.declared.verdict.Verdict.{Verdict}
 use Rattle.milter_wire.specs.declared.verdict.Verdict.TheVariants.{Continue, Accept, Reject, Tempfail, Discard, Skip, Code}
+
+-- the word of each in text files
+abbrev pub verdict_name : Verdict → List ℕ
+verdict_name Continue = codes "continue"
+verdict_name Accept = codes "accept"
+verdict_name Reject = codes "reject"
+verdict_name Tempfail = codes "tempfail"
+verdict_name Discard = codes "discard"
+verdict_name Skip = codes "skip"
+verdict_name (Code text) = codes "code"
 
 -- the reply that carries a verdict
 abbrev pub reply_of : Verdict → Reply

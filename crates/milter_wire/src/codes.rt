@@ -2,6 +2,9 @@
 //! clients; and SMFIM of mfapi.h, the stages of symbol lists.
 
 pub use milter_fields::families::{SMFIA_INET, SMFIA_INET6, SMFIA_UNIX, SMFIA_UNKNOWN};
+pub use milter_options::{
+    SMFIM_CONNECT, SMFIM_DATA, SMFIM_ENVFROM, SMFIM_ENVRCPT, SMFIM_EOH, SMFIM_EOM, SMFIM_HELO,
+};
 
 /// The message is given up. Source: mfdef.h.
 pub const SMFIC_ABORT: u8 = b'A';
@@ -98,24 +101,3 @@ pub const SMFIR_TEMPFAIL: u8 = b't';
 
 /// A reply code. Source: mfdef.h.
 pub const SMFIR_REPLYCODE: u8 = b'y';
-
-/// The stage of a symbol list: when a client has connected. Source: mfapi.h.
-pub const SMFIM_CONNECT: u32 = 0;
-
-/// The stage of a symbol list: HELO or EHLO. Source: mfapi.h.
-pub const SMFIM_HELO: u32 = 1;
-
-/// The stage of a symbol list: the sender. Source: mfapi.h.
-pub const SMFIM_ENVFROM: u32 = 2;
-
-/// The stage of a symbol list: each recipient. Source: mfapi.h.
-pub const SMFIM_ENVRCPT: u32 = 3;
-
-/// The stage of a symbol list: DATA. Source: mfapi.h.
-pub const SMFIM_DATA: u32 = 4;
-
-/// The stage of a symbol list: the end of the message. Source: mfapi.h.
-pub const SMFIM_EOM: u32 = 5;
-
-/// The stage of a symbol list: the end of the header. Source: mfapi.h.
-pub const SMFIM_EOH: u32 = 6;

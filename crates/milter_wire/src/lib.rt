@@ -31,7 +31,7 @@ pub use milter_fields::{
     Params, ParamsRef, Path, PathRef, Text, arguments_len, has_no_nul, header_len, pair_len,
     string_len,
 };
-pub use milter_options::{Actions, Options, Protocol, SymList, SymLists};
+pub use milter_options::{Actions, MacroStage, Options, Protocol, SymList, SymLists};
 pub use milter_stream::{
     CodeName, HEAD_LEN, NoMemory, PAYLOAD_MAX, Packet, Splitter, WireFault, hex_digit,
 };

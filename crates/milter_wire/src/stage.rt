@@ -1,7 +1,7 @@
 //! The stages of a connection and of its messages, and what the protocol knows of each.
 
 ghost use Rattle.std.specs.Prelude.{◌≡◌};
-ghost use Rattle.milter_wire.specs.Stages.{macro_command_of, not_answered_of, not_sent_of};
+ghost use Rattle.milter_wire.specs.Stages.{macro_command_of, name_of, not_answered_of, not_sent_of, stage_named};
 
 use crate::codes::{
     SMFIC_BODYEOB, SMFIC_CONNECT, SMFIC_DATA, SMFIC_EOH, SMFIC_HELO, SMFIC_MAIL, SMFIC_RCPT,
@@ -89,6 +89,46 @@ fn row_of(stage: Stage) -> Row
 }
 
 impl Stage {
+    /// All of them, in their order.
+    pub const ALL: [Stage; 9] = [
+        Stage::Connect,
+        Stage::Helo,
+        Stage::Mail,
+        Stage::Rcpt,
+        Stage::DataCmd,
+        Stage::Header,
+        Stage::Eoh,
+        Stage::Body,
+        Stage::Eob,
+    ];
+
+    /// The word of the stage in text files. No memory is taken.
+    pub fn name(self) -> &'static [u8]
+        ensures { result.now ≡ name_of self }
+    {
+        match self {
+            Stage::Connect => b"connect",
+            Stage::Helo => b"helo",
+            Stage::Mail => b"mail",
+            Stage::Rcpt => b"rcpt",
+            Stage::DataCmd => b"data",
+            Stage::Header => b"header",
+            Stage::Eoh => b"eoh",
+            Stage::Body => b"body",
+            Stage::Eob => b"eob",
+        }
+    }
+
+    /// The stage with this name, matched exactly; none where no stage has it. No memory is taken.
+    pub fn from_name(name: &[u8]) -> Option<Stage>
+        ensures { result ≡ stage_named name.now }
+    {
+        Stage::ALL
+            .iter()
+            .copied()
+            .find(|stage| name == stage.name())
+    }
+
     /// The command byte of the macro packet that precedes the stage: the code of the stage's own command. A header
     /// field and a piece of the body have none. Source: mfapi.h (SMFIM_CONNECT and those after it).
     pub fn macro_command(self) -> Option<u8>

@@ -1,7 +1,7 @@
 //! What a filter decides when it is asked.
 
 ghost use Rattle.std.specs.Prelude.{◌≡◌, IfOk};
-ghost use Rattle.milter_wire.specs.Verdicts.{given_at, reply_of, verdict_of};
+ghost use Rattle.milter_wire.specs.Verdicts.{given_at, reply_of, verdict_name, verdict_of};
 
 use crate::reply::Reply;
 use crate::stage::Stage;
@@ -30,6 +30,21 @@ pub enum Verdict {
 }
 
 impl Verdict {
+    /// The word of the verdict in text files, without the text of a code. No memory is taken.
+    pub fn name(&self) -> &'static [u8]
+        ensures { result.now ≡ verdict_name self.now }
+    {
+        match self {
+            Verdict::Continue => b"continue",
+            Verdict::Accept => b"accept",
+            Verdict::Reject => b"reject",
+            Verdict::Tempfail => b"tempfail",
+            Verdict::Discard => b"discard",
+            Verdict::Skip => b"skip",
+            Verdict::Code(_) => b"code",
+        }
+    }
+
     /// Whether the verdict is an answer to the stage: only a piece of the body can be skipped, and nothing can be
     /// thrown away before there is a message. No memory is taken. Source: the libmilter callback documentation (return
     /// values).

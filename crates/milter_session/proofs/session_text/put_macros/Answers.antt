@@ -2,9 +2,9 @@ use Rattle.std.proofs.Common.{◌≡◌, ℕ, ◌+◌, ◌<◌, List, ◌++◌, 
 use Rattle.std.specs.List.{flat_map}
 use Rattle.milter_mail.specs.declared.macros.Macros.{Macros}
 use Rattle.milter_session.specs.SessionText.{macro_lines}
-use Rattle.milter_session.specs.declared.session_macros.MacroStage.{MacroStage}
-use Rattle.milter_session.specs.declared.session_macros.MacroStage.TheVariants.{Connect}
-use Rattle.milter_session.specs.declared.session_macros.TheConstants.{STAGES}
+use Rattle.milter_options.specs.declared.macro_stage.MacroStage.{MacroStage}
+use Rattle.milter_options.specs.declared.macro_stage.MacroStage.TheVariants.{Connect}
+use Rattle.milter_options.specs.MacroStages.{macro_stages}
 use Rattle.milter_text.proofs.Writing.{Progress-fail, Progress-next, Progress-none}
 use Rattle.milter_session.proofs.session_text.put_macros.Goals as goal
 
@@ -18,9 +18,9 @@ loop-stage-init g c = Progress-none
 pub returns-in_err-put_stage : goal.returns-in_err-put_stage
 returns-in_err-put_stage g c =
     let i = c.loop-stage.stage-index in
-    Progress-fail _ _ _ (macro_lines c.args.macros.now (get_or STAGES i Connect)) _ c.loop-stage.invariant (rw (c.word.ensures, c.pairs_of.ensures) at c.in_err-put_stage.ensures) c.from_residual.ensures.0 (next_stage c.args.macros.now STAGES i c.loop-stage-test.true)
+    Progress-fail _ _ _ (macro_lines c.args.macros.now (get_or macro_stages i Connect)) _ c.loop-stage.invariant (rw (c.name.ensures, c.pairs_of.ensures) at c.in_err-put_stage.ensures) c.from_residual.ensures.0 (next_stage c.args.macros.now macro_stages i c.loop-stage-test.true)
 
 pub loop-stage-preserved : goal.loop-stage-preserved
 loop-stage-preserved g c =
     let i = c.loop-stage.stage-index in
-    Progress-next (macro_lines c.args.macros.now (get_or STAGES i Connect)) _ c.loop-stage.invariant (rw (c.word.ensures, c.pairs_of.ensures) at c.in_ok-put_stage.ensures) (next_stage c.args.macros.now STAGES i c.loop-stage-test.true)
+    Progress-next (macro_lines c.args.macros.now (get_or macro_stages i Connect)) _ c.loop-stage.invariant (rw (c.name.ensures, c.pairs_of.ensures) at c.in_ok-put_stage.ensures) (next_stage c.args.macros.now macro_stages i c.loop-stage-test.true)
