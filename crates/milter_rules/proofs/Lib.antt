@@ -1,3 +1,6 @@
 pub mod Occurrences
 pub mod Values
 pub mod Decisions
+pub mod Strings
+pub mod ConditionGrammar
+pub mod ConditionRuns

@@ -5,3 +5,6 @@ pub mod ActionFits
 pub mod RuleSet
 pub mod RulesLaw
 pub mod RulesValue
+pub mod ConditionWords
+pub mod ActionWords
+pub mod RuleFault

@@ -50,7 +50,7 @@ string_all (suc byte ∷ text) test =
     let some : suc byte ≢ 0 = omega arith in
     All-cons (λ byte. byte ≢ 0) (suc byte) text some (string_all text (and_parts _ _ test).1)
 
-string_no_nul : (text : List ℕ) → is_string text ≡ true → HasNoNul text
+pub string_no_nul : (text : List ℕ) → is_string text ≡ true → HasNoNul text
 unfolding HasNoNul
 string_no_nul text test = string_all text test
 
