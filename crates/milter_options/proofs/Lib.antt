@@ -2,3 +2,4 @@ pub mod Names
 pub mod SetLaws
 mod SymListLaws
 pub mod PayloadLaws
+pub mod NamesText

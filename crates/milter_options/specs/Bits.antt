@@ -1,9 +1,9 @@
 -- The names of the bits of options, and texts that name sets of them.
-use Rattle.std.specs.Prelude.{◌≡◌, ◌⊎◌, ◌↔◌, ℕ, ◌==◌, nat_eq, List, [], ◌∷◌, codes, All, Option, Some, IsSome, option_map, if◌then◌else◌}
+use Rattle.std.specs.Prelude.{◌≡◌, ◌⊎◌, ◌↔◌, ℕ, ◌==◌, nat_eq, List, [], ◌∷◌, codes, map, All, Option, Some, IsSome, option_map, if◌then◌else◌}
 use Rattle.std.specs.Int.{bit_at}
-use Rattle.std.specs.List.{slice_split}
+use Rattle.std.specs.List.{filter, join_with_byte, slice_split}
 use Rattle.std.specs.Cmp.Lexicographic.{pointwise}
-use Rattle.std.specs.Int.RustNames.{bit_or}
+use Rattle.std.specs.Int.RustNames.{bit_and, bit_or}
 use Rattle.bitflags.specs.Sets.{Row, find_name}
 use Rattle.milter_fields.specs.Bind.{◌>>=◌}
 
@@ -69,6 +69,20 @@ abbrev pub bits_named : List Row → List ℕ → Option ℕ
 bits_named table text =
     if pointwise nat_eq text (codes "none") then Some 0
     else option_map (with_bits 0) (each_found table (names_in text))
+
+-- ---- the text of a set
+
+-- the names of those bits of a table that a set has, in the order of the table
+abbrev pub names_of : List Row → ℕ → List (List ℕ)
+names_of table set = map (λ row. row.0) (filter (λ row. bit_and set row.1 == row.1) table)
+
+-- names joined by bars, or the word `none` for no names
+abbrev pub names_joined : List (List ℕ) → List ℕ
+names_joined [] = codes "none"
+names_joined (name ∷ names) = join_with_byte 124 (name ∷ names)
+
+abbrev pub names_text : List Row → ℕ → List ℕ
+names_text table set = names_joined (names_of table set)
 
 -- ---- what such a set is
 

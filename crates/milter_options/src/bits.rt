@@ -1,10 +1,13 @@
 //! The names of the bits of options.
 
-ghost use Rattle.std.specs.Prelude.{◌≡◌, ⊤, option_map};
-ghost use Rattle.milter_options.specs.Bits.{actions_table, bits_named, protocol_table};
+ghost use Rattle.std.specs.Prelude.{◌≡◌, ◌==◌, ◌∷◌, ⊤, if◌then◌else◌, option_map};
+ghost use Rattle.std.specs.Int.RustNames.{bit_and};
+ghost use Rattle.milter_stream.specs.Appending.{PutsBytes};
+ghost use Rattle.milter_options.specs.Bits.{actions_table, bits_named, names_text, protocol_table};
 
 use crate::options::{Actions, Protocol};
 use bitflags::{Flag, Flags, bitflag_items};
+use milter_stream::NoMemory;
 
 bitflag_items! {
     impl Actions: u32 {
@@ -126,6 +129,14 @@ impl Actions {
     {
         named::<Actions>(text)
     }
+
+    /// Appends the names of those of the actions that have one, in the order of mfapi.h and joined by `|`, or the word
+    /// `none` where there is none. After `NoMemory` a prefix of that may have been appended.
+    pub fn put_names(self, out: &mut Vec<u8>) -> Result<(), NoMemory>
+        ensures { PutsBytes (names_text actions_table self.0) out.old.items out.new.items result }
+    {
+        put_names_of(&self, out)
+    }
 }
 
 impl Protocol {
@@ -135,6 +146,14 @@ impl Protocol {
         ensures { option_map (λ protocol. protocol.0) result ≡ bits_named protocol_table text.now }
     {
         named::<Protocol>(text)
+    }
+
+    /// Appends the names of those of the protocol bits that have one, in the order of mfdef.h and joined by `|`, or the
+    /// word `none` where there is none. After `NoMemory` a prefix of that may have been appended.
+    pub fn put_names(self, out: &mut Vec<u8>) -> Result<(), NoMemory>
+        ensures { PutsBytes (names_text protocol_table self.0) out.old.items out.new.items result }
+    {
+        put_names_of(&self, out)
     }
 }
 
@@ -153,4 +172,40 @@ fn named<F: Flags>(text: &str) -> Option<F>
     }
     set.insert(F::from_name(rest)?);
     Some(set)
+}
+
+/// Appends the names of the bits of a set.
+fn put_names_of<F: Flags>(set: &F, out: &mut Vec<u8>) -> Result<(), NoMemory>
+    ensures { F.exact → PutsBytes (names_text F.table (F.set_of set.now)) out.old.items out.new.items result }
+{
+    let mut is_first = true;
+    for flag in F::flags() {
+        if has_bits_of(set, flag) {
+            put_name(out, is_first, flag.name())?;
+            is_first = false;
+        }
+    }
+    if is_first {
+        out.extend_from_slice(b"none")?;
+    }
+    Ok(())
+}
+
+/// Whether the set has all bits of the flag.
+fn has_bits_of<F: Flags>(set: &F, flag: &Flag<F>) -> bool
+    ensures { F.exact → result
+        ≡ (bit_and (F.set_of set.now) (F.set_of flag.now.value) == F.set_of flag.now.value) }
+{
+    set.contains(F::from_bits_retain(flag.value().bits()))
+}
+
+/// Appends a name, after a bar unless it is the first.
+fn put_name(out: &mut Vec<u8>, is_first: bool, name: &str) -> Result<(), NoMemory>
+    ensures { PutsBytes (if is_first then name.now else 124 ∷ name.now) out.old.items out.new.items result }
+{
+    if !is_first {
+        out.push(b'|')?;
+    }
+    out.extend_from_slice(name.as_bytes())?;
+    Ok(())
 }
