@@ -63,9 +63,9 @@ found_more words joint conditions pushed rest after left c one is so_far more ac
     let first = after_keyword joint rest after one.begun in
     let second = condition_found after c left one.read in
     let parts : condition_words c ++ left ≡ (condition_words c ++ joined (codes "and") more) ++ done action =
-        ap (λ l. condition_words c ++ l) e ∙ sym (append_words (condition_words c) (joined (codes "and") more) (done action)) in
+    ap (λ l. condition_words c ++ l) e ∙ sym (append_words (condition_words c) (joined (codes "and") more) (done action)) in
     let whole : rest ≡ joined joint (c ∷ more) ++ done action =
-        first ∙ ap (λ l. keyword joint ∷ l) (second ∙ parts) in
+    first ∙ ap (λ l. keyword joint ∷ l) (second ∙ parts) in
     subst (λ l. words ≡ conditions_words l ++ done action)
     (append_conditions conditions c more ∙ ap (λ l. l ++ more) (sym is)) (so_far (c ∷ more) action whole)
 
@@ -100,14 +100,18 @@ only_more words joint conditions pushed rest after left c one is so_far all acti
   where
     first : rest ≡ keyword joint ∷ after
     first = after_keyword joint rest after one.begun
+
     split : (more : List Condition) → all ≡ conditions ++ more → rest ≡ joined joint more ++ done action
         → (m : List Condition) × (all ≡ pushed ++ m) × (left ≡ joined (codes "and") m ++ done action)
     split [] f g = absurd (other_keyword joint rest after action one.apart first g)
     split (d ∷ more) f g =
         let same = same_read after left c d (joined (codes "and") more ++ done action) one.read
-            (after_joint joint rest after d more action first g) in
-        (more, f ∙ append_conditions conditions d more
-        ∙ ap (λ x. (conditions ++ x ∷ []) ++ more) same.0 ∙ ap (λ l. l ++ more) (sym is), same.1)
+        (after_joint joint rest after d more action first g) in (
+          more,
+          f ∙ append_conditions conditions d more
+              ∙ ap (λ x. (conditions ++ x ∷ []) ++ more) same.0 ∙ ap (λ l. l ++ more) (sym is),
+          same.1,
+        )
 
 -- a line has no conditions where none is read after its keyword
 pub no_condition : (words : List Word) (joint : List ℕ) (conditions : List Condition) (rest after : List Word)
@@ -119,6 +123,7 @@ no_condition words joint conditions rest after begun none apart so_far all actio
   where
     first : rest ≡ keyword joint ∷ after
     first = after_keyword joint rest after begun
+
     split : (more : List Condition) → rest ≡ joined joint more ++ done action → ⊥
     split [] g = other_keyword joint rest after action apart first g
     split (d ∷ more) g =
@@ -142,9 +147,10 @@ all_read words joint conditions rest action none ends so_far all other e =
   where
     split : (more : List Condition) → all ≡ conditions ++ more → rest ≡ joined joint more ++ done other
         → (conditions ≡ all) × (action ≡ other)
-    split [] f g =
-        (sym (f ∙ append_none conditions),
-        tail_of (keyword do_word) (keyword do_word) action other (sym (after_keyword do_word rest action ends) ∙ g))
+    split [] f g = (
+      sym (f ∙ append_none conditions),
+      tail_of (keyword do_word) (keyword do_word) action other (sym (after_keyword do_word rest action ends) ∙ g),
+    )
     split (d ∷ more) f g = absurd (not_begun joint rest d more other none g)
 
 pub no_end : (words : List Word) (joint : List ℕ) (conditions : List Condition) (rest : List Word)

@@ -84,10 +84,7 @@ fn condition_on<'a>(
 }
 
 /// The field that the words begin with, and the words after it.
-fn field_in<'a>(
-    alloc: Global,
-    words: &'a [Word],
-) -> Result<Option<(Field, &'a [Word])>, NoMemory>
+fn field_in<'a>(alloc: Global, words: &'a [Word]) -> Result<Option<(Field, &'a [Word])>, NoMemory>
     ensures { IfOk result (λ found. option_map (λ x. (x.0, x.1.now)) found ≡ field_at words.now) }
 {
     let [first, rest @ ..] = words else {

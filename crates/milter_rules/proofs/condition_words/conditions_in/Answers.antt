@@ -32,14 +32,14 @@ loop-after-preserved c =
 pub returns-in-Some-words_after-clause-found : goal.returns-in-Some-words_after-clause-found
 returns-in-Some-words_after-clause-found c =
     let found = found_end c.args.words.now c.loop-after.joint.now c.loop-after.conditions.items c.loop-after.rest.now
-        c.in-Some-words_after.action.now (sym (rw c.in-Some-words_after.is at c.words_after-2.ensures)) c.loop-after.invariant.found in
+    c.in-Some-words_after.action.now (sym (rw c.in-Some-words_after.is at c.words_after-2.ensures)) c.loop-after.invariant.found in
     rw c.new.ensures found
 
 pub returns-in-Some-words_after-clause-only : goal.returns-in-Some-words_after-clause-only
 returns-in-Some-words_after-clause-only c = λ all other e.
     let read = all_read c.args.words.now c.loop-after.joint.now c.loop-after.conditions.items c.loop-after.rest.now
-        c.in-Some-words_after.action.now (sym (rw c.in_default.is at c.words_after.ensures))
-        (sym (rw c.in-Some-words_after.is at c.words_after-2.ensures)) c.loop-after.invariant.only all other e in
+    c.in-Some-words_after.action.now (sym (rw c.in_default.is at c.words_after.ensures))
+    (sym (rw c.in-Some-words_after.is at c.words_after-2.ensures)) c.loop-after.invariant.only all other e in
     (c.new.ensures ∙ read.0, read.1)
 
 pub returns-clause-only : goal.returns-clause-only
