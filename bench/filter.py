@@ -3,10 +3,10 @@
 
     python3 bench/filter.py COUNT BODY SOCKET|- COMMAND..
 
-starts the command, connects to its Unix socket (`-`: hands it a socket as standard input and output), and plays so many
-messages on one connection: sixteen commands each, with ten header fields and a body of so many bytes (more than 65,535
-are more commands). It prints the nanoseconds that the messages took, and those of processor time that the filter took
-in all.
+starts the command, connects to its Unix socket, or with `-` hands it a socket as standard input and output, and plays so
+many messages on one connection: sixteen commands each, with ten header fields and a body of so many bytes (more than
+65,535 are more commands). What the command prints is dropped. It prints the nanoseconds that the messages took, and
+those of processor time that the filter took in all.
 """
 import resource
 import socket
@@ -63,7 +63,7 @@ def started(path, command):
         process = subprocess.Popen(command, stdin=other, stdout=other)
         other.close()
         return process, connection
-    process = subprocess.Popen(command)
+    process = subprocess.Popen(command, stdout=subprocess.DEVNULL)
     connection = socket.socket(socket.AF_UNIX)
     while True:
         try:

@@ -1,57 +1,79 @@
 #!/usr/bin/env bash
-# Measures `milter_tool answer` beside a filter on Sendmail's libmilter (`filter.c`), which also lets all mail go on and
-# keeps the body, with one generator (`filter.py`) that waits for each reply: user instructions for a message of sixteen
-# commands, with ten header fields and 4 KiB of body, and MB of bodies of 10 MiB a second, by the filter's processor
-# time and by the clock, the generator and the filter each on a processor of its own. The instructions are callgrind's,
-# without those of a run of one message; callgrind counts a copy by `rep movsb` a byte at a time, so that this is turned
-# off in the C library. It prints a line for each, and takes libmilter (libmilter-dev), a C compiler, valgrind, Python
-# and two minutes. The program is built first where it has to be.
+# Measures `milter_tool answer` and `milter_tool filter` beside a filter on Sendmail's libmilter (`filter.c`), which
+# also lets all mail go on and keeps the body, with one generator (`filter.py`) that waits for each reply. `answer` has
+# a socket as its standard streams; the others listen at a Unix socket, and one connection is made. For each it prints
+# the user instructions of a message of sixteen commands, with ten header fields and 4 KiB of body, how many of these
+# messages it takes a second, and MB of messages of 10 MiB a second, both by the filter's processor time and by the
+# clock, the generator and the filter each on a processor of its own. The instructions are callgrind's, without those
+# of a run of one message; callgrind counts a copy by `rep movsb` a byte at a time, so that this is turned off in the C
+# library. It takes libmilter (libmilter-dev), a C compiler, valgrind, Python and some minutes. The program is built
+# first where it has to be; another one may be given.
+#
+#     bash bench/filter.sh [PROGRAM]
 set -eu
 cd "$(dirname "${BASH_SOURCE[0]}")/.."
-./milter_tool --version >/dev/null
-program=crates/milter_tool/out/milter_tool
+program=${1:-}
+if [ -z "$program" ]; then
+    ./milter_tool --version >/dev/null
+    program=crates/milter_tool/out/milter_tool
+fi
 work=$(mktemp -d)
 trap 'rm -rf "$work"' EXIT
 AGAIN=100
-BODIES=20
+SMALL=4096
+SMALL_COUNT=2000
+LARGE=10485760
+LARGE_COUNT=50
+FILTERS='answer filter libmilter'
 cc -O2 -o "$work/libmilter" bench/filter.c -lmilter -lpthread
 
-# play COUNT BODY FILTER COMMAND..: plays messages on answer or on libmilter, which runs under the command
+# play COUNT BODY FILTER COMMAND..: plays messages on a filter, which runs under the command
 play() {
     local count=$1 body=$2 filter=$3
     shift 3
-    if [ "$filter" = answer ]; then
-        python3 bench/filter.py "$count" "$body" - "$@" "$program" answer
-    else
-        rm -f "$work/socket"
-        python3 bench/filter.py "$count" "$body" "$work/socket" "$@" "$work/libmilter" "$work/socket"
-    fi
+    rm -f "$work/socket"
+    case $filter in
+    answer) python3 bench/filter.py "$count" "$body" - "$@" "$program" answer ;;
+    filter) python3 bench/filter.py "$count" "$body" "$work/socket" "$@" "$program" filter "unix:$work/socket" ;;
+    libmilter) python3 bench/filter.py "$count" "$body" "$work/socket" "$@" "$work/libmilter" "$work/socket" ;;
+    esac
 }
 
 # instructions COUNT FILTER: what callgrind counts of a run
 instructions() {
-    GLIBC_TUNABLES=glibc.cpu.x86_rep_movsb_threshold=1000000000 play "$1" 4096 "$2" \
+    GLIBC_TUNABLES=glibc.cpu.x86_rep_movsb_threshold=1000000000 play "$1" "$SMALL" "$2" \
         valgrind --tool=callgrind --callgrind-out-file=/dev/null 2>&1 >/dev/null | sed -n 's/.*Collected : //p'
 }
 
-# least COUNT FILTER FIELD: the least of three runs with bodies of 10 MiB, in nanoseconds: 1 is by the clock, and 2 the
-# processor time
+# least COUNT BODY FILTER: the least of three runs, in nanoseconds by the clock and of processor time
 least() {
     for _ in 1 2 3; do
-        play "$1" 10485760 "$2" taskset -c 1
-    done | cut -d' ' -f "$3" | sort -n | head -n 1
+        play "$1" "$2" "$3" taskset -c 1
+    done | awk '
+        { for (i = 1; i <= 2; i++) if (NR == 1 || $i < least[i]) least[i] = $i }
+        END { print least[1], least[2] }'
+}
+
+# rates COUNT BODY UNIT: for each filter, how many units of these messages it takes a second, where a message has UNIT
+rates() {
+    local once often
+    for filter in $FILTERS; do
+        once=$(least 1 "$2" "$filter")
+        often=$(least $(($1 + 1)) "$2" "$filter")
+        awk -v filter="$filter" -v count="$1" -v unit="$3" -v took="$once $often" 'BEGIN {
+            split(took, times, " ")
+            printf "%-10s %8.0f %8.0f\n", filter, count * unit * 1e9 / (times[4] - times[2]),
+                count * unit * 1e9 / (times[3] - times[1])
+        }'
+    done
 }
 
 echo "a message of sixteen commands, user instructions:"
-for filter in answer libmilter; do
+for filter in $FILTERS; do
     printf '%-10s %8d\n' "$filter" $((($(instructions $((AGAIN + 1)) "$filter") - $(instructions 1 "$filter")) / AGAIN))
 done
-echo "messages with a body of 10 MiB, MB/s by processor time and by the clock:"
 taskset -cp 0 $$ >/dev/null
-for filter in answer libmilter; do
-    for field in 2 1; do
-        once=$(least 1 "$filter" "$field")
-        often=$(least $((BODIES + 1)) "$filter" "$field")
-        awk -v took=$((often - once)) -v count="$BODIES" 'BEGIN { printf "%.0f\n", count * 10485.76 * 1e6 / took }'
-    done | paste -sd' ' | awk -v filter="$filter" '{ printf "%-10s %8d %8d\n", filter, $1, $2 }'
-done
+echo "$SMALL_COUNT such messages, messages/s by processor time and by the clock:"
+rates "$SMALL_COUNT" "$SMALL" 1
+echo "$LARGE_COUNT messages with a body of 10 MiB, MB/s by processor time and by the clock:"
+rates "$LARGE_COUNT" "$LARGE" 10.48576

@@ -43,11 +43,14 @@ def ran(command, given, preloaded, named):
     return (done.returncode, done.stdout, done.stderr), reported
 
 
+def jobs():
+    """How much is run at a time: as much as there are processors. `JOBS=1` has one at a time."""
+    return int(os.environ.get('JOBS') or len(os.sched_getaffinity(0)))
+
+
 def played(plays):
-    """Calls all of these, as many at a time as there are processors, and answers their answers. `JOBS=1` has one at a
-    time."""
-    jobs = int(os.environ.get('JOBS') or len(os.sched_getaffinity(0)))
-    with concurrent.futures.ThreadPoolExecutor(jobs) as pool:
+    """Calls all of these, some at a time, and answers their answers."""
+    with concurrent.futures.ThreadPoolExecutor(jobs()) as pool:
         return list(pool.map(lambda play: play(), plays))
 
 

@@ -25,7 +25,9 @@ TOP = tables.TOP
 TESTS = tables.program_of('milter_tests', '_tests')
 REFUSED = 'tests::packets::'
 TABLES = {
-    'milter_tool': ['trace_refused_memory', 'session_refused_memory', 'answer_refused_memory'],
+    'milter_tool': [
+        'trace_refused_memory', 'session_refused_memory', 'rules_refused_memory', 'answer_refused_memory',
+        'answer_rules_refused_memory'],
     'milter_rows': ['edits_values']}
 OUT_OF_MEMORY = [b'out of memory\n', b'Error: out of memory\n', b'Error: memory allocation failed\n']
 NO_MEMORY = b'Error: NoMemory\n'

@@ -16,20 +16,25 @@ BUILDS = ['', '.by-rattle']
 TABLES = [
     'trace_commands', 'trace_replies', 'trace_sizes', 'trace_streams', 'trace_lines', 'trace_refused_memory',
     'session_faults', 'session_sizes', 'session_values', 'session_refused_memory', 'answer_replies', 'answer_faults',
-    'answer_sizes', 'answer_refused_memory', 'guard_replies', 'edits_values', 'edits_faults', 'packets_totals']
+    'answer_sizes', 'answer_refused_memory', 'answer_rules', 'rules_canonical', 'rules_faults',
+    'rules_sizes', 'rules_refused_memory', 'answer_rules_refused_memory', 'guard_replies', 'edits_values',
+    'edits_faults', 'packets_totals']
 # What plays the tables of each kind: a program and its words, of which FILE stands for a file of the input.
 FILE = object()
 PLAYERS = {
     'trace': ('milter_tool', ['trace']),
     'session': ('milter_tool', ['session', FILE]),
     'answer': ('milter_tool', ['answer']),
+    'rules': ('milter_tool', ['rules', FILE]),
     'guard': ('milter_loop_guard', []),
     'edits': ('milter_rows', ['edits', 'text']),
     'packets': ('milter_rows', ['packets']),
 }
 # The kinds whose programs write packets: a filter's.
 FILTERS = ['answer', 'guard']
-MARKS = b'|^<>&=!*#$%'
+# The kinds whose programs print the same again of what they printed.
+CANONICAL = ['rules']
+MARKS = b'|^<>&=!*#$%@'
 SPECIAL = re.compile(rb'\{([0-9a-f]{2}|[^{}]+\*[0-9]+|code)\}')
 NO_LF = b'{no LF}'
 
@@ -94,9 +99,14 @@ def program_of(name, build):
 
 
 def command_of(kind, lines, build, path):
-    """The command that plays a row of these lines, whose input is this file."""
+    """The command that plays a row of these lines, whose input is this file; the row's rules are written beside it."""
     name, words = PLAYERS[kind]
     more = [text.decode() for mark, text in lines if mark == b'$']
+    if any(mark == b'@' for mark, _ in lines):
+        rules = path + '.rules'
+        with open(rules, 'wb') as file:
+            file.write(contents_of(kind, lines, None)['rules'])
+        more += ['--rules', rules]
     return [program_of(name, build)] + [path if word is FILE else word for word in words] + more
 
 
@@ -109,14 +119,16 @@ def part_of(kind, mark, text, code):
         if kind == 'trace':
             return 'given', b'%s %s\n' % (mark, packet.hex().encode())
         return ('out' if kind in FILTERS and mark == b'<' else 'given'), packet
+    if mark == b'@':
+        return 'rules', ended(text, code, False)
     if mark in b'=!':
         return ('out' if mark == b'=' else 'err'), ended(text, code, True)
     return None
 
 
-def streams_of(kind, lines, code):
-    """The input of the row of these lines, and how its run ends: its status, output and errors."""
-    streams = {'given': b'', 'out': b'', 'err': b''}
+def contents_of(kind, lines, code):
+    """The bytes of the input, the rules, the output and the errors of the row of these lines."""
+    streams = {'given': b'', 'rules': b'', 'out': b'', 'err': b''}
     last = None
     for mark, text in lines:
         part, times = part_of(kind, mark, text, code), 1
@@ -127,21 +139,35 @@ def streams_of(kind, lines, code):
         else:
             continue
         streams[last[0]] += last[1] * times
+    return streams
+
+
+def streams_of(kind, lines, code):
+    """The input of the row of these lines, and how its run ends: its status, output and errors."""
+    streams = contents_of(kind, lines, code)
     return streams['given'], (1 if streams['err'] else 0, streams['out'], streams['err'])
 
 
-def play(kind, lines, code, build, folder):
-    """Plays the row of these lines once, and answers what was wrong, or None."""
-    given, expected = streams_of(kind, lines, code)
-    path = os.path.join(folder, 'input')
+def run(command, path, given, expected):
+    """Runs a command with this input, which is also written to the file, and answers what was wrong, or None."""
     with open(path, 'wb') as file:
         file.write(given)
-    command = command_of(kind, lines, build, path)
     with open(path, 'rb') as file:
         ran = subprocess.run(command, stdin=file, capture_output=True, check=False)
     if (ran.returncode, ran.stdout, ran.stderr) == expected:
         return None
     return 'status %d, printed %r and %r' % (ran.returncode, ran.stdout[:200], ran.stderr[:200])
+
+
+def play(kind, lines, code, build, folder):
+    """Plays the row of these lines, and what a canonical text prints again, and answers what was wrong, or None."""
+    given, expected = streams_of(kind, lines, code)
+    path = os.path.join(folder, 'input')
+    command = command_of(kind, lines, build, path)
+    wrong = run(command, path, given, expected)
+    if wrong is None and kind in CANONICAL and expected[0] == 0:
+        wrong = run(command, path, expected[1], expected)
+    return wrong
 
 
 def rows_of(path):

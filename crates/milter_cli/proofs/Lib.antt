@@ -1,4 +1,6 @@
-pub mod SessionLaws
+pub mod FileLaws
+pub mod AddressLaws
+pub mod FilteringLaws
 pub mod RequestLaws
 pub mod FaultlessRows
 pub mod FaultlessWalk

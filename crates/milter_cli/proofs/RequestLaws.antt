@@ -1,5 +1,5 @@
 -- The request of a command line.
-use Rattle.std.proofs.Common.{◌≡◌, ◌<◌, Bool, cond, true, false, not, ◌||◌, List, [], ◌∷◌, Option, None, Some, IfSome, IsSome, is_some, subst, inl, inr, refl, sym, ap, ◌∙◌, codes, slice_index, length, arith, true≢false, option_map}
+use Rattle.std.proofs.Common.{◌≡◌, ◌<◌, ℕ, Bor, Bool, cond, true, false, not, ◌||◌, List, [], ◌∷◌, Option, None, Some, IfSome, IsSome, is_some, subst, inl, inr, refl, sym, ap, ◌∙◌, codes, slice_index, length, arith, true≢false, option_map}
 use Rattle.std.proofs.lemmas.Option.{none-some}
 use Rattle.std.proofs.lemmas.Slice.Eq.{bytes_eq-Decides}
 use Rattle.std.specs.Prelude.{find, slice_get}
@@ -17,18 +17,50 @@ use Rattle.clap.specs.declared.error.kind.ErrorKind.{ErrorKind}
 use Rattle.clap.specs.declared.parser.matches.Found.{Found}
 use Rattle.clap.specs.declared.parser.matches.ArgMatches.{ArgMatches}
 use Rattle.milter_cli.specs.declared.command_line.Request.{Request}
-use Rattle.milter_cli.specs.CommandLine.{HasMatches, IsRequestOf, IsUnasked, answer_app, session_app, tool_app, trace_app}
+use Rattle.milter_cli.specs.CommandLine.{HasMatches, IsCount, IsRequestOf, IsUnasked, answer_app, filter_app, rules_app, session_app, text_of, tool_app, trace_app}
 use Rattle.milter_cli.proofs.FaultlessRows.{AreFilled, Each, Fills, IsFilled, find_each, no_faults, settled_filled, some_fault}
 use Rattle.milter_cli.proofs.FaultlessWalk.{StopsBeforeHelp, defaults_filled, walk_rows, walk_stops}
 
-pub file_given : (f : Found) (file : Text) → Some file ≡ first_value f (codes "file") → first_of (codes "file") (rows_of f) ≡ Some file
-file_given f file is = sym (is ∙ first_value-rows f (codes "file"))
+pub value_given : (f : Found) (id value : Text) → Some value ≡ first_value f id → first_of id (rows_of f) ≡ Some value
+value_given f id value is = sym (is ∙ first_value-rows f id)
 
-pub no_file : (f : Found) → None ≡ first_value f (codes "file") → IsUnasked (codes "session", rows_of f)
-no_file f none = (
-  (λ named. (let other : 115 ≡ 116 = ap (λ t. slice_index t 0) named in absurd (omega (arith, other)))),
-  (λ named. (let other : 115 ≡ 97 = ap (λ t. slice_index t 0) named in absurd (omega (arith, other)))),
-  λ named. sym (none ∙ first_value-rows f (codes "file")),
+pub text_given : (f : Found) (id : Text) (o : Option (Bor Text)) → text_of o ≡ first_value f id → first_of id (rows_of f) ≡ text_of o
+text_given f id o is = sym (is ∙ first_value-rows f id)
+
+pub count_given : (f : Found) (o : Option (Bor Text)) (n : ℕ) → text_of o ≡ first_value f (codes "count") → IsCount (text_of o) n → IsCount (first_of (codes "count") (rows_of f)) n
+count_given f o n is h = subst (λ (t : Option Text). IsCount t n) (is ∙ first_value-rows f (codes "count")) h
+
+no_value : (f : Found) (id : Text) → None ≡ first_value f id → first_of id (rows_of f) ≡ None
+no_value f id none = sym (none ∙ first_value-rows f id)
+
+head : (a b : Text) → a ≡ b → slice_index a 0 ≡ slice_index b 0
+head a b e = ap (λ t. slice_index t 0) e
+
+pub no_session : (f : Found) → None ≡ first_value f (codes "file") → IsUnasked (codes "session", rows_of f)
+no_session f none = (
+  (λ e. (let other : 115 ≡ 116 = head (codes "session") (codes "trace") e in absurd (omega (arith, other)))),
+  (λ e. (let other : 115 ≡ 97 = head (codes "session") (codes "answer") e in absurd (omega (arith, other)))),
+  (λ e. no_value f (codes "file") none),
+  (λ e. (let other : 115 ≡ 114 = head (codes "session") (codes "rules") e in absurd (omega (arith, other)))),
+  λ e. (let other : 115 ≡ 102 = head (codes "session") (codes "filter") e in absurd (omega (arith, other))),
+)
+
+pub no_rules : (f : Found) → None ≡ first_value f (codes "file") → IsUnasked (codes "rules", rows_of f)
+no_rules f none = (
+  (λ e. (let other : 114 ≡ 116 = head (codes "rules") (codes "trace") e in absurd (omega (arith, other)))),
+  (λ e. (let other : 114 ≡ 97 = head (codes "rules") (codes "answer") e in absurd (omega (arith, other)))),
+  (λ e. (let other : 114 ≡ 115 = head (codes "rules") (codes "session") e in absurd (omega (arith, other)))),
+  (λ e. no_value f (codes "file") none),
+  λ e. (let other : 114 ≡ 102 = head (codes "rules") (codes "filter") e in absurd (omega (arith, other))),
+)
+
+pub no_filter : (f : Found) → None ≡ first_value f (codes "address") → IsUnasked (codes "filter", rows_of f)
+no_filter f none = (
+  (λ e. (let other : 102 ≡ 116 = head (codes "filter") (codes "trace") e in absurd (omega (arith, other)))),
+  (λ e. (let other : 102 ≡ 97 = head (codes "filter") (codes "answer") e in absurd (omega (arith, other)))),
+  (λ e. (let other : 102 ≡ 115 = head (codes "filter") (codes "session") e in absurd (omega (arith, other)))),
+  (λ e. (let other : 102 ≡ 114 = head (codes "filter") (codes "rules") e in absurd (omega (arith, other)))),
+  λ e. no_value f (codes "address") none,
 )
 
 first_given : (o : Option Row) → option_map_or (λ r. explicit_source r.source) o false ≡ true → IfSome o IsFilled → option_and_then (λ r. slice_get r.values 0) o ≡ None → ⊥
@@ -40,9 +72,9 @@ first_given (Some r) given f none = go r.values f none
     go (v ∷ vs) f none = none-some _ (sym none)
 
 -- an argument that is required has a value
-file_is_given : (s : Shape) (words : List Text) → Each Fills s.rules → ((rows : List Row) → check_fault s rows false ≡ [] → is_given (codes "file") rows ≡ true) → level_fault s [] nothing_held words false [] ≡ []
-    → first_of (codes "file") (rows_after s.rules [] words) ≡ None → ⊥
-file_is_given s words fills required e none =
+is_there : (id : Text) (s : Shape) (words : List Text) → Each Fills s.rules → ((rows : List Row) → check_fault s rows false ≡ [] → is_given id rows ≡ true) → level_fault s [] nothing_held words false [] ≡ []
+    → first_of id (rows_after s.rules [] words) ≡ None → ⊥
+is_there id s words fills required e none =
     let end = (walk s.rules [] nothing_held words).held in
     let walked = no_faults (walk_fault s [] (walk_from nothing_held) words) _ e in
     let rest = no_faults (settle_fault s.rules s.args_override_self end) _ walked.1 in
@@ -50,13 +82,19 @@ file_is_given s words fills required e none =
     let rows = finished s.rules end in
     let filled : AreFilled rows = defaults_filled s.rules (settled s.rules end).rows
     (settled_filled s.rules s.args_override_self fills end rest.0 (walk_rows s fills [] (walk_from nothing_held) words walked.0 tt)) in
-    first_given (find (λ r. bytes_eq r.id (codes "file")) rows) (required rows checked.1) (find_each IsFilled _ rows filled) none
+    first_given (find (λ r. bytes_eq r.id id) rows) (required rows checked.1) (find_each IsFilled _ rows filled) none
 
 abbrev trace_shape : Shape
 trace_shape = built_leaf (inherited (with_leaf_noted (marked_built tool_app.top)) trace_app.top)
 
 abbrev session_shape : Shape
 session_shape = built_leaf (inherited (with_leaf_noted (marked_built tool_app.top)) session_app.top)
+
+abbrev rules_shape : Shape
+rules_shape = built_leaf (inherited (with_leaf_noted (marked_built tool_app.top)) rules_app.top)
+
+abbrev filter_shape : Shape
+filter_shape = built_leaf (inherited (with_leaf_noted (marked_built tool_app.top)) filter_app.top)
 
 abbrev answer_shape : Shape
 answer_shape = built_leaf (inherited (with_leaf_noted (marked_built tool_app.top)) answer_app.top)
@@ -75,9 +113,14 @@ never_help name other named =
     let is : codes "help" ≡ name = (bytes_eq-Decides (codes "help") name).0 (or_false _ named) in
     true≢false (ap (λ x. bytes_eq x (codes "help")) is ∙ other)
 
-abbrev pick : Bool → Bool → Bool → Bool → Option Shape
-pick trace session answer help =
-    cond trace (Some trace_shape) (cond session (Some session_shape) (cond answer (Some answer_shape) (cond help (Some (built_leaf help_shape)) None)))
+-- the shape of the subcommand whose test is the first to hold
+abbrev pick : List (Bool × Shape) → Option Shape
+pick [] = None
+pick (t ∷ tests) = cond t.0 (Some t.1) (pick tests)
+
+abbrev shapes : (trace session rules answer filter help : Bool) → List (Bool × Shape)
+shapes trace session rules answer filter help =
+    (trace, trace_shape) ∷ (session, session_shape) ∷ (rules, rules_shape) ∷ (answer, answer_shape) ∷ (filter, filter_shape) ∷ (help, built_leaf help_shape) ∷ []
 
 abbrev asked_below : Option Shape → List Text → Kinds
 asked_below o words = option_map_or (λ s. level_fault s [] nothing_held words false []) o []
@@ -86,21 +129,25 @@ abbrev entered_by : Option Shape → List Text → Option (Text × List Row)
 entered_by o words = option_map (λ s. rows_at s words) o
 
 -- a subcommand that is entered without a fault asks for something
-picked_asks : (words : List Text) (rows : List Row) (trace session answer help : Bool) → (help ≡ true → ⊥) → asked_below (pick trace session answer help) words ≡ []
-    → check_fault (built tool_app).top rows (is_some (entered_by (pick trace session answer help) words)) ≡ [] → IsRequestOf (entered_by (pick trace session answer help) words) None → ⊥
-picked_asks words rows true session answer help none below check unasked = unasked.0 refl
-picked_asks words rows false true answer help none below check unasked =
-    file_is_given session_shape words (inr refl, (inl refl, tt)) (λ rows e. required_here _ _ e) below (unasked.2 refl)
-picked_asks words rows false false true help none below check unasked = unasked.1 refl
-picked_asks words rows false false false true none below check unasked = none refl
-picked_asks words rows false false false false none below check unasked = some_fault _ _ check
+picked_asks : (words : List Text) (rows : List Row) (trace session rules answer filter help : Bool) → (help ≡ true → ⊥) → asked_below (pick (shapes trace session rules answer filter help)) words ≡ []
+    → check_fault (built tool_app).top rows (is_some (entered_by (pick (shapes trace session rules answer filter help)) words)) ≡ [] → IsRequestOf (entered_by (pick (shapes trace session rules answer filter help)) words) None → ⊥
+picked_asks words rows true session rules answer filter help none below check unasked = unasked.0 refl
+picked_asks words rows false true rules answer filter help none below check unasked =
+    is_there (codes "file") session_shape words (inr refl, (inl refl, tt)) (λ rows e. required_here _ _ e) below (unasked.2 refl)
+picked_asks words rows false false true answer filter help none below check unasked =
+    is_there (codes "file") rules_shape words (inr refl, (inl refl, tt)) (λ rows e. required_here _ _ e) below (unasked.3 refl)
+picked_asks words rows false false false true filter help none below check unasked = unasked.1 refl
+picked_asks words rows false false false false true help none below check unasked =
+    is_there (codes "address") filter_shape words (inr refl, (inr refl, (inr refl, (inl refl, tt)))) (λ rows e. required_here _ _ e) below (unasked.4 refl)
+picked_asks words rows false false false false false true none below check unasked = none refl
+picked_asks words rows false false false false false false none below check unasked = some_fault _ _ check
 
 entered_asks : (stop : Option (Text × List Text)) (rows : List Row) → StopsBeforeHelp stop → entered_fault (built tool_app) stop ≡ []
     → check_fault (built tool_app).top rows (is_some (entered (built tool_app) stop)) ≡ [] → IsRequestOf (entered (built tool_app) stop) None → ⊥
 entered_asks None rows other below check unasked = some_fault _ _ check
 entered_asks (Some p) rows other below check unasked =
-    picked_asks p.1 rows (answers_to p.0 (label_of trace_shape)) (answers_to p.0 (label_of session_shape)) (answers_to p.0 (label_of answer_shape))
-    (answers_to p.0 (label_of (built_leaf help_shape)))
+    picked_asks p.1 rows (answers_to p.0 (label_of trace_shape)) (answers_to p.0 (label_of session_shape)) (answers_to p.0 (label_of rules_shape)) (answers_to p.0 (label_of answer_shape))
+    (answers_to p.0 (label_of filter_shape)) (answers_to p.0 (label_of (built_leaf help_shape)))
     (never_help p.0 other) below check unasked
 
 -- words without a fault ask for something

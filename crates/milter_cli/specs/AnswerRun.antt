@@ -6,7 +6,8 @@ use Rattle.milter_exchange.specs.declared.filter_fault.FilterFault.TheVariants a
 use Rattle.milter_filter.specs.declared.served.Served.{Served}
 use Rattle.milter_filter.specs.declared.served.Served.TheVariants as served
 use Rattle.milter_cli.specs.declared.answer_error.AnswerError.{AnswerError}
-use Rattle.milter_cli.specs.declared.answer_error.AnswerError.TheVariants.{Fault, Truncated, Read, Write, TurnLimit, NoMemory}
+use Rattle.milter_cli.specs.declared.answer_error.AnswerError.TheVariants.{Fault, Truncated, Read, Write}
+use Rattle.milter_cli.specs.declared.answer_error.AnswerError.TheVariants.{TurnLimit, NoMemory}
 
 -- the number of a fault, or that memory was refused
 abbrev pub fault_error : FilterFault → AnswerError

@@ -1,4 +1,6 @@
+pub mod Address
 pub mod AnswerRun
 pub mod CommandLine
-pub mod SessionRun
+pub mod FileRun
+pub mod Filtering
 pub mod ToolError

@@ -1,23 +1,29 @@
 -- How the program ends where it did not do what it was asked.
-use Rattle.std.specs.Prelude.{◌≡◌, ℕ, List, [], ◌∷◌, ◌++◌, Option, None, Some, Result, Ok, Err, IfErr, codes, option_map}
+use Rattle.std.specs.Prelude.{◌≡◌, ℕ, List, [], ◌∷◌, ◌++◌, Option, None, Some, Result, Ok, Err, IfErr, codes}
+use Rattle.std.specs.Prelude.{option_map}
 use Rattle.std.specs.declared.io.ErrorKind.{ErrorKind as IoKind}
 use Rattle.std.specs.declared.io.ErrorKind.TheVariants as io
 use Rattle.clap.specs.declared.error.Error.{Error}
 use Rattle.clap.specs.declared.error.kind.ErrorKind.{ErrorKind}
 use Rattle.clap.specs.declared.error.kind.ErrorKind.TheVariants.{DisplayHelp, DisplayVersion, OutOfMemory}
 use Rattle.milter_cli.specs.AnswerRun.{answer_error_text}
-use Rattle.milter_cli.specs.SessionRun.{session_error_text}
+use Rattle.milter_cli.specs.FileRun.{file_error_text}
+use Rattle.milter_text.specs.declared.text_fault.TextFault.{TextFault}
+use Rattle.milter_text.specs.declared.text_fault.TextFault.TheVariants as texts
 use Rattle.milter_trace.specs.FaultText.{fault_text}
 use Rattle.milter_cli.specs.declared.tool_error.ToolError.{ToolError}
-use Rattle.milter_cli.specs.declared.tool_error.ToolError.TheVariants.{Usage, NotUtf8, Trace, Session, Answer, Write, NoMemory}
+use Rattle.milter_cli.specs.declared.tool_error.ToolError.TheVariants.{Usage, NotUtf8, BadAddress, Trace, File, Answer}
+use Rattle.milter_cli.specs.declared.tool_error.ToolError.TheVariants.{Listen, Write, NoMemory}
 
 -- a wrong use of the command line, or a fault
 abbrev pub error_status : ToolError → ℕ
 error_status (Usage error) = 2
 error_status NotUtf8 = 2
+error_status BadAddress = 2
 error_status (Trace fault) = 1
-error_status (Session error) = 1
+error_status (File error) = 1
 error_status (Answer error) = 1
+error_status Listen = 1
 error_status Write = 1
 error_status NoMemory = 1
 
@@ -32,9 +38,11 @@ line text = text ++ 10 ∷ []
 abbrev pub error_lines : ToolError → Option (List ℕ)
 error_lines (Usage error) = None
 error_lines NotUtf8 = Some (line (codes "error: invalid UTF-8 was detected in one or more arguments"))
+error_lines BadAddress = Some (line (codes "bad address"))
 error_lines (Trace fault) = option_map line (fault_text fault)
-error_lines (Session error) = Some (line (session_error_text error))
+error_lines (File error) = Some (line (file_error_text error))
 error_lines (Answer error) = Some (line (answer_error_text error))
+error_lines Listen = Some (line (codes "cannot listen"))
 error_lines Write = Some (line (codes "write fault"))
 error_lines NoMemory = Some (line (codes "out of memory"))
 
@@ -42,6 +50,16 @@ error_lines NoMemory = Some (line (codes "out of memory"))
 abbrev pub argument_error : IoKind → ToolError
 argument_error io.OutOfMemory = NoMemory
 argument_error _ = NotUtf8
+
+-- a socket isn't bound where memory is refused, or where the system fails
+abbrev pub listen_error : IoKind → ToolError
+listen_error io.OutOfMemory = NoMemory
+listen_error _ = Listen
+
+-- the lines of connections that were not all written
+abbrev pub output_error : TextFault → ToolError
+output_error texts.Write = Write
+output_error texts.NoMemory = NoMemory
 
 -- help and the version go to standard output
 abbrev pub IsShown : ErrorKind → Type 0

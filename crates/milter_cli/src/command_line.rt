@@ -1,16 +1,29 @@
 //! The command line: what the program is asked to do.
 
-ghost use Rattle.std.specs.Prelude.{◌≡◌, IfErr, IfOk, map, false};
+ghost use Rattle.std.specs.Prelude.{◌≡◌, IfErr, IfOk, Some, codes, map, false};
 ghost use Rattle.clap.specs.Words.{HasKind, app_of, fault_of, found_of, rows_of, rule_of, subcommand_rows_of};
-ghost use Rattle.milter_cli.specs.CommandLine.{HasMatches, IsLocal, IsRequestOf, IsSessionRequest, ParsesAs, answer_app, file_rule, session_app, tool_app, top_app, trace_app};
+ghost use Rattle.milter_cli.specs.CommandLine.{HasMatches, IsCount, IsLocal, IsRequestOf, IsRequestOfNamed, ParsesAs};
+ghost use Rattle.milter_cli.specs.CommandLine.{answer_app, count_rule, filter_app, option_rule, place_rule};
+ghost use Rattle.milter_cli.specs.CommandLine.{reading_app, rules_app, session_app, text_of, tool_app};
+ghost use Rattle.milter_cli.specs.CommandLine.{top_app, trace_app};
 
 use crate::help_text;
+use clap::builder::ValueParser;
 use clap::{Arg, ArgAction, ArgMatches, Command, Error};
 use std::alloc::{AllocError, Global};
 use std::convert::AsStr;
 
 /// The version of the program.
 const VERSION: &str = "0.1.0";
+
+/// How many connections are served where the command line has no number of them.
+const COUNT_DEFAULT: u32 = 1;
+
+/// The fewest connections that one run serves.
+const COUNT_MIN: u64 = 1;
+
+/// The most connections that one run serves.
+const COUNT_MAX: u64 = 1_000_000;
 
 /// What the program is asked to do.
 #[derive(Clone, Copy, Debug, PartialEq, Eq)]
@@ -22,8 +35,25 @@ pub enum Request<'a> {
         /// The path of the file.
         file: &'a str,
     },
-    /// To reply to the mail server on standard input, as a filter that lets all mail go on.
-    Answer,
+    /// To print the rules of a file in canonical form.
+    Rules {
+        /// The path of the file.
+        file: &'a str,
+    },
+    /// To reply to the mail server on standard input, as a filter.
+    Answer {
+        /// The path of a rule file. Without one all mail goes on.
+        rules: Option<&'a str>,
+    },
+    /// To serve connections of mail servers one after another, as a filter.
+    Filter {
+        /// The text of the address of the socket.
+        address: &'a str,
+        /// The path of a rule file. Without one all mail goes on.
+        rules: Option<&'a str>,
+        /// How many connections, from 1 to 1,000,000.
+        count: u32,
+    },
 }
 
 /// What the words of a command line ask for, the program's name first. An error has a text and a kind: a wrong use,
@@ -42,21 +72,23 @@ fn parse_matches<'a, S: AsStr>(alloc: Global, words: &'a [S]) -> Result<ArgMatch
     command(alloc)?.try_get_matches_from(words)
 }
 
-/// What parsed words ask for: nothing only where they name no subcommand, or a session without its file.
+/// What parsed words ask for: nothing only where they name no subcommand, or one without a word that it has to have.
 fn request_of<'a>(matches: &ArgMatches<'a>) -> Option<Request<'a>>
     ensures { IsRequestOf (subcommand_rows_of matches.now) result }
 {
     match matches.subcommand() {
         Some(("trace", _)) => Some(Request::Trace),
         Some(("session", given)) => session_request(given),
-        Some(("answer", _)) => Some(Request::Answer),
+        Some(("rules", given)) => rules_request(given),
+        Some(("answer", given)) => Some(answer_request(given)),
+        Some(("filter", given)) => filter_request(given),
         _ => None,
     }
 }
 
 /// What the words after `session` ask for.
 fn session_request<'a>(given: &ArgMatches<'a>) -> Option<Request<'a>>
-    ensures { IsSessionRequest (rows_of (found_of given.now)) result }
+    ensures { IsRequestOfNamed (codes "session") (rows_of (found_of given.now)) result }
 {
     match given.get_str("file") {
         Some(file) => Some(Request::Session { file }),
@@ -64,14 +96,66 @@ fn session_request<'a>(given: &ArgMatches<'a>) -> Option<Request<'a>>
     }
 }
 
+/// What the words after `rules` ask for.
+fn rules_request<'a>(given: &ArgMatches<'a>) -> Option<Request<'a>>
+    ensures { IsRequestOfNamed (codes "rules") (rows_of (found_of given.now)) result }
+{
+    match given.get_str("file") {
+        Some(file) => Some(Request::Rules { file }),
+        None => None,
+    }
+}
+
+/// What the words after `answer` ask for.
+fn answer_request<'a>(given: &ArgMatches<'a>) -> Request<'a>
+    ensures { IsRequestOfNamed (codes "answer") (rows_of (found_of given.now)) (Some result) }
+{
+    Request::Answer {
+        rules: given.get_str("rules"),
+    }
+}
+
+/// What the words after `filter` ask for.
+fn filter_request<'a>(given: &ArgMatches<'a>) -> Option<Request<'a>>
+    ensures { IsRequestOfNamed (codes "filter") (rows_of (found_of given.now)) result }
+{
+    match given.get_str("address") {
+        Some(address) => Some(Request::Filter {
+            address,
+            rules: given.get_str("rules"),
+            count: count_in(given.get_str("count")),
+        }),
+        None => None,
+    }
+}
+
+/// The number in the text of the option `count`, which parsing has looked at, or that of no such option.
+fn count_in(text: Option<&str>) -> u32
+    ensures { IsCount (text_of text.entry) result }
+{
+    match text {
+        Some(text) => text.parse().unwrap_or(COUNT_DEFAULT),
+        None => COUNT_DEFAULT,
+    }
+}
+
 /// The whole command line.
 fn command<'a>(alloc: Global) -> Result<Command<'a>, AllocError>
     ensures { IfOk result (λ c. app_of c ≡ tool_app) }
 {
+    reading(alloc)?
+        .subcommand(answer(alloc)?)?
+        .subcommand(filter(alloc)?)
+}
+
+/// The command line with the subcommands that only read files.
+fn reading<'a>(alloc: Global) -> Result<Command<'a>, AllocError>
+    ensures { IfOk result (λ c. app_of c ≡ reading_app) }
+{
     top(alloc)?
         .subcommand(trace(alloc))?
         .subcommand(session(alloc)?)?
-        .subcommand(answer(alloc))
+        .subcommand(rules(alloc)?)
 }
 
 fn top<'a>(alloc: Global) -> Result<Command<'a>, AllocError>
@@ -81,7 +165,7 @@ fn top<'a>(alloc: Global) -> Result<Command<'a>, AllocError>
     Ok(
         named
             .about(
-                "Looks at conversations between mail servers and their filters, in the milter protocol",
+                "Looks at conversations of mail servers with filters, and serves as a filter, in the milter protocol",
             )
             .version(VERSION)
             .subcommand_required(true),
@@ -104,27 +188,93 @@ fn session<'a>(alloc: Global) -> Result<Command<'a>, AllocError>
     Command::new(alloc, "session")
         .about("Prints what a session file has, in canonical form")
         .after_long_help(help_text::SESSION)
-        .arg(file(alloc))
+        .arg(place(alloc, "file", "FILE", "The path of the session file"))
 }
 
-fn answer<'a>(alloc: Global) -> Command<'a>
-    ensures shape { app_of result ≡ answer_app }
-    ensures local { IsLocal result }
+fn rules<'a>(alloc: Global) -> Result<Command<'a>, AllocError>
+    ensures shape { IfOk result (λ c. app_of c ≡ rules_app) }
+    ensures local { IfOk result IsLocal }
+{
+    Command::new(alloc, "rules")
+        .about("Prints what a rule file has, in canonical form")
+        .after_long_help(help_text::RULES)
+        .arg(place(alloc, "file", "FILE", "The path of the rule file"))
+}
+
+fn answer<'a>(alloc: Global) -> Result<Command<'a>, AllocError>
+    ensures shape { IfOk result (λ c. app_of c ≡ answer_app) }
+    ensures local { IfOk result IsLocal }
 {
     Command::new(alloc, "answer")
-        .about(
-            "Replies to a mail server, on standard input and output, as a filter that lets all mail go on",
-        )
+        .about("Replies to a mail server, on standard input and output, as a filter")
         .after_long_help(help_text::ANSWER)
+        .arg(rules_option(alloc))
 }
 
-fn file<'a>(alloc: Global) -> Arg<'a>
-    ensures rule { rule_of result ≡ file_rule }
+fn filter<'a>(alloc: Global) -> Result<Command<'a>, AllocError>
+    ensures shape { IfOk result (λ c. app_of c ≡ filter_app) }
+    ensures local { IfOk result IsLocal }
+{
+    Command::new(alloc, "filter")
+        .about("Serves connections of mail servers, one after another, as a filter")
+        .after_long_help(help_text::FILTER)
+        .arg(place(
+            alloc,
+            "address",
+            "ADDRESS",
+            "Where to listen: inet:PORT@HOST or unix:PATH",
+        ))?
+        .arg(rules_option(alloc))?
+        .arg(count_option(alloc))
+}
+
+/// The rule file of a filter.
+fn rules_option<'a>(alloc: Global) -> Arg<'a>
+    ensures rule { rule_of result ≡ option_rule (codes "rules") }
     ensures local { result.global ≡ false }
 {
-    Arg::new(alloc, "file")
-        .value_name("FILE")
+    option(
+        alloc,
+        "rules",
+        "FILE",
+        "The path of a rule file; without one all mail goes on",
+    )
+}
+
+/// How many connections are served.
+fn count_option<'a>(alloc: Global) -> Arg<'a>
+    ensures rule { rule_of result ≡ count_rule }
+    ensures local { result.global ≡ false }
+{
+    option(
+        alloc,
+        "count",
+        "N",
+        "How many connections to serve, from 1 to 1,000,000; without it one",
+    )
+    .value_parser(ValueParser::unsigned(COUNT_MIN, COUNT_MAX))
+}
+
+/// A word that has to be there.
+fn place<'a>(alloc: Global, name: &'a str, value: &'a str, help: &'a str) -> Arg<'a>
+    ensures rule { rule_of result ≡ place_rule name.entry.now }
+    ensures local { result.global ≡ false }
+{
+    Arg::new(alloc, name)
+        .value_name(value)
         .required(true)
         .action(ArgAction::Set)
-        .help("The path of the session file")
+        .help(help)
+}
+
+/// An option with a value.
+fn option<'a>(alloc: Global, name: &'a str, value: &'a str, help: &'a str) -> Arg<'a>
+    ensures rule { rule_of result ≡ option_rule name.entry.now }
+    ensures local { result.global ≡ false }
+{
+    Arg::new(alloc, name)
+        .long(name)
+        .value_name(value)
+        .action(ArgAction::Set)
+        .help(help)
 }

@@ -79,13 +79,78 @@ with the number N of its line, from 1:
 Status: 0 after the whole session was printed, 1 after a fault, 2 after a wrong
 use of the command line.";
 
+/// The form of a rule file, its limits, and its fault lines.
+pub(crate) const RULES: &str = "\
+A rule file says what a filter asks for and what it answers. It has these lines,
+in any order:
+
+  version NUMBER                 the version of the protocol, 2 to 6; else 6
+  actions NAMES                  the actions to ask for; else those that the edits
+                                 of the rules need
+  protocol NAMES                 the protocol bits to ask for; else SKIP, where a
+                                 rule skips
+  symbols STAGE TEXT             the names of the macros to ask for at a stage:
+                                 connect, helo, mail, rcpt, data, eoh or eom
+  at STAGE do ACTION             a rule
+  at STAGE when CONDITION and CONDITION .. do ACTION
+                                 a rule for where each of its conditions holds
+
+NAMES are joined by |, or none. STAGE of a rule is connect, helo, mail, rcpt, data,
+header, eoh, body or eob. CONDITION is one of
+
+  FIELD is TEXT                  a value of the field equals the text
+  FIELD has TEXT                 a value of the field contains it
+  FIELD lacks TEXT               no value of the field contains it
+
+where FIELD is host, address, helo, sender, rcpt, header TEXT, body or macro TEXT.
+ACTION is a verdict:
+
+  continue, accept, reject, tempfail, discard, skip, code TEXT
+
+or, at eob alone, an edit:
+
+  add-header TEXT TEXT           insert-header NUMBER TEXT TEXT
+  change-header NUMBER TEXT TEXT
+  add-rcpt TEXT                  add-rcpt-par TEXT [TEXT]
+  del-rcpt TEXT                  change-from TEXT [TEXT]
+  replace-body TEXT              quarantine TEXT
+  progress
+
+At each stage the rules of the stage that hold are gone through in order, up to
+the first that is a verdict: the edits before it and that verdict are the answer,
+or the edits and continue.
+
+TEXT is in double quotes, with the escapes \\\" \\\\ \\n \\r \\t and \\xHH. Blank lines, and
+lines that begin with #, are skipped. A file has at most 134,217,728 bytes and
+10,000 rules.
+
+It is printed in canonical form. The first fault is printed on standard error,
+with the number N of its line, from 1:
+
+  rules line N: fault 1          an unknown line, or a bad or repeated one of
+                                 version, actions, protocol or symbols
+  rules line N: fault 2          no stage, or an unknown one
+  rules line N: fault 3          a bad condition, or no do
+  rules line N: fault 4          a bad action, or a NUL in its text
+  rules line N: fault 5          an action that can't be at this stage
+  rules line N: fault 6          a text is too large for a packet, the edits have
+                                 more than 16,777,216 bytes, or too many rules
+  cannot read rules              the file was not read, or is too large
+  write fault                    standard output was not written
+  out of memory                  memory was refused
+
+Status: 0 after all rules were printed, 1 after a fault, 2 after a wrong use of the
+command line.";
+
 /// What is read and written by the filter's end on standard input and output, and its fault lines.
 pub(crate) const ANSWER: &str = "\
 Standard input is what a mail server (MTA) sends to a filter, and standard output
 is what the filter replies: the packets of the milter protocol, byte for byte.
-The filter agrees on version 6, or on the lower version that is offered, and on
-no actions and no protocol bits, and it replies Continue to each command that is
-to be replied to. It keeps nothing that comes of a message after that message.
+The filter asks for what the rule file says, and answers by its rules: milter_tool
+help rules has their form. Without one it agrees on version 6, or on the lower
+version that is offered, and on no actions and no protocol bits, and it replies
+Continue to each command that is to be replied to. It keeps nothing that comes of
+a message after that message.
 
 What is read is replied to before more is read. So standard input and output may
 be one socket, of a connection that a super-server took: systemd with Accept=yes,
@@ -103,6 +168,8 @@ which is printed on standard error after the replies to what comes before it:
                                  code, or a payload that isn't in its layout
   filter fault 6                 a second offer of options
   input truncated B bytes        the input ends after B bytes of a packet
+  cannot read rules              the rule file was not read, or is too large
+  rules line N: fault K          the rule file has a fault
   read fault                     standard input was not read
   write fault                    standard output was not written
   out of memory                  memory was refused
@@ -110,3 +177,40 @@ which is printed on standard error after the replies to what comes before it:
 
 Status: 0 after the mail server has quit or the input has ended after a packet,
 1 after a fault, 2 after a wrong use of the command line.";
+
+/// Where connections are taken, what is printed of each, and the fault lines.
+pub(crate) const FILTER: &str = "\
+ADDRESS is where mail servers (MTAs) connect:
+
+  inet:PORT@HOST                 a TCP port from 1 to 65535 of a host's name, or of
+                                 an IP address (IPv6 without brackets)
+  unix:PATH                      a Unix socket, which is made; a path that exists
+                                 is refused, and no path is removed
+
+as inet:8890@127.0.0.1. The filter asks for what the rule file says, and answers
+by its rules: milter_tool help rules has their form. Without one it lets all mail
+go on. Each connection is served to its end before the next one is taken, and
+nothing limits how long one takes.
+
+A line is printed for each connection as it ends, with its number N, from 1:
+
+  connection N quit              the mail server has quit
+  connection N ended B           it closed the connection, B bytes after the last
+                                 whole packet
+  connection N failed K          the connection was given up, for fault K as in
+                                 milter_tool help answer; 7 is out of memory
+  connection N read fault        the connection was not taken, or not read
+  connection N write fault       a reply was not sent
+  connection N turn limit        the connection goes on after 1,073,741,824 reads
+
+A fault is printed on standard error:
+
+  bad address                    ADDRESS isn't of its form (status 2)
+  cannot read rules              the rule file was not read, or is too large
+  rules line N: fault K          the rule file has a fault
+  cannot listen                  the socket was not bound
+  write fault                    standard output was not written
+  out of memory                  memory was refused
+
+Status: 0 after so many connections as were asked for, 1 after a fault, 2 after a
+wrong use of the command line.";

@@ -3,11 +3,12 @@
 ghost use Rattle.std.specs.Prelude.{◌≡◌, OnOk};
 ghost use Rattle.std.specs.Process.{exit_status};
 ghost use Rattle.clap.specs.Words.{kind_of};
-ghost use Rattle.milter_cli.specs.ToolError.{EndsBy, IsShown, argument_error, error_lines, status_of};
+ghost use Rattle.milter_cli.specs.ToolError.{EndsBy, IsShown, argument_error, error_lines, listen_error, output_error, status_of};
 
 use crate::answer_error::AnswerError;
-use crate::session_error::SessionError;
+use crate::file_error::FileError;
 use clap::error::ErrorKind;
+use milter_text::TextFault;
 use milter_trace::TraceFault;
 use std::error::Error;
 use std::fmt;
@@ -21,15 +22,19 @@ pub enum ToolError {
     Usage(clap::Error),
     /// An argument isn't UTF-8.
     NotUtf8,
+    /// A text that names no address.
+    BadAddress,
     /// A trace that ended before its input.
     Trace(TraceFault),
-    /// A session that was not printed to its end.
-    Session(SessionError),
+    /// A file that was not read, or what it has not printed to its end.
+    File(FileError),
     /// A mail server that was not answered to its end.
     Answer(AnswerError),
-    /// Help or the version was not written.
+    /// A socket that was not bound.
+    Listen,
+    /// Help, the version or the line of a connection was not written.
     Write,
-    /// Memory was refused before there was a subcommand.
+    /// Memory was refused before there was a subcommand, or for the line of a connection.
     NoMemory,
 }
 
@@ -45,9 +50,11 @@ impl fmt::Display for ToolError {
                     "error: invalid UTF-8 was detected in one or more arguments"
                 )
             }
+            ToolError::BadAddress => writeln!(f, "bad address"),
             ToolError::Trace(fault) => writeln!(f, "{fault}"),
-            ToolError::Session(error) => writeln!(f, "{error}"),
+            ToolError::File(error) => writeln!(f, "{error}"),
             ToolError::Answer(error) => writeln!(f, "{error}"),
+            ToolError::Listen => writeln!(f, "cannot listen"),
             ToolError::Write => writeln!(f, "write fault"),
             ToolError::NoMemory => writeln!(f, "out of memory"),
         }
@@ -68,9 +75,9 @@ pub fn report<W: Write>(ended: Result<(), ToolError>, errors: &mut W) -> ExitCod
     };
     let _ = write!(errors, "{error}");
     ExitCode::from(match error {
-        ToolError::Usage(_) | ToolError::NotUtf8 => 2,
-        ToolError::Trace(_) | ToolError::Session(_) | ToolError::Answer(_) => 1,
-        ToolError::Write | ToolError::NoMemory => 1,
+        ToolError::Usage(_) | ToolError::NotUtf8 | ToolError::BadAddress => 2,
+        ToolError::Trace(_) | ToolError::File(_) | ToolError::Answer(_) => 1,
+        ToolError::Listen | ToolError::Write | ToolError::NoMemory => 1,
     })
 }
 
@@ -84,9 +91,29 @@ pub fn argument_error(kind: io::ErrorKind) -> ToolError
     }
 }
 
+/// The error of a socket that isn't bound, or of memory that was refused for it.
+pub fn listen_error(kind: io::ErrorKind) -> ToolError
+    ensures { result ≡ listen_error kind }
+{
+    match kind {
+        io::ErrorKind::OutOfMemory => ToolError::NoMemory,
+        _ => ToolError::Listen,
+    }
+}
+
+/// The error of the lines of connections that were not all written.
+pub fn output_error(fault: TextFault) -> ToolError
+    ensures { result ≡ output_error fault }
+{
+    match fault {
+        TextFault::Write => ToolError::Write,
+        TextFault::NoMemory => ToolError::NoMemory,
+    }
+}
+
 /// Ends a command line that has no request: writes help and the version, where one of them was asked for, and answers
 /// with any other error.
-pub fn answer<W: Write>(error: clap::Error, output: &mut W) -> Result<(), ToolError>
+pub fn end_usage<W: Write>(error: clap::Error, output: &mut W) -> Result<(), ToolError>
     ensures ends { EndsBy (kind_of error) error result }
     ensures unwritten { ¬ IsShown (kind_of error) → W.contents output.new ≡ W.contents output.old }
 {

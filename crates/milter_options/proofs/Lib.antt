@@ -3,3 +3,5 @@ pub mod SetLaws
 mod SymListLaws
 pub mod PayloadLaws
 pub mod NamesText
+pub mod NamedSets
+pub mod KnownNames

@@ -100,7 +100,7 @@ mapped : (table : List Row) (names : List (List ℕ)) (set : ℕ) (found : Optio
 mapped table names set None e h = absurd cc
 mapped table names set (Some bits) e h = subst (IsSetOf table names) (same_Some (with_bits 0 bits) set h) (set_of table names bits (found_is table names bits e))
 
-not_none : {A : Type 0} (text : List ℕ) (x y : A) → text ≢ codes "none" → (if pointwise nat_eq text (codes "none") then x else y) ≡ y
+pub not_none : {A : Type 0} (text : List ℕ) (x y : A) → text ≢ codes "none" → (if pointwise nat_eq text (codes "none") then x else y) ≡ y
 not_none text x y other = by_test (pointwise nat_eq text (codes "none")) refl
   where
     by_test : (b : Bool) → pointwise nat_eq text (codes "none") ≡ b → (if pointwise nat_eq text (codes "none") then x else y) ≡ y

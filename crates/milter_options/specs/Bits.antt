@@ -1,5 +1,5 @@
 -- The names of the bits of options, and texts that name sets of them.
-use Rattle.std.specs.Prelude.{◌≡◌, ◌⊎◌, ◌↔◌, ℕ, ◌==◌, nat_eq, List, [], ◌∷◌, codes, map, All, Option, Some, IsSome, option_map, if◌then◌else◌}
+use Rattle.std.specs.Prelude.{◌≡◌, ◌⊎◌, ◌↔◌, ℕ, ◌^◌, ◌==◌, ◌&&◌, nat_eq, nat_lt, Bool, List, [], ◌∷◌, codes, map, All, Option, Some, IsSome, option_map, if◌then◌else◌}
 use Rattle.std.specs.Int.{bit_at}
 use Rattle.std.specs.List.{filter, join_with_byte, slice_split}
 use Rattle.std.specs.Cmp.Lexicographic.{pointwise}
@@ -47,6 +47,10 @@ protocol_table =
     ∷ (codes "NR_BODY", 524288)
     ∷ (codes "HDR_LEADSPC", 1048576)
     ∷ []
+
+-- a set of these bits alone
+abbrev pub is_within : ℕ → ℕ → Bool
+is_within all bits = bit_and bits all == bits && nat_lt bits (2 ^ 32)
 
 -- ---- texts
 

@@ -1,8 +1,10 @@
 //! Laws of the names of bits, each the contract of a function that does nothing.
 
 ghost use Rattle.std.specs.Prelude.{◌≡◌, ◌≢◌, List, ℕ, None, Some, codes};
-ghost use Rattle.bitflags.specs.Sets.{Row};
-ghost use Rattle.milter_options.specs.Bits.{AreKnown, IsSetOf, bits_named, names_in};
+ghost use Rattle.std.specs.Int.RustNames.{bit_and};
+ghost use Rattle.bitflags.specs.Sets.{Row, known_bits};
+ghost use Rattle.milter_options.specs.Bits.{AreKnown, IsSetOf, actions_table, bits_named, names_in};
+ghost use Rattle.milter_options.specs.Bits.{names_text, protocol_table};
 
 /// The set of bits that a text names, for any table of names.
 pub fn names_of_bits()
@@ -14,4 +16,12 @@ pub fn names_of_bits()
     // A text that names no set has a name that is no bit's.
     ensures unknown { (table : List Row) (text : List ℕ) → text ≢ codes "none" →
         bits_named table text ≡ None → ¬ AreKnown table (names_in text) }
+{}
+
+/// The text of the names of a set's bits names that set, if each of its bits has a name.
+pub fn texts_of_known_bits()
+    ensures actions { (set : ℕ) → bit_and set (known_bits actions_table) ≡ set →
+        bits_named actions_table (names_text actions_table set) ≡ Some set }
+    ensures protocol { (set : ℕ) → bit_and set (known_bits protocol_table) ≡ set →
+        bits_named protocol_table (names_text protocol_table set) ≡ Some set }
 {}

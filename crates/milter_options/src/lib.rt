@@ -14,7 +14,7 @@ mod payload;
 mod symbol_lists;
 
 pub use agreement::common_options;
-pub use laws::names_of_bits;
+pub use laws::{names_of_bits, texts_of_known_bits};
 pub use macro_stage::{
     MacroStage, SMFIM_CONNECT, SMFIM_DATA, SMFIM_ENVFROM, SMFIM_ENVRCPT, SMFIM_EOH, SMFIM_EOM,
     SMFIM_HELO,
@@ -23,5 +23,5 @@ pub use options::{Actions, Options, Protocol};
 pub use payload::{OPTIONS_LEN, options_fit, put_options, take_options, take_options_first};
 pub use symbol_lists::{
     SymList, SymLists, options_with_lists_fit, options_with_lists_len, put_options_with_lists,
-    take_options_with_lists,
+    sym_list_len, sym_lists_len, take_options_with_lists,
 };

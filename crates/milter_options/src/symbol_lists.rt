@@ -1,6 +1,6 @@
 //! Symbol lists: the macros that a filter asks for, by name.
 
-ghost use Rattle.std.specs.Prelude.{◌≡◌, ◌-◌, ◌^◌, ◌++◌, ◌↔◌, [], All, IsTrue, OnOk, is_some, length, min, option_map};
+ghost use Rattle.std.specs.Prelude.{◌≡◌, ◌-◌, ◌^◌, ◌++◌, ◌∷◌, ◌↔◌, [], All, IsTrue, OnErr, OnOk, is_some, length, min, option_map};
 ghost use Rattle.std.specs.List.{flat_map};
 ghost use Rattle.std.specs.Cmp.{partial_equiv_from_equiv};
 ghost use Rattle.std.specs.Cmp.Lexicographic.{pointwise, lists_equiv};
@@ -59,6 +59,15 @@ impl SymLists {
         self.lists.as_slice()
     }
 
+    /// Adds a list after the others. After `NoMemory` the lists are as they were.
+    pub fn push(&mut self, list: SymList) -> Result<(), NoMemory>
+        ensures ok { OnOk result (self.new ≡ self.old ++ list ∷ []) }
+        ensures err { OnErr result (self.new ≡ self.old) }
+    {
+        self.lists.push(list)?;
+        Ok(())
+    }
+
     /// No symbol list: those that were there are dropped. No memory is taken.
     pub fn cleared(self) -> Self
         ensures { result ≡ [] }
@@ -99,16 +108,16 @@ fn sym_list_fits(list: &SymList) -> bool
     has_no_nul(list.names.as_slice())
 }
 
-/// The number of bytes of the list in a packet.
+/// The number of bytes of the list in a packet, or the greatest `usize` where there are more. No memory is taken.
 #[tactic(auto, unfolding(milter_stream::specs::Number::number))]
-fn sym_list_len(list: &SymList) -> usize
+pub fn sym_list_len(list: &SymList) -> usize
     ensures { result ≡ min (length (sym_list list.now)) (2 ^ 64 - 1) }
 {
     string_len(list.names.as_slice()).saturating_add(STAGE_LEN)
 }
 
-/// The number of bytes of the lists in a packet, or the greatest `usize`.
-fn sym_lists_len(lists: &[SymList]) -> usize
+/// The number of bytes of the lists in a packet, or the greatest `usize` where there are more. No memory is taken.
+pub fn sym_lists_len(lists: &[SymList]) -> usize
     ensures { result ≡ min (length (flat_map sym_list lists.now)) (2 ^ 64 - 1) }
 {
     let mut total: usize = 0;

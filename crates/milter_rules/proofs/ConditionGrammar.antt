@@ -1,19 +1,19 @@
 -- What is read of the words of a condition is the condition, and the other way round.
-use Rattle.std.specs.Prelude.{◌≡◌, ◌≢◌, ℕ, Bool, true, false, not, ◌&&◌, List, [], ◌∷◌, ◌++◌, codes, Option, None, Some, refl, if◌then◌else◌}
+use Rattle.std.specs.Prelude.{◌≡◌, ℕ, Bool, true, false, not, ◌&&◌, List, [], ◌∷◌, ◌++◌, codes, Option, None, Some, refl, if◌then◌else◌}
 use Rattle.std.specs.Option.{option_map}
 use Rattle.std.specs.Str.{bytes_eq}
 use Rattle.std.proofs.Common.{ap, sym, subst, ◌∙◌}
-use Rattle.std.proofs.lemmas.Bool.{and_parts}
 use Rattle.std.proofs.lemmas.Slice.Eq.{bytes_eq-Decides}
 use Rattle.milter_fields.specs.Bind.{◌>>=◌}
 use Rattle.milter_text.specs.declared.word.Word.{Word}
 use Rattle.milter_text.specs.WordValues.{is_keyword, keyword, text_of}
-use Rattle.milter_rules.specs.declared.rule.Condition.{Condition}
-use Rattle.milter_rules.specs.declared.rule.Field.{Field}
-use Rattle.milter_rules.specs.declared.rule.Field.TheVariants.{Host, Address, Helo, Sender, Rcpt, Header, Body, Macro}
-use Rattle.milter_rules.specs.declared.rule.Test.{Test}
-use Rattle.milter_rules.specs.declared.rule.Test.TheVariants.{Is, Has, Lacks}
-use Rattle.milter_rules.specs.ConditionWords.{condition_at, condition_on, condition_words, field_at, field_name, field_of, lone_field, name_words, named_field, quoted_word, test_in, test_name, words_after}
+use Rattle.milter_ruleset.specs.declared.rule.Condition.{Condition}
+use Rattle.milter_ruleset.specs.declared.rule.Field.{Field}
+use Rattle.milter_ruleset.specs.declared.rule.Field.TheVariants.{Host, Address, Helo, Sender, Rcpt, Header, Body, Macro}
+use Rattle.milter_ruleset.specs.declared.rule.Test.{Test}
+use Rattle.milter_ruleset.specs.declared.rule.Test.TheVariants.{Is, Has, Lacks}
+use Rattle.milter_rules.specs.ConditionWords.{condition_at, condition_on, condition_words, field_at, field_of, lone_field, name_words, named_field, quoted_word, test_in, words_after}
+use Rattle.milter_ruleset.specs.RuleNames.{field_name, test_name}
 
 -- ---- from a condition to its words and back
 
@@ -64,16 +64,16 @@ keyword_word true text given is = absurd cc
 pub keyword_is : (text : List ℕ) (word : Word) → is_keyword text word ≡ true → word ≡ keyword text
 keyword_is text word is = keyword_word word.quoted text word.text is
 
-some_same : {X : Type 0} (x y : X) → Some x ≡ Some y → x ≡ y
+pub some_same : {X : Type 0} (x y : X) → Some x ≡ Some y → x ≡ y
 some_same x y e = cc
 
 -- the first of two cases gives the value, or the second does
-from_case : {X : Type 0} (P : X → Type 0) (test : Bool) (first : X) (others : Option X) (x : X)
+pub from_case : {X : Type 0} (P : X → Type 0) (test : Bool) (first : X) (others : Option X) (x : X)
     → (if test then Some first else others) ≡ Some x → (test ≡ true → P first) → (others ≡ Some x → P x) → P x
 from_case P true first others x is now later = subst P (some_same first x is) (now refl)
 from_case P false first others x is now later = later is
 
-nothing : {X : Type 0} (P : X → Type 0) (x : X) → None ≡ Some x → P x
+pub nothing : {X : Type 0} (P : X → Type 0) (x : X) → None ≡ Some x → P x
 nothing P x e = absurd cc
 
 -- a field that stands alone, as the word is
@@ -123,12 +123,12 @@ text_is word text is = go word.quoted word.text is
     go true given e = ap quoted_word (some_same given text e)
     go false given e = absurd cc
 
-bind_some : {X Y : Type 0} (x : Option X) (f : X → Option Y) (y : Y) → (x >>= f) ≡ Some y
+pub bind_some : {X Y : Type 0} (x : Option X) (f : X → Option Y) (y : Y) → (x >>= f) ≡ Some y
     → (z : X) × (x ≡ Some z) × (f z ≡ Some y)
 bind_some None f y e = absurd cc
 bind_some (Some z) f y e = (z, refl, e)
 
-map_some : {X Y : Type 0} (x : Option X) (f : X → Y) (y : Y) → option_map f x ≡ Some y
+pub map_some : {X Y : Type 0} (x : Option X) (f : X → Y) (y : Y) → option_map f x ≡ Some y
     → (z : X) × (x ≡ Some z) × (f z ≡ y)
 map_some None f y e = absurd cc
 map_some (Some z) f y e = (z, refl, some_same (f z) y e)

@@ -1,12 +1,12 @@
 -- How far the conditions of a line were read.
-use Rattle.std.specs.Prelude.{◌≡◌, ℕ, Bool, true, false, List, [], ◌∷◌, ◌++◌, codes, Option, None, Some, refl}
+use Rattle.std.specs.Prelude.{◌≡◌, ℕ, false, List, [], ◌∷◌, ◌++◌, codes, None, Some, refl}
 use Rattle.std.specs.Str.{bytes_eq}
 use Rattle.std.proofs.Common.{◌<◌, ap, arith, length, length-append, sym, subst, ◌∙◌}
 use Rattle.std.proofs.lemmas.Bool.{false≢true}
 use Rattle.std.proofs.lemmas.Slice.Eq.{bytes_eq-Decides}
 use Rattle.milter_text.specs.declared.word.Word.{Word}
 use Rattle.milter_text.specs.WordValues.{keyword}
-use Rattle.milter_rules.specs.declared.rule.Condition.{Condition}
+use Rattle.milter_ruleset.specs.declared.rule.Condition.{Condition}
 use Rattle.milter_rules.specs.ConditionWords.{condition_at, condition_words, conditions_words, joined, words_after}
 use Rattle.milter_rules.proofs.ConditionGrammar.{after_keyword, append_words, condition_found, condition_read, keyword_after}
 

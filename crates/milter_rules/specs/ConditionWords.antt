@@ -4,37 +4,23 @@ use Rattle.std.specs.Option.{option_map}
 use Rattle.milter_fields.specs.Bind.{◌>>=◌}
 use Rattle.milter_text.specs.declared.word.Word.{Word}
 use Rattle.milter_text.specs.WordValues.{is_keyword, keyword, text_of}
-use Rattle.milter_rules.specs.declared.rule.Condition.{Condition}
-use Rattle.milter_rules.specs.declared.rule.Field.{Field}
-use Rattle.milter_rules.specs.declared.rule.Field.TheVariants.{Host, Address, Helo, Sender, Rcpt, Header, Body, Macro}
-use Rattle.milter_rules.specs.declared.rule.Test.{Test}
-use Rattle.milter_rules.specs.declared.rule.Test.TheVariants.{Is, Has, Lacks}
+use Rattle.milter_ruleset.specs.declared.rule.Condition.{Condition}
+use Rattle.milter_ruleset.specs.declared.rule.Field.{Field}
+use Rattle.milter_ruleset.specs.declared.rule.Field.TheVariants.{Host, Address, Helo, Sender, Rcpt, Header, Body, Macro}
+use Rattle.milter_ruleset.specs.declared.rule.Test.{Test}
+use Rattle.milter_ruleset.specs.declared.rule.Test.TheVariants.{Is, Has, Lacks}
+use Rattle.milter_ruleset.specs.RuleNames.{field_name, test_name}
 
 -- ---- how conditions are written
 
 abbrev pub quoted_word : List ℕ → Word
 quoted_word text = record { text = text; quoted = true }
 
-abbrev pub field_name : Field → List ℕ
-field_name Host = codes "host"
-field_name Address = codes "address"
-field_name Helo = codes "helo"
-field_name Sender = codes "sender"
-field_name Rcpt = codes "rcpt"
-field_name (Header name) = codes "header"
-field_name Body = codes "body"
-field_name (Macro name) = codes "macro"
-
 -- the name of a header field or of a macro
 abbrev pub name_words : Field → List Word
 name_words (Header name) = quoted_word name ∷ []
 name_words (Macro name) = quoted_word name ∷ []
 name_words other = []
-
-abbrev pub test_name : Test → List ℕ
-test_name Is = codes "is"
-test_name Has = codes "has"
-test_name Lacks = codes "lacks"
 
 -- `FIELD is TEXT`, `FIELD has TEXT` or `FIELD lacks TEXT`
 abbrev pub condition_words : Condition → List Word

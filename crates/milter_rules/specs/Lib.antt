@@ -1,10 +1,10 @@
-pub mod StageRules
-pub mod Conditions
-pub mod Reading
-pub mod ActionFits
-pub mod RuleSet
-pub mod RulesLaw
-pub mod RulesValue
 pub mod ConditionWords
 pub mod ActionWords
 pub mod RuleFault
+pub mod RuleLines
+pub mod RuleFile
+pub mod RuleDraft
+pub mod WordsText
+pub mod ActionText
+pub mod RulesText
+pub mod RulesGiven

@@ -1,5 +1,5 @@
 -- The faults of a rule file.
-use Rattle.std.specs.Prelude.{◌≡◌, ℕ, ◌≤◌, IfSome, Option, None, Some}
+use Rattle.std.specs.Prelude.{◌≡◌, ℕ, ◌≤◌, ◌<◌, IfSome, Option, None, Some}
 use Rattle.milter_text.specs.declared.line_fault.LineFault.{LineFault}
 use Rattle.milter_text.specs.declared.line_fault.LineFault.TheVariants as line_faults
 use Rattle.milter_rules.specs.declared.rule_fault.RuleFault.{RuleFault}
@@ -36,3 +36,7 @@ IsWithin last fault = IfSome (rule_fault_line fault) (λ line. (1 ≤ line) × (
 -- the fault is of the line with this number, unless it is NoMemory
 abbrev pub IsAt : ℕ → RuleFault → Type 0
 IsAt number fault = IfSome (rule_fault_line fault) (λ line. line ≡ number)
+
+-- the fault is of a line from 1 to the one before this, unless it is NoMemory
+abbrev pub IsBefore : ℕ → RuleFault → Type 0
+IsBefore end fault = IfSome (rule_fault_line fault) (λ line. (1 ≤ line) × (line < end))

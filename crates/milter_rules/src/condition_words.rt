@@ -5,10 +5,10 @@ ghost use Rattle.std.specs.Prelude.{◌≡◌, ◌++◌, ◌∷◌, IfOk, IfSome
 ghost use Rattle.std.specs.Option.{IsSomeAnd};
 ghost use Rattle.milter_text.specs.declared.word.Word.{Word};
 ghost use Rattle.milter_text.specs.WordValues.{keyword};
-ghost use Rattle.milter_rules.specs.declared.rule.Condition.{Condition};
+ghost use Rattle.milter_ruleset.specs.declared.rule.Condition.{Condition};
 ghost use Rattle.milter_rules.specs.ConditionWords.{condition_at, condition_on, conditions_words, field_at, lone_field, named_field, test_in, words_after};
 
-use crate::rule::{Condition, Conditions, Field, Test};
+use milter_ruleset::{Condition, Conditions, Field, Test};
 use milter_text::Word;
 use milter_wire::{NoMemory, Text};
 use std::alloc::Global;
@@ -43,7 +43,7 @@ pub(crate) fn conditions_in<'a>(
 }
 
 /// The words after the keyword that they begin with; none where they begin with another word.
-fn words_after<'a>(keyword: &[u8], words: &'a [Word]) -> Option<&'a [Word]>
+pub(crate) fn words_after<'a>(keyword: &[u8], words: &'a [Word]) -> Option<&'a [Word]>
     ensures { option_map (λ rest. rest.now) result ≡ words_after keyword.now words.now }
 {
     match words {

@@ -1,17 +1,22 @@
-//! Rule files: a filter's policy, written as rules. [`read_rules`] reads the rules of a file, which are a
-//! [`Policy`](milter_filter::Policy).
+//! Rule files: a filter's policy in lines of words. [`read_rules`] reads the rules of a file, which are a
+//! [`Policy`](milter_filter::Policy), and [`write_rules`] writes rules in canonical form.
 #![tactic(auto)]
 
-mod action_fits;
 mod action_words;
 mod condition_words;
-mod deciding;
-mod rule;
+mod laws;
+mod rule_draft;
 mod rule_fault;
-mod rule_list;
-mod rules;
+mod rule_file;
+mod rule_line;
+mod rules_text;
+mod words_text;
 
-pub use rule::{Action, Condition, Conditions, Field, Rule, Test};
+pub use laws::{lines_of_written_words, words_of_actions, written_rules};
+pub use milter_ruleset::{
+    Action, Condition, Conditions, Field, Rule, RuleList, Rules, StageRules, Test,
+};
+pub use rule_draft::RULES_MAX;
 pub use rule_fault::RuleFault;
-pub use rule_list::{RuleList, StageRules};
-pub use rules::Rules;
+pub use rule_file::read_rules;
+pub use rules_text::write_rules;

@@ -34,7 +34,7 @@ quotes-quoted_byte byte lt =
     (λ n13. cond_both (byte == 9) _ _ (QuotesByte byte) (λ e. rw (eqb-true byte 9 e) (escaped 116 refl refl))
     (λ n9. cond_both (nat_le 32 byte && nat_le byte 126) _ _ (QuotesByte byte) (λ e. bare (printed_is_bare byte n34 n92 e) refl) (λ _. written_by_digits byte lt))))))
 
-quotes-quoted_text : (text : List ℕ) → All (λ byte. byte < 256) text → QuotesText text (flat_map quoted_byte text)
+pub quotes-quoted_text : (text : List ℕ) → All (λ byte. byte < 256) text → QuotesText text (flat_map quoted_byte text)
 quotes-quoted_text [] fits = refl
 quotes-quoted_text (byte ∷ text) fits =
     (quoted_byte byte, flat_map quoted_byte text, refl, quotes-quoted_byte byte (All-head (λ b. b < 256) byte text fits), quotes-quoted_text text (All-tail (λ b. b < 256) byte text fits))

@@ -1,16 +1,20 @@
-//! `milter_tool`: looks at conversations between mail servers and their filters, in the milter protocol.
+//! `milter_tool`: looks at conversations between mail servers and their filters, and serves as a filter, in the milter
+//! protocol.
 //!
 //! Results go to standard output and fault lines to standard error. The program ends with status 0 where it did what
 //! it was asked, 1 after a fault, and 2 after a wrong use of the command line.
 #![tactic(auto)]
 
 use milter_cli::{
-    Request, ToolError, answer, answer_run, argument_error, ended_as, parse, print_session,
-    read_error, report,
+    Address, Connections, InputFile, Request, ToolError, answer_run, argument_error, end_usage,
+    ended_as, filter_run, listen_error, load_rules, output_error, parse, print_rules,
+    print_session, read_error, report,
 };
-use milter_filter::Pass;
+use milter_rules::Rules;
 use milter_trace::trace_run;
 use std::env::{self, Env};
+use std::net::{Net, TcpListener, TcpStream};
+use std::os::unix::net::UnixListener;
 use std::process::ExitCode;
 use std::rt::Files;
 use std::{fs, io};
@@ -22,21 +26,85 @@ fn print_trace<R: Input + Print + AllocGlobal>(rt: &R) -> Result<(), ToolError> 
     trace_run(rt.alloc(), &mut reader, &mut writer).map_err(ToolError::Trace)
 }
 
-/// Prints the session of the file at this path, in canonical form.
-fn print_session_file<R: Files + Print + AllocGlobal>(rt: &R, path: &str) -> Result<(), ToolError> {
-    let ended = match fs::open(rt, path) {
-        Ok(file) => print_session(rt.alloc(), file, &mut io::writer(rt)),
-        Err(error) => Err(read_error(error.kind())),
-    };
-    ended.map_err(ToolError::Session)
+/// Opens the file at this path.
+fn open<R: Files>(rt: &R, file: InputFile, path: &str) -> Result<R::File, ToolError> {
+    fs::open(rt, path).map_err(|error| ToolError::File(read_error(file, error.kind())))
 }
 
-/// Replies to the mail server on standard input, as a filter that lets all mail go on.
-fn answer_mail_server<R: Input + Print + AllocGlobal>(rt: &R) -> Result<(), ToolError> {
+/// Prints the session of the file at this path, in canonical form.
+fn print_session_file<R: Files + Print + AllocGlobal>(rt: &R, path: &str) -> Result<(), ToolError> {
+    let file = open(rt, InputFile::Session, path)?;
+    print_session(rt.alloc(), file, &mut io::writer(rt)).map_err(ToolError::File)
+}
+
+/// Prints the rules of the file at this path, in canonical form.
+fn print_rule_file<R: Files + Print + AllocGlobal>(rt: &R, path: &str) -> Result<(), ToolError> {
+    let file = open(rt, InputFile::Rules, path)?;
+    print_rules(rt.alloc(), file, &mut io::writer(rt)).map_err(ToolError::File)
+}
+
+/// The rules of the file at this path, or none where there is no path.
+fn rules_at<R: Files + AllocGlobal>(rt: &R, path: Option<&str>) -> Result<Rules, ToolError> {
+    match path {
+        Some(path) => {
+            let file = open(rt, InputFile::Rules, path)?;
+            load_rules(rt.alloc(), file).map_err(ToolError::File)
+        }
+        None => Ok(Rules::new(rt.alloc())),
+    }
+}
+
+/// Replies to the mail server on standard input, as a filter with the rules of the file at this path.
+fn answer_mail_server<R: Input + Files + Print + AllocGlobal>(
+    rt: &R,
+    path: Option<&str>,
+) -> Result<(), ToolError> {
+    let rules = rules_at(rt, path)?;
     let mut reader = rt.reader();
     let mut writer = io::writer(rt);
-    let served = answer_run(rt.alloc(), &Pass, &mut reader, &mut writer);
+    let served = answer_run(rt.alloc(), &rules, &mut reader, &mut writer);
     ended_as(served).map_err(ToolError::Answer)
+}
+
+/// Serves so many connections of mail servers to this address, as a filter with the rules of the file at this path.
+fn serve_address<R: Net<Listener = TcpListener, Stream = TcpStream> + Files + Print + AllocGlobal>(
+    rt: &R,
+    address: &str,
+    path: Option<&str>,
+    count: u32,
+) -> Result<(), ToolError> {
+    let Some(address) = Address::parse(address) else {
+        return Err(ToolError::BadAddress);
+    };
+    let rules = rules_at(rt, path)?;
+    match address {
+        Address::Inet { port, host } => {
+            let listener = TcpListener::bind(rt, (host, port)).map_err(|error| listen_error(
+                error.kind(),
+            ))?;
+            serve_connections(rt, &rules, listener, count)
+        }
+        Address::Unix { path } => {
+            let listener = UnixListener::bind(rt, path).map_err(|error| listen_error(
+                error.kind(),
+            ))?;
+            serve_connections(rt, &rules, listener, count)
+        }
+    }
+}
+
+/// Serves so many of these connections, as a filter with these rules.
+fn serve_connections<R: Print + AllocGlobal, C: Connections + Drop>(
+    rt: &R,
+    rules: &Rules,
+    mut connections: C,
+    count: u32,
+) -> Result<(), ToolError> {
+    let mut writer = io::writer(rt);
+    match filter_run(rt.alloc(), rules, &mut connections, count, &mut writer) {
+        Ok(()) => Ok(()),
+        Err(fault) => Err(output_error(fault)),
+    }
 }
 
 /// The words of the command line, the program's name first.
@@ -47,13 +115,23 @@ fn words<R: Env + AllocGlobal>(rt: &R) -> Result<Vec<String>, ToolError> {
     }
 }
 
-fn run<R: Input + Files + Print + Env + AllocGlobal>(rt: &R) -> Result<(), ToolError> {
+fn run<
+    R: Net<Listener = TcpListener, Stream = TcpStream> + Input + Files + Print + Env + AllocGlobal,
+>(rt: &R) -> Result<(), ToolError> {
     let words = words(rt)?;
     match parse(rt.alloc(), words.as_slice()) {
         Ok(Request::Trace) => print_trace(rt),
         Ok(Request::Session { file }) => print_session_file(rt, file),
-        Ok(Request::Answer) => answer_mail_server(rt),
-        Err(error) => answer(error, &mut io::writer(rt)),
+        Ok(Request::Rules { file }) => print_rule_file(rt, file),
+        Ok(Request::Answer { rules }) => answer_mail_server(rt, rules),
+        Ok(
+            Request::Filter {
+                address,
+                rules,
+                count,
+            },
+        ) => serve_address(rt, address, rules, count),
+        Err(error) => end_usage(error, &mut io::writer(rt)),
     }
 }
 

@@ -1,8 +1,0 @@
-use Rattle.std.proofs.Common.{◌≡◌, drop}
-use Rattle.milter_rules.specs.Reading.{decided, with_edits}
-use Rattle.milter_rules.proofs.deciding.decide_by.Given as goal
-
--- the edits so far, before the answer of the rules that are left
-abbrev pub invariant-loop-rule : goal.invariant-loop-rule
-invariant-loop-rule l =
-    with_edits l.edits.items (decided (drop l.rule-index l.rules) l.seen.shown) ≡ decided l.rules l.seen.shown

@@ -1,6 +1,0 @@
--- What contracts see of rules.
-use Rattle.milter_rules.specs.declared.rules.Rules.{Rules}
-use Rattle.milter_rules.specs.RuleSet.{RuleSet}
-
-abbrev pub rule_set : Rules → RuleSet
-rule_set r = record { options = r.options; lists = r.lists; rules = r.rules }

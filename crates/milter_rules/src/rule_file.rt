@@ -1,0 +1,64 @@
+//! Rule files.
+
+ghost use Rattle.std.specs.Prelude.{◌≡◌, IfErr, IfOk, List, MatchResult, ℕ, length};
+ghost use Rattle.milter_text.specs.Lines.{lines_of};
+ghost use Rattle.milter_rules.specs.declared.rule_fault.RuleFault.TheVariants as RuleFault;
+ghost use Rattle.milter_rules.specs.declared.rule_line.RuleLine.{RuleLine};
+ghost use Rattle.milter_rules.specs.RuleFault.{IsBefore, IsWithin};
+ghost use Rattle.milter_rules.specs.RuleFile.{AllGive, CanBeFile, FoundAll, IsRuleFile, parts_of};
+ghost use Rattle.milter_ruleset.specs.RuleSet.{RuleSet};
+ghost use Rattle.milter_ruleset.specs.RulesValue.{rule_set};
+
+use crate::rule_draft::Draft;
+use crate::rule_fault::RuleFault;
+use crate::rule_line::line_in;
+use milter_ruleset::Rules;
+use milter_text::LineCursor;
+use std::alloc::Global;
+
+/// The rules of a file.
+///
+/// Its lines are words, in any order. `version N` with N from 2 to 6, `actions NAMES` and `protocol NAMES`, each at
+/// most once, are what the filter wants; NAMES are joined by `|`, or the word `none`. Without them it wants version 6,
+/// the actions that its edits need, and `SKIP` where a rule skips. `symbols STAGE TEXT`, at most once a stage, names
+/// the macros that it wants at a stage, and adds `SETSYMLIST` to its actions. `at STAGE do ACTION` and `at STAGE when
+/// CONDITION and CONDITION .. do ACTION` are rules, at most 10,000.
+///
+/// A CONDITION is `FIELD is TEXT`, `FIELD has TEXT` or `FIELD lacks TEXT`, with a field `host`, `address`, `helo`,
+/// `sender`, `rcpt`, `header NAME`, `body` or `macro NAME`. An ACTION is a verdict, `continue`, `accept`, `reject`,
+/// `tempfail`, `discard`, `skip` or `code TEXT`; or an edit, `add-header NAME VALUE`, `insert-header INDEX NAME VALUE`,
+/// `change-header INDEX NAME VALUE`, `add-rcpt TEXT`, `add-rcpt-par TEXT [TEXT]`, `del-rcpt TEXT`, `change-from TEXT
+/// [TEXT]`, `replace-body TEXT`, `quarantine TEXT` or `progress`. Texts and the names of header fields and macros are
+/// in quotes, and all else is plain.
+///
+/// The fault is at the first line that isn't of this form, or by which the rules would be none: out of memory aside,
+/// there is one exactly where the file has no rules. Beside the rules, memory is taken for the words of one line at a
+/// time.
+pub fn read_rules(alloc: Global, bytes: &[u8]) -> Result<Rules, RuleFault>
+    // What is read is what the file gives.
+    ensures found { IfOk result (λ rules. IsRuleFile bytes.now (rule_set rules)) }
+    // What the file gives is read, unless memory is refused.
+    ensures only { (set : RuleSet) → IsRuleFile bytes.now set →
+        MatchResult result (λ rules. rule_set rules ≡ set) (λ e. e ≡ RuleFault.NoMemory) }
+    // The line of a fault is one of the file.
+    ensures line { IfErr result (IsWithin (length (lines_of bytes.now))) }
+{
+    let mut lines = LineCursor::new(bytes);
+    let draft = read_lines(alloc, &mut lines)?;
+    Ok(draft.into_rules())
+}
+
+/// What the lines give together.
+fn read_lines(alloc: Global, lines: &mut LineCursor<'_>) -> Result<Draft, RuleFault>
+    ensures found { IfOk result (λ draft. FoundAll lines.old.lines draft) }
+    ensures only { (values : List RuleLine) → AllGive lines.old.lines values → CanBeFile values →
+        MatchResult result (λ draft. draft ≡ parts_of values) (λ e. e ≡ RuleFault.NoMemory) }
+    ensures within { IfErr result (IsBefore lines.old.end) }
+{
+    let mut draft = Draft::new(alloc);
+    while let Some(line) = lines.next(alloc)? {
+        let value = line_in(alloc, &line)?;
+        draft.add(value, line.number)?;
+    }
+    Ok(draft)
+}

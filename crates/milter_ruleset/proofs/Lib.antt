@@ -1,0 +1,5 @@
+pub mod Occurrences
+pub mod Values
+pub mod Decisions
+pub mod Strings
+pub mod ReadingLaws

@@ -1,0 +1,8 @@
+pub mod RuleNames
+pub mod StageRules
+pub mod Conditions
+pub mod Reading
+pub mod ActionFits
+pub mod RuleSet
+pub mod RulesLaw
+pub mod RulesValue

@@ -1,0 +1,16 @@
+//! Rules: a filter's policy as conditions on what the filter is shown, and what is done where they are met. [`Rules`]
+//! is a [`Policy`](milter_filter::Policy).
+#![tactic(auto)]
+
+mod action_fits;
+mod deciding;
+mod laws;
+mod rule;
+mod rule_list;
+mod rules;
+
+pub use action_fits::is_string;
+pub use laws::{answers_of_actions, texts_in_bytes};
+pub use rule::{Action, Condition, Conditions, Field, Rule, Test};
+pub use rule_list::{RuleList, StageRules};
+pub use rules::Rules;

@@ -1,0 +1,105 @@
+//! Rules as a policy.
+
+ghost use Rattle.std.specs.Prelude.{◌≡◌, true};
+ghost use Rattle.milter_ruleset.specs.RuleSet.{is_lawful};
+
+use crate::deciding::decide_by;
+use crate::rule::Rule;
+use crate::rule_list::StageRules;
+use milter_filter::{Answer, Policy, Seen, VERSION_MAX};
+use milter_wire::{Actions, NoMemory, Options, Protocol, Stage, SymList, SymLists};
+use std::alloc::Global;
+
+/// Rules as a filter's policy: what the filter wants, and the rules that decide at each stage.
+///
+/// At a stage the rules of that stage are looked at in order, of which those count whose conditions are all met. Up to
+/// the first of them that has a verdict, their edits are asked for; that verdict is the answer's, or `Continue` where
+/// none has one.
+#[derive(Debug, Drop)]
+pub struct Rules {
+    options: Options,
+    lists: SymLists,
+    rules: StageRules,
+    pub ghost lawful: { is_lawful (record { options = options; lists = lists; rules = rules }) ≡ true },
+}
+
+impl Rules {
+    ghost use Rattle.std.specs.Prelude.{◌≡◌};
+    ghost use Rattle.milter_ruleset.specs.RuleSet.{no_rule_set};
+    ghost use Rattle.milter_ruleset.specs.RulesValue.{rule_set};
+    ghost use Rattle.milter_ruleset.specs.StageRules.{rules_at};
+
+    /// No rules: the filter wants version 6 without any bit, and answers `Continue` to all, as
+    /// [`Pass`](milter_filter::Pass) does. No memory is taken.
+    pub fn new(alloc: Global) -> Self
+        ensures { rule_set result ≡ no_rule_set }
+    {
+        Rules {
+            options: Options {
+                version: VERSION_MAX,
+                actions: Actions(0),
+                protocol: Protocol(0),
+            },
+            lists: SymLists::new(Vec::new(alloc)),
+            rules: StageRules::new(alloc),
+        }
+    }
+
+    /// These rules, with what the filter wants. They are lawful: of a known version and known bits, with symbol lists
+    /// only where [`Actions::SETSYMLIST`] is among the actions; the reply with all of it fits a packet; each rule may
+    /// do what it does at its stage; and the packets of all edits have at most 16,777,216 bytes. Nothing is copied, and
+    /// no memory is taken.
+    pub fn from_parts(options: Options, lists: SymLists, rules: StageRules) -> Self
+        requires { is_lawful (record { options = options; lists = lists; rules = rules }) ≡ true }
+        ensures { rule_set result ≡ record { options = options; lists = lists; rules = rules } }
+    {
+        Rules {
+            options,
+            lists,
+            rules,
+        }
+    }
+
+    /// What the filter wants. No memory is taken.
+    pub fn options(&self) -> Options
+        ensures { result ≡ (rule_set self.now).options }
+    {
+        self.options
+    }
+
+    /// The macros that the filter wants. No memory is taken.
+    pub fn lists(&self) -> &[SymList]
+        ensures { result.now ≡ (rule_set self.now).lists }
+    {
+        self.lists.as_slice()
+    }
+
+    /// The rules of the stage, in the order in which they are looked at. No memory is taken.
+    pub fn at(&self, stage: Stage) -> &[Rule]
+        ensures { result.now ≡ rules_at (rule_set self.now).rules stage }
+    {
+        self.rules.at(stage)
+    }
+}
+
+impl Policy for Rules {
+    ghost use Rattle.milter_ruleset.specs.RuleSet.{behavior_of};
+    ghost use Rattle.milter_ruleset.specs.RulesLaw.{lawful_rules};
+    ghost use Rattle.milter_ruleset.specs.RulesValue.{rule_set};
+
+    ghost behavior = { λ rules. behavior_of (rule_set rules) };
+
+    ghost lawful = { λ rules. lawful_rules (rule_set rules) rules.lawful };
+
+    fn wants(&self) -> Options {
+        self.options
+    }
+
+    fn lists(&self) -> &[SymList] {
+        self.lists.as_slice()
+    }
+
+    fn decide(&self, alloc: Global, at: Stage, seen: &Seen) -> Result<Answer, NoMemory> {
+        decide_by(alloc, self.rules.at(at), seen)
+    }
+}

@@ -1,0 +1,81 @@
+#!/usr/bin/env python3
+"""The checks of tests/interop.sh, which says what they are.
+
+    python3 tests/interop/run.py PROGRAM
+"""
+import os
+import subprocess
+import sys
+import tempfile
+
+import peers
+import postfix
+
+SCRIPTS = ['stages', 'edits', 'protocol', 'messages']
+
+
+def text_of(name):
+    """The text of a file of this folder."""
+    with open(os.path.join(peers.HERE, name)) as file:
+        return file.read()
+
+
+def run(*command):
+    """What a command printed, and its status."""
+    done = subprocess.run(command, stdout=subprocess.PIPE, stderr=subprocess.STDOUT, timeout=peers.SECONDS)
+    return done.stdout.decode(errors='replace'), done.returncode
+
+
+def miltertest(name, address, *words):
+    """Plays a script of miltertest on a filter."""
+    script = os.path.join(peers.HERE, name + '.lua')
+    return run('miltertest', '-s', script, '-D', 'address=' + address, *words)
+
+
+def play(checks, program, name, address, client):
+    """Plays a client on the filter with the rules of this name, and compares the filter's lines."""
+    lines = text_of(name + '.lines')
+    with peers.Filter(program, address, peers.rules_of(name), len(lines.splitlines())) as served:
+        output, status = client()
+        checks.check('%s at %s' % (name, address), (output, status), ('', 0))
+        if status == 0:
+            checks.check('%s at %s: the lines of the filter' % (name, address), served.finished(), (lines, 0))
+
+
+def record(checks, program, name, address, recorder):
+    """Plays one message with each edit past a recorder, and compares the packets of its end."""
+    with peers.Filter(program, address, peers.rules_of('edits'), 1) as served:
+        recording = subprocess.Popen(
+            [sys.executable, os.path.join(peers.TOP, 'examples', 'record.py'), peers.plain(recorder),
+             peers.plain(address)], stdout=subprocess.PIPE)
+        peers.listening(recorder)
+        checks.check(name, miltertest('edits', recorder, '-D', 'recorded'), ('', 0))
+        checks.check(name + ': the lines of the filter', served.finished(), ('connection 1 quit\n', 0))
+        trace, _ = peers.finished(recording)
+    printed = subprocess.run([program, 'trace'], input=trace.encode(), stdout=subprocess.PIPE).stdout.decode()
+    expected = text_of('edits.trace')
+    replies = [line for line in printed.splitlines(keepends=True) if line.startswith('<')]
+    checks.check(name + ': packets', ''.join(replies[-len(expected.splitlines()):]), expected)
+
+
+def main():
+    program = os.path.abspath(sys.argv[1])
+    os.chdir(peers.TOP)
+    checks = peers.Checks()
+    with tempfile.TemporaryDirectory() as work:
+        for address, recorder in peers.addresses(work):
+            for name in SCRIPTS:
+                checks.part('%s at %s' % (name, address), play, program, name, address,
+                            lambda: miltertest(name, address))
+            clients = os.path.join(peers.HERE, 'clients.py')
+            checks.part('clients at ' + address, play, program, 'clients', address,
+                        lambda: run(sys.executable, clients, address))
+            name = 'edits recorded at ' + address
+            checks.part(name, record, program, name, address, recorder)
+    checks.part('Postfix', postfix.play, program)
+    print('%d passed, %d failed' % (checks.passed, checks.failed))
+    return 1 if checks.failed else 0
+
+
+if __name__ == '__main__':
+    sys.exit(main())

@@ -1,0 +1,113 @@
+"""Runs `milter_tool filter`, and makes connections to it; sockets.py plays them."""
+import itertools
+import os
+import resource
+import select
+import socket
+import subprocess
+import tempfile
+import time
+
+SECONDS = 30
+PORTS = itertools.count(10000)
+
+
+class Wrong(Exception):
+    """What was wrong with a connection or a run."""
+
+
+def expect(what, found, expected):
+    """Compares what was found."""
+    if found != expected:
+        raise Wrong('%s: %r, expected %r' % (what, found, expected))
+
+
+class Filter:
+    """A run of `milter_tool filter` on a socket of this kind, with these options."""
+
+    def __init__(self, program, kind, folder, options, files=None, stdout=subprocess.PIPE, host=None):
+        self.at, address = place_of(kind, folder, host)
+        self.ended = 0
+        limit = None if files is None else lambda: resource.setrlimit(resource.RLIMIT_NOFILE, (files, files))
+        self.process = subprocess.Popen(
+            [program, 'filter'] + (options + [address] if kind == 'inet' else [address] + options), bufsize=0,
+            stdin=subprocess.DEVNULL, stdout=stdout, stderr=subprocess.PIPE, preexec_fn=limit)
+
+    def __enter__(self):
+        return self
+
+    def __exit__(self, *_):
+        self.process.kill()
+        self.process.communicate()
+
+    def connected(self):
+        """A connection, made as soon as the program listens."""
+        return connected(self.at, lambda: self.process.poll() is not None)
+
+    def expect_line(self, *endings):
+        """Reads the line of the next connection that ends, which has one of these endings."""
+        self.ended += 1
+        lines = [b'connection %d %s\n' % (self.ended, ending) for ending in endings]
+        ready, _, _ = select.select([self.process.stdout], [], [], SECONDS)
+        line = self.process.stdout.readline() if ready else b'none in time'
+        expect('line', line, line if line in lines else lines)
+
+    def expect_end(self, status, out, err):
+        """Waits for the end of the run, which is this one."""
+        found = self.process.communicate(timeout=SECONDS)
+        expect('end', (self.process.returncode,) + found, (status, out, err))
+
+
+def place_of(kind, folder, host=None):
+    """A free place for a socket of this kind, and its address as the program reads it. Each process has a host of its
+    own, where none is named: so no port is one that another has, or that the system gives to a connection."""
+    if kind == 'unix':
+        path = os.path.join(tempfile.mkdtemp(dir=folder), 'socket')
+        return path, 'unix:' + path
+    host, port = host or '127.%d.%d.1' % divmod(os.getpid() % 65536, 256), next(PORTS)
+    return (host, port), 'inet:%d@%s' % (port, host)
+
+
+def connection_to(place):
+    """A connection to this place."""
+    if not isinstance(place, str):
+        return socket.create_connection(place, SECONDS)
+    connection = socket.socket(socket.AF_UNIX)
+    connection.settimeout(SECONDS)
+    try:
+        connection.connect(place)
+    except OSError:
+        connection.close()
+        raise
+    return connection
+
+
+def connected(place, is_over):
+    """A connection to this place, made as soon as a program listens there, unless that is over."""
+    until = time.monotonic() + SECONDS
+    while True:
+        try:
+            return connection_to(place)
+        except OSError:
+            if is_over() or time.monotonic() > until:
+                raise Wrong('no connection') from None
+            time.sleep(0.001)
+
+
+def expect_replies(connection, replies):
+    """Reads as many bytes as these replies have."""
+    found = b''
+    while len(found) < len(replies):
+        piece = connection.recv(len(replies) - len(found))
+        if not piece:
+            break
+        found += piece
+    expect('replies', found, replies)
+
+
+def expect_closed(connection):
+    """Reads the end of a connection that the filter has closed."""
+    try:
+        expect('after the replies', connection.recv(1), b'')
+    except ConnectionResetError:
+        pass
