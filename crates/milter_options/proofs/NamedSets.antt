@@ -75,10 +75,10 @@ greater_kept all a b i p q = omega (arith, bit_kept all a i p, bit_kept all b i 
 kept_or : (all a b : ℕ) → bit_and a all ≡ a → bit_and b all ≡ b → bit_and (bit_or a b) all ≡ bit_or a b
 kept_or all a b p q =
     same_from_bits (bit_and (bit_or a b) all) (bit_or a b) (λ i.
-        bit_at_and (bit_or a b) all i
-        ∙ ap (λ (n : ℕ). min n (bit_at all i)) (bit_at_or a b i)
-        ∙ greater_kept all a b i p q
-        ∙ sym (bit_at_or a b i))
+    bit_at_and (bit_or a b) all i
+    ∙ ap (λ (n : ℕ). min n (bit_at all i)) (bit_at_or a b i)
+    ∙ greater_kept all a b i p q
+    ∙ sym (bit_at_or a b i))
 
 within_by : (all bits : ℕ) → bit_and bits all ≡ bits → bits < 2 ^ 32 → is_within all bits ≡ true
 within_by all bits e lt = rw (eq-eqb (bit_and bits all) bits e, lt-ltb bits (2 ^ 32) lt) refl
