@@ -1,4 +1,4 @@
--- What the words of a line give: rules and wishes are told apart by the first word.
+-- What the words of a line give: the first word decides between a rule and a wish.
 use Rattle.std.specs.Prelude.{◌≡◌, ℕ, IsUtf8, option_map, Bool, true, false, List, [], ◌∷◌, codes, Option, None, Some, refl, if◌then◌else◌}
 use Rattle.std.specs.Str.{bytes_eq}
 use Rattle.std.proofs.Common.{ap, sym, subst, ◌∙◌}
