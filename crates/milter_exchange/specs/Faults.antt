@@ -10,7 +10,7 @@ use Rattle.milter_exchange.specs.StageOrder.{may_follow}
 use Rattle.milter_exchange.specs.declared.filter_fault.FilterFault.{FilterFault}
 use Rattle.milter_exchange.specs.declared.filter_fault.FilterFault.TheVariants.{NotNegotiated, NegotiatedTwice, OutOfOrder, TooMuch, Version}
 use Rattle.milter_exchange.specs.Commands.{is_shown}
-use Rattle.milter_exchange.specs.declared.filter_fault.TheConstants.{VERSION_MIN}
+use Rattle.milter_exchange.specs.declared.limits.TheConstants.{VERSION_MIN}
 
 -- a command of no stage comes anywhere
 abbrev pub is_in_order : ℕ → Option Stage → Bool

@@ -7,9 +7,6 @@ use milter_wire::{NoMemory, WireFault};
 use std::alloc::AllocError;
 use thiserror::Error;
 
-/// The lowest version that a filter takes. Source: mfdef.h (SMFI_VERSION 2 and later).
-pub const VERSION_MIN: u32 = 2;
-
 /// Why a filter gives a connection up.
 #[derive(Clone, Copy, Debug, PartialEq, Eq, Error)]
 pub enum FilterFault {

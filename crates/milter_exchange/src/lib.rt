@@ -11,6 +11,7 @@ mod edits;
 mod filter_fault;
 mod filter_state;
 mod laws;
+mod limits;
 mod permitted;
 mod rows;
 mod stage_order;
@@ -21,9 +22,10 @@ pub use conversation_laws::{
     conversations_go_on, parts_of_histories, standings_go_on, standings_of_conversations,
 };
 pub use edits::Edits;
-pub use filter_fault::{FilterFault, VERSION_MIN};
+pub use filter_fault::FilterFault;
 pub use filter_state::FilterState;
 pub use laws::{histories_cut, permitted_answers, seen_in_turn, stages_in_order, talks};
+pub use limits::{ACTIONS_MAX, PROTOCOL_MAX, VERSION_MAX, VERSION_MIN};
 pub use permitted::{permits, permitted_verdict};
 pub use stage_order::{may_follow, rank_of};
 pub use verdicts::is_final_at;

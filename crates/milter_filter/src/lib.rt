@@ -22,9 +22,11 @@ mod serving;
 
 pub use cutting_laws::cores_go_on;
 pub use filter_core::FilterCore;
-pub use milter_exchange::{Answer, Edits, FilterFault, FilterState};
+pub use milter_exchange::{
+    ACTIONS_MAX, Answer, Edits, FilterFault, FilterState, PROTOCOL_MAX, VERSION_MAX,
+};
 pub use pass::Pass;
-pub use policy::{ACTIONS_MAX, PROTOCOL_MAX, Policy, VERSION_MAX};
+pub use policy::Policy;
 pub use seen::Seen;
 pub use served::Served;
 pub use serving::serve;

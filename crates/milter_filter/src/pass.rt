@@ -3,9 +3,9 @@
 ghost use Rattle.milter_exchange.specs.Pass.{pass};
 ghost use Rattle.milter_filter.specs.PassLaw.{pass_is_lawful};
 
-use crate::policy::{Policy, VERSION_MAX};
+use crate::policy::Policy;
 use crate::seen::Seen;
-use milter_exchange::Answer;
+use milter_exchange::{Answer, VERSION_MAX};
 use milter_wire::{Actions, NoMemory, Options, Protocol, Stage, SymList, Verdict};
 use std::alloc::Global;
 

@@ -9,13 +9,6 @@ use milter_exchange::Answer;
 use milter_wire::{NoMemory, Options, Stage, SymList};
 use std::alloc::Global;
 
-/// The highest version that a policy may want. Source: mfdef.h (SMFI_PROT_VERSION).
-pub const VERSION_MAX: u32 = 6;
-/// All actions that a policy may want. Source: mfapi.h (SMFIF_ADDHDRS to SMFIF_SETSYMLIST).
-pub const ACTIONS_MAX: u32 = 0x1ff;
-/// All protocol bits that a policy may want. Source: mfdef.h (SMFIP_NOCONNECT to SMFIP_HDR_LEADSPC).
-pub const PROTOCOL_MAX: u32 = 0x1f_f7ff;
-
 /// What a filter wants, and what it answers when it is asked: a function of the stage and of what it is shown, which
 /// keeps nothing from one question to the next. It stands for the callbacks of libmilter.
 ///

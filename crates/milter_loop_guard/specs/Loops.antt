@@ -12,7 +12,7 @@ use Rattle.milter_message.specs.declared.edit.Edit.TheVariants.{AddHeader}
 use Rattle.milter_exchange.specs.Behavior.{Behavior}
 use Rattle.milter_exchange.specs.Seen.{Seen}
 use Rattle.milter_exchange.specs.declared.answer.Answer.{Answer}
-use Rattle.milter_filter.specs.declared.policy.TheConstants.{VERSION_MAX}
+use Rattle.milter_exchange.specs.declared.limits.TheConstants.{VERSION_MAX}
 
 -- by its name, without regard to ASCII case
 abbrev pub is_received : Header → Bool

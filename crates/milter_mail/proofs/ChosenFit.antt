@@ -18,10 +18,10 @@ use Rattle.milter_mail.specs.declared.macros.Macros.{Macros}
 use Rattle.milter_mail.specs.ChosenMacros.{chosen_macros, chosen_pairs, last_pair, list_of, names_of, pairs_by, without_name}
 use Rattle.milter_mail.specs.MailSession.{MacrosFit}
 
-abbrev bytes : List Pair → ℕ
+abbrev pub bytes : List Pair → ℕ
 bytes pairs = sum_by (λ p. length (pair p)) pairs
 
-bytes_are : (pairs : List Pair) → length (flat_map pair pairs) ≡ bytes pairs
+pub bytes_are : (pairs : List Pair) → length (flat_map pair pairs) ≡ bytes pairs
 bytes_are [] = refl
 bytes_are (p ∷ pairs) =
     let e = bytes_are pairs in
@@ -45,7 +45,7 @@ last_and_others name start (p ∷ pairs) =
           rw e (omega (arith, h, s, t))
     ]
 
-chosen_bytes : (names : List (List ℕ)) (pairs : List Pair) → bytes (chosen_pairs names pairs) ≤ bytes pairs
+pub chosen_bytes : (names : List (List ℕ)) (pairs : List Pair) → bytes (chosen_pairs names pairs) ≤ bytes pairs
 chosen_bytes [] pairs = omega arith
 chosen_bytes (name ∷ names) pairs =
     let h = chosen_bytes names (without_name name pairs) in

@@ -2,3 +2,5 @@ pub mod Weights
 pub mod ChosenFit
 pub mod MacroChoice
 pub mod MailLaws
+pub mod PlanWeight
+pub mod PlanFits

@@ -30,11 +30,11 @@ len : Command → ℕ
 len command = length (encoding command)
 
 -- the length and the code are five bytes
-len_of : (command : Command) → length (encoding command) ≡ length (payload_of command) + 5
+pub len_of : (command : Command) → length (encoding command) ≡ length (payload_of command) + 5
 unfolding number
 len_of command = omega arith
 
-bytes-append : (xs ys : List Command) → bytes_of (xs ++ ys) ≡ bytes_of xs + bytes_of ys
+pub bytes-append : (xs ys : List Command) → bytes_of (xs ++ ys) ≡ bytes_of xs + bytes_of ys
 bytes-append xs ys = sum_by-append (λ command. length (encoding command)) xs ys
 
 bytes-each : {X : Type 0} (f : X → List Command) (g : X → ℕ) → ((x : X) → bytes_of (f x) ≡ g x) → (xs : List X) → bytes_of (flat_map f xs) ≡ sum_by g xs
@@ -42,7 +42,7 @@ bytes-each f g e [] = refl
 bytes-each f g e (x ∷ xs) =
     rw (flat_map-cons f x xs, bytes-append (f x) (flat_map f xs), sum_by-cons g x xs, bytes-each f g e xs, e x) refl
 
-bytes-one : (command : Command) → bytes_of (command ∷ []) ≡ length (encoding command)
+pub bytes-one : (command : Command) → bytes_of (command ∷ []) ≡ length (encoding command)
 bytes-one command = omega arith
 
 -- a command after its macros
@@ -78,7 +78,7 @@ recipients-bytes macros paths =
 headers-bytes : (headers : List Header) → bytes_of (flat_map (λ header. commands.Header header ∷ []) headers) ≡ sum_by (λ header. length (encoding (commands.Header header))) headers
 headers-bytes headers = bytes-each (λ header. commands.Header header ∷ []) (λ header. length (encoding (commands.Header header))) (λ header. bytes-one (commands.Header header)) headers
 
-bytes-in_turn : (o p a b c d e f g : List Command) → bytes_of (o ++ p ++ (a ++ b ++ c ++ d ++ e ++ f ++ g)) ≡ bytes_of o + bytes_of p + bytes_of a + bytes_of b + bytes_of c + bytes_of d + bytes_of e + bytes_of f + bytes_of g
+pub bytes-in_turn : (o p a b c d e f g : List Command) → bytes_of (o ++ p ++ (a ++ b ++ c ++ d ++ e ++ f ++ g)) ≡ bytes_of o + bytes_of p + bytes_of a + bytes_of b + bytes_of c + bytes_of d + bytes_of e + bytes_of f + bytes_of g
 bytes-in_turn o p a b c d e f g =
     let h0 = bytes-append (o ++ p) (a ++ b ++ c ++ d ++ e ++ f ++ g) in
     let h1 = bytes-append o p in

@@ -1,9 +1,11 @@
-//! Laws of weights and of chosen macros, each the contract of a function that does nothing.
+//! Laws of weights, of chosen macros and of plans, each the contract of a function that does nothing.
 
-ghost use Rattle.std.specs.Prelude.{◌≡◌, ◌+◌, All, List, ℕ};
+ghost use Rattle.std.specs.Prelude.{◌≡◌, ◌≤◌, ◌+◌, All, List, ℕ};
+ghost use Rattle.milter_wire.specs.declared.agreement.Agreed.{Agreed};
 ghost use Rattle.milter_fields.specs.declared.client.Client.{Client};
 ghost use Rattle.milter_options.specs.declared.symbol_lists.SymList.{SymList};
-ghost use Rattle.milter_wire.specs.Command.{bytes_of};
+ghost use Rattle.milter_wire.specs.Command.{bytes_of, Fits};
+ghost use Rattle.milter_wire.specs.declared.command.Command.TheVariants as commands;
 ghost use Rattle.milter_wire.specs.declared.codes.TheConstants.{SMFIC_RCPT};
 ghost use Rattle.milter_message.specs.MailObject.{MailObject};
 ghost use Rattle.milter_mail.specs.ChosenMacros.{chosen_macros};
@@ -23,6 +25,19 @@ pub fn chosen_macros_fit()
 pub fn weight_of_plan()
     ensures { (session : MailSession) (m : MailObject) →
         weight session.client session.helo session.macros m ≡ bytes_of (plan all_is_sent session m) }
+{}
+
+/// Whatever was agreed on, the packets of a message's plan have no more bytes than it weighs.
+pub fn weight_of_any_plan()
+    ensures { (agreed : Agreed) (session : MailSession) (m : MailObject) →
+        bytes_of (plan agreed session m) ≤ weight session.client session.helo session.macros m }
+{}
+
+/// Each command of a message's plan fits a packet, whatever was agreed on.
+pub fn plans_fit()
+    ensures { (agreed : Agreed) (session : MailSession) (m : MailObject) →
+        Fits (commands.Connect session.client) → Fits (commands.Helo session.helo) → MacrosFit session.macros →
+        IsSendable session.client session.helo session.macros m → All Fits (plan agreed session m) }
 {}
 
 /// What a message weighs is the sum of what its parts weigh, and of what each message of the session weighs beside

@@ -14,7 +14,10 @@ mod session;
 mod weight;
 
 pub use held_text::write_message;
-pub use laws::{chosen_macros_fit, sendable_messages, weight_of_parts, weight_of_plan};
+pub use laws::{
+    chosen_macros_fit, plans_fit, sendable_messages, weight_of_any_plan, weight_of_parts,
+    weight_of_plan,
+};
 pub use macros::Macros;
 pub use message_lines::{put_line, put_message, put_text};
 pub use milter_message::{

@@ -26,8 +26,7 @@ use Rattle.milter_wire.specs.declared.stage.Stage.TheVariants.{Connect, Helo, Ma
 use Rattle.milter_message.specs.declared.edit.Edit.TheVariants as edits
 use Rattle.milter_message.specs.declared.message.TheConstants.{WEIGHT_MAX}
 use Rattle.milter_message.specs.EditReplies.{weight_of}
-use Rattle.milter_exchange.specs.declared.filter_fault.TheConstants.{VERSION_MIN}
-use Rattle.milter_filter.specs.declared.policy.TheConstants.{ACTIONS_MAX, PROTOCOL_MAX, VERSION_MAX}
+use Rattle.milter_exchange.specs.declared.limits.TheConstants.{ACTIONS_MAX, PROTOCOL_MAX, VERSION_MAX, VERSION_MIN}
 use Rattle.milter_ruleset.specs.declared.rule.Action.{Action}
 use Rattle.milter_ruleset.specs.declared.rule.Action.TheVariants as actions
 use Rattle.milter_ruleset.specs.declared.rule.Rule.{Rule}

@@ -18,8 +18,7 @@ use Rattle.milter_text.specs.Words.{HasWords}
 use Rattle.milter_text.specs.WordValues.{keyword}
 use Rattle.milter_wire.specs.declared.stage.Stage.{Stage}
 use Rattle.milter_wire.specs.Stages.{all_stages}
-use Rattle.milter_exchange.specs.declared.filter_fault.TheConstants.{VERSION_MIN}
-use Rattle.milter_filter.specs.declared.policy.TheConstants.{ACTIONS_MAX, PROTOCOL_MAX, VERSION_MAX}
+use Rattle.milter_exchange.specs.declared.limits.TheConstants.{ACTIONS_MAX, PROTOCOL_MAX, VERSION_MAX, VERSION_MIN}
 use Rattle.milter_ruleset.specs.declared.rule.Rule.{Rule}
 use Rattle.milter_rules.specs.declared.rule_line.RuleLine.{RuleLine}
 use Rattle.milter_rules.specs.declared.rule_line.RuleLine.TheVariants as lines

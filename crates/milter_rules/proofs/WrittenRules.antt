@@ -25,8 +25,7 @@ use Rattle.milter_wire.specs.declared.verdict.Verdict.TheVariants as verdicts
 use Rattle.milter_wire.specs.Stages.{all_stages, name_of}
 use Rattle.milter_message.specs.declared.edit.Edit.{Edit}
 use Rattle.milter_message.specs.declared.edit.Edit.TheVariants as edits
-use Rattle.milter_exchange.specs.declared.filter_fault.TheConstants.{VERSION_MIN}
-use Rattle.milter_filter.specs.declared.policy.TheConstants.{VERSION_MAX}
+use Rattle.milter_exchange.specs.declared.limits.TheConstants.{VERSION_MAX, VERSION_MIN}
 use Rattle.milter_ruleset.specs.declared.rule.Action.{Action}
 use Rattle.milter_ruleset.specs.declared.rule.Action.TheVariants as actions
 use Rattle.milter_ruleset.specs.declared.rule.Condition.{Condition}

@@ -7,7 +7,7 @@ use Rattle.milter_options.specs.declared.symbol_lists.SymList.{SymList}
 use Rattle.milter_options.specs.Bits.{is_within}
 use Rattle.milter_options.specs.Payload.{sym_list}
 use Rattle.milter_message.specs.declared.message.TheConstants.{WEIGHT_MAX}
-use Rattle.milter_filter.specs.declared.policy.TheConstants.{ACTIONS_MAX, PROTOCOL_MAX}
+use Rattle.milter_exchange.specs.declared.limits.TheConstants.{ACTIONS_MAX, PROTOCOL_MAX}
 use Rattle.milter_wire.specs.declared.stage.Stage.{Stage}
 use Rattle.milter_wire.specs.declared.stage.Stage.TheVariants.{Eob}
 use Rattle.milter_ruleset.specs.declared.rule.Rule.{Rule}

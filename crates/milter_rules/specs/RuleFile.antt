@@ -19,7 +19,7 @@ use Rattle.milter_wire.specs.declared.stage.Stage.{Stage}
 use Rattle.milter_wire.specs.declared.verdict.Verdict.TheVariants as verdicts
 use Rattle.milter_message.specs.declared.message.TheConstants.{WEIGHT_MAX}
 use Rattle.milter_message.specs.EditReplies.{needed_by}
-use Rattle.milter_filter.specs.declared.policy.TheConstants.{VERSION_MAX}
+use Rattle.milter_exchange.specs.declared.limits.TheConstants.{VERSION_MAX}
 use Rattle.milter_ruleset.specs.declared.rule.Action.{Action}
 use Rattle.milter_ruleset.specs.declared.rule.Action.TheVariants as actions
 use Rattle.milter_ruleset.specs.declared.rule.Rule.{Rule}

@@ -10,9 +10,8 @@ use Rattle.milter_options.specs.Payload.{options_with_lists}
 use Rattle.milter_wire.specs.declared.stage.Stage.TheVariants.{Connect, Helo, Mail, Rcpt, DataCmd, Header, Eoh, Body, Eob}
 use Rattle.milter_wire.specs.Agreement.{has_bit}
 use Rattle.milter_message.specs.declared.message.TheConstants.{WEIGHT_MAX}
-use Rattle.milter_exchange.specs.declared.filter_fault.TheConstants.{VERSION_MIN}
+use Rattle.milter_exchange.specs.declared.limits.TheConstants.{ACTIONS_MAX, PROTOCOL_MAX, VERSION_MAX, VERSION_MIN}
 use Rattle.milter_exchange.specs.Behavior.{Behavior}
-use Rattle.milter_filter.specs.declared.policy.TheConstants.{ACTIONS_MAX, PROTOCOL_MAX, VERSION_MAX}
 use Rattle.milter_ruleset.specs.declared.rule_list.StageRules.{StageRules}
 use Rattle.milter_ruleset.specs.ActionFits.{are_lawful_at, edits_weight, is_string}
 use Rattle.milter_ruleset.specs.Reading.{decided}

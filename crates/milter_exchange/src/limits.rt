@@ -1,0 +1,11 @@
+//! The versions, actions and protocol bits that both ends know.
+
+/// The lowest version that either end takes. Source: mfdef.h (SMFI_VERSION 2 and later).
+pub const VERSION_MIN: u32 = 2;
+/// The highest version. Source: mfdef.h (SMFI_PROT_VERSION).
+pub const VERSION_MAX: u32 = 6;
+/// All actions that a filter may want and a mail server may offer. Source: mfapi.h (SMFIF_ADDHDRS to SMFIF_SETSYMLIST).
+pub const ACTIONS_MAX: u32 = 0x1ff;
+/// All protocol bits that a filter may want and a mail server may offer. Source: mfdef.h (SMFIP_NOCONNECT to
+/// SMFIP_HDR_LEADSPC).
+pub const PROTOCOL_MAX: u32 = 0x1f_f7ff;

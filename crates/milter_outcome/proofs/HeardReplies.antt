@@ -1,0 +1,66 @@
+-- An edit that is heard is that of its reply, and there is room for it.
+use Rattle.std.proofs.Common.{◌≡◌, ◌≢◌, ◌≤◌, ◌+◌, ℕ, nat_lt, Bool, true, false, not, Ok, Err, Result, refl, sym, ap, ◌∙◌, if◌then◌else◌}
+use Rattle.std.proofs.lemmas.Bool.{ltb-false}
+use Rattle.milter_wire.specs.declared.agreement.Agreed.{Agreed}
+use Rattle.milter_wire.specs.declared.reply.Reply.{Reply}
+use Rattle.milter_wire.specs.declared.reply.Reply.TheVariants as replies
+use Rattle.milter_wire.specs.declared.stage.Stage.{Stage}
+use Rattle.milter_wire.specs.declared.verdict.Verdict.{Verdict}
+use Rattle.milter_wire.specs.Verdicts.{verdict_of}
+use Rattle.milter_message.specs.declared.edit.Edit.{Edit}
+use Rattle.milter_message.specs.declared.message.TheConstants.{WEIGHT_MAX}
+use Rattle.milter_message.specs.EditReplies.{edit_of, reply_of, weight_of}
+use Rattle.milter_exchange.specs.Permitted.{is_permitted}
+use Rattle.milter_outcome.specs.declared.hearing.Heard.{Heard}
+use Rattle.milter_outcome.specs.declared.hearing.Heard.TheVariants as heard
+use Rattle.milter_outcome.specs.declared.loss.MtaFault.{MtaFault}
+use Rattle.milter_outcome.specs.declared.loss.MtaFault.TheVariants.{NotAtThisStage, EditNotNegotiated, TooManyEdits}
+use Rattle.milter_outcome.specs.Hearing.{heard_by, is_end, is_given, verdict_heard}
+
+edit_if : (early refused heavy : Bool) (edit found : Edit)
+    → (if early then Err NotAtThisStage else if refused then Err EditNotNegotiated else if heavy then Err TooManyEdits else Ok (heard.Edit found)) ≡ Ok (heard.Edit edit)
+    → (found ≡ edit) × (heavy ≡ false)
+edit_if true refused heavy edit found h = absurd cc
+edit_if false true heavy edit found h = absurd cc
+edit_if false false true edit found h = absurd cc
+edit_if false false false edit found h = (cc, refl)
+
+no_verdict : (given : Bool) (verdict : Verdict) (edit : Edit)
+    → (if given then Ok (heard.Verdict verdict) else Err NotAtThisStage) ≢ Ok (heard.Edit edit)
+no_verdict true verdict edit h = absurd cc
+no_verdict false verdict edit h = absurd cc
+
+no_edit : (agreed : Agreed) (stage : Stage) (found : Result Verdict Reply) (edit : Edit)
+    → verdict_heard agreed stage found ≢ Ok (heard.Edit edit)
+no_edit agreed stage (Err other) edit h = absurd cc
+no_edit agreed stage (Ok verdict) edit h = no_verdict (is_given agreed stage verdict) verdict edit h
+
+pub edit_heard_is : (agreed : Agreed) (stage : Stage) (weight : ℕ) (found : Result Edit Reply) (edit : Edit)
+    → heard_by agreed stage weight found ≡ Ok (heard.Edit edit)
+    → (found ≡ Ok edit) × (weight + weight_of edit ≤ WEIGHT_MAX)
+edit_heard_is agreed stage weight (Err other) edit h = absurd (no_edit agreed stage (verdict_of other) edit h)
+edit_heard_is agreed stage weight (Ok found) edit h =
+    let is = edit_if (not (is_end stage)) (not (is_permitted agreed found)) (nat_lt WEIGHT_MAX (weight + weight_of found)) edit found h in
+    let light = ltb-false WEIGHT_MAX (weight + weight_of found) is.1 in
+    (ap Ok is.0, rw (sym is.0) light)
+
+-- the reply of what one asks for
+abbrev reply_back : Result Edit Reply → Reply
+reply_back (Ok edit) = reply_of edit
+reply_back (Err reply) = reply
+
+gives_back : (reply : Reply) → reply_back (edit_of reply) ≡ reply
+gives_back (replies.AddHeader header) = refl
+gives_back (replies.InsertHeader index header) = refl
+gives_back (replies.ChangeHeader index header) = refl
+gives_back (replies.AddRcpt address) = refl
+gives_back (replies.AddRcptPar address arguments) = refl
+gives_back (replies.DelRcpt address) = refl
+gives_back (replies.ChangeFrom address arguments) = refl
+gives_back (replies.ReplaceBody bytes) = refl
+gives_back (replies.Quarantine reason) = refl
+gives_back replies.Progress = refl
+gives_back other = refl
+
+pub asked_only : (reply : Reply) (edit : Edit) → edit_of reply ≡ Ok edit → reply_of edit ≡ reply
+asked_only reply edit h = ap reply_back (sym h) ∙ gives_back reply

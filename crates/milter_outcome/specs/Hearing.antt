@@ -1,0 +1,86 @@
+-- What a mail server makes of a filter's reply, whatever filter it is.
+use Rattle.std.specs.Prelude.{ℕ, ◌+◌, ◌==◌, nat_le, nat_lt, Bool, true, false, not, ◌&&◌, ◌||◌, List, [], ◌∷◌, Some, Result, Ok, Err, if◌then◌else◌}
+use Rattle.std.specs.Int.Bits.{bit_and}
+use Rattle.milter_options.specs.declared.options.Actions.{Actions}
+use Rattle.milter_options.specs.declared.options.Options.{Options}
+use Rattle.milter_options.specs.declared.options.TheConstants.Actions.{SETSYMLIST}
+use Rattle.milter_options.specs.declared.options.TheConstants.Protocol.{SKIP}
+use Rattle.milter_options.specs.declared.symbol_lists.SymList.{SymList}
+use Rattle.milter_wire.specs.declared.agreement.Agreed.{Agreed}
+use Rattle.milter_wire.specs.declared.reply.Reply.{Reply}
+use Rattle.milter_wire.specs.declared.reply.Reply.TheVariants as replies
+use Rattle.milter_wire.specs.declared.stage.Stage.{Stage}
+use Rattle.milter_wire.specs.declared.stage.Stage.TheVariants.{Eob}
+use Rattle.milter_wire.specs.declared.verdict.Verdict.{Verdict}
+use Rattle.milter_wire.specs.Agreement.{has, has_bit}
+use Rattle.milter_wire.specs.Verdicts.{given_at, verdict_of}
+use Rattle.milter_message.specs.declared.edit.Edit.{Edit}
+use Rattle.milter_message.specs.declared.message.TheConstants.{WEIGHT_MAX}
+use Rattle.milter_message.specs.EditReplies.{edit_of, weight_of}
+use Rattle.milter_exchange.specs.declared.limits.TheConstants.{VERSION_MAX, VERSION_MIN}
+use Rattle.milter_exchange.specs.Permitted.{is_permitted}
+use Rattle.milter_exchange.specs.Verdicts.{is_skip}
+use Rattle.milter_outcome.specs.declared.hearing.Heard.{Heard}
+use Rattle.milter_outcome.specs.declared.hearing.Heard.TheVariants as heard
+use Rattle.milter_outcome.specs.declared.loss.MtaFault.{MtaFault}
+use Rattle.milter_outcome.specs.declared.loss.MtaFault.TheVariants.{Version, ActionsNotOffered, ProtocolNotOffered, NotAtThisStage, EditNotNegotiated, TooManyEdits}
+
+-- ---- the reply to an offer
+
+abbrev pub is_known : ℕ → Bool
+is_known version = nat_le VERSION_MIN version && nat_le version VERSION_MAX
+
+-- each of these bits was offered
+abbrev pub is_offered : ℕ → ℕ → Bool
+is_offered offer bits = bit_and offer bits == bits
+
+-- symbol lists come only where their action was offered
+abbrev pub may_have_lists : Actions → List SymList → Bool
+may_have_lists offer [] = true
+may_have_lists offer (list ∷ lists) = has_bit offer.0 SETSYMLIST.0
+
+abbrev pub agreed_by : Options → Options → List SymList → Result Agreed MtaFault
+agreed_by offer options lists =
+    if not (is_known options.version) then Err Version
+    else if not (is_offered offer.actions.0 options.actions.0 && may_have_lists offer.actions lists)
+    then Err ActionsNotOffered
+    else if not (is_offered offer.protocol.0 options.protocol.0) then Err ProtocolNotOffered
+    else Ok (record { options = options; lists = lists })
+
+abbrev pub options_heard : Options → Reply → Result Agreed MtaFault
+options_heard offer (replies.Options options lists) = agreed_by offer options lists
+options_heard offer other = Err NotAtThisStage
+
+-- ---- a reply to a command
+
+abbrev pub is_end : Stage → Bool
+is_end Eob = true
+is_end other = false
+
+-- an edit comes at the end of a message alone, by what was agreed on, and all together have at most 16 MiB
+abbrev pub edit_heard : Agreed → Stage → ℕ → Edit → Result Heard MtaFault
+edit_heard agreed stage weight edit =
+    if not (is_end stage) then Err NotAtThisStage
+    else if not (is_permitted agreed edit) then Err EditNotNegotiated
+    else if nat_lt WEIGHT_MAX (weight + weight_of edit) then Err TooManyEdits
+    else Ok (heard.Edit edit)
+
+abbrev pub may_skip : Agreed → Bool
+may_skip agreed = has agreed (Some SKIP)
+
+-- a verdict on the stage; skip only where it was agreed on
+abbrev pub is_given : Agreed → Stage → Verdict → Bool
+is_given agreed stage verdict = given_at verdict stage && (not (is_skip verdict) || may_skip agreed)
+
+abbrev pub verdict_heard : Agreed → Stage → Result Verdict Reply → Result Heard MtaFault
+verdict_heard agreed stage (Err other) = Err NotAtThisStage
+verdict_heard agreed stage (Ok verdict) =
+    if is_given agreed stage verdict then Ok (heard.Verdict verdict) else Err NotAtThisStage
+
+abbrev pub heard_by : Agreed → Stage → ℕ → Result Edit Reply → Result Heard MtaFault
+heard_by agreed stage weight (Ok edit) = edit_heard agreed stage weight edit
+heard_by agreed stage weight (Err other) = verdict_heard agreed stage (verdict_of other)
+
+-- where the edits before it have so many bytes
+abbrev pub reply_heard : Agreed → Stage → ℕ → Reply → Result Heard MtaFault
+reply_heard agreed stage weight reply = heard_by agreed stage weight (edit_of reply)
