@@ -22,4 +22,4 @@ pub use loss::{By, Loss, MtaFault};
 pub use outcome::Outcome;
 pub use refusal::Refusal;
 pub use report::Report;
-pub use settling::{kept_message, settle, settle_at_connection};
+pub use settling::{is_refusal, kept_message, settle, settle_at_connection};

@@ -76,8 +76,8 @@ fn rcpt_verdict(acted: &Acted) -> Option<&Verdict>
     }
 }
 
-/// Whether what was asked about is refused.
-pub(crate) fn is_refusal(verdict: &Verdict) -> bool
+/// Whether what was asked about is refused: for good, for now, or with a text. No memory is taken.
+pub fn is_refusal(verdict: &Verdict) -> bool
     ensures { result ≡ is_refusal verdict.now }
 {
     matches!(

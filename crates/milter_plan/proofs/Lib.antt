@@ -1,0 +1,6 @@
+mod Stepping
+mod PlanStages
+mod CursorSteps
+mod TalkStages
+mod TalkSteps
+pub mod PlanLaws

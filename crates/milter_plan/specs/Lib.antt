@@ -1,0 +1,5 @@
+pub mod PlanCursor
+pub mod OutgoingValue
+pub mod EditWeights
+pub mod TalkVerdicts
+pub mod Talks

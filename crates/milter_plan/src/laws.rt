@@ -1,0 +1,34 @@
+//! Laws of plans, each the contract of a function that does nothing.
+
+ghost use Rattle.std.specs.Prelude.{◌≡◌, ◌⊎◌};
+ghost use Rattle.milter_wire.specs.declared.agreement.Agreed.{Agreed};
+ghost use Rattle.milter_wire.specs.declared.command.Command.TheVariants as commands;
+ghost use Rattle.milter_wire.specs.declared.stage.Stage.TheVariants.{Connect, Mail};
+ghost use Rattle.milter_wire.specs.Command.{Fits};
+ghost use Rattle.milter_message.specs.MailObject.{MailObject};
+ghost use Rattle.milter_mail.specs.ChosenMacros.{chosen_macros};
+ghost use Rattle.milter_mail.specs.MailSession.{IsSendable, MacrosFit, MailSession};
+ghost use Rattle.milter_mail.specs.Plan.{plan};
+ghost use Rattle.milter_mail.specs.Steps.{message_steps};
+ghost use Rattle.milter_plan.specs.declared.cursor.Opening.{Opening};
+ghost use Rattle.milter_plan.specs.declared.talk.Talk.{Talk};
+ghost use Rattle.milter_plan.specs.PlanCursor.{Outgoing, outgoing_of, steps_from};
+ghost use Rattle.milter_plan.specs.Talks.{Sends};
+
+/// What is sent of a message, stage by stage: from its sender on it is the message's part of the plan, and from the
+/// client on the plan.
+pub fn plans_by_stage()
+    ensures message { (o : Outgoing) → steps_from o Mail 0 ≡ message_steps o.agreed o.macros o.message }
+    ensures plan { (agreed : Agreed) (session : MailSession) (message : MailObject) →
+        steps_from (outgoing_of agreed session message) Connect 0 ≡ plan agreed session message }
+{}
+
+/// A talk that begins with the client, or with the sender of a message that may be sent, can be sent.
+pub fn talks_begin()
+    ensures { (opening : Opening) (talk : Talk) →
+        Fits (commands.Connect opening.client) → Fits (commands.Helo opening.helo) → MacrosFit opening.macros →
+        IsSendable opening.client opening.helo opening.macros talk.message →
+        talk.macros ≡ chosen_macros talk.agreed.lists opening.macros →
+        ((talk.cursor ≡ record { stage = Connect; step = 0 }) ⊎ (talk.cursor ≡ record { stage = Mail; step = 0 })) →
+        Sends opening talk }
+{}
