@@ -1,0 +1,8 @@
+mod Standings
+mod Begun
+mod FedPieces
+mod HeardFrames
+mod Keeping
+mod Reported
+mod Settled
+mod NextPackets

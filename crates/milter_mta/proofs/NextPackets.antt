@@ -1,0 +1,42 @@
+-- The next packet fits.
+use Rattle.std.proofs.Common.{◌≡◌, Bool, true, false, List, [], ◌∷◌, ◌++◌, All, Some, arith, length-append, subst}
+use Rattle.std.proofs.lemmas.List.Elements.{All-head}
+use Rattle.std.proofs.lemmas.Option.{same_Some}
+use Rattle.milter_stream.specs.Number.{number}
+use Rattle.milter_stream.proofs.Numbers.{length-number}
+use Rattle.milter_options.specs.declared.options.Options.{Options}
+use Rattle.milter_options.specs.Payload.{OptionsFit}
+use Rattle.milter_wire.specs.declared.command.Command.{Command}
+use Rattle.milter_wire.specs.declared.command.Command.TheVariants as commands
+use Rattle.milter_wire.specs.Command.{Fits}
+use Rattle.milter_plan.specs.declared.cursor.Opening.{Opening}
+use Rattle.milter_plan.specs.Talks.{first_of, left_of}
+use Rattle.milter_mta.specs.declared.link.Next.{Next}
+use Rattle.milter_mta.specs.declared.link.Next.TheVariants as nexts
+use Rattle.milter_mta.specs.Conversations.{CanSend, position_of}
+use Rattle.milter_mta.specs.Sending.{command_at}
+
+first_fits : (left : List Command) (command : Command) → All Fits left → first_of left ≡ Some command → Fits command
+first_fits [] command fit e = absurd cc
+first_fits (first ∷ left) command fit e = subst Fits (same_Some first command e) (All-head Fits first left fit)
+
+options_fit : (o : Options) → OptionsFit o → Fits (commands.Options o)
+options_fit o fit =
+    let a = length-append (number o.version) (number o.actions.0) in
+    let b = length-append (number o.version ++ number o.actions.0) (number o.protocol.0) in
+    let v = length-number o.version in
+    let x = length-number o.actions.0 in
+    let p = length-number o.protocol.0 in
+    record { fields = fit; payload = omega (arith, a, b, v, x, p) }
+
+pub next_fits : (offer : Options) (opening : Opening) (aborts : Bool) (next : Next) (command : Command) → OptionsFit offer
+    → CanSend opening next → command_at offer aborts (position_of opening next) ≡ Some command → Fits command
+next_fits offer opening true next command offered can e =
+    subst Fits (same_Some commands.Abort command e) (record { fields = tt; payload = omega arith })
+next_fits offer opening false nexts.Offer command offered can e =
+    subst Fits (same_Some (commands.Options offer) command e) (options_fit offer offered)
+next_fits offer opening false (nexts.Command talk) command offered can e =
+    first_fits (left_of opening talk) command can.sends.fits e
+next_fits offer opening false nexts.Quit command offered can e =
+    subst Fits (same_Some commands.Quit command e) (record { fields = tt; payload = omega arith })
+next_fits offer opening false nexts.Nothing command offered can e = absurd cc

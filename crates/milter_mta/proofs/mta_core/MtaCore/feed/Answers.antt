@@ -1,0 +1,46 @@
+use Rattle.std.proofs.Common.{◌≡◌, ◌<◌, ◌==◌, ℕ, zero, suc, Bool, true, false, Option, None, Some, ap, arith, length, sym, ◌∙◌}
+use Rattle.std.specs.Prelude.{not}
+use Rattle.milter_outcome.specs.declared.loss.Loss.TheVariants.{Fault}
+use Rattle.milter_outcome.specs.declared.loss.MtaFault.TheVariants.{Early}
+use Rattle.milter_mta.specs.declared.link.Link.{Link as Connected}
+use Rattle.milter_mta.specs.Conversations.{mta_of}
+use Rattle.milter_mta.specs.Mta.{Mta}
+use Rattle.milter_mta.specs.Receiving.{heard}
+use Rattle.milter_mta.proofs.FedPieces.{early-sending, early-unlinked}
+use Rattle.milter_mta.proofs.mta_core.MtaCore.feed.Goals as goal
+
+not_owed : (owed : Bool) → not owed ≡ true → owed ≡ false
+not_owed true is = absurd cc
+not_owed false is = cc
+
+not_empty : (n : ℕ) (empty : Bool) → empty ≡ (n == 0) → empty ≡ false → 0 < n
+not_empty zero empty e is = absurd (zero_empty empty e is)
+  where
+    zero_empty : (b : Bool) → b ≡ true → b ≡ false → ⊥
+    zero_empty b e is = absurd cc
+not_empty (suc n) empty e is = omega arith
+
+pub returns-in_default : goal.returns-in_default
+returns-in_default c =
+    let state = c.self.inside.state in
+    let piece = c.args.piece.now in
+    let linked : c.self.inside.link ≡ None = sym c.take.ensures.value ∙ c.in_default.is in
+    let some = not_empty (length piece) c.is_empty.result c.is_empty.ensures c.if-is_empty.false in
+    ap (λ (m : Mta). heard m piece) (sym c.self.view_is)
+    ∙ ap (λ (l : Option Connected). heard (mta_of state l c.self.inside.pending c.self.inside.splitter) piece) linked
+    ∙ early-unlinked state c.lose_waiting.new.self piece some c.lose_waiting.ensures.lost
+    ∙ ap (λ (l : Option Connected). record { mta = mta_of c.lose_waiting.new.self l c.self.inside.pending c.self.inside.splitter; loss = Some (Fault Early) })
+    (sym c.take.ensures.after)
+
+pub returns-then-not-link : goal.returns-then-not-link
+returns-then-not-link c =
+    let state = c.self.inside.state in
+    let piece = c.args.piece.now in
+    let linked : c.self.inside.link ≡ Some c.in-Some.link = sym c.take.ensures.value ∙ c.in-Some.is in
+    let some = not_empty (length piece) c.is_empty.result c.is_empty.ensures c.if-is_empty.false in
+    ap (λ (m : Mta). heard m piece) (sym c.self.view_is)
+    ∙ ap (λ (l : Option Connected). heard (mta_of state l c.self.inside.pending c.self.inside.splitter) piece) linked
+    ∙ early-sending state c.lose.new.self c.in-Some.link c.self.inside.pending c.self.inside.splitter piece
+    (not_owed c.in-Some.link.owed c.if-not-link.true) some c.lose.ensures.lost
+    ∙ ap (λ (l : Option Connected). record { mta = mta_of c.lose.new.self l c.self.inside.pending c.self.inside.splitter; loss = Some (Fault Early) })
+    (sym c.take.ensures.after)

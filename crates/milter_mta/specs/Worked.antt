@@ -1,0 +1,101 @@
+-- A worked session of one message, and replies to it.
+use Rattle.std.specs.Prelude.{ℕ, List, map, [], ◌∷◌, ◌++◌, codes, Option, None, Some}
+use Rattle.std.specs.Option.{option_to_list}
+use Rattle.milter_options.specs.declared.options.Options.{Options}
+use Rattle.milter_fields.specs.declared.client.Origin.TheVariants.{Unknown}
+use Rattle.milter_fields.specs.declared.path.Path.{Path}
+use Rattle.milter_wire.specs.declared.command.Command.{Command}
+use Rattle.milter_wire.specs.declared.reply.Reply.{Reply}
+use Rattle.milter_wire.specs.declared.reply.Reply.TheVariants as replies
+use Rattle.milter_exchange.specs.declared.limits.TheConstants.{ACTIONS_MAX, PROTOCOL_MAX, VERSION_MAX}
+use Rattle.milter_wire.specs.declared.verdict.Verdict.{Verdict}
+use Rattle.milter_mail.specs.declared.macros.Macros.{Macros}
+use Rattle.milter_mail.specs.MailSession.{MailSession}
+use Rattle.milter_message.specs.MailObject.{MailObject}
+use Rattle.milter_outcome.specs.declared.fallback.OnLoss.{OnLoss}
+use Rattle.milter_outcome.specs.declared.outcome.Outcome.{Outcome}
+use Rattle.milter_mta.specs.Mta.{Configuration, Link, Mta, fresh}
+use Rattle.milter_mta.specs.Receiving.{replied}
+use Rattle.milter_mta.specs.Sending.{command_at, dialled, finished}
+
+abbrev pub at : List ℕ → Path
+at address = record { address = address; params = [] }
+
+abbrev pub message : MailObject
+message = record { sender = at (codes "a@x"); recipients = at (codes "b@y") ∷ []; headers = []; body = [] }
+
+abbrev pub no_macros : Macros
+no_macros = record { connect = []; helo = []; mail = []; rcpt = []; data_cmd = []; eom = []; eoh = [] }
+
+abbrev pub session : List MailObject → MailSession
+session messages =
+    record {
+      client = record { host = codes "h.example"; origin = Unknown };
+      helo = codes "mail";
+      macros = no_macros;
+      messages = messages;
+    }
+
+abbrev pub options : ℕ → ℕ → ℕ → Options
+options version actions protocol =
+    record { version = version; actions = record { 0 = actions }; protocol = record { 0 = protocol } }
+
+abbrev pub greatest : OnLoss → Configuration
+greatest on_loss = record { offer = options VERSION_MAX ACTIONS_MAX PROTOCOL_MAX; on_loss = on_loss }
+
+-- ---- a filter that is played by hand
+
+abbrev pub next_in : Configuration → Option Link → Option Command
+next_in config None = None
+next_in config (Some link) = command_at config.offer link.aborts link.position
+
+abbrev pub packet_sent_in : Option Link → Mta → Mta
+packet_sent_in None m = m
+packet_sent_in (Some link) m = record m { link = Some (finished link) }
+
+abbrev pub answered_in : Option Link → Option Reply → Mta → Mta
+answered_in (Some link) (Some reply) m = (replied link.position reply m).mta
+answered_in link reply m = m
+
+-- the next packet is sent, and then this reply comes, if one does
+abbrev pub after_turn : Mta → Option Reply → Mta
+after_turn m reply = let sent = packet_sent_in m.link m in answered_in sent.link reply sent
+
+abbrev pub after_turns : Mta → List (Option Reply) → Mta
+after_turns m [] = m
+after_turns m (reply ∷ replies) = after_turns (after_turn m reply) replies
+
+-- the commands that are sent, one for each of these turns
+abbrev pub commands_sent : Mta → List (Option Reply) → List Command
+commands_sent m [] = []
+commands_sent m (reply ∷ replies) =
+    option_to_list (next_in m.config m.link) ++ commands_sent (after_turn m reply) replies
+
+abbrev pub begun : OnLoss → List MailObject → Mta
+begun on_loss messages = dialled (fresh (greatest on_loss) (session messages))
+
+-- ---- replies
+
+abbrev pub agreed : ℕ → ℕ → ℕ → Option Reply
+agreed version actions protocol = Some (replies.Options (options version actions protocol) [])
+
+abbrev pub continue : Option Reply
+continue = Some replies.Continue
+
+abbrev pub reply : Reply → Option Reply
+reply r = Some r
+
+-- ---- what becomes of the messages
+
+abbrev pub outcomes : Mta → List Outcome
+outcomes m = map (λ r. r.outcome) m.reports
+
+abbrev pub acted_on : Mta → List (List Verdict)
+acted_on m = map (λ r. map (λ a. a.verdict) r.acted) m.reports
+
+-- all is answered up to the sender, and this is
+abbrev pub to_sender : List (Option Reply) → List (Option Reply)
+to_sender turns = agreed 6 0 0 ∷ continue ∷ continue ∷ continue ∷ turns
+
+abbrev pub two_recipients : MailObject
+two_recipients = record message { recipients = at (codes "b@y") ∷ at (codes "c@y") ∷ [] }

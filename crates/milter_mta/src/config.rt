@@ -1,0 +1,62 @@
+//! What a mail server offers its filters.
+
+ghost use Rattle.std.specs.Prelude.{◌≡◌, ◌↔◌, IfSome, IsSome, true};
+ghost use Rattle.milter_exchange.specs.declared.limits.TheConstants.{ACTIONS_MAX, PROTOCOL_MAX, VERSION_MAX};
+ghost use Rattle.milter_outcome.specs.Hearing.{is_offered};
+
+use milter_exchange::{ACTIONS_MAX, PROTOCOL_MAX, VERSION_MAX};
+use milter_outcome::OnLoss;
+use milter_wire::{Actions, Options, Protocol};
+use std::marker::Model;
+
+/// What a mail server offers each filter, and what a lost one leaves.
+#[derive(Clone, Debug, Drop)]
+pub struct Config {
+    offer: Options,
+    on_loss: OnLoss,
+}
+
+impl Model for Config {
+    ghost use Rattle.milter_mta.specs.Mta.{Configuration};
+
+    ghost Value = { Configuration };
+
+    ghost view = { λ c. record { offer = c.offer; on_loss = c.on_loss } };
+}
+
+impl Config {
+    /// Version 6 with these bits is offered; none where one of them is outside of the greatest offer: actions 0x1FF
+    /// and protocol 0x1FF7FF. No memory is taken.
+    pub fn new(actions: Actions, protocol: Protocol, on_loss: OnLoss) -> Option<Self>
+        ensures parts { IfSome result (λ config. config ≡ record {
+          offer = record { version = VERSION_MAX; actions = actions; protocol = protocol };
+          on_loss = on_loss;
+        }) }
+        ensures exact { IsSome result
+            ↔ ((is_offered ACTIONS_MAX actions.0 ≡ true) × (is_offered PROTOCOL_MAX protocol.0 ≡ true)) }
+    {
+        if ACTIONS_MAX & actions.0 != actions.0 || PROTOCOL_MAX & protocol.0 != protocol.0 {
+            return None;
+        }
+        let offer = Options {
+            version: VERSION_MAX,
+            actions,
+            protocol,
+        };
+        Some(Config { offer, on_loss })
+    }
+
+    /// What is offered: version 6, and the bits. No memory is taken.
+    pub fn offer(&self) -> Options
+        ensures { result ≡ self.now.offer }
+    {
+        self.offer
+    }
+
+    /// What a lost filter leaves. No memory is taken.
+    pub fn on_loss(&self) -> OnLoss
+        ensures { result ≡ self.now.on_loss }
+    {
+        self.on_loss
+    }
+}

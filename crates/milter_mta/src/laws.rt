@@ -1,0 +1,38 @@
+//! Laws of a mail server's end, each the contract of a function that does nothing.
+
+ghost use Rattle.std.specs.Prelude.{◌≡◌, ◌≢◌, ◌++◌, ◌∷◌, [], List, None, true, ℕ};
+ghost use Rattle.milter_wire.specs.declared.reply.Reply.{Reply};
+ghost use Rattle.milter_wire.specs.Reply.{Fits, encoding};
+ghost use Rattle.milter_message.specs.MailObject.{MailObject};
+ghost use Rattle.milter_outcome.specs.declared.loss.Loss.{Loss};
+ghost use Rattle.milter_mta.specs.Mta.{Link, Mta};
+ghost use Rattle.milter_mta.specs.Receiving.{at, heard, heard_on, replied};
+ghost use Rattle.milter_mta.specs.Settling.{acted_in, default_report, lost};
+
+use milter_wire::reply_frames;
+
+/// What is heard of a piece and then of another is what is heard of both in one.
+pub fn pieces_go_on()
+    ensures { (m : Mta) (first second : List ℕ) → heard m (first ++ second) ≡ heard_on (heard m first) second }
+{}
+
+/// The bytes of a reply that is owed are heard as that reply, while a message isn't settled.
+pub fn replies_are_heard()
+    ensures { (m : Mta) (link : Link) (reply : Reply) → link.owed ≡ true → link.unread ≡ [] →
+        m.session.messages ≢ [] → Fits reply →
+        heard (at link m) (encoding reply) ≡ replied link.position reply (at link m) }
+{
+    reply_frames();
+}
+
+/// A loss settles exactly one message, the first of those that are not settled, or none where all are; and there is no
+/// connection then.
+pub fn losses_settle_one()
+    ensures one { (loss : Loss) (m : Mta) (message : MailObject) (messages : List MailObject) →
+        m.session.messages ≡ message ∷ messages →
+        ((lost loss m).session.messages ≡ messages)
+        × ((lost loss m).reports
+        ≡ m.reports ++ default_report m.config.on_loss loss message (acted_in m.link) ∷ []) }
+    ensures none { (loss : Loss) (m : Mta) → m.session.messages ≡ [] → lost loss m ≡ record m { link = None } }
+    ensures unlinked { (loss : Loss) (m : Mta) → (lost loss m).link ≡ None }
+{}

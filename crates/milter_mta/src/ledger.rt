@@ -1,0 +1,130 @@
+//! The messages of a session that are not settled, and the reports of those that are.
+
+ghost use Rattle.std.specs.Prelude.{◌≡◌, ◌<◌, ◌≤◌, ◌-◌, ◌++◌, ◌∷◌, [], IfErr, IfOk, IfSome, None, length, reverse};
+
+use milter_mail::Message;
+use milter_outcome::{Acted, Report};
+use milter_wire::NoMemory;
+use std::alloc::Global;
+use std::marker::Model;
+
+/// How many verdicts a room takes without more memory: those on the client and on its greeting.
+const ROOM_LEN: usize = 2;
+
+/// The messages of a session that are not settled, and the reports of those that are. The memory for all reports, with
+/// room for two verdicts each, is taken at the start.
+#[derive(Debug, Drop)]
+pub(crate) struct Ledger {
+    // The last message first.
+    waiting: Vec<Message>,
+    // For the verdicts on each of these.
+    rooms: Vec<Vec<Acted>>,
+    reports: Vec<Report>,
+}
+
+impl Model for Ledger {
+    ghost use Rattle.std.specs.Prelude.{◌-◌, reverse};
+    ghost use Rattle.std.specs.Vec.{vec_capacity, vec_len};
+    ghost use Rattle.milter_mta.specs.Accounts.{Accounts};
+
+    ghost Value = { Accounts };
+
+    ghost view = { λ l. record {
+      waiting = reverse l.waiting.items;
+      reports = l.reports.items;
+      spare = vec_capacity l.reports - vec_len l.reports;
+    } };
+}
+
+/// Room for two verdicts on each of `count` messages.
+fn take_rooms(alloc: Global, count: usize) -> Result<Vec<Vec<Acted>>, NoMemory> {
+    let mut rooms = Vec::with_capacity(alloc, count)?;
+    for _ in 0..count {
+        rooms.push(Vec::with_capacity(alloc, ROOM_LEN)?)?;
+    }
+    Ok(rooms)
+}
+
+/// The elements, the last one first. They are moved, and no memory is taken.
+fn reversed(messages: Vec<Message>) -> Vec<Message>
+    ensures { result.items ≡ reverse messages.items }
+{
+    let mut messages = messages;
+    messages.reverse();
+    messages
+}
+
+impl Ledger {
+    /// The messages, of which none is settled. Where memory is refused they come back.
+    pub(crate) fn new(alloc: Global, messages: Vec<Message>) -> Result<Self, Vec<Message>>
+        ensures waiting { IfOk result (λ ledger. ledger.waiting ≡ messages.items) }
+        ensures reports { IfOk result (λ ledger. ledger.reports ≡ []) }
+        ensures room { IfOk result (λ ledger. length messages.items ≤ ledger.spare) }
+        ensures refused { IfErr result (λ back. back.items ≡ messages.items) }
+    {
+        let Ok(rooms) = take_rooms(alloc, messages.len()) else {
+            return Err(messages);
+        };
+        let Ok(reports) = Vec::with_capacity(alloc, messages.len()) else {
+            return Err(messages);
+        };
+        Ok(Ledger {
+            waiting: reversed(messages),
+            rooms,
+            reports,
+        })
+    }
+
+    /// How many messages wait. No memory is taken.
+    pub(crate) fn len(&self) -> usize
+        ensures { result ≡ length self.now.waiting }
+    {
+        self.waiting.len()
+    }
+
+    /// The first message that waits, which is under way from now on. No memory is taken.
+    pub(crate) fn next_message(&mut self) -> Option<Message>
+        ensures some { IfSome result (λ message. self.old.waiting ≡ message ∷ self.new.waiting) }
+        ensures none { result ≡ None → (self.old.waiting ≡ []) × (self.new ≡ self.old) }
+        ensures same { self.new ≡ record self.old { waiting = self.new.waiting } }
+    {
+        self.waiting.pop()
+    }
+
+    /// Room for the verdicts on a message. No memory is taken.
+    pub(crate) fn take_room(&mut self, alloc: Global) -> Vec<Acted>
+        ensures same { self.new ≡ self.old }
+        ensures empty { result.items ≡ [] }
+    {
+        let mut room = self.rooms.pop().unwrap_or(Vec::new(alloc));
+        room.clear();
+        room
+    }
+
+    /// Gives back a room that wasn't needed. No memory is taken.
+    pub(crate) fn give_room(&mut self, room: Vec<Acted>)
+        ensures { self.new ≡ self.old }
+    {
+        if self.rooms.len() < self.rooms.capacity() {
+            self.rooms.push_reserved(room);
+        }
+    }
+
+    /// Adds a report as the last. No memory is taken.
+    pub(crate) fn add_report(&mut self, report: Report)
+        requires { 0 < self.old.spare }
+        ensures { self.new ≡ record self.old {
+          reports = self.old.reports ++ report ∷ [];
+          spare = self.old.spare - 1;
+        } }
+    {
+        self.reports.push_reserved(report);
+    }
+
+    /// The reports, in order, each to be taken. No memory is taken.
+    pub(crate) fn into_reports(self) -> Vec<Report>
+        ensures { result.items ≡ self.reports }
+    {
+        self.reports
+    }
+}
