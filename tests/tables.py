@@ -18,7 +18,7 @@ TABLES = [
     'session_faults', 'session_sizes', 'session_values', 'session_refused_memory', 'answer_replies', 'answer_faults',
     'answer_sizes', 'answer_refused_memory', 'answer_rules', 'rules_canonical', 'rules_faults',
     'rules_sizes', 'rules_refused_memory', 'answer_rules_refused_memory', 'guard_replies', 'edits_values',
-    'edits_faults', 'packets_totals']
+    'edits_faults', 'packets_totals', 'mta_conversations', 'mta_faults', 'mta_losses']
 # What plays the tables of each kind: a program and its words, of which FILE stands for a file of the input.
 FILE = object()
 PLAYERS = {
@@ -29,6 +29,7 @@ PLAYERS = {
     'guard': ('milter_loop_guard', []),
     'edits': ('milter_rows', ['edits', 'text']),
     'packets': ('milter_rows', ['packets']),
+    'mta': ('milter_mta_rows', []),
 }
 # The kinds whose programs write packets: a filter's.
 FILTERS = ['answer', 'guard']

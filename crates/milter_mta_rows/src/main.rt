@@ -1,0 +1,85 @@
+//! A mail server's end, played by a script for the tables `cases/mta_*.table`. Standard input is a session file, a line
+//! `%%`, and a command a line. HEX are hexadecimal digits, two a byte.
+//!
+//! - `config ACTIONS PROTOCOL ON_LOSS`, the first: the bits that are offered, in hexadecimal digits, and `accept`,
+//!   `tempfail` or `reject`. `no config` is printed where these bits can't be offered, and nothing more is done.
+//! - `dialled`, `advance`, `sent NUMBER` (all that is pending where that is less), `lost reset|timeout|memory`: the
+//!   calls of these names.
+//! - `send`: the next packet is made, printed as HEX, and sent.
+//! - `pass NUMBER`: so many packets are sent, and those that have a reply are answered: the offer by options without
+//!   bits, and commands by a verdict that goes on. Nothing is printed.
+//! - `feed HEX`: one piece; `ok` or the loss is printed. `feed_bytes HEX`: the same of a piece for each byte, up to the
+//!   first loss.
+//! - `want`, `pending`: what is wanted, and the bytes that wait to be sent as HEX, are printed.
+//! - `finish`, the last: a line is printed for each report. It has the verdicts that were acted on, what became of the
+//!   message, and what settled it.
+#![tactic(auto)]
+
+mod commands;
+mod config_line;
+mod report_lines;
+
+use anyhow::{Context, bail};
+use commands::obey;
+use config_line::config_in;
+use milter_mta::{Config, MtaCore};
+use milter_session::read_session;
+use report_lines::print_reports;
+use std::alloc::Global;
+use std::io::Read;
+use std::str::from_utf8;
+
+/// The end of a session's mail server before its first connection.
+fn started(alloc: Global, config: Config, file: &str) -> anyhow::Result<MtaCore> {
+    let session = read_session(alloc, file.as_bytes())?;
+    match MtaCore::new(alloc, config, session) {
+        Ok(core) => Ok(core),
+        Err(_) => bail!("out of memory"),
+    }
+}
+
+/// Obeys commands, and answers whether the last one asks for the reports.
+fn obey_all<R: Print + AllocGlobal>(
+    rt: &R,
+    core: &mut MtaCore,
+    commands: &str,
+) -> anyhow::Result<bool> {
+    for line in commands.lines() {
+        if line == "finish" {
+            return Ok(true);
+        }
+        obey(rt, core, line)?;
+    }
+    Ok(false)
+}
+
+/// Plays commands on the end of a mail server.
+fn play_on<R: Print + AllocGlobal>(rt: &R, core: MtaCore, commands: &str) -> anyhow::Result<()> {
+    let mut core = core;
+    if obey_all(rt, &mut core, commands)? {
+        print_reports(rt, &core.finish())?;
+    }
+    Ok(())
+}
+
+/// Plays a script, whose session file is this one.
+fn play<R: Print + AllocGlobal>(rt: &R, file: &str, script: &str) -> anyhow::Result<()> {
+    let (first, commands) = script.split_once('\n').context("no command")?;
+    match config_in(first)? {
+        Some(config) => play_on(rt, started(rt.alloc(), config, file)?, commands),
+        None => {
+            println!(rt; "no config")?;
+            Ok(())
+        }
+    }
+}
+
+fn main(rt: HostRuntime) -> anyhow::Result<()> {
+    let mut input = Vec::new(rt.alloc());
+    rt.reader().read_to_end(&mut input)?;
+    let text = from_utf8(&input).ok().context("the input is no text")?;
+    let (file, script) = text
+        .split_once("%%\n")
+        .context("a line %% is to follow the session file")?;
+    play(&rt, file, script)
+}
