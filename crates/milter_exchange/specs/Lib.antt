@@ -4,6 +4,7 @@ pub mod Permitted
 pub mod Exchanges
 pub mod Seen
 pub mod Behavior
+pub mod Lawful
 pub mod Talk
 pub mod FilterFault
 pub mod Commands

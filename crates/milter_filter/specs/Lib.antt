@@ -1,6 +1,5 @@
 pub mod MacroLists
 pub mod SeenParts
-pub mod Lawful
 pub mod PassLaw
 pub mod Streams
 pub mod Cores

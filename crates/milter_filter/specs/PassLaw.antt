@@ -9,7 +9,7 @@ use Rattle.milter_options.specs.Payload.{SymListFits, options_with_lists}
 use Rattle.milter_wire.specs.Reply.{Fits}
 use Rattle.milter_message.specs.declared.edit.Edit.{Edit}
 use Rattle.milter_message.specs.EditReplies.{reply_of}
-use Rattle.milter_filter.specs.Lawful.{IsLawful, WantsWithin}
+use Rattle.milter_exchange.specs.Lawful.{IsLawful, WantsWithin}
 use Rattle.milter_exchange.specs.Pass.{pass}
 
 options_len : length (options_with_lists pass.wants []) ≤ PAYLOAD_MAX

@@ -2,7 +2,7 @@
 
 ghost use Rattle.std.specs.Prelude.{◌≡◌, IfOk};
 ghost use Rattle.milter_exchange.specs.Behavior.{Behavior};
-ghost use Rattle.milter_filter.specs.Lawful.{IsLawful};
+ghost use Rattle.milter_exchange.specs.Lawful.{IsLawful};
 
 use crate::seen::Seen;
 use milter_exchange::Answer;

@@ -17,7 +17,7 @@ use Rattle.milter_message.specs.declared.edit.Edit.TheVariants.{AddHeader}
 use Rattle.milter_message.specs.declared.message.TheConstants.{WEIGHT_MAX}
 use Rattle.milter_message.specs.EditReplies.{reply_of, weight_of}
 use Rattle.milter_exchange.specs.Seen.{Seen}
-use Rattle.milter_filter.specs.Lawful.{AnswerFits, IsLawful, WantsWithin}
+use Rattle.milter_exchange.specs.Lawful.{AnswerFits, IsLawful, WantsWithin}
 use Rattle.milter_loop_guard.specs.Loops.{answer_at, hops, loop_guard, mark, passed, refused, too_many_hops}
 
 -- an edit that a packet has room for

@@ -27,7 +27,7 @@ use Rattle.milter_message.specs.EditReplies as edit_replies
 use Rattle.milter_message.specs.EditReplies.{weight_of}
 use Rattle.milter_exchange.specs.Seen.{Seen}
 use Rattle.milter_exchange.specs.declared.answer.Answer.{Answer}
-use Rattle.milter_filter.specs.Lawful.{AnswerFits, IsLawful, WantsWithin}
+use Rattle.milter_exchange.specs.Lawful.{AnswerFits, IsLawful, WantsWithin}
 use Rattle.milter_ruleset.specs.declared.rule.Action.{Action}
 use Rattle.milter_ruleset.specs.declared.rule.Action.TheVariants as actions
 use Rattle.milter_ruleset.specs.declared.rule.Condition.{Condition}
