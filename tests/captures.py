@@ -1,42 +1,39 @@
 #!/usr/bin/env python3
-"""Plays the mail server's half of each captured conversation (cases/capture_*) on `milter_tool answer`, as both compilers
-build it. What is replied is written out here from the protocol: the options with what both ends have, which is nothing
-but the version, and `Continue` to each command that has a reply. Where the captured filter let a command go on too,
-its reply is the same. The programs are those that `rt ci` leaves. The last line is 'N passed, M failed'; the status is 1
-where something failed.
+"""Plays the captured conversations (cases/capture_*) on both ends, as both compilers build them. The programs are those
+that `rt ci` leaves. The last line is 'N passed, M failed'; the status is 1 where something failed.
+
+The mail server's half is fed to `milter_tool answer`. What is replied is written out here from the protocol: the
+options with what both ends have, which is nothing but the version, and `Continue` to each command that has a reply.
+Where the captured filter let a command go on too, its reply is the same.
+
+The filter's half is fed to a mail server's end by `milter_mta_rows`, each reply after its command, packet by packet and
+then byte by byte. The session file has what the captured mail server sent. Compared are the packets that are sent,
+when a reply is wanted, and the reports with the messages after the filter's edits. All captures are played to their
+end. A mail server's end differs from those that were captured in this:
+
+- It offers no RCPT_REJ (0x800), which all of them offered, and nothing else is left out of their offers. Some filters
+  answered with it; it is taken out of their answers, since what isn't offered can't be agreed on.
+- It has one list of macros for each stage, sends these before each command of the stage, and has no macros for header
+  fields and the body. The list is that of the stage's first macros in the capture: Postfix and Sendmail have others for
+  each recipient and each message, and miltertest sends those of the recipients once. Where the stage has no macros,
+  nothing is sent for it; Postfix and Sendmail send macros without any.
+- It sends the macros that the filter asked for by a symbol list, and no others; miltertest sends all.
+- It aborts no message that came to its end; Postfix does, and once more before it quits.
+- It quits where the script of `capture_raw_quitnc` begins another connection on the same stream. What comes after that
+  is played as a connection of its own, which begins with the same options.
 """
 import glob
 import os
 import subprocess
 import sys
 
+import captured
 import tables
 
 REPLIED = b'CHMRTLNBEU'
 NOT_REPLIED = b'DAKQ'
 AGREED = bytes.fromhex('0000000d4f000000060000000000000000')
 CONTINUE = bytes.fromhex('0000000163')
-
-
-def packets(stream):
-    """The packets of a stream."""
-    while stream:
-        end = 4 + int.from_bytes(stream[:4], 'big')
-        yield stream[:end]
-        stream = stream[end:]
-
-
-def halves(path):
-    """Each packet of the mail server in a capture, with the packets that the filter sent after it."""
-    talk = []
-    for line in open(path):
-        mark, digits = line.split()
-        for packet in packets(bytes.fromhex(digits)):
-            if mark == '>':
-                talk.append((packet, []))
-            else:
-                talk[-1][1].append(packet)
-    return talk
 
 
 def expected(command):
@@ -48,9 +45,9 @@ def expected(command):
     return CONTINUE if code in REPLIED else b''
 
 
-def fault_of(path, build):
-    """What is wrong of a capture's run, or nothing."""
-    talk = halves(path)
+def fault_of_answers(path, build):
+    """What is wrong of the replies to a capture's mail server, or nothing."""
+    talk = captured.halves(path)
     wanted = [expected(command) for command, _ in talk]
     run = subprocess.run(
         [tables.program_of('milter_tool', build), 'answer'], input=b''.join(command for command, _ in talk),
@@ -63,17 +60,59 @@ def fault_of(path, build):
     return ''
 
 
+def script_of(conversation, feeds):
+    """The script that plays a conversation, and what it prints; `feeds` has the commands that feed replies."""
+    lines = conversation.session + ['%%', 'config %x %x tempfail' % conversation.offer, 'dialled']
+    printed = []
+    for command, replies in conversation.talk:
+        fed = feeds(replies) if replies else []
+        lines += ['send', 'want'] + fed
+        printed += [command.hex(), 'receive' if replies else 'done' if command[4:] == b'Q' else 'send']
+        printed += ['ok'] * len(fed)
+    return lines + ['finish messages'], printed + conversation.reports
+
+
+def by_packets(replies):
+    """Feeds replies one by one."""
+    return ['feed ' + reply.hex() for reply in replies]
+
+
+def by_bytes(replies):
+    """Feeds replies byte by byte."""
+    return ['feed_bytes ' + b''.join(replies).hex()]
+
+
+def fault_of_commands(path, build):
+    """What is wrong of the commands to a capture's filter and of the reports, or nothing."""
+    for conversation in captured.conversations(path):
+        for feeds in by_packets, by_bytes:
+            script, printed = script_of(conversation, feeds)
+            run = subprocess.run(
+                [tables.program_of('milter_mta_rows', build)], input='\n'.join(script + ['']).encode(),
+                capture_output=True)
+            lines = run.stdout.decode().splitlines()
+            if run.returncode or run.stderr:
+                return f'status {run.returncode}, errors {run.stderr!r}'
+            for number, (line, wanted) in enumerate(zip(lines + [''] * len(printed), printed), 1):
+                if line != wanted:
+                    return f'line {number} of what is printed is {line}, and not {wanted}'
+            if len(lines) > len(printed):
+                return f'more is printed: {lines[len(printed)]}'
+    return ''
+
+
 def main():
     """Plays all captures."""
     passed = failed = 0
     for path in sorted(glob.glob(os.path.join(tables.TOP, 'cases', 'capture_*', 'stdin'))):
         for build in tables.BUILDS:
-            fault = fault_of(path, build)
-            if fault:
-                failed += 1
-                print(f'{os.path.basename(os.path.dirname(path))}{build}: {fault}')
-            else:
-                passed += 1
+            for fault_of in fault_of_answers, fault_of_commands:
+                fault = fault_of(path, build)
+                if fault:
+                    failed += 1
+                    print(f'FAILED: {os.path.basename(os.path.dirname(path))}{build}: {fault}')
+                else:
+                    passed += 1
     print(f'{passed} passed, {failed} failed')
     return 1 if failed or not passed else 0
 

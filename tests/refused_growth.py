@@ -1,19 +1,23 @@
 #!/usr/bin/env python3
 """Runs tests of milter_tests and the cases of milter_tool with one allocation refused: the first one, then the
-second one, and so on, until a run makes fewer allocations than that; and the same for milter_rows. The programs are
-run as both compilers built them, milter_tool on each case of cases/ that has `args` and on the rows of the tables
-cases/*_refused_memory.table, and milter_rows on the rows of cases/edits_values.table; the tests are those below
-`tests::packets`. What is run is what `rt ci` built; nothing is proved here. refuse.c says what counts as an allocation.
+second one, and so on, until a run makes fewer allocations than that; and the same for milter_rows and
+milter_mta_rows. The programs are run as both compilers built them, milter_tool on each case of cases/ that has `args`
+and, as milter_mta_rows, on the rows of the tables cases/*_refused_memory.table, and milter_rows on the rows of
+cases/edits_values.table; the tests are those below `tests::packets`. What is run is what `rt ci` built; nothing is
+proved here. refuse.c says what counts as an allocation.
 
 A test passes, or ends with the result `NoMemory`. A run of a program ends as it does with ample memory, or as one
 that is out of memory: after a part of the standard output from its beginning, with `out of memory` alone on standard
-error, and status 1. The last run of each, in which nothing was refused, is as ever.
+error, and status 1. milter_mta_rows may also report one of its messages as settled by default, out of memory, after
+some of the message's verdicts, from the first one on; the others are as ever. The last run of each, in which nothing
+was refused, is as ever.
 
 The last line is 'N passed, M failed', counting the runs. The status is 1 where one failed, where no run of the tests or
 of a program came to a refused allocation, or where what is run is missing.
 """
 import glob
 import os
+import re
 import subprocess
 import sys
 import tempfile
@@ -28,9 +32,13 @@ TABLES = {
     'milter_tool': [
         'trace_refused_memory', 'session_refused_memory', 'rules_refused_memory', 'answer_refused_memory',
         'answer_rules_refused_memory'],
-    'milter_rows': ['edits_values']}
-OUT_OF_MEMORY = [b'out of memory\n', b'Error: out of memory\n', b'Error: memory allocation failed\n']
+    'milter_rows': ['edits_values'],
+    'milter_mta_rows': ['mta_refused_memory']}
+OUT_OF_MEMORY = [b'out of memory\n'] + [
+    b'Error: %s\n' % text for text in (b'out of memory', b'Out of memory', b'memory allocation failed')]
 NO_MEMORY = b'Error: NoMemory\n'
+REFUSED_BY_DEFAULT = {
+    'reject': b'refused 550 5.7.1 Command rejected', 'tempfail': b'refused 451 4.3.2 Please try again later'}
 PASSED = b'\ntest result: ok\n'
 NO_TEST = 'a name that no test has'
 
@@ -60,6 +68,54 @@ def is_as_ever_or_out_of_memory(expected):
         return ended == expected or (status == 1 and err in OUT_OF_MEMORY and expected[1].startswith(out))
 
     return is_right
+
+
+def reports_in(out):
+    """Each report that milter_mta_rows printed: its line, and the lines of its message."""
+    reports = []
+    for line in out.splitlines(keepends=True):
+        if line.endswith((b'"\n', b'end\n')):
+            reports[-1].append(line)
+        else:
+            reports.append([line])
+    return reports
+
+
+def kept(message, acted):
+    """The lines of a message without the recipients that these verdicts refused."""
+    refused = [verdict.split()[1] for verdict in acted if re.fullmatch(rb'rcpt \d+ (code|reject|tempfail)', verdict)]
+    recipients = [line for line in message if line.startswith(b'recipient ')]
+    gone = [recipients[int(number) - 1] for number in refused]
+    return [line for line in message if line not in gone]
+
+
+def by_default(message, acted, on_loss):
+    """The report of a message that is settled by default after these verdicts."""
+    lines, outcome = [], REFUSED_BY_DEFAULT.get(on_loss)
+    if outcome is None:
+        lines = kept(message, acted)
+        outcome = b'released to %d' % sum(line.startswith(b'recipient ') for line in lines)
+    return [b'%s; %s; default out of memory\n' % (b', '.join(acted), outcome)] + lines
+
+
+def outputs_by_default(given, out):
+    """What milter_mta_rows may print in place of its output where one message is settled by default."""
+    file, script = given.split(b'%%\n')
+    messages = [text.splitlines(keepends=True) for text in file.split(b'message\n')[1:]]
+    on_loss = script.splitlines()[0].split()[-1].decode()
+    reports = reports_in(out)
+    for at, (report, message) in enumerate(zip(reports, messages)):
+        verdicts = report[0].split(b'; ')[0].split(b', ')
+        for count in range(len(verdicts) + 1):
+            other = by_default(message, verdicts[:count], on_loss)
+            yield b''.join(line for lines in reports[:at] + [other] + reports[at + 1:] for line in lines)
+
+
+def is_right_or_by_default(given, expected):
+    """Whether a run of milter_mta_rows ended as expected, as one that is out of memory, or with a message that was
+    settled by default; for a run's end."""
+    is_right, outputs = is_as_ever_or_out_of_memory(expected), set(outputs_by_default(given, expected[1]))
+    return lambda ended: is_right(ended) or (ended[0] == 0 and not ended[2] and ended[1] in outputs)
 
 
 class Play:
@@ -130,9 +186,11 @@ def plays_of_program(name, build, folder):
     for table in TABLES[name]:
         played_cases += rows(table, build, folder)
     for case, command, given, expected in played_cases:
+        is_right = is_as_ever_or_out_of_memory(expected)
+        if name == 'milter_mta_rows':
+            is_right = is_right_or_by_default(given, expected)
         yield Play(
-            '%s on %s' % (case, os.path.basename(program)), command, given, is_as_ever_or_out_of_memory(expected),
-            expected.__eq__)
+            '%s on %s' % (case, os.path.basename(program)), command, given, is_right, expected.__eq__)
 
 
 def played(name, plays, refuser):

@@ -18,7 +18,8 @@ TABLES = [
     'session_faults', 'session_sizes', 'session_values', 'session_refused_memory', 'answer_replies', 'answer_faults',
     'answer_sizes', 'answer_refused_memory', 'answer_rules', 'rules_canonical', 'rules_faults',
     'rules_sizes', 'rules_refused_memory', 'answer_rules_refused_memory', 'guard_replies', 'edits_values',
-    'edits_faults', 'packets_totals', 'mta_conversations', 'mta_faults', 'mta_losses']
+    'edits_faults', 'packets_totals', 'mta_conversations', 'mta_agreements', 'mta_edits', 'mta_faults', 'mta_losses',
+    'mta_refused_memory']
 # What plays the tables of each kind: a program and its words, of which FILE stands for a file of the input.
 FILE = object()
 PLAYERS = {
@@ -117,8 +118,11 @@ def part_of(kind, mark, text, code):
         return 'given', ended(text, code, False)
     if mark in b'<>':
         packet = packet_of(text, code)
+        digits = packet.hex().encode()
         if kind == 'trace':
-            return 'given', b'%s %s\n' % (mark, packet.hex().encode())
+            return 'given', b'%s %s\n' % (mark, digits)
+        if kind == 'mta':
+            return ('given', b'feed %s\n' % digits) if mark == b'<' else ('out', digits + b'\n')
         return ('out' if kind in FILTERS and mark == b'<' else 'given'), packet
     if mark == b'@':
         return 'rules', ended(text, code, False)

@@ -1,13 +1,9 @@
 //! The commands of a script between its first and its last.
 
+use crate::exchanges::{converse, feed_bytes, feed_times, pass, send_some};
 use anyhow::{Context, bail};
 use milter_mta::{MtaCore, Want};
 use milter_outcome::Loss;
-
-/// The packet of options of version 6 without any bits.
-const OPTIONS: &[u8] = b"\0\0\0\x0dO\0\0\0\x06\0\0\0\0\0\0\0\0";
-/// The packet of the verdict that goes on.
-const CONTINUE: &[u8] = b"\0\0\0\x01c";
 
 /// The word for what is wanted.
 fn word_of(want: Want) -> &'static str {
@@ -34,37 +30,10 @@ fn number_in(word: &str) -> anyhow::Result<usize> {
     word.parse::<usize>().ok().context("no number")
 }
 
-/// As many bytes were sent, or all that are pending where these are fewer.
-fn send_some(core: &mut MtaCore, count: usize) {
-    let count = core.pending().len().min(count);
-    core.sent(count);
-}
-
-/// Sends the next packet, and answers it, where it has a reply, by a verdict that goes on, or by options of version 6
-/// without any bits.
-fn pass(core: &mut MtaCore) -> anyhow::Result<()> {
-    core.advance()?;
-    let is_offer = core.pending().get(4) == Some(&b'O');
-    send_some(core, usize::MAX);
-    if core.want() == Want::Receive {
-        let reply = if is_offer { OPTIONS } else { CONTINUE };
-        core.feed(reply)?;
-    }
-    Ok(())
-}
-
 /// Prints the bytes that wait to be sent.
 fn print_pending<R: Print + AllocGlobal>(rt: &R, core: &MtaCore) -> anyhow::Result<()> {
     let digits = hex::encode(rt.alloc(), core.pending())?;
     println!(rt; "{digits}")?;
-    Ok(())
-}
-
-/// Feeds each byte as a piece, up to the first loss.
-fn feed_bytes(core: &mut MtaCore, bytes: &[u8]) -> Result<(), Loss> {
-    for byte in bytes {
-        core.feed(&[*byte])?;
-    }
     Ok(())
 }
 
@@ -75,6 +44,17 @@ fn print_fed<R: Print>(rt: &R, fed: Result<(), Loss>) -> anyhow::Result<()> {
         Err(loss) => println!(rt; "{loss}")?,
     }
     Ok(())
+}
+
+/// Feeds a piece so many times as the words have it, and prints what comes of it.
+fn obey_feed_times<R: Print + AllocGlobal>(
+    rt: &R,
+    core: &mut MtaCore,
+    words: &str,
+) -> anyhow::Result<()> {
+    let (count, digits) = words.split_once(' ').context("feed_times NUMBER HEX")?;
+    let piece = hex::decode(rt.alloc(), digits)?;
+    print_fed(rt, feed_times(core, number_in(count)?, &piece))
 }
 
 /// Does what a line asks for, and prints what comes of it.
@@ -96,6 +76,8 @@ pub fn obey<R: Print + AllocGlobal>(rt: &R, core: &mut MtaCore, line: &str) -> a
         }
         "feed" => print_fed(rt, core.feed(&hex::decode(rt.alloc(), word)?))?,
         "feed_bytes" => print_fed(rt, feed_bytes(core, &hex::decode(rt.alloc(), word)?))?,
+        "feed_times" => obey_feed_times(rt, core, word)?,
+        "converse" => converse(rt.alloc(), core, word)?,
         "lost" => core.lost(loss_in(word)?),
         "want" => println!(rt; "{}", word_of(core.want()))?,
         "pending" => print_pending(rt, core)?,

@@ -9,14 +9,18 @@
 //! - `pass NUMBER`: so many packets are sent, and those that have a reply are answered: the offer by options without
 //!   bits, and commands by a verdict that goes on. Nothing is printed.
 //! - `feed HEX`: one piece; `ok` or the loss is printed. `feed_bytes HEX`: the same of a piece for each byte, up to the
-//!   first loss.
+//!   first loss. `feed_times NUMBER HEX`: the same of a piece that comes so many times, up to the first loss.
+//! - `converse START=REPLY ..`: until nothing is wanted, it is dialled, and packets are sent and answered where they
+//!   have a reply: one that begins with a START by its REPLY, both HEX, and others as by `pass`. Where memory is
+//!   refused for a packet, the filter is lost. Nothing is printed.
 //! - `want`, `pending`: what is wanted, and the bytes that wait to be sent as HEX, are printed.
 //! - `finish`, the last: a line is printed for each report. It has the verdicts that were acted on, what became of the
-//!   message, and what settled it.
+//!   message, and what settled it. `finish messages`: after the line of a message that is released comes its text.
 #![tactic(auto)]
 
 mod commands;
 mod config_line;
+mod exchanges;
 mod report_lines;
 
 use anyhow::{Context, bail};
@@ -24,7 +28,7 @@ use commands::obey;
 use config_line::config_in;
 use milter_mta::{Config, MtaCore};
 use milter_session::read_session;
-use report_lines::print_reports;
+use report_lines::{Detail, print_reports};
 use std::alloc::Global;
 use std::io::Read;
 use std::str::from_utf8;
@@ -38,26 +42,27 @@ fn started(alloc: Global, config: Config, file: &str) -> anyhow::Result<MtaCore>
     }
 }
 
-/// Obeys commands, and answers whether the last one asks for the reports.
+/// Obeys commands, and answers how the last one asks for the reports, where it does.
 fn obey_all<R: Print + AllocGlobal>(
     rt: &R,
     core: &mut MtaCore,
     commands: &str,
-) -> anyhow::Result<bool> {
+) -> anyhow::Result<Option<Detail>> {
     for line in commands.lines() {
-        if line == "finish" {
-            return Ok(true);
+        match line {
+            "finish" => return Ok(Some(Detail::Outcomes)),
+            "finish messages" => return Ok(Some(Detail::Messages)),
+            _ => obey(rt, core, line)?,
         }
-        obey(rt, core, line)?;
     }
-    Ok(false)
+    Ok(None)
 }
 
 /// Plays commands on the end of a mail server.
 fn play_on<R: Print + AllocGlobal>(rt: &R, core: MtaCore, commands: &str) -> anyhow::Result<()> {
     let mut core = core;
-    if obey_all(rt, &mut core, commands)? {
-        print_reports(rt, &core.finish())?;
+    if let Some(detail) = obey_all(rt, &mut core, commands)? {
+        print_reports(rt, &core.finish(), detail)?;
     }
     Ok(())
 }

@@ -1,8 +1,19 @@
 //! The lines that are printed of reports.
 
+use milter_mail::write_message;
 use milter_mta::Reports;
 use milter_outcome::{Acted, By, Outcome, Report};
+use std::io;
 use std::str::from_utf8;
+
+/// What is printed of each report.
+#[derive(Clone, Copy, Debug, PartialEq, Eq)]
+pub enum Detail {
+    /// A line.
+    Outcomes,
+    /// The line, and the text of a message that is released.
+    Messages,
+}
 
 /// The text that these bytes are.
 fn text_of(bytes: &[u8]) -> &str {
@@ -56,10 +67,25 @@ fn print_report<R: Print>(rt: &R, report: &Report) -> anyhow::Result<()> {
     print_by(rt, report.settled_by)
 }
 
-/// Prints a line for each report.
-pub fn print_reports<R: Print>(rt: &R, reports: &Reports) -> anyhow::Result<()> {
+/// Prints the text of a message that is released.
+fn print_message<R: Print + AllocGlobal>(rt: &R, outcome: &Outcome) -> anyhow::Result<()> {
+    if let Outcome::Released(held) = outcome {
+        write_message(rt.alloc(), &mut io::writer(rt), held)?;
+    }
+    Ok(())
+}
+
+/// Prints each report in this detail.
+pub fn print_reports<R: Print + AllocGlobal>(
+    rt: &R,
+    reports: &Reports,
+    detail: Detail,
+) -> anyhow::Result<()> {
     for report in reports.messages() {
         print_report(rt, report)?;
+        if detail == Detail::Messages {
+            print_message(rt, &report.outcome)?;
+        }
     }
     Ok(())
 }

@@ -1,0 +1,236 @@
+"""Captured conversations (cases/capture_*/stdin) as a mail server's end plays them: the session file, the packets to
+the filter, and the reports. All of it is worked out here from the packets and the protocol.
+"""
+# The stages of macros, by the codes of their commands, and those of verdicts.
+STAGES = {'C': 'connect', 'H': 'helo', 'M': 'mail', 'R': 'rcpt', 'T': 'data', 'N': 'eoh', 'E': 'eom'}
+ACTED = STAGES | {'L': 'header', 'B': 'body', 'E': 'eob'}
+VERDICTS = {'a': 'accept', 'c': 'continue'}
+# The stages of macros, by their numbers in a symbol list.
+LISTED = 'CHMRTEN'
+ESCAPES = {0x09: '\\t', 0x0a: '\\n', 0x0d: '\\r', 0x22: '\\"', 0x5c: '\\\\'}
+GREATEST = 0x1ff, 0x1ff7ff
+LEADING_SPACE = 0x100000
+
+
+def packets(stream):
+    """The packets of a stream."""
+    while stream:
+        end = 4 + int.from_bytes(stream[:4], 'big')
+        yield stream[:end]
+        stream = stream[end:]
+
+
+def halves(path):
+    """Each packet of the mail server in a capture, with the packets that the filter sent after it."""
+    talk = []
+    for line in open(path):
+        mark, digits = line.split()
+        for packet in packets(bytes.fromhex(digits)):
+            if mark == '>':
+                talk.append((packet, []))
+            else:
+                talk[-1][1].append(packet)
+    return talk
+
+
+def code(packet):
+    """The code of a packet."""
+    return chr(packet[4])
+
+
+def packet_of(payload):
+    """The packet of a code and a payload."""
+    return len(payload).to_bytes(4, 'big') + payload
+
+
+def texts(payload):
+    """The texts of a payload, each of which ends in a NUL."""
+    return payload.split(b'\0')[:-1]
+
+
+def number(payload):
+    """The number that a payload begins with."""
+    return int.from_bytes(payload[:4], 'big')
+
+
+def quoted(text):
+    """A text in quotes, as session files and released messages have it."""
+    plain = {byte: chr(byte) for byte in range(0x20, 0x7f)} | ESCAPES
+    return '"%s"' % ''.join(plain.get(byte, '\\x%02x' % byte) for byte in text)
+
+
+def line(word, *words):
+    """A line of a session file or of a released message."""
+    return ' '.join([word] + [quoted(text) for text in words])
+
+
+class Message:
+    """A message of a capture: its parts, and its verdicts."""
+
+    def __init__(self, sender):
+        self.sender, self.recipients, self.headers, self.body = sender, [], [], b''
+        self.reason, self.is_body_replaced = None, False
+        self.acted, self.counts = [], {}
+
+    def add(self, command, blank):
+        """Adds a command's part; a blank that was left out before a header field's value is put back."""
+        what, payload = code(command), command[5:]
+        if what == 'R':
+            self.recipients.append(texts(payload))
+        elif what == 'L':
+            name, value = texts(payload)
+            self.headers.append((name, blank + value))
+        elif what in 'BE':
+            self.body += payload
+
+    def act(self, what, reply):
+        """Adds the verdict that a command is answered with."""
+        self.counts[what] = self.counts.get(what, 0) + 1
+        self.acted.append('%s %d %s' % (ACTED[what], self.counts[what], VERDICTS[code(reply)]))
+
+    def lines(self):
+        """The lines of the message, from its sender to its end."""
+        return (
+            [line('sender', *self.sender)] + [line('recipient', *recipient) for recipient in self.recipients]
+            + [line('header', *header) for header in self.headers] + [line('body', self.body), 'end'])
+
+    def change_header(self, index, name, value, blank):
+        """Changes the header field of this name and index, from 1; an empty value deletes it."""
+        places = [place for place, header in enumerate(self.headers) if header[0].lower() == name.lower()]
+        place = places[index - 1] if index <= len(places) else None
+        if place is None and value:
+            self.headers.append((name, blank + value))
+        elif place is not None and value:
+            self.headers[place] = self.headers[place][0], blank + value
+        elif place is not None:
+            del self.headers[place]
+
+    def edit(self, reply, blank):
+        """Does what a reply asks for at the end of the message."""
+        what, payload = code(reply), reply[5:]
+        if what == 'h':
+            name, value = texts(payload)
+            self.headers.append((name, blank + value))
+        elif what == 'i':
+            name, value = texts(payload[4:])
+            self.headers.insert(number(payload), (name, blank + value))
+        elif what == 'm':
+            self.change_header(max(number(payload), 1), *texts(payload[4:]), blank)
+        elif what in '+2':
+            self.recipients.append(texts(payload))
+        elif what == '-':
+            self.recipients = [recipient for recipient in self.recipients if recipient[0] != texts(payload)[0]]
+        elif what == 'e':
+            self.sender = texts(payload)
+        elif what == 'b':
+            self.body = self.body + payload if self.is_body_replaced else payload
+            self.is_body_replaced = True
+        else:
+            assert what == 'q', reply
+            self.reason = texts(payload)[0]
+
+
+class Conversation:
+    """What a mail server's end sends and reports of a captured connection, whose packets and replies these are."""
+
+    def __init__(self, talk):
+        options, (answer,) = talk[0]
+        version, actions, protocol = (number(options[5 + at:]) for at in (0, 4, 8))
+        assert version == 6, options
+        self.offer = actions & GREATEST[0], protocol & GREATEST[1]
+        agreed = number(answer[13:]) & self.offer[1]
+        self.answer = packet_of(answer[4:13] + agreed.to_bytes(4, 'big') + answer[17:])
+        self.blank = b'' if agreed & LEADING_SPACE else b' '
+        self.client, self.greeting, self.macros = None, b'', {}
+        self.talk = [(packet_of(b'O' + b''.join(n.to_bytes(4, 'big') for n in (6, *self.offer))), [self.answer])]
+        self.messages, self.acted = [], []
+        self.read(talk[1:])
+        self.session = self.session_lines()
+        self.reports = self.report_lines()
+
+    def read(self, talk):
+        """Reads the packets after the options, in which the first macros of a stage come before its first command."""
+        is_at_end = False
+        for command, replies in talk:
+            what = code(command)
+            if what == 'D':
+                if len(command) > 6 and chr(command[5]) in STAGES:
+                    self.macros.setdefault(chr(command[5]), texts(command[6:]))
+            elif what == 'A':
+                assert is_at_end, 'a message is aborted'
+            else:
+                self.add_command(command, replies)
+                is_at_end = what == 'E'
+        self.talk = [part for command, replies in self.talk for part in self.with_macros(command, replies)]
+
+    def add_command(self, command, replies):
+        """Adds a command and its replies."""
+        what = code(command)
+        self.talk.append((command, replies))
+        if what == 'C':
+            self.client = command[5:]
+        elif what == 'H':
+            self.greeting, = texts(command[5:])
+        elif what == 'M':
+            self.messages.append(Message(texts(command[5:])))
+        if what in 'CH':
+            self.acted += ['%s 1 %s' % (ACTED[what], VERDICTS[code(reply)]) for reply in replies]
+        elif what != 'Q':
+            self.messages[-1].add(command, self.blank)
+            for reply in replies[-1:]:
+                self.messages[-1].act(what, reply)
+
+    def with_macros(self, command, replies):
+        """A command and its replies, after the macros that go before it."""
+        what = code(command)
+        chosen = self.chosen(what)
+        if chosen:
+            yield packet_of(b'D' + what.encode() + b''.join(text + b'\0' for text in chosen)), []
+        yield command, replies
+
+    def chosen(self, what):
+        """The names and values of the macros of a stage: where the filter listed names, these alone, in this order."""
+        macros, lists = self.macros.get(what, []), self.answer[17:]
+        pairs = dict(zip(macros[::2], macros[1::2]))
+        while lists:
+            stage, names = number(lists), lists[4:].split(b'\0')[0]
+            lists = lists[4 + len(names) + 1:]
+            if LISTED[stage] == what:
+                return [text for name in names.split() if name in pairs for text in (name, pairs[name])]
+        return macros
+
+    def session_lines(self):
+        """The lines of the session file."""
+        host, rest = self.client.split(b'\0', 1)
+        family, port, address = chr(rest[0]), int.from_bytes(rest[1:3], 'big'), texts(rest[3:])[0]
+        lines = ['client %s %s %d %s' % (family, quoted(host), port, quoted(address)), line('helo', self.greeting)]
+        for what, pairs in self.macros.items():
+            lines += [line('macro ' + STAGES[what], *pair) for pair in zip(pairs[::2], pairs[1::2])]
+        for message in self.messages:
+            lines += ['message'] + message.lines()
+        return lines
+
+    def report_lines(self):
+        """The lines of the reports, with the messages, which are edited here."""
+        ends = [replies for command, replies in self.talk if code(command) == 'E']
+        lines = []
+        for message, replies in zip(self.messages, ends):
+            for reply in replies[:-1]:
+                message.edit(reply, self.blank)
+            acted = ', '.join(self.acted + message.acted)
+            lines.append('%s; released to %d; filter' % (acted, len(message.recipients)))
+            lines += [line('quarantine', message.reason)] if message.reason is not None else []
+            lines += message.lines()
+        return lines
+
+
+def conversations(path):
+    """The connections of a capture. Where one goes on as another after `K`, both begin with the same options."""
+    talk, parts = halves(path), [[]]
+    for command, replies in talk:
+        if code(command) == 'K':
+            parts[-1].append((packet_of(b'Q'), []))
+            parts.append(talk[:1])
+        else:
+            parts[-1].append((command, replies))
+    return [Conversation(part) for part in parts]
