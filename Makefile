@@ -22,6 +22,7 @@ bench:
 	bash bench/wire.sh
 	bash bench/edits.sh
 	bash bench/filter.sh
+	bash bench/core.sh
 
 install: all
 	install -d $(DESTDIR)$(PREFIX)/bin

@@ -1,0 +1,87 @@
+#!/usr/bin/env bash
+# Measures a mail server's end (`MtaCore`) in memory, alone and beside a filter's end that lets all mail go on
+# (`FilterCore` with `Pass`): crates/milter_pair plays a session file to such a filter, and crates/milter_mta_rows
+# answers each command by itself. A message has ten header fields, and so sixteen commands where its body has 4 KiB, and
+# 176 where it has 10 MiB. A line for each session has the user instructions of a message at both ends, and those at the
+# mail server's end alone. They are callgrind's, without those of a run that reads the session file and sends none of
+# its messages; callgrind counts a copy by `rep movsb` and a clearing by `rep stosb` a byte at a time, so that both are
+# turned off in the C library. Status 1 where a message of a session of 10,000 takes more than 1.1 times what one of a
+# session of 100 takes. It takes valgrind, Python and some minutes. The programs are built first where they have to be.
+#
+#     bash bench/core.sh
+set -eu
+cd "$(dirname "${BASH_SOURCE[0]}")/.."
+SMALL=4096
+SMALL_COMMANDS=16
+LARGE=10485760
+LARGE_COMMANDS=176
+# The packets before the first message.
+OPENING=3
+# More bytes than are copied or cleared at once.
+NEVER=1000000000
+work=$(mktemp -d)
+trap 'rm -rf "$work"' EXIT
+
+# program NAME WORD..: builds a program where it has to be; so it reads its standard input
+program() {
+    local made=crates/$1/out/$1
+    [ -x "$made" ] && [ -z "$(find crates/*/src crates/*/specs -newer "$made" -print -quit)" ] && return
+    (cd "crates/$1" && rt run -- "${@:2}") >"$work/log" 2>&1 || { cat "$work/log"; exit 1; }
+}
+
+# session COUNT BODY: a session file of so many messages
+session() {
+    python3 - "$1" "$2" <<'PYTHON'
+import sys
+
+LINE = "x" * 62 + "\\r\\n"
+LINE_LEN = 64
+LINES_EACH = 512
+count, body = int(sys.argv[1]), int(sys.argv[2])
+print('client U "mail.example.org"\nhelo "mail.example.org"')
+for _ in range(count):
+    print('message\nsender "ada@example.org"\nrecipient "bob@example.net"')
+    for n in range(10):
+        print(f'header "X-Field-{n}" " a value of some bytes, as header fields have them"')
+    for at in range(0, body // LINE_LEN, LINES_EACH):
+        print(f'body "{LINE * min(LINES_EACH, body // LINE_LEN - at)}"')
+    print("end")
+PYTHON
+}
+
+# instructions NAME WORD..: what callgrind counts of a run
+instructions() {
+    GLIBC_TUNABLES=glibc.cpu.x86_rep_movsb_threshold=$NEVER:glibc.cpu.x86_rep_stosb_threshold=$NEVER \
+        valgrind --tool=callgrind --callgrind-out-file=/dev/null "crates/$1/out/$1" "${@:2}" 2>&1 >/dev/null |
+        sed -n 's/.*Collected : //p'
+}
+
+# pass PACKETS: what the mail server's end takes for the first packets of the session, and their replies
+pass() {
+    { cat "$work/session"; printf '%%%%\nconfig 0 0 tempfail\ndialled\npass %s\n' "$1"; } >"$work/script"
+    instructions milter_mta_rows <"$work/script"
+}
+
+# measure COUNT BODY COMMANDS: prints the line of a session, and leaves `both`, the instructions of both ends
+measure() {
+    local alone
+    session "$1" "$2" >"$work/session"
+    both=$(instructions milter_pair play <"$work/session")
+    both=$(((both - $(instructions milter_pair read <"$work/session")) / $1))
+    alone=$((($(pass $((OPENING + $1 * $3))) - $(pass "$OPENING")) / $1))
+    printf '%6d messages of %8d bytes: %9d, the mail server'"'"'s end alone %9d\n' "$1" "$2" "$both" "$alone"
+}
+
+session 1 "$SMALL" >"$work/session"
+program milter_pair read <"$work/session"
+{ cat "$work/session"; printf '%%%%\nconfig 0 0 tempfail\n'; } >"$work/script"
+program milter_mta_rows <"$work/script"
+echo "user instructions of a message:"
+measure 1 "$SMALL" "$SMALL_COMMANDS"
+measure 100 "$SMALL" "$SMALL_COMMANDS"
+of_100=$both
+measure 10000 "$SMALL" "$SMALL_COMMANDS"
+of_10000=$both
+measure 1 "$LARGE" "$LARGE_COMMANDS"
+measure 3 "$LARGE" "$LARGE_COMMANDS"
+[ $((of_10000 * 10)) -le $((of_100 * 11)) ]
