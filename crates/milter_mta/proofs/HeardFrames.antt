@@ -38,7 +38,7 @@ cells_of : (f : Frame) (k : FourBytes (length f.payload + 1)) → frame_bytes f 
 cells_of f k = rw k.encoded refl
 
 -- a packet that lacks its last bytes
-unfinished-packet : (bytes : List ℕ) (y : ℕ) (more : List ℕ) (f : Frame) → IsFrame f → bytes ++ y ∷ more ≡ frame_bytes f → IsUnfinished bytes
+pub unfinished-packet : (bytes : List ℕ) (y : ℕ) (more : List ℕ) (f : Frame) → IsFrame f → bytes ++ y ∷ more ≡ frame_bytes f → IsUnfinished bytes
 unfinished-packet (a ∷ b ∷ c ∷ d ∷ body) y more f fits is =
     let k = four_bytes (length f.payload + 1) (omega arith) in
     let cells : a ∷ b ∷ c ∷ d ∷ (body ++ y ∷ more) ≡ k.a ∷ k.b ∷ k.c ∷ k.d ∷ f.code ∷ f.payload = is ∙ cells_of f k in

@@ -6,7 +6,7 @@ ghost use Rattle.milter_wire.specs.Reply.{Fits, encoding};
 ghost use Rattle.milter_message.specs.MailObject.{MailObject};
 ghost use Rattle.milter_outcome.specs.declared.loss.Loss.{Loss};
 ghost use Rattle.milter_mta.specs.Mta.{Link, Mta};
-ghost use Rattle.milter_mta.specs.Receiving.{at, heard, heard_on, replied};
+ghost use Rattle.milter_mta.specs.Receiving.{at, goes_on, heard, heard_on, replied};
 ghost use Rattle.milter_mta.specs.Settling.{acted_in, default_report, lost};
 
 use milter_wire::reply_frames;
@@ -24,6 +24,13 @@ pub fn replies_are_heard()
 {
     reply_frames();
 }
+
+/// Of the bytes of a reply that is owed fewer than all are kept, and nothing else comes of them.
+pub fn reply_prefixes_are_kept()
+    ensures { (m : Mta) (link : Link) (reply : Reply) (bytes more : List ℕ) → link.owed ≡ true → link.unread ≡ [] →
+        Fits reply → more ≢ [] → bytes ++ more ≡ encoding reply →
+        heard (at link m) bytes ≡ goes_on (at (record link { unread = bytes }) m) }
+{}
 
 /// A loss settles exactly one message, the first of those that are not settled, or none where all are; and there is no
 /// connection then.

@@ -28,7 +28,7 @@ mod starting;
 mod want;
 
 pub use config::Config;
-pub use laws::{losses_settle_one, pieces_go_on, replies_are_heard};
+pub use laws::{losses_settle_one, pieces_go_on, replies_are_heard, reply_prefixes_are_kept};
 pub use mta_core::MtaCore;
 pub use reports::Reports;
 pub use want::Want;

@@ -1,0 +1,328 @@
+-- Whatever a filter sends, a mail server's end stays on a walk, and settles messages by it.
+use Rattle.std.specs.Prelude.{if◌then◌else◌}
+use Rattle.std.proofs.Common.{◌≡◌, ◌≢◌, ℕ, Bool, true, false, List, [], ◌∷◌, ◌++◌, drop, Option, None, Some, Result, Ok, Err, refl, sym, ap, ◌∙◌, subst, append-nil}
+use Rattle.std.proofs.lemmas.Bool.{true≢false}
+use Rattle.milter_walk.proofs.Lists.{same-head}
+use Rattle.milter_stream.specs.declared.fault.WireFault.{WireFault}
+use Rattle.milter_stream.specs.Stream.{Frame, first_frame, length_fault}
+use Rattle.milter_wire.specs.declared.agreement.Agreed.{Agreed}
+use Rattle.milter_wire.specs.declared.command.Command.{Command}
+use Rattle.milter_wire.specs.declared.command.Command.TheVariants as commands
+use Rattle.milter_wire.specs.declared.reply.Reply.{Reply}
+use Rattle.milter_wire.specs.declared.stage.Stage.{Stage}
+use Rattle.milter_wire.specs.declared.stage.Stage.TheVariants.{Connect, Helo, Mail, Rcpt, DataCmd, Header, Eoh, Body, Eob}
+use Rattle.milter_wire.specs.declared.verdict.Verdict.{Verdict}
+use Rattle.milter_wire.specs.declared.verdict.Verdict.TheVariants.{Skip}
+use Rattle.milter_wire.specs.Agreement.{has_leading_space, is_asked}
+use Rattle.milter_wire.specs.Frames.{frame_reply}
+use Rattle.milter_wire.specs.Stages.{stage_of}
+use Rattle.milter_message.specs.declared.edit.Edit.{Edit}
+use Rattle.milter_message.specs.MailObject.{MailObject}
+use Rattle.milter_mail.specs.Plan.{plan}
+use Rattle.milter_exchange.specs.declared.answer.Answer.{Answer}
+use Rattle.milter_exchange.specs.Exchanges.{Exchange, commands_of}
+use Rattle.milter_exchange.specs.Talk.{is_body, is_closed}
+use Rattle.milter_exchange.specs.Verdicts.{is_skip}
+use Rattle.milter_outcome.specs.declared.acted.Acted.{Acted}
+use Rattle.milter_outcome.specs.declared.hearing.Heard.{Heard}
+use Rattle.milter_outcome.specs.declared.hearing.Heard.TheVariants as heard_as
+use Rattle.milter_outcome.specs.declared.loss.Loss.{Loss}
+use Rattle.milter_outcome.specs.declared.loss.Loss.TheVariants.{Fault}
+use Rattle.milter_outcome.specs.declared.loss.MtaFault.{MtaFault}
+use Rattle.milter_outcome.specs.declared.loss.MtaFault.TheVariants.{Early, NotAtThisStage, Wire}
+use Rattle.milter_outcome.specs.Hearing.{is_given, options_heard, reply_heard}
+use Rattle.milter_outcome.specs.Walks.{acted}
+use Rattle.milter_plan.specs.EditWeights.{weight_of_all}
+use Rattle.milter_plan.specs.Talks.{asks_first, stage_first}
+use Rattle.milter_plan.specs.TalkVerdicts.{with_verdict}
+use Rattle.milter_mta.specs.declared.want.Want.{Want}
+use Rattle.milter_mta.specs.declared.want.Want.TheVariants as wants
+use Rattle.milter_mta.specs.Mta.{Link, Mta, Position, at_packet}
+use Rattle.milter_mta.specs.Mta.Position.{Ended, Offering, Quitting, Sending}
+use Rattle.milter_mta.specs.Receiving.{agreed_on, at, byte_at, fails, framed, heard, heard_at, heard_on, opening_position, replied, replied_at, ruled_on, unread_is}
+use Rattle.milter_mta.specs.Sending.{advanced, advanced_in, after_packet, asks_at, dialled, dialled_if, finished, made, sent, sent_from, sent_in, sent_of, want}
+use Rattle.milter_walk.specs.AnyFilter.{without_messages, GoesOnWalks, IsAfterWalk, IsLinkOnWalk, IsOnWalk, IsOptionOnWalk, IsPositionOnWalk}
+use Rattle.milter_walk.specs.Order.{AreInOrder, AreProper, is_end_command}
+use Rattle.milter_walk.specs.Walks.{sendable, at_walk}
+use Rattle.milter_walk.proofs.Exchanges.{no_acted, ruled-as, walked}
+use Rattle.milter_walk.proofs.Ordered.{end_left, order-before, plan-ends, plan-ordered}
+use Rattle.milter_walk.proofs.Played.{closed-rules, is_body_at}
+use Rattle.milter_walk.proofs.Refusals.{keep_all, same-sendable}
+use Rattle.milter_walk.proofs.LeftToSend.{kept-end, kept-order, next-sendable, no_end_unasked, sendable-twice}
+use Rattle.milter_walk.specs.Beginnings.{IsSentOf}
+use Rattle.milter_mail.specs.MailSession.{MailSession}
+use Rattle.milter_walk.proofs.SentParts.{sent-more, sent-start}
+use Rattle.milter_walk.proofs.Settlements.{goes-on, lost-goes, not_owed, nothing-settled, settled-goes}
+
+-- ---- what is sent
+
+pub dialled-goes : (m : Mta) → IsOnWalk m → GoesOnWalks m (dialled m)
+dialled-goes m on = by_want (want m)
+  where
+    same : GoesOnWalks m m
+    same = record { on_walk = on; settles = nothing-settled m m refl refl refl refl }
+
+    by_want : (w : Want) → GoesOnWalks m (dialled_if w m)
+    by_want wants.Dial =
+        record {
+          on_walk = record { position = tt; asked = λ e. not_owed e };
+          settles = nothing-settled m (record m { link = Some (at_packet Offering) }) refl refl refl refl;
+        }
+    by_want wants.Send = same
+    by_want wants.Receive = same
+    by_want wants.Done = same
+
+pub advanced-goes : (m : Mta) → IsOnWalk m → GoesOnWalks m (advanced m)
+advanced-goes m on = by_link m.link on
+  where
+    same : GoesOnWalks m m
+    same = record { on_walk = on; settles = nothing-settled m m refl refl refl refl }
+
+    by_want : (link : Link) → IsLinkOnWalk (without_messages m.session) m.session.messages link → (w : Want) → GoesOnWalks m (advanced_in (Some link) w m)
+    by_want link is wants.Send =
+        record {
+          on_walk = record { position = is.position; asked = is.asked };
+          settles = nothing-settled m (record m { link = Some (made m.config link) }) refl refl refl refl;
+        }
+    by_want link is wants.Dial = same
+    by_want link is wants.Receive = same
+    by_want link is wants.Done = same
+
+    by_link : (link : Option Link) → IsOptionOnWalk (without_messages m.session) m.session.messages link → GoesOnWalks m (advanced_in link (want m) m)
+    by_link None is = same
+    by_link (Some link) is = by_want link is (want m)
+
+-- a command that is not asked about was sent
+after-position : (s : MailSession) (messages : List MailObject) (position : Position) → asks_at position ≡ false → IsPositionOnWalk s messages position
+    → IsPositionOnWalk s messages (after_packet position)
+after-position s messages Offering asks on = tt
+after-position s messages Quitting asks on = tt
+after-position s messages Ended asks on = tt
+after-position s messages (Sending agreed verdicts es []) asks on = not_owed on.0.is_walk.ends
+after-position s messages (Sending agreed verdicts es (command ∷ left)) asks on =
+    let is = on.0 in
+    let last : Exchange = record { command = command; answer = None } in (
+      record {
+        walk = last ∷ is.walk;
+        is_walk = record {
+          proper = (record { answered = sym asks; skipped = λ skip. not_owed skip }, is.is_walk.proper);
+          in_order = is.is_walk.in_order;
+          ends = end_left command left (no_end_unasked agreed command asks) is.is_walk.ends;
+        };
+        is_sendable = same-sendable last is.walk left refl ∙ (next-sendable is.walk command left is.is_sendable).1;
+        verdicts_are = is.verdicts_are ∙ sym (append-nil (acted is.walk)) ∙ ap (λ (l : List Acted). acted is.walk ++ l) (sym (no_acted (stage_of command) (last ∷ is.walk)));
+        of_plan = λ message others e.
+            subst (IsSentOf (plan agreed s message) (last ∷ is.walk)) (same-sendable last is.walk left refl ∙ (next-sendable is.walk command left is.is_sendable).1)
+            (sent-more (plan agreed s message) is.walk last left (is.of_plan message others e) (next-sendable is.walk command left is.is_sendable).1);
+      },
+      on.1,
+    )
+
+finished-on : (s : MailSession) (messages : List MailObject) (link : Link) → IsLinkOnWalk s messages link → IsLinkOnWalk s messages (finished link)
+finished-on s messages link on = by_tests link.aborts (asks_at link.position) refl
+  where
+    by_tests : (aborts asks : Bool) → asks_at link.position ≡ asks
+        → IsLinkOnWalk s messages (if aborts then record link { aborts = false; pending = []; owed = false }
+        else if asks then record link { pending = []; owed = true }
+        else record link { position = after_packet link.position; pending = []; owed = false })
+    by_tests true asks e = record { position = on.position; asked = λ o. not_owed o }
+    by_tests false true e = record { position = on.position; asked = λ o. e }
+    by_tests false false e = record { position = after-position s messages link.position e on.position; asked = λ o. not_owed o }
+
+sent_from-on : (s : MailSession) (messages : List MailObject) (link : Link) (left : List ℕ) → IsLinkOnWalk s messages link → IsLinkOnWalk s messages (sent_from link left)
+sent_from-on s messages link [] on = finished-on s messages link on
+sent_from-on s messages link (byte ∷ bytes) on = record { position = on.position; asked = on.asked }
+
+sent_of-on : (s : MailSession) (messages : List MailObject) (link : Link) (count : ℕ) (bytes : List ℕ) → IsLinkOnWalk s messages link → IsLinkOnWalk s messages (sent_of count bytes link)
+sent_of-on s messages link count [] on = on
+sent_of-on s messages link count (byte ∷ bytes) on = sent_from-on s messages link (drop count (byte ∷ bytes)) on
+
+pub sent-goes : (m : Mta) (count : ℕ) → IsOnWalk m → GoesOnWalks m (sent count m)
+sent-goes m count on = by_link m.link on
+  where
+    by_link : (link : Option Link) → IsOptionOnWalk (without_messages m.session) m.session.messages link → GoesOnWalks m (sent_in count link m)
+    by_link None is = record { on_walk = on; settles = nothing-settled m m refl refl refl refl }
+    by_link (Some link) is =
+        record {
+          on_walk = sent_of-on (without_messages m.session) m.session.messages link count link.pending is;
+          settles = nothing-settled m (record m { link = Some (sent_of count link.pending link) }) refl refl refl refl;
+        }
+
+-- ---- a verdict
+
+skip-body : (agreed : Agreed) (command : Command) (stage : Stage) (verdict : Verdict) → stage_of command ≡ Some stage → is_given agreed stage verdict ≡ true
+    → is_skip verdict ≡ true → is_body command ≡ true
+skip-body agreed command Body Skip at given skip = is_body_at command at
+skip-body agreed command Connect Skip at given skip = not_owed given
+skip-body agreed command Helo Skip at given skip = not_owed given
+skip-body agreed command Mail Skip at given skip = not_owed given
+skip-body agreed command Rcpt Skip at given skip = not_owed given
+skip-body agreed command DataCmd Skip at given skip = not_owed given
+skip-body agreed command Header Skip at given skip = not_owed given
+skip-body agreed command Eoh Skip at given skip = not_owed given
+skip-body agreed command Eob Skip at given skip = not_owed given
+skip-body agreed command stage other at given skip = not_owed skip
+
+no_end_open : (command : Command) (answer : Answer) (walk : List Exchange) (left : List Command)
+    → is_closed (record { command = command; answer = Some answer } ∷ walk) left ≡ false → is_end_command command ≡ false
+no_end_open (commands.Eob bytes) answer walk left e = absurd (true≢false e)
+no_end_open other answer walk left e = refl
+
+module _ (m : Mta) (some : m.session.messages ≢ []) (agreed : Agreed) (verdicts : List Acted) (es : List Edit) (command : Command) (left : List Command)
+    (is : IsAfterWalk (without_messages m.session) m.session.messages agreed verdicts (command ∷ left)) (stage : Stage) (verdict : Verdict) (at_stage : stage_of command ≡ Some stage)
+    (asked : is_asked agreed command ≡ true) (given : is_given agreed stage verdict ≡ true) where
+  abbrev answer : Answer
+  answer = record { edits = es; verdict = verdict }
+
+  abbrev last : Exchange
+  last = record { command = command; answer = Some answer }
+
+  proper : AreProper agreed (last ∷ is.walk)
+  proper = (record { answered = sym asked; skipped = λ skip. skip-body agreed command stage verdict at_stage given skip }, is.is_walk.proper)
+
+  abbrev order : AreInOrder (command ∷ commands_of is.walk)
+  order = order-before left (command ∷ commands_of is.walk) is.is_walk.in_order
+
+  ruled-is : ruled_on agreed stage (with_verdict stage verdict verdicts) es left verdict m ≡ walked agreed (last ∷ is.walk) left m (is_closed (last ∷ is.walk) left)
+  ruled-is =
+      let next = next-sendable is.walk command left is.is_sendable in
+      ap (λ (a : List Acted). ruled_on agreed stage (with_verdict stage verdict a) es left verdict m) is.verdicts_are
+      ∙ ap (λ (l : List Command). ruled_on agreed stage (with_verdict stage verdict (acted is.walk)) es l verdict m) (sym next.1)
+      ∙ ruled-as agreed m last is.walk left next.0 stage answer at_stage refl asked proper order
+
+  of_plan : (message : MailObject) (others : List MailObject) → m.session.messages ≡ message ∷ others
+      → IsSentOf (plan agreed (without_messages m.session) message) (last ∷ is.walk) (sendable (last ∷ is.walk) left)
+  of_plan message others e =
+      sent-more (plan agreed (without_messages m.session) message) is.walk last left (is.of_plan message others e) (next-sendable is.walk command left is.is_sendable).1
+
+  walked-goes : (closed : Bool) → is_closed (last ∷ is.walk) left ≡ closed → GoesOnWalks m (walked agreed (last ∷ is.walk) left m closed)
+  walked-goes true e = settled-goes agreed (last ∷ is.walk) m (record { proper = proper; in_order = order }) some (closed-rules last is.walk left e (has_leading_space agreed))
+      (λ message others is_first. (sendable (last ∷ is.walk) left, of_plan message others is_first))
+  walked-goes false e =
+      let w = last ∷ is.walk in
+      record {
+        on_walk = record {
+          position = (
+            record {
+              walk = w;
+              is_walk = record {
+                proper = proper;
+                in_order = kept-order w left (commands_of w) is.is_walk.in_order;
+                ends = kept-end w left (end_left command left (no_end_open command answer is.walk left e) is.is_walk.ends);
+              };
+              is_sendable = sendable-twice w left;
+              verdicts_are = refl;
+              of_plan = of_plan;
+            },
+            some,
+          );
+          asked = λ owed. not_owed owed;
+        };
+        settles = nothing-settled m (at_walk agreed w left m) refl refl refl refl;
+      }
+
+  verdict-goes : GoesOnWalks m (ruled_on agreed stage (with_verdict stage verdict verdicts) es left verdict m)
+  verdict-goes = subst (GoesOnWalks m) (sym ruled-is) (walked-goes (is_closed (last ∷ is.walk) left) refl)
+
+-- ---- what is heard
+
+-- a verdict that is heard is given at its stage
+abbrev pub GivenVerdicts : Type 0
+GivenVerdicts = (agreed : Agreed) (stage : Stage) (weight : ℕ) (reply : Reply) (verdict : Verdict) → reply_heard agreed stage weight reply ≡ Ok (heard_as.Verdict verdict)
+    → is_given agreed stage verdict ≡ true
+
+module _ (given : GivenVerdicts) (m : Mta) (on : IsOnWalk m) where
+  failed : (fault : MtaFault) → GoesOnWalks m (fails fault m).mta
+  failed fault = lost-goes m (Fault fault) on
+
+  heard_at-goes : (agreed : Agreed) (stage : Stage) (verdicts : List Acted) (es : List Edit) (left : List Command) (reply : Reply) (is : Result Heard MtaFault)
+      → reply_heard agreed stage (weight_of_all es) reply ≡ is → stage_first left ≡ Some stage → IsAfterWalk (without_messages m.session) m.session.messages agreed verdicts left → m.session.messages ≢ []
+      → asks_first agreed left ≡ true → GoesOnWalks m (heard_at agreed stage verdicts es left is m).mta
+  heard_at-goes agreed stage verdicts es left reply (Err fault) e first walk some asks = failed fault
+  heard_at-goes agreed stage verdicts es left reply (Ok (heard_as.Edit edit)) e first walk some asks =
+      record {
+        on_walk = record { position = (walk, some); asked = λ owed. asks };
+        settles = nothing-settled m (at (record (at_packet (Sending agreed verdicts (es ++ edit ∷ []) left)) { owed = true }) m) refl refl refl refl;
+      }
+  heard_at-goes agreed stage verdicts es [] reply (Ok (heard_as.Verdict verdict)) e first walk some asks = not_owed asks
+  heard_at-goes agreed stage verdicts es (command ∷ left) reply (Ok (heard_as.Verdict verdict)) e first walk some asks =
+      verdict-goes m some agreed verdicts es command left walk stage verdict first asks (given agreed stage (weight_of_all es) reply verdict e)
+
+  replied_at-goes : (agreed : Agreed) (verdicts : List Acted) (es : List Edit) (left : List Command) (stage : Option Stage) (reply : Reply)
+      → stage_first left ≡ stage → IsAfterWalk (without_messages m.session) m.session.messages agreed verdicts left → m.session.messages ≢ [] → asks_first agreed left ≡ true
+      → GoesOnWalks m (replied_at agreed verdicts es left stage reply m).mta
+  replied_at-goes agreed verdicts es left None reply first walk some asks = failed NotAtThisStage
+  replied_at-goes agreed verdicts es left (Some stage) reply first walk some asks =
+      heard_at-goes agreed stage verdicts es left reply (reply_heard agreed stage (weight_of_all es) reply) refl first walk some asks
+
+  opened-on : (agreed : Agreed) (messages : List MailObject) → IsLinkOnWalk (without_messages m.session) messages (at_packet (opening_position agreed m.session messages))
+  opened-on agreed [] = record { position = tt; asked = λ owed. not_owed owed }
+  opened-on agreed (message ∷ messages) =
+      record {
+        position = (
+          record {
+            walk = [];
+            is_walk = record { proper = tt; in_order = plan-ordered agreed m.session message; ends = plan-ends agreed m.session message };
+            is_sendable = keep_all (plan agreed m.session message);
+            verdicts_are = refl;
+            of_plan = λ next others is.
+                subst (λ (x : MailObject). IsSentOf (plan agreed (without_messages m.session) x) [] (plan agreed m.session message)) (same-head message next messages others is)
+                (sent-start (plan agreed m.session message));
+          },
+          λ none. absurd cc,
+        );
+        asked = λ owed. not_owed owed;
+      }
+
+  agreed-goes : (is : Result Agreed MtaFault) → GoesOnWalks m (agreed_on is m).mta
+  agreed-goes (Err fault) = failed fault
+  agreed-goes (Ok agreed) =
+      record {
+        on_walk = opened-on agreed m.session.messages;
+        settles = nothing-settled m (at (at_packet (opening_position agreed m.session m.session.messages)) m) refl refl refl refl;
+      }
+
+  replied-goes : (position : Position) (reply : Reply) → IsPositionOnWalk (without_messages m.session) m.session.messages position → asks_at position ≡ true → GoesOnWalks m (replied position reply m).mta
+  replied-goes Offering reply is asks = agreed-goes (options_heard m.config.offer reply)
+  replied-goes (Sending agreed verdicts es left) reply is asks = replied_at-goes agreed verdicts es left (stage_first left) reply refl is.0 is.1 asks
+  replied-goes Quitting reply is asks = failed Early
+  replied-goes Ended reply is asks = failed Early
+
+  framed-goes : (position : Position) (found : Result Reply WireFault) → IsPositionOnWalk (without_messages m.session) m.session.messages position → asks_at position ≡ true
+      → GoesOnWalks m (framed position found m).mta
+  framed-goes position (Err fault) is asks = failed (Wire fault)
+  framed-goes position (Ok reply) is asks = replied-goes position reply is asks
+
+  unread-goes : (link : Link) (unread : List ℕ) (fault : Option WireFault) (frame : Option (Frame × List ℕ)) → IsLinkOnWalk (without_messages m.session) m.session.messages link → link.owed ≡ true
+      → GoesOnWalks m (unread_is link unread fault frame m).mta
+  unread-goes link unread (Some fault) frame is owed = failed (Wire fault)
+  unread-goes link unread None None is owed =
+      record {
+        on_walk = record { position = is.position; asked = is.asked };
+        settles = nothing-settled m (at (record link { unread = unread }) m) refl refl refl refl;
+      }
+  unread-goes link unread None (Some first) is owed = framed-goes link.position (frame_reply first.0) is.position (is.asked owed)
+
+  pub byte-goes : (byte : ℕ) → GoesOnWalks m (byte_at m.link byte m).mta
+  byte-goes byte = by_link m.link on
+    where
+      by_owed : (link : Link) → IsLinkOnWalk (without_messages m.session) m.session.messages link → (owed : Bool) → link.owed ≡ owed
+          → GoesOnWalks m (if owed then unread_is link (link.unread ++ byte ∷ []) (length_fault (link.unread ++ byte ∷ [])) (first_frame (link.unread ++ byte ∷ [])) m else fails Early m).mta
+      by_owed link is true e = unread-goes link _ _ _ is e
+      by_owed link is false e = failed Early
+
+      by_link : (link : Option Link) → IsOptionOnWalk (without_messages m.session) m.session.messages link → GoesOnWalks m (byte_at link byte m).mta
+      by_link None is = failed Early
+      by_link (Some link) is = by_owed link is link.owed refl
+
+-- a piece, after a loss or without one
+heard-on-goes : GivenVerdicts → (bytes : List ℕ) (m : Mta) (loss : Option Loss) → IsOnWalk m → GoesOnWalks m (heard_on (record { mta = m; loss = loss }) bytes).mta
+heard-on-goes given [] m loss on = record { on_walk = on; settles = nothing-settled m m refl refl refl refl }
+heard-on-goes given (byte ∷ bytes) m (Some loss) on = heard-on-goes given bytes m (Some loss) on
+heard-on-goes given (byte ∷ bytes) m None on =
+    let after = byte_at m.link byte m in
+    let first = byte-goes given m on byte in
+    goes-on m after.mta (heard_on after bytes).mta first (heard-on-goes given bytes after.mta after.loss first.on_walk)
+
+pub heard-goes : GivenVerdicts → (m : Mta) (bytes : List ℕ) → IsOnWalk m → GoesOnWalks m (heard m bytes).mta
+heard-goes given m bytes on = heard-on-goes given bytes m None on

@@ -1,0 +1,269 @@
+-- A message's whole walk is that of its client, and then that of the message; the first part is the same for each.
+use Rattle.std.specs.Prelude.{if◌then◌else◌}
+use Rattle.std.proofs.Common.{◌≡◌, ◌≢◌, Bool, true, false, cond, not, ◌&&◌, ◌||◌, List, [], ◌∷◌, ◌++◌, refl, sym, ap, ◌∙◌}
+use Rattle.std.specs.List.{flat_map, list_any}
+use Rattle.std.proofs.lemmas.Bool.{true≢false}
+use Rattle.milter_walk.proofs.TruthValues.{or-false}
+use Rattle.milter_fields.specs.declared.pair.Pair.{Pair}
+use Rattle.milter_wire.specs.declared.agreement.Agreed.{Agreed}
+use Rattle.milter_wire.specs.declared.command.Command.{Command}
+use Rattle.milter_wire.specs.declared.command.Command.TheVariants as commands
+use Rattle.milter_wire.specs.declared.stage.Stage.{Stage}
+use Rattle.milter_wire.specs.declared.stage.Stage.TheVariants.{Connect, Helo, Mail, Rcpt, DataCmd, Header, Eoh, Body, Eob}
+use Rattle.milter_wire.specs.Agreement.{has_leading_space, is_sent}
+use Rattle.milter_wire.specs.Stages.{macro_command_of}
+use Rattle.milter_message.specs.LeadingSpace.{sent_header}
+use Rattle.milter_message.specs.MailObject.{MailObject}
+use Rattle.milter_message.specs.Pieces.{pieces_of}
+use Rattle.milter_mail.specs.declared.macros.Macros.{Macros}
+use Rattle.milter_mail.specs.MailSession.{MailSession}
+use Rattle.milter_mail.specs.Plan.{macros_of, opening}
+use Rattle.milter_mail.specs.Steps.{macro_step, macros_at, message_steps, step}
+use Rattle.milter_exchange.specs.Behavior.{Behavior, exchange_of}
+use Rattle.milter_exchange.specs.Commands.{is_of_connection}
+use Rattle.milter_plan.specs.TalkVerdicts as stages
+use Rattle.milter_exchange.specs.Exchanges.{Exchange, commands_of, onto}
+use Rattle.milter_exchange.specs.Talk.{are_all_refused, is_closed, is_final, is_kept_rcpt, is_left_out, is_rcpt, is_skipping, talk}
+use Rattle.milter_walk.specs.Sessions.{walk_of}
+use Rattle.milter_walk.specs.Settled.{ends_with_client}
+use Rattle.milter_walk.specs.Order.{has_end}
+use Rattle.milter_walk.specs.Walks.{opening_of}
+use Rattle.milter_walk.proofs.Openings.{no_body}
+use Rattle.milter_walk.proofs.Ordered.{end_left, message-ends, no_end}
+
+-- ---- commands that are about the client, or all not
+
+abbrev pub AreOf : Bool → List Command → Type 0
+AreOf client [] = Unit {0}
+AreOf client (command ∷ left) = (is_of_connection command ≡ client) × AreOf client left
+
+pub of-append : (client : Bool) (xs ys : List Command) → AreOf client xs → AreOf client ys → AreOf client (xs ++ ys)
+of-append client [] ys all more = more
+of-append client (x ∷ xs) ys all more = (all.0, of-append client xs ys all.1 more)
+
+-- macros are about what their stage is about
+macros_of_stage : (stage : Stage) (pairs : List Pair) → AreOf (stages.is_of_connection stage) (macro_step (macro_command_of stage) pairs)
+macros_of_stage Connect [] = tt
+macros_of_stage Connect (pair ∷ pairs) = (refl, tt)
+macros_of_stage Helo [] = tt
+macros_of_stage Helo (pair ∷ pairs) = (refl, tt)
+macros_of_stage Mail [] = tt
+macros_of_stage Mail (pair ∷ pairs) = (refl, tt)
+macros_of_stage Rcpt [] = tt
+macros_of_stage Rcpt (pair ∷ pairs) = (refl, tt)
+macros_of_stage DataCmd [] = tt
+macros_of_stage DataCmd (pair ∷ pairs) = (refl, tt)
+macros_of_stage Header pairs = tt
+macros_of_stage Eoh [] = tt
+macros_of_stage Eoh (pair ∷ pairs) = (refl, tt)
+macros_of_stage Body pairs = tt
+macros_of_stage Eob [] = tt
+macros_of_stage Eob (pair ∷ pairs) = (refl, tt)
+
+module _ (agreed : Agreed) (macros : Macros) where
+  step_of : (stage : Stage) (command : Command) → is_of_connection command ≡ stages.is_of_connection stage
+      → AreOf (stages.is_of_connection stage) (step agreed macros stage command)
+  step_of stage command is = by_sent (is_sent agreed stage)
+    where
+      by_sent : (sent : Bool) → AreOf (stages.is_of_connection stage) (if sent then macro_step (macro_command_of stage) (macros_at macros stage) ++ command ∷ [] else [])
+      by_sent true = of-append (stages.is_of_connection stage) (macro_step (macro_command_of stage) (macros_at macros stage)) (command ∷ []) (macros_of_stage stage (macros_at macros stage)) (is, tt)
+      by_sent false = tt
+
+  each_of : {A : Type 0} (f : A → List Command) → ((x : A) → AreOf false (f x)) → (xs : List A) → AreOf false (flat_map f xs)
+  each_of f all [] = tt
+  each_of f all (x ∷ xs) = of-append false (f x) (flat_map f xs) (all x) (each_of f all xs)
+
+  pub message_of : (message : MailObject) → AreOf false (message_steps agreed macros message)
+  message_of message =
+      of-append false _ (step agreed macros Eob (commands.Eob []))
+      (of-append false _ (flat_map (λ piece. step agreed macros Body (commands.Body piece)) (pieces_of message.body))
+      (of-append false _ (step agreed macros Eoh commands.Eoh)
+      (of-append false _ (flat_map (λ header. step agreed macros Header (commands.Header (sent_header (has_leading_space agreed) header))) message.headers)
+      (of-append false _ (step agreed macros DataCmd commands.DataCmd)
+      (of-append false (step agreed macros Mail (commands.Mail message.sender)) (flat_map (λ recipient. step agreed macros Rcpt (commands.Rcpt recipient)) message.recipients)
+      (step_of Mail (commands.Mail message.sender) refl)
+      (each_of (λ recipient. step agreed macros Rcpt (commands.Rcpt recipient)) (λ recipient. step_of Rcpt (commands.Rcpt recipient) refl) message.recipients))
+      (step_of DataCmd commands.DataCmd refl))
+      (each_of (λ header. step agreed macros Header (commands.Header (sent_header (has_leading_space agreed) header))) (λ header. step_of Header (commands.Header (sent_header (has_leading_space agreed) header)) refl) message.headers))
+      (step_of Eoh commands.Eoh refl))
+      (each_of (λ piece. step agreed macros Body (commands.Body piece)) (λ piece. step_of Body (commands.Body piece) refl) (pieces_of message.body)))
+      (step_of Eob (commands.Eob []) refl)
+
+pub opening_is_of : (agreed : Agreed) (session : MailSession) → AreOf true (opening agreed session)
+opening_is_of agreed session =
+    of-append true (step agreed (macros_of agreed session) Connect (commands.Connect session.client)) (step agreed (macros_of agreed session) Helo (commands.Helo session.helo))
+    (step_of agreed (macros_of agreed session) Connect (commands.Connect session.client) refl)
+    (step_of agreed (macros_of agreed session) Helo (commands.Helo session.helo) refl)
+
+-- ---- the talk about the client, and then about others
+
+no_rcpt : (command : Command) → is_of_connection command ≡ true → is_rcpt command ≡ false
+no_rcpt (commands.Rcpt recipient) e = absurd (true≢false (sym e))
+no_rcpt other e = refl
+
+onto-append : (xs ys before : List Exchange) → onto (xs ++ ys) before ≡ onto ys (onto xs before)
+onto-append [] ys before = refl
+onto-append (x ∷ xs) ys before = onto-append xs ys (x ∷ before)
+
+module _ (b : Behavior) (agreed : Agreed) where
+  abbrev next : List Exchange → Command → Exchange
+  next walk command = exchange_of b agreed (commands_of walk) command
+
+  -- a verdict on the client lets nothing follow
+  abbrev closes : List Exchange → List Command → Bool
+  closes before [] = false
+  closes before (command ∷ left) = is_final (next before command) || closes (next before command ∷ before) left
+
+  -- of a command about the client, only the verdict itself ends the talk
+  talk-next : (before : List Exchange) (command : Command) (left : List Command) → is_of_connection command ≡ true
+      → talk b agreed before (command ∷ left) ≡ next before command ∷ (if is_final (next before command) then [] else talk b agreed (next before command ∷ before) left)
+  unfolding talk
+  talk-next before command left is =
+      let e = next before command in
+      let stays : is_left_out before command ≡ false = ap (λ (k : Bool). k && list_any is_skipping before) (no_body command is) in
+      let others : are_all_refused (e ∷ before) left ≡ false = ap (λ (k : Bool). k && not (list_any is_rcpt left) && not (list_any is_kept_rcpt (e ∷ before))) (no_rcpt command is) in
+      let closed : is_closed (e ∷ before) left ≡ is_final e = ap (λ (k : Bool). is_final e || k) others ∙ or-false (is_final e) in
+      ap (λ (k : Bool). if k then talk b agreed before left else e ∷ (if is_closed (e ∷ before) left then [] else talk b agreed (e ∷ before) left)) stays
+      ∙ ap (λ (k : Bool). e ∷ (if k then [] else talk b agreed (e ∷ before) left)) closed
+
+  talk-opening : (first : List Command) (before : List Exchange) (more : List Command) → AreOf true first
+      → talk b agreed before (first ++ more) ≡ talk b agreed before first ++ (if closes before first then [] else talk b agreed (onto (talk b agreed before first) before) more)
+  unfolding talk
+  talk-opening [] before more all = refl
+  talk-opening (command ∷ first) before more all =
+      talk-next before command (first ++ more) all.0
+      ∙ by_final (is_final (next before command)) (talk-opening first (next before command ∷ before) more all.1)
+      ∙ ap (λ (t : List Exchange). t ++ (if closes before (command ∷ first) then [] else talk b agreed (onto t before) more)) (sym (talk-next before command first all.0))
+    where
+      by_final : (final : Bool)
+          → talk b agreed (next before command ∷ before) (first ++ more)
+          ≡ talk b agreed (next before command ∷ before) first
+          ++ (if closes (next before command ∷ before) first then [] else talk b agreed (onto (talk b agreed (next before command ∷ before) first) (next before command ∷ before)) more)
+          → next before command ∷ (if final then [] else talk b agreed (next before command ∷ before) (first ++ more))
+          ≡ (next before command ∷ (if final then [] else talk b agreed (next before command ∷ before) first))
+          ++ (if (final || closes (next before command ∷ before) first) then []
+          else talk b agreed (onto (next before command ∷ (if final then [] else talk b agreed (next before command ∷ before) first)) before) more)
+      by_final true rest = refl
+      by_final false rest = ap (λ (t : List Exchange). next before command ∷ t) rest
+
+  -- where it closes, it ends with the client
+  closed-client : (first : List Command) (before : List Exchange) → AreOf true first → closes before first ≡ true → ends_with_client (onto (talk b agreed before first) before) ≡ true
+  closed-client [] before all e = absurd (true≢false (sym e))
+  closed-client (command ∷ first) before all e =
+      ap (λ (t : List Exchange). ends_with_client (onto t before)) (talk-next before command first all.0)
+      ∙ by_final (is_final (next before command)) refl (closed-client first (next before command ∷ before) all.1)
+    where
+      by_final : (final : Bool) → is_final (next before command) ≡ final
+          → (closes (next before command ∷ before) first ≡ true → ends_with_client (onto (talk b agreed (next before command ∷ before) first) (next before command ∷ before)) ≡ true)
+          → ends_with_client (onto (next before command ∷ (if final then [] else talk b agreed (next before command ∷ before) first)) before) ≡ true
+      by_final true f rest = all.0
+      by_final false f rest = rest (ap (λ (k : Bool). k || closes (next before command ∷ before) first) (sym f) ∙ e)
+
+  -- ---- the exchanges of a talk are about what its commands are about
+
+  talk-of : (client : Bool) (left : List Command) (before : List Exchange) → AreOf client left → AreOf client (commands_of (talk b agreed before left))
+  unfolding talk
+  talk-of client [] before all = tt
+  talk-of client (command ∷ left) before all =
+      by_out (is_left_out before command) (is_closed (next before command ∷ before) left) (talk-of client left before all.1) (talk-of client left (next before command ∷ before) all.1)
+    where
+      by_out : (out closed : Bool) → AreOf client (commands_of (talk b agreed before left)) → AreOf client (commands_of (talk b agreed (next before command ∷ before) left))
+          → AreOf client (commands_of (if out then talk b agreed before left else next before command ∷ (if closed then [] else talk b agreed (next before command ∷ before) left)))
+      by_out true closed same rest = same
+      by_out false true same rest = (all.0, tt)
+      by_out false false same rest = (all.0, rest)
+
+of-onto : (client : Bool) (more before : List Exchange) → AreOf client (commands_of more) → AreOf client (commands_of before) → AreOf client (commands_of (onto more before))
+of-onto client [] before all others = others
+of-onto client (e ∷ more) before all others = of-onto client more (e ∷ before) all.1 (all.0, others)
+
+opening-same : (walk : List Exchange) → AreOf true (commands_of walk) → opening_of walk ≡ walk
+opening-same [] all = refl
+opening-same (e ∷ before) all =
+    ap (λ (k : Bool). cond k (e ∷ opening_of before) (opening_of before)) all.0 ∙ ap (λ (l : List Exchange). e ∷ l) (opening-same before all.1)
+
+opening-onto : (more before : List Exchange) → AreOf false (commands_of more) → opening_of (onto more before) ≡ opening_of before
+opening-onto [] before all = refl
+opening-onto (e ∷ more) before all =
+    opening-onto more (e ∷ before) all.1 ∙ ap (λ (k : Bool). cond k (e ∷ opening_of before) (opening_of before)) all.0
+
+not_client-onto : (more before : List Exchange) (e : Exchange) → AreOf false (commands_of (e ∷ more)) → ends_with_client (onto (e ∷ more) before) ≡ false
+not_client-onto [] before e all = all.0
+not_client-onto (f ∷ more) before e all = not_client-onto more (e ∷ before) f all.1
+
+-- ---- the whole walk
+
+-- a plan with an end has a talk
+some_talk : (b : Behavior) (agreed : Agreed) (left : List Command) (before : List Exchange) → has_end left ≡ true → talk b agreed before left ≢ []
+unfolding talk
+some_talk b agreed [] before end none = true≢false (sym end)
+some_talk b agreed (command ∷ left) before end none = by_out (is_left_out before command) refl none (λ end. some_talk b agreed left before end)
+  where
+    by_out : (out : Bool) → is_left_out before command ≡ out
+        → (if out then talk b agreed before left
+        else exchange_of b agreed (commands_of before) command ∷ (if is_closed (exchange_of b agreed (commands_of before) command ∷ before) left then [] else talk b agreed (exchange_of b agreed (commands_of before) command ∷ before) left)) ≡ []
+        → (has_end left ≡ true → talk b agreed before left ≡ [] → ⊥) → ⊥
+    by_out true e none rest = rest (end_left command left (no_end command (list_any is_skipping before) e) end) none
+    by_out false e none rest = absurd cc
+
+module _ (b : Behavior) (agreed : Agreed) (session : MailSession) where
+  abbrev first : List Command
+  first = opening agreed session
+
+  abbrev steps : MailObject → List Command
+  steps message = message_steps agreed (macros_of agreed session) message
+
+  -- what every message's walk begins with
+  abbrev opened : List Exchange
+  opened = onto (talk b agreed [] first) []
+
+  walk-is : (message : MailObject) → walk_of b agreed session message
+      ≡ onto (talk b agreed [] first ++ (if closes b agreed [] first then [] else talk b agreed opened (steps message))) []
+  walk-is message = ap (λ (t : List Exchange). onto t []) (talk-opening b agreed first [] (steps message) (opening_is_of agreed session))
+
+  walk-closed : (message : MailObject) → closes b agreed [] first ≡ true → walk_of b agreed session message ≡ opened
+  walk-closed message e =
+      walk-is message
+      ∙ ap (λ (k : Bool). onto (talk b agreed [] first ++ (if k then [] else talk b agreed opened (steps message))) []) e
+      ∙ onto-append (talk b agreed [] first) [] []
+
+  walk-open : (message : MailObject) → closes b agreed [] first ≡ false → walk_of b agreed session message ≡ onto (talk b agreed opened (steps message)) opened
+  walk-open message e =
+      walk-is message
+      ∙ ap (λ (k : Bool). onto (talk b agreed [] first ++ (if k then [] else talk b agreed opened (steps message))) []) e
+      ∙ onto-append (talk b agreed [] first) (talk b agreed opened (steps message)) []
+
+  opened-of : AreOf true (commands_of opened)
+  opened-of = of-onto true (talk b agreed [] first) [] (talk-of b agreed true first [] (opening_is_of agreed session)) tt
+
+  opening_of-walk : (message : MailObject) → closes b agreed [] first ≡ false → opening_of (walk_of b agreed session message) ≡ opened
+  opening_of-walk message e =
+      ap opening_of (walk-open message e)
+      ∙ opening-onto (talk b agreed opened (steps message)) opened (talk-of b agreed false (steps message) opened (message_of agreed (macros_of agreed session) message))
+      ∙ opening-same opened opened-of
+
+  -- a walk that doesn't end with the client is followed by the next message's
+  pub walk-next : (message other : MailObject) → ends_with_client (walk_of b agreed session message) ≡ false
+      → onto (talk b agreed (opening_of (walk_of b agreed session message)) (steps other)) (opening_of (walk_of b agreed session message)) ≡ walk_of b agreed session other
+  walk-next message other e = by_closes (closes b agreed [] first) refl
+    where
+      by_closes : (closed : Bool) → closes b agreed [] first ≡ closed
+          → onto (talk b agreed (opening_of (walk_of b agreed session message)) (steps other)) (opening_of (walk_of b agreed session message)) ≡ walk_of b agreed session other
+      by_closes true c =
+          absurd (true≢false (sym (ap ends_with_client (walk-closed message c) ∙ closed-client b agreed first [] (opening_is_of agreed session) c) ∙ e))
+      by_closes false c =
+          ap (λ (o : List Exchange). onto (talk b agreed o (steps other)) o) (opening_of-walk message c) ∙ sym (walk-open other c)
+
+  -- one that ends with the client is the walk of each message
+  pub walk-same : (message other : MailObject) → ends_with_client (walk_of b agreed session message) ≡ true → walk_of b agreed session other ≡ walk_of b agreed session message
+  walk-same message other e = by_closes (closes b agreed [] first) refl
+    where
+      by_talk : (t : List Exchange) → t ≢ [] → AreOf false (commands_of t) → ends_with_client (onto t opened) ≡ false
+      by_talk [] some all = absurd (some refl)
+      by_talk (e ∷ t) some all = not_client-onto t opened e all
+
+      by_closes : (closed : Bool) → closes b agreed [] first ≡ closed → walk_of b agreed session other ≡ walk_of b agreed session message
+      by_closes true c = walk-closed other c ∙ sym (walk-closed message c)
+      by_closes false c =
+          absurd (true≢false (sym e ∙ ap ends_with_client (walk-open message c)
+          ∙ by_talk (talk b agreed opened (steps message)) (some_talk b agreed (steps message) opened (message-ends agreed (macros_of agreed session) message)) (talk-of b agreed false (steps message) opened (message_of agreed (macros_of agreed session) message))))

@@ -1,0 +1,116 @@
+-- A part of an answer is heard: some of its edits, and bytes of the next reply.
+use Rattle.std.proofs.Common.{◌≡◌, ◌≢◌, ◌≤◌, ◌+◌, ℕ, Bool, true, false, List, [], ◌∷◌, ◌++◌, All, map, Some, refl, sym, ap, ◌∙◌, subst, arith}
+use Rattle.std.specs.List.{flat_map}
+use Rattle.std.proofs.lemmas.Bool.{true≢false}
+use Rattle.std.proofs.lemmas.List.Elements.{All-head, All-tail}
+use Rattle.std.proofs.lemmas.List.Sums.{fold-append, sum_by-append, sum_by-cons}
+use Rattle.milter_walk.proofs.Lists.{same-head, same-tail}
+use Rattle.milter_wire.specs.declared.agreement.Agreed.{Agreed}
+use Rattle.milter_wire.specs.declared.command.Command.{Command}
+use Rattle.milter_wire.specs.declared.reply.Reply.{Reply}
+use Rattle.milter_wire.specs.declared.stage.Stage.{Stage}
+use Rattle.milter_wire.specs.declared.verdict.Verdict.{Verdict}
+use Rattle.milter_wire.specs.Reply.{Fits, encoding}
+use Rattle.milter_wire.specs.Verdicts as verdicts
+use Rattle.milter_message.specs.declared.edit.Edit.{Edit}
+use Rattle.milter_message.specs.declared.message.TheConstants.{WEIGHT_MAX}
+use Rattle.milter_message.specs.EditReplies as edits
+use Rattle.milter_message.specs.EditReplies.{weight_of}
+use Rattle.milter_exchange.specs.Permitted.{is_permitted}
+use Rattle.milter_outcome.specs.declared.acted.Acted.{Acted}
+use Rattle.milter_outcome.specs.declared.hearing.Heard.TheVariants as heard_as
+use Rattle.milter_outcome.specs.Hearing.{is_end}
+use Rattle.milter_plan.specs.EditWeights.{weight_of_all}
+use Rattle.milter_plan.specs.Talks.{stage_first}
+use Rattle.milter_mta.specs.Mta.{Link, Mta, at_packet}
+use Rattle.milter_mta.specs.Mta.Position.{Sending}
+use Rattle.milter_mta.specs.Receiving.{After, at, goes_on, heard, heard_byte, heard_on}
+use Rattle.milter_walk.proofs.Answers.{HearsReplies, hears_edit, one, owed_at}
+
+-- ---- bytes that begin others
+
+-- bytes of two parts begin with less than the first part, or with that and bytes of the second
+pub data Cut (bytes rest first second : List ℕ) : Type 0 where
+  Inside : (byte : ℕ) (more : List ℕ) → bytes ++ byte ∷ more ≡ first → Cut bytes rest first second
+  Beyond : (more : List ℕ) → bytes ≡ first ++ more → more ++ rest ≡ second → Cut bytes rest first second
+
+cut : (bytes rest first second : List ℕ) → bytes ++ rest ≡ first ++ second → Cut bytes rest first second
+cut [] rest [] second e = Beyond [] refl e
+cut [] rest (x ∷ first) second e = Inside x first refl
+cut (byte ∷ bytes) rest [] second e = Beyond (byte ∷ bytes) refl e
+cut (byte ∷ bytes) rest (x ∷ first) second e = longer (cut bytes rest first second (same-tail byte x (bytes ++ rest) (first ++ second) e))
+  where
+    head : byte ≡ x
+    head = same-head byte x (bytes ++ rest) (first ++ second) e
+
+    longer : Cut bytes rest first second → Cut (byte ∷ bytes) rest (x ∷ first) second
+    longer (Inside y more is) = Inside y more (ap (λ (l : List ℕ). byte ∷ l) is ∙ ap (λ (b : ℕ). b ∷ first) head)
+    longer (Beyond more is others) = Beyond more (ap (λ (l : List ℕ). byte ∷ l) is ∙ ap (λ (b : ℕ). b ∷ (first ++ more)) head) others
+
+-- ---- what is heard of a part
+
+abbrev pub KeepsPrefixes : Type 0
+KeepsPrefixes = (m : Mta) (link : Link) (reply : Reply) (bytes more : List ℕ) → link.owed ≡ true → link.unread ≡ [] → Fits reply → more ≢ []
+    → bytes ++ more ≡ encoding reply → heard (at link m) bytes ≡ goes_on (at (record link { unread = bytes }) m)
+
+-- some edits came, and some bytes
+pub record IsPartHeard (agreed : Agreed) (acted : List Acted) (left : List Command) (m : Mta) (after : After) : Type 0 where
+  pub so_far : List Edit
+  pub unread : List ℕ
+  pub heard_is : after ≡ goes_on (at (record (at_packet (Sending agreed acted so_far left)) { owed = true; unread = unread }) m)
+
+module _ (hears : HearsReplies) (keeps : KeepsPrefixes) (agreed : Agreed) (stage : Stage) (acted : List Acted) (left : List Command) (m : Mta)
+    (some : m.session.messages ≢ []) (first : stage_first left ≡ Some stage) where
+  inside : (so_far : List Edit) (reply : Reply) (bytes : List ℕ) (byte : ℕ) (more : List ℕ) → Fits reply → bytes ++ byte ∷ more ≡ encoding reply
+      → IsPartHeard agreed acted left m (heard (owed_at (Sending agreed acted so_far left) m) bytes)
+  inside so_far reply bytes byte more fits e =
+      record {
+        so_far = so_far;
+        unread = bytes;
+        heard_is = keeps m (record (at_packet (Sending agreed acted so_far left)) { owed = true }) reply bytes (byte ∷ more) refl refl fits (λ none. absurd cc) e;
+      }
+
+  pub part-heard : (more so_far : List Edit) (verdict : Verdict) → (is_end stage ≡ false → more ≡ [])
+      → All (λ edit. is_permitted agreed edit ≡ true) more → All (λ edit. Fits (edits.reply_of edit)) more
+      → weight_of_all so_far + weight_of_all more ≤ WEIGHT_MAX → Fits (verdicts.reply_of verdict)
+      → (bytes rest : List ℕ) → rest ≢ [] → bytes ++ rest ≡ flat_map encoding (map edits.reply_of more ++ verdicts.reply_of verdict ∷ [])
+      → IsPartHeard agreed acted left m (heard (owed_at (Sending agreed acted so_far left) m) bytes)
+  part-heard [] so_far verdict end may fit light verdict_fits bytes rest remains e = by_cut (cut bytes rest (encoding (verdicts.reply_of verdict)) [] e)
+    where
+      none_left : (more : List ℕ) → more ++ rest ≡ [] → rest ≡ []
+      none_left [] e = e
+      none_left (x ∷ more) e = absurd cc
+
+      by_cut : Cut bytes rest (encoding (verdicts.reply_of verdict)) [] → IsPartHeard agreed acted left m (heard (owed_at (Sending agreed acted so_far left) m) bytes)
+      by_cut (Inside byte more is) = inside so_far (verdicts.reply_of verdict) bytes byte more verdict_fits is
+      by_cut (Beyond more is others) = absurd (remains (none_left more others))
+  part-heard (edit ∷ more) so_far verdict end may fit light verdict_fits bytes rest remains e =
+      let sum = sum_by-cons weight_of edit more in
+      let longer = sum_by-append weight_of so_far (edit ∷ []) in
+      let single = sum_by-cons weight_of edit [] in
+      let at_end = is_end_here (is_end stage) refl end in
+      let fits = All-head (λ e. Fits (edits.reply_of e)) edit more fit in
+      let hears_it = one hears agreed stage acted left m some first so_far (edits.reply_of edit) (heard_as.Edit edit) fits
+      (hears_edit agreed stage (weight_of_all so_far) edit at_end (All-head (λ e. is_permitted agreed e ≡ true) edit more may) (omega (arith, sum, light))) in
+      by_cut (cut bytes rest (encoding (edits.reply_of edit)) (flat_map encoding (map edits.reply_of more ++ verdicts.reply_of verdict ∷ [])) e) fits hears_it
+      (part-heard more (so_far ++ edit ∷ []) verdict (λ other. absurd (true≢false (sym at_end ∙ other)))
+      (All-tail (λ e. is_permitted agreed e ≡ true) edit more may) (All-tail (λ e. Fits (edits.reply_of e)) edit more fit)
+      (omega (arith, sum, longer, single, light)) verdict_fits)
+    where
+      is_end_here : (b : Bool) → is_end stage ≡ b → (is_end stage ≡ false → edit ∷ more ≡ []) → is_end stage ≡ true
+      is_end_here true e none = e
+      is_end_here false e none = let no : edit ∷ more ≡ [] = none e in absurd cc
+
+      by_cut : Cut bytes rest (encoding (edits.reply_of edit)) (flat_map encoding (map edits.reply_of more ++ verdicts.reply_of verdict ∷ []))
+          → Fits (edits.reply_of edit)
+          → heard (owed_at (Sending agreed acted so_far left) m) (encoding (edits.reply_of edit)) ≡ goes_on (owed_at (Sending agreed acted (so_far ++ edit ∷ []) left) m)
+          → ((bytes rest : List ℕ) → rest ≢ [] → bytes ++ rest ≡ flat_map encoding (map edits.reply_of more ++ verdicts.reply_of verdict ∷ [])
+          → IsPartHeard agreed acted left m (heard (owed_at (Sending agreed acted (so_far ++ edit ∷ []) left) m) bytes))
+          → IsPartHeard agreed acted left m (heard (owed_at (Sending agreed acted so_far left) m) bytes)
+      by_cut (Inside byte tail is) fits hears_it rest_heard = inside so_far (edits.reply_of edit) bytes byte tail fits is
+      by_cut (Beyond tail is others) fits hears_it rest_heard =
+          let goes : heard (owed_at (Sending agreed acted so_far left) m) bytes ≡ heard (owed_at (Sending agreed acted (so_far ++ edit ∷ []) left) m) tail =
+          ap (heard (owed_at (Sending agreed acted so_far left) m)) is
+          ∙ fold-append heard_byte (goes_on (owed_at (Sending agreed acted so_far left) m)) (encoding (edits.reply_of edit)) tail
+          ∙ ap (λ (a : After). heard_on a tail) hears_it in
+          subst (IsPartHeard agreed acted left m) (sym goes) (rest_heard tail rest remains others)

@@ -1,0 +1,210 @@
+-- A whole talk is played.
+use Rattle.std.specs.Prelude.{if◌then◌else◌}
+use Rattle.std.proofs.Common.{◌≡◌, ◌≢◌, Bool, true, false, ◌&&◌, ◌||◌, List, [], ◌∷◌, map, is_some, Option, None, Some, refl, sym, ap, ◌∙◌, subst, not}
+use Rattle.std.specs.List.{list_any}
+use Rattle.std.proofs.lemmas.Bool.{true≢false}
+use Rattle.milter_walk.proofs.TruthValues.{none_refused}
+use Rattle.milter_wire.specs.declared.agreement.Agreed.{Agreed}
+use Rattle.milter_wire.specs.declared.command.Command.{Command}
+use Rattle.milter_wire.specs.declared.command.Command.TheVariants as commands
+use Rattle.milter_wire.specs.declared.stage.Stage.{Stage}
+use Rattle.milter_wire.specs.declared.stage.Stage.TheVariants.{Connect, Helo, Mail, Rcpt, DataCmd, Header, Eoh, Body, Eob}
+use Rattle.milter_wire.specs.declared.verdict.Verdict.{Verdict}
+use Rattle.milter_wire.specs.declared.verdict.Verdict.TheVariants.{Skip}
+use Rattle.milter_wire.specs.Agreement.{has_leading_space, is_asked, is_asked_at}
+use Rattle.milter_wire.specs.Stages.{stage_of}
+use Rattle.milter_wire.specs.Verdicts.{given_at}
+use Rattle.milter_message.specs.MailObject.{MailObject}
+use Rattle.milter_exchange.specs.declared.answer.Answer.{Answer}
+use Rattle.milter_exchange.specs.Behavior.{Behavior, answer_to, exchange_of}
+use Rattle.milter_exchange.specs.Exchanges.{Exchange, commands_of, onto}
+use Rattle.milter_exchange.specs.Lawful.{IsLawful}
+use Rattle.milter_exchange.specs.Permitted.{permitted, permitted_verdict}
+use Rattle.milter_exchange.specs.Seen.{Seen, seen}
+use Rattle.milter_exchange.specs.Talk.{are_all_refused, is_body, is_closed, is_final, is_final_answer, is_kept_rcpt, is_left_out, is_rcpt, is_skipping, talk}
+use Rattle.milter_exchange.specs.Verdicts.{has_verdict, is_refusal, is_skip}
+use Rattle.milter_outcome.specs.Acting.{kept}
+use Rattle.milter_outcome.specs.Walks.{acted, ruled, ruled_by}
+use Rattle.milter_mta.specs.Mta.{Mta, at_packet}
+use Rattle.milter_mta.specs.Mta.Position.{Sending}
+use Rattle.milter_mta.specs.Receiving.{After, at, goes_on}
+use Rattle.milter_walk.specs.Lines.{Plays, after_line, line_of}
+use Rattle.milter_walk.specs.Order.{AreInOrder, AreProper, IsProper, has_end, is_end_command}
+use Rattle.milter_walk.specs.Walks.{at_walk, settled_by}
+use Rattle.milter_walk.proofs.Answers.{HearsReplies, permitted-heard}
+use Rattle.milter_walk.proofs.Exchanges.{answered-goes, packet-is, unanswered-goes, walked}
+use Rattle.milter_walk.proofs.Ordered.{end_left, no_end, order-before, order-without}
+use Rattle.milter_walk.proofs.Refusals.{is_rcpt_at, rcpt_by_stage, sendable-out}
+
+-- a command of the stage of bodies is a piece of one
+pub is_body_at : (command : Command) → stage_of command ≡ Some Body → is_body command ≡ true
+is_body_at (commands.Body bytes) at = refl
+is_body_at (commands.Connect client) at = absurd cc
+is_body_at (commands.Helo name) at = absurd cc
+is_body_at (commands.Mail sender) at = absurd cc
+is_body_at (commands.Rcpt recipient) at = absurd cc
+is_body_at commands.DataCmd at = absurd cc
+is_body_at (commands.Header header) at = absurd cc
+is_body_at commands.Eoh at = absurd cc
+is_body_at (commands.Eob bytes) at = absurd cc
+is_body_at other at = absurd cc
+
+-- ---- a walk that ends has a last answer
+
+pub closed-rules : (last : Exchange) (before : List Exchange) (left : List Command) → is_closed (last ∷ before) left ≡ true
+    → (leading_space : Bool) (message : MailObject) → is_some (ruled leading_space message (last ∷ before)) ≡ true
+closed-rules last before left closed leading_space message = by_last (stage_of last.command) last.answer refl refl
+  where
+    open_by : is_final last ≡ false → last.answer ≡ None → is_closed (last ∷ before) left ≡ false
+    open_by none unanswered =
+        ap (λ (k : Bool). k || are_all_refused (last ∷ before) left) none
+        ∙ ap (λ (a : Option Answer). is_rcpt last.command && not (list_any is_rcpt left) && not ((is_rcpt last.command && not (has_verdict is_refusal a)) || list_any is_kept_rcpt before)) unanswered
+        ∙ none_refused (is_rcpt last.command) (not (list_any is_rcpt left)) (list_any is_kept_rcpt before)
+
+    no_stage : stage_of last.command ≡ None → is_closed (last ∷ before) left ≡ false
+    no_stage at =
+        ap (λ (s : Option Stage). is_final_answer s last.answer || are_all_refused (last ∷ before) left) at
+        ∙ ap (λ (k : Bool). k && not (list_any is_rcpt left) && not (list_any is_kept_rcpt (last ∷ before))) (rcpt_by_stage last.command ∙ ap is_rcpt_at at)
+
+    by_last : (at : Option Stage) (answer : Option Answer) → stage_of last.command ≡ at → last.answer ≡ answer
+        → is_some (ruled_by leading_space (kept message (acted (last ∷ before))) at answer) ≡ true
+    by_last None answer at unanswered = absurd (true≢false (sym closed ∙ no_stage at))
+    by_last (Some stage) None at unanswered =
+        absurd (true≢false (sym closed ∙ open_by (ap (λ (s : Option Stage). is_final_answer s last.answer) at ∙ ap (is_final_answer (Some stage)) unanswered) unanswered))
+    by_last (Some stage) (Some answer) at answered = refl
+
+module _ (hears : HearsReplies) (b : Behavior) (lawful : IsLawful b) (agreed : Agreed) (m : Mta) (some : m.session.messages ≢ []) where
+  abbrev next : List Exchange → Command → Exchange
+  next walk command = exchange_of b agreed (commands_of walk) command
+
+  -- ---- one exchange
+
+  abbrev shown : List Exchange → Command → Seen
+  shown walk command = seen (has_leading_space agreed) (command ∷ commands_of walk)
+
+  answered-as : (walk : List Exchange) (command : Command) → is_some (next walk command).answer ≡ is_asked agreed command
+  answered-as walk command = by_stage (stage_of command) (is_asked agreed command) refl
+    where
+      by_stage : (at : Option Stage) (asked : Bool) → is_asked_at agreed at ≡ asked → is_some (answer_to b agreed at asked (shown walk command)) ≡ asked
+      by_stage None asked e = e
+      by_stage (Some stage) true e = refl
+      by_stage (Some stage) false e = refl
+
+  body-skips : (command : Command) (stage : Stage) (verdict : Verdict) → stage_of command ≡ Some stage → given_at verdict stage ≡ true
+      → is_skip (permitted_verdict agreed verdict) ≡ true → is_body command ≡ true
+  body-skips command stage Skip at given skips = by_body command stage at given
+    where
+      by_body : (command : Command) (stage : Stage) → stage_of command ≡ Some stage → given_at Skip stage ≡ true → is_body command ≡ true
+      by_body command Body at given = is_body_at command at
+      by_body command Connect at given = absurd (true≢false (sym given))
+      by_body command Helo at given = absurd (true≢false (sym given))
+      by_body command Mail at given = absurd (true≢false (sym given))
+      by_body command Rcpt at given = absurd (true≢false (sym given))
+      by_body command DataCmd at given = absurd (true≢false (sym given))
+      by_body command Header at given = absurd (true≢false (sym given))
+      by_body command Eoh at given = absurd (true≢false (sym given))
+      by_body command Eob at given = absurd (true≢false (sym given))
+  body-skips command stage other at given skips = absurd (true≢false (sym skips))
+
+  proper : (walk : List Exchange) (command : Command) → IsProper agreed (next walk command)
+  proper walk command = record { answered = answered-as walk command; skipped = by_stage (stage_of command) (is_asked agreed command) refl }
+    where
+      by_stage : (at : Option Stage) (asked : Bool) → stage_of command ≡ at
+          → has_verdict is_skip (answer_to b agreed at asked (shown walk command)) ≡ true → is_body command ≡ true
+      by_stage None asked e skips = absurd (true≢false (sym skips))
+      by_stage (Some stage) false e skips = absurd (true≢false (sym skips))
+      by_stage (Some stage) true e skips =
+          body-skips command stage (b.decide stage (shown walk command)).verdict e (lawful.answers stage (shown walk command)).given skips
+
+  goes : (walk : List Exchange) (command : Command) (left : List Command) → is_left_out walk command ≡ false → AreProper agreed walk
+      → AreInOrder (command ∷ commands_of walk)
+      → after_line (line_of (next walk command)).back (at_walk agreed walk (command ∷ left) m)
+      ≡ goes_on (walked agreed (next walk command ∷ walk) left m (is_closed (next walk command ∷ walk) left))
+  goes walk command left stays all order = by_stage (stage_of command) (is_asked agreed command) refl refl
+    where
+      by_stage : (at : Option Stage) (asked : Bool) → stage_of command ≡ at → is_asked agreed command ≡ asked
+          → after_line (line_of (next walk command)).back (at_walk agreed walk (command ∷ left) m)
+          ≡ goes_on (walked agreed (next walk command ∷ walk) left m (is_closed (next walk command ∷ walk) left))
+      by_stage None asked at is =
+          unanswered-goes agreed m (next walk command) walk left stays
+          (ap (λ (s : Option Stage). answer_to b agreed s (is_asked agreed command) (shown walk command)) at)
+          (ap (is_asked_at agreed) at)
+      by_stage (Some stage) false at is =
+          unanswered-goes agreed m (next walk command) walk left stays
+          (ap (λ (s : Option Stage). answer_to b agreed s (is_asked agreed command) (shown walk command)) at
+          ∙ ap (λ (a : Bool). answer_to b agreed (Some stage) a (shown walk command)) is)
+          is
+      by_stage (Some stage) true at is =
+          answered-goes agreed m (next walk command) walk left stays stage (permitted agreed (b.decide stage (shown walk command))) at
+          (ap (λ (s : Option Stage). answer_to b agreed s (is_asked agreed command) (shown walk command)) at
+          ∙ ap (λ (a : Bool). answer_to b agreed (Some stage) a (shown walk command)) is)
+          is (proper walk command, all) order hears some
+          (permitted-heard agreed stage (b.decide stage (shown walk command)) (lawful.answers stage (shown walk command)))
+
+  -- ---- what is left
+
+  -- the end of a message lets nothing follow
+  goes_no_further : (walk : List Exchange) (command : Command) (left : List Command) → is_closed (next walk command ∷ walk) left ≡ false → is_end_command command ≡ false
+  goes_no_further walk (commands.Eob bytes) left e = absurd (true≢false e)
+  goes_no_further walk other left e = refl
+
+  -- ---- the talk
+
+  -- of the commands that are left, after a walk
+  pub record IsPlayed (left : List Command) (walk : List Exchange) (more : List Exchange) : Type 0 where
+    pub plays : Plays (at_walk agreed walk left m) (map line_of more) (settled_by agreed (onto more walk) m)
+    pub all : AreProper agreed (onto more walk)
+    pub order : AreInOrder (commands_of (onto more walk))
+    pub rules : (leading_space : Bool) (message : MailObject) → is_some (ruled leading_space message (onto more walk)) ≡ true
+
+  abbrev Plan : List Command → List Exchange → List Exchange → Type 0
+  Plan left walk more = AreProper agreed walk → AreInOrder (onto left (commands_of walk)) → has_end left ≡ true → IsPlayed left walk more
+
+  pub played : (left : List Command) (walk : List Exchange) → Plan left walk (talk b agreed walk left)
+  unfolding talk
+  played [] walk = λ all order end. absurd (true≢false (sym end))
+  played (command ∷ left) walk =
+      by_out (is_left_out walk command) refl (played left walk) (played left (next walk command ∷ walk))
+    where
+      by_closed : (closed : Bool) → is_closed (next walk command ∷ walk) left ≡ closed → is_left_out walk command ≡ false
+          → Plan left (next walk command ∷ walk) (talk b agreed (next walk command ∷ walk) left)
+          → Plan (command ∷ left) walk (next walk command ∷ (if closed then [] else talk b agreed (next walk command ∷ walk) left))
+      by_closed true e stays rest all order end =
+          let here : AreInOrder (command ∷ commands_of walk) = order-before left (command ∷ commands_of walk) order in
+          let goes_to = goes walk command left stays all here ∙ ap (λ (c : Bool). goes_on (walked agreed (next walk command ∷ walk) left m c)) e in
+          record {
+            plays = (packet-is agreed m (next walk command) walk left stays, ap (λ (a : After). a.loss) goes_to, ap (λ (a : After). a.mta) goes_to);
+            all = (proper walk command, all);
+            order = here;
+            rules = λ leading_space message. closed-rules (next walk command) walk left e leading_space message;
+          }
+      by_closed false e stays rest all order end =
+          let here : AreInOrder (command ∷ commands_of walk) = order-before left (command ∷ commands_of walk) order in
+          let goes_to = goes walk command left stays all here ∙ ap (λ (c : Bool). goes_on (walked agreed (next walk command ∷ walk) left m c)) e in
+          let more = rest (proper walk command, all) order (end_left command left (goes_no_further walk command left e) end) in
+          let others = talk b agreed (next walk command ∷ walk) left in
+          record {
+            plays = (
+              packet-is agreed m (next walk command) walk left stays,
+              ap (λ (a : After). a.loss) goes_to,
+              subst (λ (a : After). Plays a.mta (map line_of others) (settled_by agreed (onto others (next walk command ∷ walk)) m)) (sym goes_to) more.plays,
+            );
+            all = more.all;
+            order = more.order;
+            rules = more.rules;
+          }
+
+      by_out : (out : Bool) → is_left_out walk command ≡ out → Plan left walk (talk b agreed walk left)
+          → Plan left (next walk command ∷ walk) (talk b agreed (next walk command ∷ walk) left)
+          → Plan (command ∷ left) walk
+          (if out then talk b agreed walk left
+          else next walk command ∷ (if is_closed (next walk command ∷ walk) left then [] else talk b agreed (next walk command ∷ walk) left))
+      by_out true e skipped goes_further all order end =
+          let is = skipped all (order-without left command (commands_of walk) order) (end_left command left (no_end command (list_any is_skipping walk) e) end) in
+          record {
+            plays = subst (λ (l : List Command). Plays (at (at_packet (Sending agreed (acted walk) [] l)) m) (map line_of (talk b agreed walk left)) (settled_by agreed (onto (talk b agreed walk left) walk) m)) (sym (sendable-out walk command left e)) is.plays;
+            all = is.all;
+            order = is.order;
+            rules = is.rules;
+          }
+      by_out false e skipped goes_further all order end = by_closed (is_closed (next walk command ∷ walk) left) refl e goes_further all order end

@@ -1,0 +1,218 @@
+-- What the last answer of a walk settles.
+use Rattle.std.specs.Prelude.{if◌then◌else◌}
+use Rattle.std.proofs.Common.{◌≡◌, ◌≤◌, arith, Bool, true, false, not, List, [], ◌∷◌, ◌++◌, map, Option, None, Some, refl, sym, ap, ◌∙◌, subst}
+use Rattle.std.proofs.lemmas.Bool.{true≢false}
+use Rattle.std.proofs.lemmas.List.Elements.{filter_map-append}
+use Rattle.std.proofs.lemmas.Option.{same_Some}
+use Rattle.milter_fields.specs.declared.path.Path.{Path}
+use Rattle.milter_wire.specs.declared.agreement.Agreed.{Agreed}
+use Rattle.milter_wire.specs.declared.command.Command.{Command}
+use Rattle.milter_wire.specs.declared.command.Command.TheVariants as commands
+use Rattle.milter_wire.specs.declared.stage.Stage.{Stage}
+use Rattle.milter_wire.specs.declared.stage.Stage.TheVariants.{Connect, Helo, Mail, Rcpt, DataCmd, Header, Eoh, Body, Eob}
+use Rattle.milter_wire.specs.declared.verdict.Verdict.{Verdict}
+use Rattle.milter_wire.specs.Agreement.{has_leading_space}
+use Rattle.milter_wire.specs.Stages.{stage_of}
+use Rattle.milter_message.specs.MailObject.{MailObject}
+use Rattle.milter_mail.specs.MailSession.{MailSession}
+use Rattle.milter_mail.specs.Plan.{macros_of}
+use Rattle.milter_mail.specs.Steps.{message_steps}
+use Rattle.milter_exchange.specs.declared.answer.Answer.{Answer}
+use Rattle.milter_exchange.specs.Commands.{is_of_connection}
+use Rattle.milter_exchange.specs.Exchanges.{Exchange, commands_of}
+use Rattle.milter_exchange.specs.Histories.{rank_at}
+use Rattle.milter_exchange.specs.StageOrder.{rank_of}
+use Rattle.milter_outcome.specs.declared.acted.Acted.{Acted}
+use Rattle.milter_outcome.specs.declared.loss.By.TheVariants.{Connection, Filter}
+use Rattle.milter_outcome.specs.declared.outcome.Outcome.{Outcome}
+use Rattle.milter_outcome.specs.declared.report.Report.{Report}
+use Rattle.milter_outcome.specs.Acting.{kept, kept_recipients, rcpt_verdict, rcpt_verdicts}
+use Rattle.milter_outcome.specs.Hearing.{is_end}
+use Rattle.milter_outcome.specs.Outcomes.{at_connection, outcome}
+use Rattle.milter_outcome.specs.Walks.{acted, acted_at, ruled, ruled_by}
+use Rattle.milter_plan.specs.TalkVerdicts as plan
+use Rattle.milter_plan.specs.TalkVerdicts.{on_connection}
+use Rattle.milter_mta.specs.Mta.{Link, Mta, Position, link_at}
+use Rattle.milter_mta.specs.Mta.Position.{Sending}
+use Rattle.milter_mta.specs.Settling.{next_message, report, settled_all, settled_first, settled_in}
+use Rattle.milter_walk.specs.Order.{AreInOrder, AreProper, ComeBefore, IsWalked, ReachAtMost, is_end_command}
+use Rattle.milter_walk.specs.Settled.{AreAllSettled, ends_with_client, next_link, next_position}
+use Rattle.milter_walk.specs.Walks.{opening_of, settled_at, settled_by}
+use Rattle.milter_walk.proofs.Ordered.{further}
+use Rattle.milter_walk.proofs.Openings.{client_by_stage, low_rank, opening-acted, opening-sendable}
+
+-- ---- by stage
+
+abbrev end_at : Option Stage → Bool
+end_at None = false
+end_at (Some stage) = is_end stage
+
+end_by_stage : (command : Command) → is_end_command command ≡ end_at (stage_of command)
+end_by_stage (commands.Connect client) = refl
+end_by_stage (commands.Helo name) = refl
+end_by_stage (commands.Mail sender) = refl
+end_by_stage (commands.Rcpt recipient) = refl
+end_by_stage commands.DataCmd = refl
+end_by_stage (commands.Header header) = refl
+end_by_stage commands.Eoh = refl
+end_by_stage (commands.Body bytes) = refl
+end_by_stage (commands.Eob bytes) = refl
+end_by_stage other = refl
+
+-- ---- the next message
+
+module _ (agreed : Agreed) (walk : List Exchange) (all : AreProper agreed walk) (session : MailSession) where
+  next-is : (messages : List MailObject) → next_message agreed (on_connection (acted walk)) session messages ≡ next_position agreed (opening_of walk) session messages
+  next-is [] = refl
+  next-is (message ∷ messages) =
+      let steps = message_steps agreed (macros_of agreed session) message in
+      ap (λ (a : List Acted). Sending agreed a [] steps) (opening-acted walk)
+      ∙ ap (λ (l : List Command). Sending agreed (acted (opening_of walk)) [] l) (sym (opening-sendable agreed walk steps all))
+
+-- ---- one message
+
+-- the message is settled by this report
+abbrev pub reported : Report → Link → List MailObject → Mta → Mta
+reported r link messages m =
+    record m {
+      session = record m.session { messages = messages };
+      reports = m.reports ++ r ∷ [];
+      link = Some link;
+    }
+
+module _ (agreed : Agreed) (last : Exchange) (before : List Exchange) (m : Mta) (all : AreProper agreed (last ∷ before)) where
+  abbrev walk : List Exchange
+  walk = last ∷ before
+
+  first-settled : (message : MailObject) (messages : List MailObject) (stage : Stage) (answer : Answer) → stage_of last.command ≡ Some stage
+      → plan.is_of_connection stage ≡ false → m.session.messages ≡ message ∷ messages
+      → settled_at agreed (Some stage) (Some answer) (acted walk) m
+      ≡ reported (report (acted walk) (outcome (has_leading_space agreed) stage answer (kept message (acted walk))) Filter) (next_link agreed walk m.session messages) messages m
+  first-settled message messages stage answer at client e =
+      let session : MailSession = record m.session { messages = messages } in
+      let r = report (acted walk) (outcome (has_leading_space agreed) stage answer (kept message (acted walk))) Filter in
+      let over : is_end stage ≡ is_end_command last.command = sym (end_by_stage last.command ∙ ap end_at at) in
+      ap (λ (b : Bool). if b then settled_all answer.verdict (acted walk) m else settled_first agreed stage answer.edits answer.verdict (acted walk) m) client
+      ∙ ap (λ (ms : List MailObject). settled_in agreed stage answer.edits answer.verdict (acted walk) ms (record m { session = record m.session { messages = ms } })) e
+      ∙ ap (λ (p : Position). reported r (link_at (not (is_end stage)) p) messages m) (next-is agreed walk all session messages)
+      ∙ ap (λ (b : Bool). reported r (link_at (not b) (next_position agreed (opening_of walk) m.session messages)) messages m) over
+
+  -- by the last answer
+  by_last : (message : MailObject) (messages : List MailObject) (o : Outcome) (at : Option Stage) (answer : Option Answer) → stage_of last.command ≡ at
+      → is_of_connection last.command ≡ false → m.session.messages ≡ message ∷ messages
+      → ruled_by (has_leading_space agreed) (kept message (acted walk)) at answer ≡ Some o
+      → settled_at agreed at answer (acted walk) m ≡ reported (report (acted walk) o Filter) (next_link agreed walk m.session messages) messages m
+  by_last message messages o None answer at client e is = absurd cc
+  by_last message messages o (Some stage) None at client e is = absurd cc
+  by_last message messages o (Some stage) (Some answer) at client e is =
+      first-settled message messages stage answer at (sym (client_by_stage last.command stage at) ∙ client) e
+      ∙ ap (λ (found : Outcome). reported (report (acted walk) found Filter) (next_link agreed walk m.session messages) messages m) (same_Some _ o is)
+
+  pub one-settled : (message : MailObject) (messages : List MailObject) (o : Outcome) → ends_with_client walk ≡ false → m.session.messages ≡ message ∷ messages
+      → ruled (has_leading_space agreed) message walk ≡ Some o
+      → settled_by agreed walk m ≡ reported (report (acted walk) o Filter) (next_link agreed walk m.session messages) messages m
+  one-settled message messages o client e is = by_last message messages o (stage_of last.command) last.answer refl client e is
+
+-- ---- every message
+
+-- before there is a message no recipient is answered
+rcpts-by_stage : (at : Option Stage) (answer : Option Answer) (walk : List Exchange) → rank_at at ≤ 2 → rcpt_verdicts (acted_at at answer walk) ≡ []
+rcpts-by_stage None answer walk low = refl
+rcpts-by_stage (Some stage) None walk low = refl
+rcpts-by_stage (Some Connect) (Some answer) walk low = refl
+rcpts-by_stage (Some Helo) (Some answer) walk low = refl
+rcpts-by_stage (Some Mail) (Some answer) walk low = refl
+rcpts-by_stage (Some Rcpt) (Some answer) walk low = absurd (omega (arith, low))
+rcpts-by_stage (Some DataCmd) (Some answer) walk low = refl
+rcpts-by_stage (Some Header) (Some answer) walk low = refl
+rcpts-by_stage (Some Eoh) (Some answer) walk low = refl
+rcpts-by_stage (Some Body) (Some answer) walk low = refl
+rcpts-by_stage (Some Eob) (Some answer) walk low = refl
+
+no_rcpts : (walk : List Exchange) → ReachAtMost 2 (commands_of walk) → rcpt_verdicts (acted walk) ≡ []
+no_rcpts [] below = refl
+no_rcpts (last ∷ before) below =
+    filter_map-append rcpt_verdict (acted before) (acted_at (stage_of last.command) last.answer (last ∷ before))
+    ∙ ap (λ (l : List Verdict). l ++ rcpt_verdicts (acted_at (stage_of last.command) last.answer (last ∷ before))) (no_rcpts before below.1)
+    ∙ rcpts-by_stage (stage_of last.command) last.answer (last ∷ before) below.0
+
+all_recipients : (recipients : List Path) → kept_recipients recipients [] ≡ recipients
+all_recipients [] = refl
+all_recipients (recipient ∷ recipients) = refl
+
+kept-all : (message : MailObject) (walk : List Exchange) → ReachAtMost 2 (commands_of walk) → kept message (acted walk) ≡ message
+kept-all message walk below =
+    ap (λ (l : List Verdict). record message { recipients = kept_recipients message.recipients l }) (no_rcpts walk below)
+    ∙ ap (λ (l : List Path). record message { recipients = l }) (all_recipients message.recipients)
+
+-- a walk that ends with the client has not reached a message
+client-low : (last : Exchange) (before : List Exchange) (stage : Stage) → stage_of last.command ≡ Some stage → is_of_connection last.command ≡ true
+    → AreInOrder (commands_of (last ∷ before)) → ReachAtMost 2 (commands_of (last ∷ before))
+client-low last before stage at client order =
+    let low : rank_of stage ≤ 2 = subst (λ (s : Option Stage). rank_at s ≤ 2) at (low_rank last.command client) in (
+      low_rank last.command client,
+      further (rank_of stage) 2 low (commands_of before) (subst (λ (s : Option Stage). ComeBefore s (commands_of before)) at order.0),
+    )
+
+module _ (agreed : Agreed) (last : Exchange) (before : List Exchange) (m : Mta) (all : IsWalked agreed (last ∷ before)) (outcome_of : MailObject → Outcome)
+    (client : is_of_connection last.command ≡ true) where
+  -- what each message comes to
+  same-outcome : (stage : Stage) (answer : Answer) → stage_of last.command ≡ Some stage → (message : MailObject)
+      → ruled_by (has_leading_space agreed) (kept message (acted (last ∷ before))) (Some stage) (Some answer) ≡ Some (outcome_of message)
+      → at_connection answer.verdict message ≡ outcome_of message
+  same-outcome stage answer at message is =
+      by_stage stage (sym (client_by_stage last.command stage at) ∙ client) (same_Some _ _ is)
+    where
+      whole : kept message (acted (last ∷ before)) ≡ message
+      whole = kept-all message (last ∷ before) (client-low last before stage at client all.in_order)
+
+      by_stage : (s : Stage) → plan.is_of_connection s ≡ true → outcome (has_leading_space agreed) s answer (kept message (acted (last ∷ before))) ≡ outcome_of message
+          → at_connection answer.verdict message ≡ outcome_of message
+      by_stage Connect c e = ap (at_connection answer.verdict) (sym whole) ∙ e
+      by_stage Helo c e = ap (at_connection answer.verdict) (sym whole) ∙ e
+      by_stage Mail c e = absurd (true≢false (sym c))
+      by_stage Rcpt c e = absurd (true≢false (sym c))
+      by_stage DataCmd c e = absurd (true≢false (sym c))
+      by_stage Header c e = absurd (true≢false (sym c))
+      by_stage Eoh c e = absurd (true≢false (sym c))
+      by_stage Body c e = absurd (true≢false (sym c))
+      by_stage Eob c e = absurd (true≢false (sym c))
+
+  client-settled : (stage : Stage) (answer : Answer) → stage_of last.command ≡ Some stage
+      → settled_at agreed (Some stage) (Some answer) (acted (last ∷ before)) m ≡ settled_all answer.verdict (acted (last ∷ before)) m
+  client-settled stage answer at =
+      ap (λ (b : Bool). if b then settled_all answer.verdict (acted (last ∷ before)) m else settled_first agreed stage answer.edits answer.verdict (acted (last ∷ before)) m)
+      (sym (client_by_stage last.command stage at) ∙ client)
+
+  by_client : (message : MailObject) (at : Option Stage) (answer : Option Answer) → stage_of last.command ≡ at
+      → ((each : MailObject) → ruled_by (has_leading_space agreed) (kept each (acted (last ∷ before))) at answer ≡ Some (outcome_of each))
+      → AreAllSettled (last ∷ before) outcome_of m (settled_at agreed at answer (acted (last ∷ before)) m)
+  by_client message None answer at is = let no = is message in absurd cc
+  by_client message (Some stage) None at is = let no = is message in absurd cc
+  by_client message (Some stage) (Some answer) at is =
+      let same : (λ (each : MailObject). report (acted (last ∷ before)) (at_connection answer.verdict each) Connection) ≡ (λ (each : MailObject). report (acted (last ∷ before)) (outcome_of each) Connection) =
+      λ i each. report (acted (last ∷ before)) (same-outcome stage answer at each (is each) i) Connection in
+      subst (λ (n : Mta). AreAllSettled (last ∷ before) outcome_of m n) (sym (client-settled stage answer at))
+      (record {
+        none_left = refl;
+        reported = ap (λ (f : MailObject → Report). m.reports ++ map f m.session.messages) same;
+        quits = refl;
+      })
+
+  pub all-settled : (message : MailObject) → ((each : MailObject) → ruled (has_leading_space agreed) each (last ∷ before) ≡ Some (outcome_of each))
+      → AreAllSettled (last ∷ before) outcome_of m (settled_by agreed (last ∷ before) m)
+  all-settled message is = by_client message (stage_of last.command) last.answer refl is
+
+-- ---- any walk
+
+pub one-settled-walk : (agreed : Agreed) (walk : List Exchange) (m : Mta) (message : MailObject) (messages : List MailObject) (o : Outcome) → AreProper agreed walk
+    → ends_with_client walk ≡ false → m.session.messages ≡ message ∷ messages → ruled (has_leading_space agreed) message walk ≡ Some o
+    → settled_by agreed walk m ≡ reported (report (acted walk) o Filter) (next_link agreed walk m.session messages) messages m
+one-settled-walk agreed [] m message messages o all client e is = absurd cc
+one-settled-walk agreed (last ∷ before) m message messages o all client e is = one-settled agreed last before m all message messages o client e is
+
+pub all-settled-walk : (agreed : Agreed) (walk : List Exchange) (m : Mta) (message : MailObject) (outcome_of : MailObject → Outcome) → IsWalked agreed walk
+    → ends_with_client walk ≡ true → ((each : MailObject) → ruled (has_leading_space agreed) each walk ≡ Some (outcome_of each))
+    → AreAllSettled walk outcome_of m (settled_by agreed walk m)
+all-settled-walk agreed [] m message outcome_of all client is = absurd (true≢false (sym client))
+all-settled-walk agreed (last ∷ before) m message outcome_of all client is = all-settled agreed last before m all outcome_of client message is

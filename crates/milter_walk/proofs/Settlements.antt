@@ -1,0 +1,302 @@
+-- What is settled from one time to another, by a loss or by the last answer of a walk.
+use Rattle.std.specs.Prelude.{if◌then◌else◌}
+use Rattle.std.proofs.Common.{◌≡◌, ◌≢◌, inl, inr, Bool, true, false, List, [], ◌∷◌, ◌++◌, drop, map, is_some, Option, None, Some, refl, sym, ap, ◌∙◌, subst, append-nil, append_assoc}
+use Rattle.std.specs.List.{AllZip}
+use Rattle.std.proofs.lemmas.Bool.{true≢false}
+use Rattle.milter_walk.proofs.Lists.{same-head}
+use Rattle.milter_wire.specs.declared.agreement.Agreed.{Agreed}
+use Rattle.milter_wire.specs.declared.stage.Stage.{Stage}
+use Rattle.milter_wire.specs.Agreement.{has_leading_space}
+use Rattle.milter_wire.specs.Stages.{stage_of}
+use Rattle.milter_wire.specs.declared.command.Command.{Command}
+use Rattle.milter_message.specs.MailObject.{MailObject}
+use Rattle.milter_mail.specs.MailSession.{MailSession}
+use Rattle.milter_mail.specs.Plan.{macros_of, plan}
+use Rattle.milter_mail.specs.Steps.{message_steps}
+use Rattle.milter_exchange.specs.declared.answer.Answer.{Answer}
+use Rattle.milter_exchange.specs.Exchanges.{Exchange, commands_of}
+use Rattle.milter_outcome.specs.declared.acted.Acted.{Acted}
+use Rattle.milter_outcome.specs.declared.loss.By.TheVariants.{Connection, Default, Filter}
+use Rattle.milter_outcome.specs.declared.loss.Loss.{Loss}
+use Rattle.milter_outcome.specs.declared.outcome.Outcome.{Outcome}
+use Rattle.milter_outcome.specs.declared.report.Report.{Report}
+use Rattle.milter_outcome.specs.Acting.{kept}
+use Rattle.milter_outcome.specs.Outcomes.{fallback}
+use Rattle.milter_outcome.specs.Walks.{acted, ruled}
+use Rattle.milter_plan.specs.TalkVerdicts as plan_stages
+use Rattle.milter_plan.specs.TalkVerdicts.{with_verdict}
+use Rattle.milter_mta.specs.Mta.{Configuration, Link, Mta, Position}
+use Rattle.milter_mta.specs.Mta.Position.{Ended, Offering, Quitting, Sending}
+use Rattle.milter_mta.specs.Settling.{acted_at, acted_in, default_report, defaulted, lost, report, settled_all, settled_in}
+use Rattle.milter_walk.specs.AnyFilter.{without_messages, GoesOnWalks, IsLinkOnWalk, IsOnWalk, IsOptionOnWalk, IsPositionOnWalk, IsReportByWalk, SettlesByWalks}
+use Rattle.milter_walk.specs.Order.{IsWalked}
+use Rattle.milter_walk.specs.Settled.{ends_with_client, next_link}
+use Rattle.milter_walk.specs.Walks.{sendable, opening_of, settled_at, settled_by}
+use Rattle.milter_walk.proofs.Openings.{opening-proper, opening-reaches}
+use Rattle.milter_walk.proofs.Ordered.{message-ends, message-ordered, order-before}
+use Rattle.milter_walk.proofs.Settled.{all-settled-walk, one-settled-walk, reported}
+use Rattle.milter_walk.proofs.SettledSessions.{or_none, some-is}
+use Rattle.milter_walk.specs.Beginnings.{IsSentOf}
+use Rattle.milter_walk.proofs.SentParts.{sent-next-walk, sent-other-walk, sent-start}
+use Rattle.milter_walk.proofs.LeftToSend.{kept-end, kept-order, sendable-twice}
+
+pub not_owed : {A : Type 0} → false ≡ true → A
+not_owed e = absurd (true≢false (sym e))
+
+-- ---- what is settled from one time to another
+
+pub nothing-settled : (old new : Mta) → new.session.messages ≡ old.session.messages → new.reports ≡ old.reports → new.config ≡ old.config
+    → without_messages new.session ≡ without_messages old.session → SettlesByWalks old new
+nothing-settled old new messages reports config session =
+    record {
+      settled = [];
+      added = [];
+      messages_are = sym messages;
+      reports_are = reports ∙ sym (append-nil old.reports);
+      by_walks = tt;
+      same_config = config;
+      same_session = session;
+    }
+
+zip-append : (P : MailObject → Report → Type 0) (xs more : List MailObject) (rs others : List Report) → AllZip P xs rs → AllZip P more others → AllZip P (xs ++ more) (rs ++ others)
+zip-append P [] more [] others all next = next
+zip-append P (x ∷ xs) more (r ∷ rs) others all next = (all.0, zip-append P xs more rs others all.1 next)
+zip-append P [] more (r ∷ rs) others all next = absurd all
+zip-append P (x ∷ xs) more [] others all next = absurd all
+
+settles-on : (a b c : Mta) → SettlesByWalks a b → SettlesByWalks b c → SettlesByWalks a c
+settles-on a b c first next =
+    record {
+      settled = first.settled ++ next.settled;
+      added = first.added ++ next.added;
+      messages_are = first.messages_are ∙ ap (λ (l : List MailObject). first.settled ++ l) next.messages_are ∙ sym (append_assoc first.settled next.settled c.session.messages);
+      reports_are = next.reports_are ∙ ap (λ (l : List Report). l ++ next.added) first.reports_are ∙ append_assoc a.reports first.added next.added;
+      by_walks = zip-append (IsReportByWalk (without_messages a.session) a.config.on_loss) first.settled next.settled first.added next.added first.by_walks
+          (subst (λ (k : Configuration). AllZip (IsReportByWalk (without_messages a.session) k.on_loss) next.settled next.added) first.same_config
+          (subst (λ (s : MailSession). AllZip (IsReportByWalk s b.config.on_loss) next.settled next.added) first.same_session next.by_walks));
+      same_config = next.same_config ∙ first.same_config;
+      same_session = next.same_session ∙ first.same_session;
+    }
+
+pub goes-on : (a b c : Mta) → GoesOnWalks a b → GoesOnWalks b c → GoesOnWalks a c
+goes-on a b c first next = record { on_walk = next.on_walk; settles = settles-on a b c first.settles next.settles }
+
+-- ---- a loss
+
+module _ (m : Mta) (loss : Loss) where
+  any_agreed : Agreed
+  any_agreed = record { options = m.config.offer; lists = [] }
+
+  -- the verdicts that were acted on are a walk's
+  record Verdicts (verdicts : List Acted) : Type 0 where
+    agreed : Agreed
+    walk : List Exchange
+    walked_is : IsWalked agreed walk
+    verdicts_are : verdicts ≡ acted walk
+    of_plan : (message : MailObject) (others : List MailObject) → m.session.messages ≡ message ∷ others
+        → (left : List Command) × IsSentOf (plan agreed (without_messages m.session) message) walk left
+
+  -- before anything was sent of it
+  nothing_acted : Verdicts []
+  nothing_acted =
+      record {
+        agreed = any_agreed;
+        walk = [];
+        walked_is = record { proper = tt; in_order = tt };
+        verdicts_are = refl;
+        of_plan = λ message others e. (plan any_agreed (without_messages m.session) message, sent-start (plan any_agreed (without_messages m.session) message));
+      }
+
+  at-position : (position : Position) → IsPositionOnWalk (without_messages m.session) m.session.messages position → Verdicts (acted_at position)
+  at-position Offering on = nothing_acted
+  at-position Quitting on = nothing_acted
+  at-position Ended on = nothing_acted
+  at-position (Sending agreed verdicts es left) on =
+      let is = on.0 in
+      record {
+        agreed = agreed;
+        walk = is.walk;
+        walked_is = record { proper = is.is_walk.proper; in_order = order-before left (commands_of is.walk) is.is_walk.in_order };
+        verdicts_are = is.verdicts_are;
+        of_plan = λ message others e. (left, is.of_plan message others e);
+      }
+
+  in-link : (link : Option Link) → IsOptionOnWalk (without_messages m.session) m.session.messages link → Verdicts (acted_in link)
+  in-link None on = nothing_acted
+  in-link (Some link) on = at-position link.position on.position
+
+  abbrev lost_with : List Acted → List MailObject → Mta
+  lost_with verdicts messages = record (defaulted loss verdicts messages m) { link = None }
+
+  by_messages : (messages : List MailObject) (verdicts : List Acted) → m.session.messages ≡ messages → Verdicts verdicts → SettlesByWalks m (lost_with verdicts messages)
+  by_messages [] verdicts e is = nothing-settled m (lost_with verdicts []) refl refl refl refl
+  by_messages (message ∷ messages) verdicts e is =
+      record {
+        settled = message ∷ [];
+        added = default_report m.config.on_loss loss message verdicts ∷ [];
+        messages_are = e ∙ ap (λ (l : List MailObject). message ∷ drop 1 l) (sym e);
+        reports_are = refl;
+        by_walks = (
+          inr (record {
+            agreed = is.agreed;
+            walk = is.walk;
+            left = (is.of_plan message messages e).0;
+            walked = is.walked_is;
+            of_plan = (is.of_plan message messages e).1;
+            loss = loss;
+            report_is = ap (λ (a : List Acted). report a (fallback m.config.on_loss (kept message a)) (Default loss)) is.verdicts_are;
+          }),
+          tt,
+        );
+        same_config = refl;
+        same_session = refl;
+      }
+
+  no_link : (messages : List MailObject) (verdicts : List Acted) → IsOnWalk (lost_with verdicts messages)
+  no_link [] verdicts = tt
+  no_link (message ∷ messages) verdicts = tt
+
+  pub lost-goes : IsOnWalk m → GoesOnWalks m (lost loss m)
+  lost-goes on =
+      record {
+        on_walk = no_link m.session.messages (acted_in m.link);
+        settles = by_messages m.session.messages (acted_in m.link) refl (in-link m.link on);
+      }
+
+-- ---- by the last answer of a walk
+
+abbrev SameParts : Mta → Mta → Type 0
+SameParts new old = (new.config ≡ old.config) × (without_messages new.session ≡ without_messages old.session)
+
+same-parts : (agreed : Agreed) (walk : List Exchange) (m : Mta) → SameParts (settled_by agreed walk m) m
+same-parts agreed [] m = (refl, refl)
+same-parts agreed (last ∷ before) m = by_stage (stage_of last.command) last.answer
+  where
+    by_messages : (stage : Stage) (answer : Answer) (messages : List MailObject)
+        → SameParts (settled_in agreed stage answer.edits answer.verdict (acted (last ∷ before)) messages m) m
+    by_messages stage answer [] = (refl, refl)
+    by_messages stage answer (message ∷ messages) = (refl, refl)
+
+    by_client : (stage : Stage) (answer : Answer) (client : Bool)
+        → SameParts (if client then settled_all answer.verdict (acted (last ∷ before)) m
+        else settled_in agreed stage answer.edits answer.verdict (acted (last ∷ before)) m.session.messages m) m
+    by_client stage answer true = (refl, refl)
+    by_client stage answer false = by_messages stage answer m.session.messages
+
+    by_stage : (at : Option Stage) (answer : Option Answer) → SameParts (settled_at agreed at answer (acted (last ∷ before)) m) m
+    by_stage None answer = (refl, refl)
+    by_stage (Some stage) None = (refl, refl)
+    by_stage (Some stage) (Some answer) = by_client stage answer (plan_stages.is_of_connection stage)
+
+zip-map : (P : MailObject → Report → Type 0) (f : MailObject → Report) (xs : List MailObject) → ((x : MailObject) → P x (f x)) → AllZip P xs (map f xs)
+zip-map P f [] all = tt
+zip-map P f (x ∷ xs) all = (all x, zip-map P f xs all)
+
+-- a walk that ended settles what it rules
+module _ (agreed : Agreed) (w : List Exchange) (m : Mta) (all : IsWalked agreed w) (some : m.session.messages ≢ [])
+    (rules : (each : MailObject) → is_some (ruled (has_leading_space agreed) each w) ≡ true)
+    (of_plan : (message : MailObject) (others : List MailObject) → m.session.messages ≡ message ∷ others
+    → (left : List Command) × IsSentOf (plan agreed (without_messages m.session) message) w left) where
+  abbrev outcome_of : MailObject → Outcome
+  outcome_of each = or_none (ruled (has_leading_space agreed) each w)
+
+  is_ruled : (each : MailObject) → ruled (has_leading_space agreed) each w ≡ Some (outcome_of each)
+  is_ruled each = some-is (ruled (has_leading_space agreed) each w) (rules each)
+
+  ruled-report : (each : MailObject) (client : Bool) → ends_with_client w ≡ client
+      → (left : List Command) × IsSentOf (plan agreed (without_messages m.session) each) w left
+      → IsReportByWalk (without_messages m.session) m.config.on_loss each (report (acted w) (outcome_of each) (if client then Connection else Filter))
+  ruled-report each client e sent =
+      inl (record {
+        agreed = agreed;
+        walk = w;
+        left = sent.0;
+        walked = all;
+        of_plan = sent.1;
+        outcome = outcome_of each;
+        ruled_is = is_ruled each;
+        report_is = ap (λ (k : Bool). report (acted w) (outcome_of each) (if k then Connection else Filter)) (sym e);
+      })
+
+  by_client : (message : MailObject) (messages : List MailObject) → m.session.messages ≡ message ∷ messages → ends_with_client w ≡ true
+      → GoesOnWalks m (settled_by agreed w m)
+  by_client message messages e client =
+      let n = settled_by agreed w m in
+      let is = all-settled-walk agreed w m message outcome_of all client is_ruled in
+      let f : MailObject → Report = λ each. report (acted w) (outcome_of each) Connection in
+      record {
+        on_walk = subst (IsOptionOnWalk (without_messages n.session) n.session.messages) (sym is.quits) (record { position = tt; asked = λ o. not_owed o });
+        settles = record {
+          settled = m.session.messages;
+          added = map f m.session.messages;
+          messages_are = sym (ap (λ (l : List MailObject). m.session.messages ++ l) is.none_left ∙ append-nil m.session.messages);
+          reports_are = is.reported;
+          by_walks = zip-map (IsReportByWalk (without_messages m.session) m.config.on_loss) f m.session.messages
+              (λ each. ruled-report each true client
+              (sent-other-walk agreed (without_messages m.session) message w (of_plan message messages e).0 (of_plan message messages e).1 client each));
+          same_config = (same-parts agreed w m).0;
+          same_session = (same-parts agreed w m).1;
+        };
+      }
+
+  some_walk : MailObject → w ≢ []
+  some_walk message none = true≢false (sym (rules message) ∙ ap (λ (z : List Exchange). is_some (ruled (has_leading_space agreed) message z)) none)
+
+  -- the next message begins after the exchanges about the client
+  next-on : (settled : MailObject) (messages : List MailObject) → m.session.messages ≡ settled ∷ messages → ends_with_client w ≡ false
+      → IsLinkOnWalk (without_messages m.session) messages (next_link agreed w m.session messages)
+  next-on settled [] e client = record { position = tt; asked = λ o. not_owed o }
+  next-on settled (message ∷ messages) e client =
+      let steps = message_steps agreed (macros_of agreed m.session) message in
+      let o = opening_of w in
+      record {
+        position = (
+          record {
+            walk = o;
+            is_walk = record {
+              proper = opening-proper agreed w all.proper;
+              in_order = kept-order o steps (commands_of o) (message-ordered agreed m.session message (commands_of o) (opening-reaches w all.in_order));
+              ends = kept-end o steps (message-ends agreed (macros_of agreed m.session) message);
+            };
+            is_sendable = sendable-twice o steps;
+            verdicts_are = refl;
+            of_plan = λ next others is.
+                subst (λ (x : MailObject). IsSentOf (plan agreed (without_messages m.session) x) o (sendable o steps)) (same-head message next messages others is)
+                (sent-next-walk agreed (without_messages m.session) settled w (of_plan settled (message ∷ messages) e).0 (of_plan settled (message ∷ messages) e).1 client
+                (some_walk settled) all.proper message);
+          },
+          λ none. absurd cc,
+        );
+        asked = λ owed. not_owed owed;
+      }
+
+  by_message : (message : MailObject) (messages : List MailObject) → m.session.messages ≡ message ∷ messages → ends_with_client w ≡ false
+      → GoesOnWalks m (settled_by agreed w m)
+  by_message message messages e client =
+      let r = report (acted w) (outcome_of message) Filter in
+      let n = reported r (next_link agreed w m.session messages) messages m in
+      subst (GoesOnWalks m) (sym (one-settled-walk agreed w m message messages (outcome_of message) all.proper client e (is_ruled message)))
+      (record {
+        on_walk = next-on message messages e client;
+        settles = record {
+          settled = message ∷ [];
+          added = r ∷ [];
+          messages_are = e;
+          reports_are = refl;
+          by_walks = (ruled-report message false client (of_plan message messages e), tt);
+          same_config = refl;
+          same_session = refl;
+        };
+      })
+
+  pub settled-goes : GoesOnWalks m (settled_by agreed w m)
+  settled-goes = by_messages m.session.messages refl
+    where
+      by_end : (message : MailObject) (messages : List MailObject) → m.session.messages ≡ message ∷ messages → (client : Bool) → ends_with_client w ≡ client
+          → GoesOnWalks m (settled_by agreed w m)
+      by_end message messages e true client = by_client message messages e client
+      by_end message messages e false client = by_message message messages e client
+
+      by_messages : (messages : List MailObject) → m.session.messages ≡ messages → GoesOnWalks m (settled_by agreed w m)
+      by_messages [] e = absurd (some e)
+      by_messages (message ∷ messages) e = by_end message messages e (ends_with_client w) refl

@@ -1,0 +1,22 @@
+use Rattle.milter_walk.proofs.AnyFilter.{advanced-goes, dialled-goes, heard-goes, sent-goes}
+use Rattle.milter_walk.proofs.Settlements.{lost-goes}
+use Rattle.milter_walk.proofs.any_filter.messages_are_settled_by_walks.Goals as goal
+
+pub returns-clause-fresh : goal.returns-clause-fresh
+returns-clause-fresh c config session = tt
+
+pub returns-clause-dialled : goal.returns-clause-dialled
+returns-clause-dialled c m on = dialled-goes m on
+
+pub returns-clause-advanced : goal.returns-clause-advanced
+returns-clause-advanced c m on = advanced-goes m on
+
+pub returns-clause-sent : goal.returns-clause-sent
+returns-clause-sent c m count on = sent-goes m count on
+
+pub returns-clause-heard : goal.returns-clause-heard
+returns-clause-heard c m bytes on =
+    heard-goes (λ agreed stage weight reply verdict e. c.heard_replies.ensures.verdict agreed stage weight reply verdict e) m bytes on
+
+pub returns-clause-lost : goal.returns-clause-lost
+returns-clause-lost c m loss on = lost-goes m loss on

@@ -1,0 +1,19 @@
+use Rattle.std.proofs.Common.{refl}
+use Rattle.milter_exchange.specs.Talk.{talk}
+use Rattle.milter_walk.proofs.rows.outcomes_of_sessions.Goals as goal
+
+pub returns-clause-passed : goal.returns-clause-passed
+unfolding talk
+returns-clause-passed c = refl
+
+pub returns-clause-discarded : goal.returns-clause-discarded
+unfolding talk
+returns-clause-discarded c = refl
+
+pub returns-clause-refused : goal.returns-clause-refused
+unfolding talk
+returns-clause-refused c = refl
+
+pub returns-clause-none_left : goal.returns-clause-none_left
+unfolding talk
+returns-clause-none_left c = refl
