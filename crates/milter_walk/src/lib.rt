@@ -1,6 +1,6 @@
-//! Laws of a mail server's end over whole talks. Whatever a filter sends, each message is settled once, by a walk
-//! through its plan or by default after one; against a lawful filter what is sent and what a message comes to is the
-//! talk with that filter.
+//! Laws of a mail server's end over whole talks. Whatever a filter sends, a message is settled at most once, by a
+//! walk through its plan or by default after one; against a lawful filter what is sent and what a message comes to is
+//! the talk with that filter.
 //!
 //! Nothing here is run: each law is the contract of a function that does nothing.
 #![tactic(auto)]
