@@ -40,7 +40,7 @@ use Rattle.milter_mta.specs.declared.want.Want.TheVariants as wants
 use Rattle.milter_mta.specs.Mta.{Link, Mta, Position, at_packet}
 use Rattle.milter_mta.specs.Mta.Position.{Ended, Offering, Quitting, Sending}
 use Rattle.milter_mta.specs.Receiving.{agreed_on, at, byte_at, fails, framed, heard, heard_at, heard_on, opening_position, replied, replied_at, ruled_on, unread_is}
-use Rattle.milter_mta.specs.Sending.{advanced, advanced_in, after_packet, asks_at, dialled, dialled_if, finished, made, sent, sent_from, sent_in, sent_of, want}
+use Rattle.milter_mta.specs.Sending.{advanced, advanced_in, after_packet, asks_at, dialled, dialled_if, finished, made, sent, sent_from, sent_in, sent_of, want, want_at, want_if_owed, want_in, want_unlinked}
 use Rattle.milter_walk.specs.AnyFilter.{without_messages, GoesOnWalks, IsAfterWalk, IsLinkOnWalk, IsOnWalk, IsOptionOnWalk, IsPositionOnWalk}
 use Rattle.milter_walk.specs.Order.{AreInOrder, AreProper, is_end_command}
 use Rattle.milter_walk.specs.Walks.{sendable, at_walk}
@@ -96,8 +96,8 @@ advanced-goes m on = by_link m.link on
 after-position : (s : MailSession) (messages : List MailObject) (position : Position) → asks_at position ≡ false → IsPositionOnWalk s messages position
     → IsPositionOnWalk s messages (after_packet position)
 after-position s messages Offering asks on = tt
-after-position s messages Quitting asks on = tt
-after-position s messages Ended asks on = tt
+after-position s messages Quitting asks on = on
+after-position s messages Ended asks on = on
 after-position s messages (Sending agreed verdicts es []) asks on = not_owed on.0.is_walk.ends
 after-position s messages (Sending agreed verdicts es (command ∷ left)) asks on =
     let is = on.0 in
@@ -256,7 +256,7 @@ module _ (given : GivenVerdicts) (m : Mta) (on : IsOnWalk m) where
       heard_at-goes agreed stage verdicts es left reply (reply_heard agreed stage (weight_of_all es) reply) refl first walk some asks
 
   opened-on : (agreed : Agreed) (messages : List MailObject) → IsLinkOnWalk (without_messages m.session) messages (at_packet (opening_position agreed m.session messages))
-  opened-on agreed [] = record { position = tt; asked = λ owed. not_owed owed }
+  opened-on agreed [] = record { position = refl; asked = λ owed. not_owed owed }
   opened-on agreed (message ∷ messages) =
       record {
         position = (
@@ -326,3 +326,29 @@ heard-on-goes given (byte ∷ bytes) m None on =
 
 pub heard-goes : GivenVerdicts → (m : Mta) (bytes : List ℕ) → IsOnWalk m → GoesOnWalks m (heard m bytes).mta
 heard-goes given m bytes on = heard-on-goes given bytes m None on
+
+-- ---- at the end
+
+-- nothing is left to be done only where every message is settled
+pub done-settles : (m : Mta) → IsOnWalk m → want m ≡ wants.Done → m.session.messages ≡ []
+done-settles m on e = by_link m.link on e
+  where
+    unlinked : (messages : List MailObject) → want_unlinked messages ≡ wants.Done → messages ≡ []
+    unlinked [] e = refl
+    unlinked (message ∷ messages) e = absurd cc
+
+    unless_owed : {A : Type 0} (owed : Bool) → want_if_owed owed ≡ wants.Done → A
+    unless_owed true e = absurd cc
+    unless_owed false e = absurd cc
+
+    by_position : (messages : List MailObject) (aborts : Bool) (position : Position) (owed : Bool) → IsPositionOnWalk (without_messages m.session) messages position
+        → want_at aborts position owed ≡ wants.Done → messages ≡ []
+    by_position messages false Ended owed on e = on
+    by_position messages false Offering owed on e = unless_owed owed e
+    by_position messages false Quitting owed on e = unless_owed owed e
+    by_position messages false (Sending agreed verdicts es left) owed on e = unless_owed owed e
+    by_position messages true position owed on e = unless_owed owed e
+
+    by_link : (link : Option Link) → IsOptionOnWalk (without_messages m.session) m.session.messages link → want_in link m.session.messages ≡ wants.Done → m.session.messages ≡ []
+    by_link None on e = unlinked m.session.messages e
+    by_link (Some link) on e = by_position m.session.messages link.aborts link.position link.owed on.position e

@@ -58,6 +58,9 @@ nothing-settled old new messages reports config session =
       same_session = session;
     }
 
+pub stays : (m : Mta) → IsOnWalk m → GoesOnWalks m m
+stays m on = record { on_walk = on; settles = nothing-settled m m refl refl refl refl }
+
 zip-append : (P : MailObject → Report → Type 0) (xs more : List MailObject) (rs others : List Report) → AllZip P xs rs → AllZip P more others → AllZip P (xs ++ more) (rs ++ others)
 zip-append P [] more [] others all next = next
 zip-append P (x ∷ xs) more (r ∷ rs) others all next = (all.0, zip-append P xs more rs others all.1 next)
@@ -225,7 +228,7 @@ module _ (agreed : Agreed) (w : List Exchange) (m : Mta) (all : IsWalked agreed 
       let is = all-settled-walk agreed w m message outcome_of all client is_ruled in
       let f : MailObject → Report = λ each. report (acted w) (outcome_of each) Connection in
       record {
-        on_walk = subst (IsOptionOnWalk (without_messages n.session) n.session.messages) (sym is.quits) (record { position = tt; asked = λ o. not_owed o });
+        on_walk = subst (IsOptionOnWalk (without_messages n.session) n.session.messages) (sym is.quits) (record { position = is.none_left; asked = λ o. not_owed o });
         settles = record {
           settled = m.session.messages;
           added = map f m.session.messages;
@@ -245,7 +248,7 @@ module _ (agreed : Agreed) (w : List Exchange) (m : Mta) (all : IsWalked agreed 
   -- the next message begins after the exchanges about the client
   next-on : (settled : MailObject) (messages : List MailObject) → m.session.messages ≡ settled ∷ messages → ends_with_client w ≡ false
       → IsLinkOnWalk (without_messages m.session) messages (next_link agreed w m.session messages)
-  next-on settled [] e client = record { position = tt; asked = λ o. not_owed o }
+  next-on settled [] e client = record { position = refl; asked = λ o. not_owed o }
   next-on settled (message ∷ messages) e client =
       let steps = message_steps agreed (macros_of agreed m.session) message in
       let o = opening_of w in

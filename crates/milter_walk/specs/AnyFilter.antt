@@ -19,7 +19,7 @@ use Rattle.milter_outcome.specs.declared.report.Report.{Report}
 use Rattle.milter_outcome.specs.Walks.{acted, given_up, ruled}
 use Rattle.milter_plan.specs.TalkVerdicts.{last_verdict}
 use Rattle.milter_mta.specs.Mta.{Link, Mta, Position}
-use Rattle.milter_mta.specs.Mta.Position.{Sending}
+use Rattle.milter_mta.specs.Mta.Position.{Offering, Sending, Quitting, Ended}
 use Rattle.milter_mta.specs.Sending.{asks_at}
 use Rattle.milter_mta.specs.Settling.{report}
 use Rattle.milter_walk.specs.Beginnings.{IsSentOf}
@@ -43,11 +43,13 @@ pub record IsAfterWalk (s : MailSession) (messages : List MailObject) (agreed : 
   pub of_plan : (message : MailObject) (others : List MailObject) → messages ≡ message ∷ others →
       IsSentOf (plan agreed s message) walk left
 
--- a message isn't settled while its commands are sent
+-- a message isn't settled while its commands are sent, and each is at the end of the connection
 abbrev pub IsPositionOnWalk : MailSession → List MailObject → Position → Type 0
+IsPositionOnWalk s messages Offering = Unit {0}
 IsPositionOnWalk s messages (Sending agreed verdicts edits left) =
     IsAfterWalk s messages agreed verdicts left × (messages ≢ [])
-IsPositionOnWalk s messages other = Unit {0}
+IsPositionOnWalk s messages Quitting = messages ≡ []
+IsPositionOnWalk s messages Ended = messages ≡ []
 
 -- a reply is owed to what is asked about alone
 pub record IsLinkOnWalk (s : MailSession) (messages : List MailObject) (link : Link) : Type 0 where

@@ -1,5 +1,5 @@
-use Rattle.milter_walk.proofs.AnyFilter.{advanced-goes, dialled-goes, heard-goes, sent-goes}
-use Rattle.milter_walk.proofs.Settlements.{lost-goes}
+use Rattle.milter_walk.proofs.AnyFilter.{advanced-goes, dialled-goes, done-settles, heard-goes, sent-goes}
+use Rattle.milter_walk.proofs.Settlements.{goes-on, lost-goes, stays}
 use Rattle.milter_walk.proofs.any_filter.messages_are_settled_by_walks.Goals as goal
 
 pub returns-clause-fresh : goal.returns-clause-fresh
@@ -20,3 +20,12 @@ returns-clause-heard c m bytes on =
 
 pub returns-clause-lost : goal.returns-clause-lost
 returns-clause-lost c m loss on = lost-goes m loss on
+
+pub returns-clause-stays : goal.returns-clause-stays
+returns-clause-stays c m on = stays m on
+
+pub returns-clause-goes_on : goal.returns-clause-goes_on
+returns-clause-goes_on c old between new first next = goes-on old between new first next
+
+pub returns-clause-done : goal.returns-clause-done
+returns-clause-done c m on e = done-settles m on e
