@@ -1,0 +1,6 @@
+mod Walked
+mod Stepping
+mod Linked
+mod Turning
+mod Dialled
+mod Conversed

@@ -1,0 +1,25 @@
+//! Laws of a mail server's end that is driven over connections, each the contract of a function that does nothing.
+
+ghost use Rattle.std.specs.Prelude.{List};
+ghost use Rattle.milter_mta.specs.Mta.{Mta};
+ghost use Rattle.milter_walk.specs.AnyFilter.{ConnectionIsReported, GoesOnWalks, IsOnWalk};
+ghost use Rattle.milter_converse.specs.Events.{Event, Runs};
+
+use milter_walk::{connections_are_reported, messages_are_settled_by_walks};
+
+/// Whatever happens to it, the verdicts that a mail server's end acts on are those of a walk through the plan of the
+/// message that is sent, and each report is by a walk through its message's plan.
+pub fn events_keep_to_walks()
+    ensures { (old new : Mta) (events : List Event) → IsOnWalk old → Runs old events new → GoesOnWalks old new }
+{
+    messages_are_settled_by_walks();
+}
+
+/// Whatever happens to it, there is a verdict on the connection exactly where it settled messages.
+pub fn events_report_connections()
+    ensures { (old new : Mta) (events : List Event) → IsOnWalk old → ConnectionIsReported old → Runs old events new →
+        ConnectionIsReported new }
+{
+    messages_are_settled_by_walks();
+    connections_are_reported();
+}

@@ -1,0 +1,17 @@
+//! A mail server's end of the Sendmail milter protocol over connections that fail.
+//!
+//! [`converse`] plays a session to filters over links that a [`Dial`] makes, and settles every message: by what a
+//! filter answers, or by default where it is lost. The core that it drives, and what it answers with, are those of
+//! `milter_mta`, which this crate re-exports.
+#![tactic(auto)]
+
+mod conversing;
+mod dialling;
+mod driving;
+mod laws;
+mod link_calls;
+
+pub use conversing::converse;
+pub use dialling::{Dial, DialFault};
+pub use laws::{events_keep_to_walks, events_report_connections};
+pub use milter_mta::{Config, MtaCore, Reports, Want};
