@@ -1,0 +1,2 @@
+pub mod ReportsText
+pub mod Worked
