@@ -1,40 +1,21 @@
 -- The reading of files and the printing of what they have.
 use Rattle.std.proofs.Common.{◌≡◌, ℕ, ◌+◌, ◌≤◌, List, length, take, Option, None, Some, IfSome, sym, ap, subst, ◌∙◌, arith}
-use Rattle.std.specs.Io.KnownBytes.{Appends}
 use Rattle.std.specs.Prelude.{option_map}
 use Rattle.std.proofs.lemmas.List.{length-take, take_all}
-use Rattle.milter_text.specs.declared.text_fault.TextFault.{TextFault}
-use Rattle.milter_text.specs.declared.text_fault.TextFault.TheVariants as texts
 use Rattle.milter_cli.specs.declared.file_error.InputFile.{InputFile}
-use Rattle.milter_cli.specs.FileRun.{Has, HasNone, IsFileFault, WritesCanonical, fault_error, text_error}
-
-pub text_error-none : (f : TextFault) → IsFileFault (text_error f) → ⊥
-text_error-none texts.Write h = h
-text_error-none texts.NoMemory h = h
+use Rattle.milter_cli.specs.FileRun.{HasNone, IsFileFault, fault_error}
 
 -- a fault without a line is no fault of the file
 pub fault_error-none : (file : InputFile) (line : Option ℕ) (number : ℕ) → IsFileFault (fault_error file line number) → line ≡ None → ⊥
 fault_error-none file line number h is = subst (λ (x : Option ℕ). IsFileFault (fault_error file x number)) is h
 
 module _ {V : Type 0} (IsFile : List ℕ → V → Type 0) (input : Option (List ℕ)) (file : List ℕ) where
-  pub has : (v : V) → IfSome input (λ bytes. file ≡ bytes) → IsFile file v → Has IsFile input v
-  has v is read = go input is
-    where
-      go : (i : Option (List ℕ)) → IfSome i (λ bytes. file ≡ bytes) → Has IsFile i v
-      go None is = tt
-      go (Some bytes) is = subst (λ (x : List ℕ). IsFile x v) is read
-
   pub has_none : IfSome input (λ bytes. file ≡ bytes) → ((v : V) → IsFile file v → ⊥) → HasNone IsFile input
   has_none is none = go input is
     where
       go : (i : Option (List ℕ)) → IfSome i (λ bytes. file ≡ bytes) → HasNone IsFile i
       go None is = tt
       go (Some bytes) is = λ v read. none v (subst (λ (x : List ℕ). IsFile x v) (sym is) read)
-
-pub canonical : {V : Type 0} (IsFile : List ℕ → V → Type 0) (text : V → List ℕ) (input before after : Option (List ℕ)) (v : V) → Has IsFile input v → Appends before after (text v)
-    → WritesCanonical IsFile text input before after
-canonical IsFile text None before after v h a = tt
-canonical IsFile text (Some bytes) before after v h a = (v, h, a)
 
 pub whole_file : (limit : ℕ) (input : Option (List ℕ)) (items : List ℕ) → IfSome (option_map (take limit) input) (λ xs. items ≡ xs) → length items + 1 ≤ limit
     → IfSome input (λ bytes. items ≡ bytes)

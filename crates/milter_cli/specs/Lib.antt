@@ -1,6 +1,5 @@
-pub mod Address
 pub mod AnswerRun
-pub mod CommandLine
 pub mod FileRun
 pub mod Filtering
+pub mod Playing
 pub mod ToolError

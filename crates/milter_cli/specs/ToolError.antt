@@ -12,14 +12,14 @@ use Rattle.milter_text.specs.declared.text_fault.TextFault.{TextFault}
 use Rattle.milter_text.specs.declared.text_fault.TextFault.TheVariants as texts
 use Rattle.milter_trace.specs.FaultText.{fault_text}
 use Rattle.milter_cli.specs.declared.tool_error.ToolError.{ToolError}
-use Rattle.milter_cli.specs.declared.tool_error.ToolError.TheVariants.{Usage, NotUtf8, BadAddress, Trace, File, Answer}
+use Rattle.milter_cli.specs.declared.tool_error.ToolError.TheVariants.{Usage, Trace, File, Answer}
 use Rattle.milter_cli.specs.declared.tool_error.ToolError.TheVariants.{Listen, Write, NoMemory}
+use Rattle.milter_request.specs.UsageError.{usage_lines}
+use Rattle.milter_request.specs.declared.usage_error.UsageError.TheVariants.{CommandLine, NotUtf8}
 
--- a wrong use of the command line, or a fault
+-- a wrong use of the program, or a fault
 abbrev pub error_status : ToolError → ℕ
 error_status (Usage error) = 2
-error_status NotUtf8 = 2
-error_status BadAddress = 2
 error_status (Trace fault) = 1
 error_status (File error) = 1
 error_status (Answer error) = 1
@@ -34,11 +34,9 @@ status_of (Err error) = error_status error
 abbrev pub line : List ℕ → List ℕ
 line text = text ++ 10 ∷ []
 
--- what standard error gets: the text that explains a wrong use is not stated
+-- what standard error gets
 abbrev pub error_lines : ToolError → Option (List ℕ)
-error_lines (Usage error) = None
-error_lines NotUtf8 = Some (line (codes "error: invalid UTF-8 was detected in one or more arguments"))
-error_lines BadAddress = Some (line (codes "bad address"))
+error_lines (Usage error) = usage_lines error
 error_lines (Trace fault) = option_map line (fault_text fault)
 error_lines (File error) = Some (line (file_error_text error))
 error_lines (Answer error) = Some (line (answer_error_text error))
@@ -49,7 +47,7 @@ error_lines NoMemory = Some (line (codes "out of memory"))
 -- arguments are not read where memory is refused, or where one isn't UTF-8
 abbrev pub argument_error : IoKind → ToolError
 argument_error io.OutOfMemory = NoMemory
-argument_error _ = NotUtf8
+argument_error _ = Usage NotUtf8
 
 -- a socket isn't bound where memory is refused, or where the system fails
 abbrev pub listen_error : IoKind → ToolError
@@ -72,4 +70,4 @@ abbrev pub EndsBy : ErrorKind → Error → Result Unit ToolError → Type 0
 EndsBy DisplayHelp error result = IfErr result (λ e. e ≡ Write)
 EndsBy DisplayVersion error result = IfErr result (λ e. e ≡ Write)
 EndsBy OutOfMemory error result = result ≡ Err NoMemory
-EndsBy _ error result = result ≡ Err (Usage error)
+EndsBy _ error result = result ≡ Err (Usage (CommandLine error))

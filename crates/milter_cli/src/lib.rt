@@ -1,27 +1,27 @@
-//! The commands of `milter_tool`: its command line, the printing of session files and of rule files, the answering to
-//! mail servers over any reader and writer and over sockets, and how the program ends.
+//! What `milter_tool` does: the printing of session files and of rule files, the answering to mail servers over any
+//! reader and writer and over sockets, the playing of sessions to filters over sockets, and how the program ends. What
+//! it is asked for is read by `milter_request`.
 #![tactic(auto)]
 
-mod address;
 mod answer_error;
 mod answering;
-mod command_line;
 mod connection_report;
+mod dialling;
 mod file_error;
 mod file_reading;
 mod filtering;
-mod help_text;
+mod playing;
 mod rules_run;
 mod session_run;
 mod tool_error;
 
-pub use address::Address;
 pub use answer_error::{AnswerError, ended_as};
 pub use answering::answer_run;
-pub use command_line::{Request, parse};
 pub use connection_report::ConnectionReport;
+pub use dialling::{TcpDial, UnixDial};
 pub use file_error::{FileError, InputFile, read_error};
 pub use filtering::{Connections, filter_run};
+pub use playing::mta_run;
 pub use rules_run::{load_rules, print_rules};
-pub use session_run::print_session;
+pub use session_run::{load_session, print_session};
 pub use tool_error::{ToolError, argument_error, end_usage, listen_error, output_error, report};

@@ -8,6 +8,7 @@ ghost use Rattle.milter_cli.specs.ToolError.{EndsBy, IsShown, argument_error, er
 use crate::answer_error::AnswerError;
 use crate::file_error::FileError;
 use clap::error::ErrorKind;
+use milter_request::UsageError;
 use milter_text::TextFault;
 use milter_trace::TraceFault;
 use std::error::Error;
@@ -18,12 +19,8 @@ use std::process::ExitCode;
 /// Why the program did not do what it was asked. The text of each is what it writes on standard error: whole lines.
 #[derive(Debug, Drop)]
 pub enum ToolError {
-    /// A wrong command line, and the text that explains it.
-    Usage(clap::Error),
-    /// An argument isn't UTF-8.
-    NotUtf8,
-    /// A text that names no address.
-    BadAddress,
+    /// A wrong use of the program.
+    Usage(UsageError),
     /// A trace that ended before its input.
     Trace(TraceFault),
     /// A file that was not read, or what it has not printed to its end.
@@ -44,13 +41,6 @@ impl fmt::Display for ToolError {
     fn fmt<W: fmt::Write>(&self, f: &mut fmt::Formatter<W>) -> fmt::Result {
         match self {
             ToolError::Usage(error) => write!(f, "{error}"),
-            ToolError::NotUtf8 => {
-                writeln!(
-                    f,
-                    "error: invalid UTF-8 was detected in one or more arguments"
-                )
-            }
-            ToolError::BadAddress => writeln!(f, "bad address"),
             ToolError::Trace(fault) => writeln!(f, "{fault}"),
             ToolError::File(error) => writeln!(f, "{error}"),
             ToolError::Answer(error) => writeln!(f, "{error}"),
@@ -75,7 +65,7 @@ pub fn report<W: Write>(ended: Result<(), ToolError>, errors: &mut W) -> ExitCod
     };
     let _ = write!(errors, "{error}");
     ExitCode::from(match error {
-        ToolError::Usage(_) | ToolError::NotUtf8 | ToolError::BadAddress => 2,
+        ToolError::Usage(_) => 2,
         ToolError::Trace(_) | ToolError::File(_) | ToolError::Answer(_) => 1,
         ToolError::Listen | ToolError::Write | ToolError::NoMemory => 1,
     })
@@ -87,7 +77,7 @@ pub fn argument_error(kind: io::ErrorKind) -> ToolError
 {
     match kind {
         io::ErrorKind::OutOfMemory => ToolError::NoMemory,
-        _ => ToolError::NotUtf8,
+        _ => ToolError::Usage(UsageError::NotUtf8),
     }
 }
 
@@ -123,6 +113,6 @@ pub fn end_usage<W: Write>(error: clap::Error, output: &mut W) -> Result<(), Too
             Err(_) => Err(ToolError::Write),
         },
         ErrorKind::OutOfMemory => Err(ToolError::NoMemory),
-        _ => Err(ToolError::Usage(error)),
+        _ => Err(ToolError::Usage(UsageError::CommandLine(error))),
     }
 }

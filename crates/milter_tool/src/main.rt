@@ -1,4 +1,4 @@
-//! `milter_tool`: looks at conversations between mail servers and their filters, and serves as a filter, in the milter
+//! `milter_tool`: looks at conversations between mail servers and their filters, and plays either side, in the milter
 //! protocol.
 //!
 //! Results go to standard output and fault lines to standard error. The program ends with status 0 where it did what
@@ -6,10 +6,13 @@
 #![tactic(auto)]
 
 use milter_cli::{
-    Address, Connections, InputFile, Request, ToolError, answer_run, argument_error, end_usage,
-    ended_as, filter_run, listen_error, load_rules, output_error, parse, print_rules,
+    Connections, InputFile, TcpDial, ToolError, UnixDial, answer_run, argument_error, end_usage,
+    ended_as, filter_run, listen_error, load_rules, mta_run, output_error, print_rules,
     print_session, read_error, report,
 };
+use milter_converse::Dial;
+use milter_mta::Config;
+use milter_request::{Address, MtaRequest, Request, Target, UsageError, parse};
 use milter_rules::Rules;
 use milter_trace::trace_run;
 use std::env::{self, Env};
@@ -17,6 +20,7 @@ use std::net::{Net, TcpListener, TcpStream};
 use std::os::unix::net::UnixListener;
 use std::process::ExitCode;
 use std::rt::Files;
+use std::time::Duration;
 use std::{fs, io};
 
 /// Prints the packets of the trace on standard input.
@@ -74,7 +78,7 @@ fn serve_address<R: Net<Listener = TcpListener, Stream = TcpStream> + Files + Pr
     count: u32,
 ) -> Result<(), ToolError> {
     let Some(address) = Address::parse(address) else {
-        return Err(ToolError::BadAddress);
+        return Err(ToolError::Usage(UsageError::BadAddress));
     };
     let rules = rules_at(rt, path)?;
     match address {
@@ -107,6 +111,49 @@ fn serve_connections<R: Print + AllocGlobal, C: Connections + Drop>(
     }
 }
 
+/// Plays the session of a file to a filter, as a mail server, and prints what becomes of its messages.
+fn play_session<R: Net<Stream = TcpStream> + Files + Print + AllocGlobal>(
+    rt: &R,
+    asked: MtaRequest<'_>,
+) -> Result<(), ToolError> {
+    let target = match Target::parse(asked.address, asked.actions, asked.protocol) {
+        Ok(target) => target,
+        Err(error) => return Err(ToolError::Usage(error)),
+    };
+    let config = Config::new(target.offer.actions, target.offer.protocol, asked.loss).unwrap();
+    let limit = Duration::from_secs(u64::from(asked.timeout));
+    match target.address {
+        Address::Inet { port, host } => {
+            let dial = TcpDial {
+                net: rt,
+                port,
+                host,
+                limit,
+            };
+            play_session_over(rt, config, asked.session, dial)
+        }
+        Address::Unix { path } => {
+            let dial = UnixDial {
+                net: rt,
+                path,
+                limit,
+            };
+            play_session_over(rt, config, asked.session, dial)
+        }
+    }
+}
+
+/// Plays the session of the file at this path over the connections that `dial` makes.
+fn play_session_over<R: Files + Print + AllocGlobal, D: Dial + Drop>(
+    rt: &R,
+    config: Config,
+    path: &str,
+    mut dial: D,
+) -> Result<(), ToolError> {
+    let file = open(rt, InputFile::Session, path)?;
+    mta_run(rt.alloc(), config, file, &mut dial, &mut io::writer(rt)).map_err(ToolError::File)
+}
+
 /// The words of the command line, the program's name first.
 fn words<R: Env + AllocGlobal>(rt: &R) -> Result<Vec<String>, ToolError> {
     match env::args(rt) {
@@ -131,6 +178,7 @@ fn run<
                 count,
             },
         ) => serve_address(rt, address, rules, count),
+        Ok(Request::Mta(asked)) => play_session(rt, asked),
         Err(error) => end_usage(error, &mut io::writer(rt)),
     }
 }

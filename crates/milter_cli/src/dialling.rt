@@ -1,0 +1,64 @@
+//! Connections to filters over sockets.
+
+use milter_converse::{Dial, DialFault};
+use std::io;
+use std::net::{Net, TcpStream};
+use std::os::unix::net::UnixStream;
+use std::time::Duration;
+
+/// Connects to a filter's port over TCP.
+#[derive(Drop)]
+pub struct TcpDial<'a, R> {
+    /// What makes sockets.
+    pub net: &'a R,
+    /// The port.
+    pub port: u16,
+    /// The name of the host, or its IP address.
+    pub host: &'a str,
+    /// How long a read or a write may take, above 0.
+    pub limit: Duration,
+}
+
+impl<'a, R: Net<Stream = TcpStream>> Dial for TcpDial<'a, R> {
+    type Link = TcpStream;
+
+    /// Tries the addresses of the host in turn. Packets are sent without delay, and each read and write has the limit.
+    fn dial(&mut self) -> Result<TcpStream, DialFault> {
+        connect_tcp(self).map_err(|_| DialFault)
+    }
+}
+
+fn connect_tcp<R: Net<Stream = TcpStream>>(dial: &TcpDial<'_, R>) -> io::Result<TcpStream> {
+    let link = TcpStream::connect(dial.net, (dial.host, dial.port))?;
+    link.set_nodelay(true)?;
+    link.set_read_timeout(Some(dial.limit))?;
+    link.set_write_timeout(Some(dial.limit))?;
+    Ok(link)
+}
+
+/// Connects to a filter's Unix socket.
+#[derive(Drop)]
+pub struct UnixDial<'a, R> {
+    /// What makes sockets.
+    pub net: &'a R,
+    /// The path of the socket.
+    pub path: &'a str,
+    /// How long a read or a write may take, above 0.
+    pub limit: Duration,
+}
+
+impl<'a, R: Net> Dial for UnixDial<'a, R> {
+    type Link = UnixStream;
+
+    /// Each read and write has the limit.
+    fn dial(&mut self) -> Result<UnixStream, DialFault> {
+        connect_unix(self).map_err(|_| DialFault)
+    }
+}
+
+fn connect_unix<R: Net>(dial: &UnixDial<'_, R>) -> io::Result<UnixStream> {
+    let link = UnixStream::connect(dial.net, dial.path)?;
+    link.set_read_timeout(Some(dial.limit))?;
+    link.set_write_timeout(Some(dial.limit))?;
+    Ok(link)
+}

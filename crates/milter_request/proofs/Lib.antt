@@ -1,0 +1,5 @@
+pub mod AddressLaws
+pub mod RequestLaws
+pub mod FaultlessRows
+pub mod FaultlessWalk
+pub mod OfferLaws

@@ -1,0 +1,4 @@
+pub mod Address
+pub mod CommandLine
+pub mod Target
+pub mod UsageError

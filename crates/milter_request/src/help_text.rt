@@ -1,0 +1,273 @@
+//! What the long help of each subcommand explains after its options.
+
+/// The form of a trace, what is printed of it, and its fault lines.
+pub(crate) const TRACE: &str = "\
+The input is lines, of at most 262,144 bytes each:
+
+  > DIGITS  bytes from the mail server (MTA) to the filter
+  < DIGITS  bytes from the filter to the mail server
+
+DIGITS are hexadecimal digits, two a byte. Each direction is one stream of bytes:
+a packet may be cut over lines, and a line may have several packets. Blank lines,
+and lines that begin with #, are skipped.
+
+A line is printed for each packet once it is whole: its direction, code and
+fields. From
+
+  # both offer options
+  > 0000000d4f00000006
+  > 000001ff001fffff
+  < 0000000D4F000000060000001100000000
+
+the program prints
+
+  > O version 6 actions 000001ff protocol 001fffff
+  < O version 6 actions 00000011 protocol 00000000
+
+The first fault ends the trace. It is printed on standard error, with the number N
+of its line, from 1, and the direction D of its packet:
+
+  line N: bad line               line N has another form
+  line N: D zero length          a packet has length 0
+  line N: D length L too long    a packet has length L, above 65536
+  line N: D unknown code C       no packet of this direction has the code C
+  line N: D malformed C          a packet's payload isn't in the layout of its code
+  end: D truncated B bytes       the input ends after B bytes of a packet; a line
+                                 for each direction
+  read fault                     standard input was not read
+  write fault                    standard output was not written
+  out of memory                  memory was refused
+  turn limit                     the input goes on after 1,073,741,824 reads
+
+Status: 0 after the end of the input, 1 after a fault, 2 after a wrong use of the
+command line.";
+
+/// The form of a session file, its limits, and its fault lines.
+pub(crate) const SESSION: &str = "\
+A session file has these lines, in this order:
+
+  client U TEXT                  the client's host, once; or client 4 TEXT NUMBER
+                                 TEXT with its port and address (4, 6 or L)
+  helo TEXT                      its greeting, once
+  macro STAGE TEXT TEXT          a name and a value; STAGE is connect, helo, mail,
+                                 rcpt, data, eoh or eom
+  message                        begins a message
+  sender TEXT ..                 its sender and the parameters, once
+  recipient TEXT ..              a recipient and the parameters, once or more
+  header TEXT TEXT               a header field: name and value
+  body TEXT                      a piece of the body
+  end                            ends the message; others may follow
+
+TEXT is in double quotes, with the escapes \\\" \\\\ \\n \\r \\t and \\xHH. Blank lines, and
+lines that begin with #, are skipped. A file has at most 134,217,728 bytes.
+
+It is printed in canonical form. The first fault is printed on standard error,
+with the number N of its line, from 1:
+
+  session line N: fault 1        an unknown line, or one in another form
+  session line N: fault 2        no client line, or a bad one
+  session line N: fault 3        a message without a recipient
+  session line N: fault 4        a bad header line
+  session line N: fault 5        the file ends within a message
+  session line N: fault 6        a text is too large for a packet, or a message
+                                 has more than 16,777,216 bytes
+  session line N: fault 7        a NUL in a text other than a body's
+  cannot read session            the file was not read, or is too large
+  write fault                    standard output was not written
+  out of memory                  memory was refused
+
+Status: 0 after the whole session was printed, 1 after a fault, 2 after a wrong
+use of the command line.";
+
+/// The form of a rule file, its limits, and its fault lines.
+pub(crate) const RULES: &str = "\
+A rule file says what a filter asks for and what it answers. It has these lines,
+in any order:
+
+  version NUMBER                 the version of the protocol, 2 to 6; else 6
+  actions NAMES                  the actions to ask for; else those that the edits
+                                 of the rules need
+  protocol NAMES                 the protocol bits to ask for; else SKIP, where a
+                                 rule skips
+  symbols STAGE TEXT             the names of the macros to ask for at a stage:
+                                 connect, helo, mail, rcpt, data, eoh or eom
+  at STAGE do ACTION             a rule
+  at STAGE when CONDITION and CONDITION .. do ACTION
+                                 a rule for where each of its conditions holds
+
+NAMES are joined by |, or none. STAGE of a rule is connect, helo, mail, rcpt, data,
+header, eoh, body or eob. CONDITION is one of
+
+  FIELD is TEXT                  a value of the field equals the text
+  FIELD has TEXT                 a value of the field contains it
+  FIELD lacks TEXT               no value of the field contains it
+
+where FIELD is host, address, helo, sender, rcpt, header TEXT, body or macro TEXT.
+ACTION is a verdict:
+
+  continue, accept, reject, tempfail, discard, skip, code TEXT
+
+or, at eob alone, an edit:
+
+  add-header TEXT TEXT           insert-header NUMBER TEXT TEXT
+  change-header NUMBER TEXT TEXT
+  add-rcpt TEXT                  add-rcpt-par TEXT [TEXT]
+  del-rcpt TEXT                  change-from TEXT [TEXT]
+  replace-body TEXT              quarantine TEXT
+  progress
+
+At each stage the rules of the stage that hold are gone through in order, up to
+the first that is a verdict: the edits before it and that verdict are the answer,
+or the edits and continue.
+
+TEXT is in double quotes, with the escapes \\\" \\\\ \\n \\r \\t and \\xHH. Blank lines, and
+lines that begin with #, are skipped. A file has at most 134,217,728 bytes and
+10,000 rules.
+
+It is printed in canonical form. The first fault is printed on standard error,
+with the number N of its line, from 1:
+
+  rules line N: fault 1          an unknown line, or a bad or repeated one of
+                                 version, actions, protocol or symbols
+  rules line N: fault 2          no stage, or an unknown one
+  rules line N: fault 3          a bad condition, or no do
+  rules line N: fault 4          a bad action, or a NUL in its text
+  rules line N: fault 5          an action that can't be at this stage
+  rules line N: fault 6          a text is too large for a packet, the edits have
+                                 more than 16,777,216 bytes, or too many rules
+  cannot read rules              the file was not read, or is too large
+  write fault                    standard output was not written
+  out of memory                  memory was refused
+
+Status: 0 after all rules were printed, 1 after a fault, 2 after a wrong use of the
+command line.";
+
+/// What is read and written by the filter's end on standard input and output, and its fault lines.
+pub(crate) const ANSWER: &str = "\
+Standard input is what a mail server (MTA) sends to a filter, and standard output
+is what the filter replies: the packets of the milter protocol, byte for byte.
+The filter asks for what the rule file says, and answers by its rules: milter_tool
+help rules has their form. Without one it agrees on version 6, or on the lower
+version that is offered, and on no actions and no protocol bits, and it replies
+Continue to each command that is to be replied to. It keeps nothing that comes of
+a message after that message.
+
+What is read is replied to before more is read. So standard input and output may
+be one socket, of a connection that a super-server took: systemd with Accept=yes,
+tcpserver or socat.
+
+It ends where the mail server quits, where the input ends, or at the first fault,
+which is printed on standard error after the replies to what comes before it:
+
+  filter fault 1                 a command before the offer of options
+  filter fault 2                 an offer of a version below 2
+  filter fault 3                 a command out of order
+  filter fault 4                 the packets of a connection and of a message have
+                                 more than 16,777,216 bytes together
+  filter fault 5                 a packet has length 0 or above 65536, an unknown
+                                 code, or a payload that isn't in its layout
+  filter fault 6                 a second offer of options
+  input truncated B bytes        the input ends after B bytes of a packet
+  cannot read rules              the rule file was not read, or is too large
+  rules line N: fault K          the rule file has a fault
+  read fault                     standard input was not read
+  write fault                    standard output was not written
+  out of memory                  memory was refused
+  turn limit                     the input goes on after 1,073,741,824 reads
+
+Status: 0 after the mail server has quit or the input has ended after a packet,
+1 after a fault, 2 after a wrong use of the command line.";
+
+/// Where connections are taken, what is printed of each, and the fault lines.
+pub(crate) const FILTER: &str = "\
+ADDRESS is where mail servers (MTAs) connect:
+
+  inet:PORT@HOST                 a TCP port from 1 to 65535 of a host's name, or of
+                                 an IP address (IPv6 without brackets)
+  unix:PATH                      a Unix socket, which is made; a path that exists
+                                 is refused, and no path is removed
+
+as inet:8890@127.0.0.1. The filter asks for what the rule file says, and answers
+by its rules: milter_tool help rules has their form. Without one it lets all mail
+go on. Each connection is served to its end before the next one is taken, and
+nothing limits how long one takes.
+
+A line is printed for each connection as it ends, with its number N, from 1:
+
+  connection N quit              the mail server has quit
+  connection N ended B           it closed the connection, B bytes after the last
+                                 whole packet
+  connection N failed K          the connection was given up, for fault K as in
+                                 milter_tool help answer; 7 is out of memory
+  connection N read fault        the connection was not taken, or not read
+  connection N write fault       a reply was not sent
+  connection N turn limit        the connection goes on after 1,073,741,824 reads
+
+A fault is printed on standard error:
+
+  bad address                    ADDRESS isn't of its form (status 2)
+  cannot read rules              the rule file was not read, or is too large
+  rules line N: fault K          the rule file has a fault
+  cannot listen                  the socket was not bound
+  write fault                    standard output was not written
+  out of memory                  memory was refused
+
+Status: 0 after so many connections as were asked for, 1 after a fault, 2 after a
+wrong use of the command line.";
+
+/// Where the filter is, what is offered to it, what is printed of the messages, and the fault lines.
+pub(crate) const MTA: &str = "\
+ADDRESS is where the filter listens:
+
+  inet:PORT@HOST                 a TCP port from 1 to 65535 of a host's name, or of
+                                 an IP address (IPv6 without brackets)
+  unix:PATH                      a Unix socket
+
+as inet:8890@127.0.0.1. SESSION is a session file: milter_tool help session has its
+form. Its messages are played one after another. A connection that is lost settles
+the message that is being played by --loss, and the next one is played over a new
+connection.
+
+NAMES are joined by |, or none. The actions are
+
+  ADDHDRS CHGBODY ADDRCPT DELRCPT CHGHDRS QUARANTINE CHGFROM ADDRCPT_PAR SETSYMLIST
+
+and the protocol bits
+
+  NOCONNECT NOHELO NOMAIL NORCPT NODATA NOHDRS NOEOH NOBODY NOUNKNOWN SKIP
+  NR_CONN NR_HELO NR_MAIL NR_RCPT NR_DATA NR_HDR NR_EOH NR_BODY NR_UNKN HDR_LEADSPC
+
+Once every message is settled, this is printed:
+
+  connection VERDICT             the verdict that ended the client's connection
+  message N BY OUTCOME           what settled message N, from 1, and how
+  acted STAGE NTH VERDICT        a verdict on it, to the NTH step of a stage
+
+BY is filter, connection, or default and why the filter was lost: reset, timeout,
+memory, or fault K. OUTCOME is released, discarded, refused TEXT, no-recipients or
+refused-at-connection. A released message follows as it is sent on, in lines as those
+of a session file, after a line quarantine TEXT where it is quarantined.
+
+  fault 1                        a packet has length 0 or above 65536, an unknown
+                                 code, or a payload that isn't in its layout
+  fault 2                        an answer of a version below 2 or above 6
+  fault 3                        an answer with actions that weren't offered
+  fault 4                        an answer with protocol bits that weren't offered
+  fault 5                        a reply that can't be at its stage
+  fault 6                        an edit that wasn't agreed on
+  fault 7                        the edits of a message have more than 16,777,216
+                                 bytes
+  fault 8                        a reply where none was due
+
+A fault of what was asked for is printed on standard error:
+
+  bad value for --actions        NAMES isn't of its form (status 2)
+  bad value for --protocol       NAMES isn't of its form (status 2)
+  bad address                    ADDRESS isn't of its form (status 2)
+  cannot read session            the session file was not read, or is too large
+  session line N: fault K        the session file has a fault
+  write fault                    standard output was not written
+  out of memory                  memory was refused
+
+Status: 0 after the messages were settled, also by a lost filter, 1 after a fault, 2
+after a wrong use of the command line.";

@@ -1,0 +1,14 @@
+//! What `milter_tool` is asked to do: its command line, the addresses of sockets, what is offered to filters, and the
+//! lines of a wrong use.
+#![tactic(auto)]
+
+mod address;
+mod command_line;
+mod help_text;
+mod target;
+mod usage_error;
+
+pub use address::Address;
+pub use command_line::{MtaRequest, Request, parse};
+pub use target::{Offer, Target};
+pub use usage_error::UsageError;
