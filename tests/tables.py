@@ -19,7 +19,7 @@ TABLES = [
     'answer_sizes', 'answer_refused_memory', 'answer_rules', 'rules_canonical', 'rules_faults',
     'rules_sizes', 'rules_refused_memory', 'answer_rules_refused_memory', 'guard_replies', 'edits_values',
     'edits_faults', 'packets_totals', 'mta_conversations', 'mta_agreements', 'mta_edits', 'mta_faults', 'mta_losses',
-    'mta_refused_memory']
+    'mta_refused_memory', 'links_losses', 'links_refused_memory']
 # What plays the tables of each kind: a program and its words, of which FILE stands for a file of the input.
 FILE = object()
 PLAYERS = {
@@ -31,6 +31,7 @@ PLAYERS = {
     'edits': ('milter_rows', ['edits', 'text']),
     'packets': ('milter_rows', ['packets']),
     'mta': ('milter_mta_rows', []),
+    'links': ('milter_links', []),
 }
 # The kinds whose programs write packets: a filter's.
 FILTERS = ['answer', 'guard']
