@@ -1,16 +1,17 @@
 #!/usr/bin/env python3
 """Runs tests of milter_tests and the cases of milter_tool with one allocation refused: the first one, then the
-second one, and so on, until a run makes fewer allocations than that; and the same for milter_rows and
-milter_mta_rows. The programs are run as both compilers built them, milter_tool on each case of cases/ that has `args`
-and, as milter_mta_rows, on the rows of the tables cases/*_refused_memory.table, and milter_rows on the rows of
-cases/edits_values.table; the tests are those below `tests::packets`. What is run is what `rt ci` built; nothing is
-proved here. refuse.c says what counts as an allocation.
+second one, and so on, until a run makes fewer allocations than that; and the same for milter_rows, milter_mta_rows and
+milter_links. The programs are run as both compilers built them, milter_tool on each case of cases/ that has `args`
+and, as milter_mta_rows and milter_links, on the rows of the tables cases/*_refused_memory.table, and milter_rows on the
+rows of cases/edits_values.table; the tests are those below `tests::packets`. What is run is what `rt ci` built; nothing
+is proved here. refuse.c says what counts as an allocation.
 
 A test passes, or ends with the result `NoMemory`. A run of a program ends as it does with ample memory, or as one
 that is out of memory: after a part of the standard output from its beginning, with `out of memory` alone on standard
-error, and status 1. milter_mta_rows may also report one of its messages as settled by default, out of memory, after
-some of the message's verdicts, from the first one on; the others are as ever. The last run of each, in which nothing
-was refused, is as ever.
+error, and status 1. milter_mta_rows and milter_links may also report one of the messages as settled by default, out of
+memory, after some of the message's verdicts, from the first one on; the others are as ever. milter_links may also report
+so of all messages, none of which was begun; so may `milter_tool mta` in the cases without a filter, where it would
+report a loss of the connection. The last run of each, in which nothing was refused, is as ever.
 
 The last line is 'N passed, M failed', counting the runs. The status is 1 where one failed, where no run of the tests or
 of a program came to a refused allocation, or where what is run is missing.
@@ -22,6 +23,7 @@ import subprocess
 import sys
 import tempfile
 
+import links
 import preloaded
 import tables
 
@@ -33,7 +35,8 @@ TABLES = {
         'trace_refused_memory', 'session_refused_memory', 'rules_refused_memory', 'answer_refused_memory',
         'answer_rules_refused_memory'],
     'milter_rows': ['edits_values'],
-    'milter_mta_rows': ['mta_refused_memory']}
+    'milter_mta_rows': ['mta_refused_memory'],
+    'milter_links': ['links_refused_memory']}
 OUT_OF_MEMORY = [b'out of memory\n'] + [
     b'Error: %s\n' % text for text in (b'out of memory', b'Out of memory', b'memory allocation failed')]
 NO_MEMORY = b'Error: NoMemory\n'
@@ -98,7 +101,7 @@ def by_default(message, acted, on_loss):
     return [b'%s; %s; default out of memory\n' % (b', '.join(acted), outcome)] + lines
 
 
-def outputs_by_default(given, out):
+def mta_rows_by_default(given, out):
     """What milter_mta_rows may print in place of its output where one message is settled by default."""
     file, script = given.split(b'%%\n')
     messages = [text.splitlines(keepends=True) for text in file.split(b'message\n')[1:]]
@@ -111,9 +114,34 @@ def outputs_by_default(given, out):
             yield b''.join(line for lines in reports[:at] + [other] + reports[at + 1:] for line in lines)
 
 
-def is_right_or_by_default(given, expected):
-    """Whether a run of milter_mta_rows ended as expected, as one that is out of memory, or with a message that was
-    settled by default; for a run's end."""
+def links_by_default(_, out):
+    """What milter_links may print in place of its output where one message is settled by default, or where all are
+    before the first dial."""
+    _, *reports, _ = re.split('^(?=message |dials )', out.decode(), flags=re.MULTILINE)
+    numbers = range(1, len(reports) + 1)
+    yield (''.join(links.by_default(number, 'memory', []) for number in numbers) + 'dials 0\n').encode()
+    for number, text in zip(numbers, reports):
+        acted = re.findall('acted .*\n', text)
+        dials = 'dials %d\n' % (1 if number == len(reports) else 2)
+        for count in range(len(acted) + 1):
+            other = links.by_default(number, 'memory', acted[:count])
+            yield ''.join(reports[:number - 1] + [other] + reports[number:] + [dials]).encode()
+
+
+def lost_by_default(_, out):
+    """What `milter_tool mta` may print in place of its output where each message is settled by default: of all of them
+    that it is out of memory."""
+    yield re.sub(rb'^(message \d+ default) reset ', rb'\1 memory ', out, flags=re.MULTILINE)
+
+
+# What the programs may print in place of their output where memory is refused: functions of the input and the output.
+BY_DEFAULT = {
+    'milter_tool': lost_by_default, 'milter_mta_rows': mta_rows_by_default, 'milter_links': links_by_default}
+
+
+def is_right_or_by_default(outputs_by_default, given, expected):
+    """Whether a run ended as expected, as one that is out of memory, or with one of these outputs, in which messages
+    were settled by default; for a run's end."""
     is_right, outputs = is_as_ever_or_out_of_memory(expected), set(outputs_by_default(given, expected[1]))
     return lambda ended: is_right(ended) or (ended[0] == 0 and not ended[2] and ended[1] in outputs)
 
@@ -187,8 +215,8 @@ def plays_of_program(name, build, folder):
         played_cases += rows(table, build, folder)
     for case, command, given, expected in played_cases:
         is_right = is_as_ever_or_out_of_memory(expected)
-        if name == 'milter_mta_rows':
-            is_right = is_right_or_by_default(given, expected)
+        if name in BY_DEFAULT:
+            is_right = is_right_or_by_default(BY_DEFAULT[name], given, expected)
         yield Play(
             '%s on %s' % (case, os.path.basename(program)), command, given, is_right, expected.__eq__)
 
