@@ -1,9 +1,10 @@
 #!/usr/bin/env bash
-# Has `milter_tool filter` and `milter_tool answer` talk to real peers: miltertest, which plays the scripts of interop/
-# on a TCP and on a Unix socket, and a Postfix of its own on the loopback, which takes mail and delivers it edited or
-# refuses it. It needs Debian's packages miltertest and postfix, and root, as whom Postfix starts. It isn't part of the
-# test command. The program is built first where it has to be; another one may be given. The last line is
-# 'N passed, M failed'.
+# Has `milter_tool` talk to real peers, over TCP and over Unix sockets. `filter` and `answer`: to miltertest, which plays
+# the scripts of interop/, and to a Postfix of its own on the loopback, which takes mail and delivers it edited or refuses
+# it. `mta`: to filters on Sendmail's libmilter, one that does what its words say (interop/scripted.c) and OpenDKIM. It
+# needs Debian's packages miltertest, postfix, libmilter-dev and opendkim, a C compiler, openssl, and root, as whom Postfix
+# starts. It isn't part of the test command. The program is built first where it has to be; another one may be given. The
+# last line is 'N passed, M failed'.
 #
 #     sudo bash tests/interop.sh [PROGRAM]
 set -u
@@ -12,8 +13,10 @@ PATH=$PATH:/usr/sbin:/sbin
 missing=()
 command -v miltertest >/dev/null || missing+=(miltertest)
 command -v postfix >/dev/null && command -v smtp-sink >/dev/null || missing+=(postfix)
+command -v opendkim >/dev/null || missing+=(opendkim)
+[ -f /usr/include/libmilter/mfapi.h ] || missing+=(libmilter-dev)
 if [ ${#missing[@]} != 0 ]; then
-    echo "interop.sh needs Debian's packages miltertest and postfix. Not there: ${missing[*]}" >&2
+    echo "interop.sh needs Debian's packages miltertest, postfix, libmilter-dev and opendkim. Not there: ${missing[*]}" >&2
     exit 2
 fi
 if [ "$(id -u)" != 0 ]; then

@@ -4,6 +4,7 @@ import os
 import resource
 import select
 import socket
+import struct
 import subprocess
 import tempfile
 import time
@@ -26,11 +27,11 @@ class Filter:
     """A run of `milter_tool filter` on a socket of this kind, with these options."""
 
     def __init__(self, program, kind, folder, options, files=None, stdout=subprocess.PIPE, host=None):
-        self.at, address = place_of(kind, folder, host)
+        self.at, self.address = place_of(kind, folder, host)
         self.ended = 0
         limit = None if files is None else lambda: resource.setrlimit(resource.RLIMIT_NOFILE, (files, files))
         self.process = subprocess.Popen(
-            [program, 'filter'] + (options + [address] if kind == 'inet' else [address] + options), bufsize=0,
+            [program, 'filter'] + (options + [self.address] if kind == 'inet' else [self.address] + options), bufsize=0,
             stdin=subprocess.DEVNULL, stdout=stdout, stderr=subprocess.PIPE, preexec_fn=limit)
 
     def __enter__(self):
@@ -92,6 +93,25 @@ def connected(place, is_over):
             if is_over() or time.monotonic() > until:
                 raise Wrong('no connection') from None
             time.sleep(0.001)
+
+
+def listens(place):
+    """Whether a program listens at this place, which is seen without a connection to it."""
+    if isinstance(place, str):
+        with open('/proc/net/unix') as sockets:
+            return any(line.split()[3] == '00010000' and line.rstrip().endswith(' ' + place) for line in sockets)
+    number = '%08X:%04X' % (struct.unpack('=I', socket.inet_aton(place[0]))[0], place[1])
+    with open('/proc/net/tcp') as sockets:
+        return any(line.split()[1:4:2] == [number, '0A'] for line in sockets)
+
+
+def listening(served):
+    """Waits until a run of the program listens."""
+    until = time.monotonic() + SECONDS
+    while not listens(served.at):
+        if served.process.poll() is not None or time.monotonic() > until:
+            raise Wrong('no listener')
+        time.sleep(0.001)
 
 
 def expect_replies(connection, replies):

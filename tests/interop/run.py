@@ -8,6 +8,7 @@ import subprocess
 import sys
 import tempfile
 
+import mta
 import peers
 import postfix
 
@@ -72,6 +73,7 @@ def main():
                         lambda: run(sys.executable, clients, address))
             name = 'edits recorded at ' + address
             checks.part(name, record, program, name, address, recorder)
+    checks.part('mta', mta.play, program)
     checks.part('Postfix', postfix.play, program)
     print('%d passed, %d failed' % (checks.passed, checks.failed))
     return 1 if checks.failed else 0
