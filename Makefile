@@ -23,6 +23,7 @@ bench:
 	bash bench/edits.sh
 	bash bench/filter.sh
 	bash bench/core.sh
+	bash bench/mta.sh
 
 install: all
 	install -d $(DESTDIR)$(PREFIX)/bin

@@ -29,26 +29,6 @@ program() {
     (cd "crates/$1" && rt run -- "${@:2}") >"$work/log" 2>&1 || { cat "$work/log"; exit 1; }
 }
 
-# session COUNT BODY: a session file of so many messages
-session() {
-    python3 - "$1" "$2" <<'PYTHON'
-import sys
-
-LINE = "x" * 62 + "\\r\\n"
-LINE_LEN = 64
-LINES_EACH = 512
-count, body = int(sys.argv[1]), int(sys.argv[2])
-print('client U "mail.example.org"\nhelo "mail.example.org"')
-for _ in range(count):
-    print('message\nsender "ada@example.org"\nrecipient "bob@example.net"')
-    for n in range(10):
-        print(f'header "X-Field-{n}" " a value of some bytes, as header fields have them"')
-    for at in range(0, body // LINE_LEN, LINES_EACH):
-        print(f'body "{LINE * min(LINES_EACH, body // LINE_LEN - at)}"')
-    print("end")
-PYTHON
-}
-
 # instructions NAME WORD..: what callgrind counts of a run
 instructions() {
     GLIBC_TUNABLES=glibc.cpu.x86_rep_movsb_threshold=$NEVER:glibc.cpu.x86_rep_stosb_threshold=$NEVER \
@@ -65,14 +45,14 @@ pass() {
 # measure COUNT BODY COMMANDS: prints the line of a session, and leaves `both`, the instructions of both ends
 measure() {
     local alone
-    session "$1" "$2" >"$work/session"
+    python3 bench/session.py "$1" "$2" >"$work/session"
     both=$(instructions milter_pair play <"$work/session")
     both=$(((both - $(instructions milter_pair read <"$work/session")) / $1))
     alone=$((($(pass $((OPENING + $1 * $3))) - $(pass "$OPENING")) / $1))
     printf '%6d messages of %8d bytes: %9d, the mail server'"'"'s end alone %9d\n' "$1" "$2" "$both" "$alone"
 }
 
-session 1 "$SMALL" >"$work/session"
+python3 bench/session.py 1 "$SMALL" >"$work/session"
 program milter_pair read <"$work/session"
 { cat "$work/session"; printf '%%%%\nconfig 0 0 tempfail\n'; } >"$work/script"
 program milter_mta_rows <"$work/script"
