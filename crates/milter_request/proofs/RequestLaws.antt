@@ -1,5 +1,5 @@
 -- The request of a command line.
-use Rattle.std.proofs.Common.{◌≡◌, ◌<◌, ◌≤◌, ◌⊎◌, ℕ, Bor, Bool, cond, true, false, not, ◌||◌, List, [], ◌∷◌, Option, None, Some, IfSome, IsSome, is_some, subst, inl, inr, refl, sym, ap, ◌∙◌, codes, slice_index, length, arith, true≢false, option_map}
+use Rattle.std.proofs.Common.{◌≡◌, ◌<◌, ◌≤◌, ◌-◌, ◌^◌, ◌⊎◌, ℕ, Bor, Bool, cond, true, false, not, ◌||◌, List, [], ◌∷◌, Option, None, Some, IfSome, IsSome, is_some, subst, inl, inr, refl, sym, ap, ◌∙◌, codes, slice_index, length, arith, true≢false, option_map}
 use Rattle.std.proofs.lemmas.Option.{none-some}
 use Rattle.std.proofs.lemmas.Slice.Eq.{bytes_eq-Decides}
 use Rattle.std.specs.Prelude.{find, slice_get}
@@ -32,11 +32,11 @@ pub holds_of : (P : Option Text → Type 0) (f : Found) (id : Text) (o : Option 
 holds_of P f id o is h = subst P (is ∙ first_value-rows f id) h
 
 -- a number that fits 32 bits, within closer bounds
-within : (default least most : ℕ) (t : Option Text) (n : ℕ) → most ≤ 4294967295 → IsNumberOr default 0 4294967295 t n → IsNumberOr default least most t n
+within : (default least most : ℕ) (t : Option Text) (n : ℕ) → most ≤ 2 ^ 32 - 1 → IsNumberOr default 0 (2 ^ 32 - 1) t n → IsNumberOr default least most t n
 within default least most None n low h = h
 within default least most (Some text) n low h = λ h-in. h (h-in.0, h-in.1, omega arith, omega (arith, low, h-in.3))
 
-pub number_given : (default least most : ℕ) (f : Found) (id : Text) (o : Option (Bor Text)) (n : ℕ) → most ≤ 4294967295 → text_of o ≡ first_value f id → IsNumberOr default 0 4294967295 (text_of o) n
+pub number_given : (default least most : ℕ) (f : Found) (id : Text) (o : Option (Bor Text)) (n : ℕ) → most ≤ 2 ^ 32 - 1 → text_of o ≡ first_value f id → IsNumberOr default 0 (2 ^ 32 - 1) (text_of o) n
     → IsNumberOr default least most (first_of id (rows_of f)) n
 number_given default least most f id o n low is h = holds_of (λ t. IsNumberOr default least most t n) f id o is (within default least most (text_of o) n low h)
 

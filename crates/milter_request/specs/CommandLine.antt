@@ -11,6 +11,8 @@ use Rattle.clap.specs.declared.builder.action.ArgAction.TheVariants.{Set}
 use Rattle.clap.specs.declared.builder.command.Command.{Command}
 use Rattle.clap.specs.declared.builder.command.Command.TheViews.{out-Command}
 use Rattle.clap.specs.declared.builder.value_parser.ValueParser.TheVariants.{Names, Unsigned}
+use Rattle.milter_request.specs.declared.command_line.TheConstants.{COUNT_DEFAULT, COUNT_MAX}
+use Rattle.milter_request.specs.declared.command_line.TheConstants.{TIMEOUT_DEFAULT, TIMEOUT_MAX}
 use Rattle.milter_request.specs.declared.command_line.Request.{Request}
 use Rattle.milter_request.specs.declared.command_line.Request.TheVariants.{Trace, Session, Rules, Answer, Filter, Mta}
 use Rattle.milter_outcome.specs.declared.fallback.OnLoss.{OnLoss}
@@ -49,7 +51,7 @@ abbrev pub number_rule : Text → ℕ → Rule
 number_rule name most = record (option_rule name) { parser = Some (Unsigned 1 most) }
 
 abbrev pub count_rule : Rule
-count_rule = number_rule (codes "count") 1000000
+count_rule = number_rule (codes "count") COUNT_MAX
 
 abbrev pub filter_app : App
 filter_app =
@@ -68,7 +70,7 @@ abbrev pub loss_rule : LossWords → Rule
 loss_rule losses = record (option_rule (codes "loss")) { parser = Some (Names losses) }
 
 abbrev pub timeout_rule : Rule
-timeout_rule = number_rule (codes "timeout") 3600
+timeout_rule = number_rule (codes "timeout") TIMEOUT_MAX
 
 -- where the filter is, and what is played to it
 abbrev pub mta_base : App
@@ -102,13 +104,13 @@ IsNumberOr default least most None number = number ≡ default
 IsNumberOr default least most (Some text) number =
     IsUnsignedIn least most text → number ≡ digits_value 10 (without_leading_plus text)
 
--- the number in the text of the option `count`, or 1
+-- the number in the text of the option `count`, or the default
 abbrev pub IsCount : Option Text → ℕ → Type 0
-IsCount = IsNumberOr 1 1 1000000
+IsCount = IsNumberOr COUNT_DEFAULT 1 COUNT_MAX
 
--- the number of seconds in the text of the option `timeout`, or 30
+-- the number of seconds in the text of the option `timeout`, or the default
 abbrev pub IsTimeout : Option Text → ℕ → Type 0
-IsTimeout = IsNumberOr 30 1 3600
+IsTimeout = IsNumberOr TIMEOUT_DEFAULT 1 TIMEOUT_MAX
 
 abbrev pub loss_word : OnLoss → Text
 loss_word Accept = codes "accept"

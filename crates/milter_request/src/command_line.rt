@@ -1,6 +1,6 @@
 //! The command line: what the program is asked to do.
 
-ghost use Rattle.std.specs.Prelude.{◌≡◌, IfOk, Some, codes, map, false};
+ghost use Rattle.std.specs.Prelude.{◌≡◌, ◌-◌, ◌^◌, IfOk, Some, codes, map, false};
 ghost use Rattle.clap.specs.Words.{app_of, found_of, rows_of, rule_of, subcommand_rows_of};
 ghost use Rattle.milter_request.specs.CommandLine.{AreLossWords, IsLocal, IsLoss, IsNumberOr, IsRequestOf};
 ghost use Rattle.milter_request.specs.CommandLine.{IsRequestOfNamed, MatchesAs, ParsesAs, answer_app, count_rule, filter_app};
@@ -181,7 +181,7 @@ fn mta_request<'a>(given: &ArgMatches<'a>) -> Option<Request<'a>>
 
 /// The number in the text of an option, which parsing has looked at, or the default where it isn't given.
 fn number_or(default: u32, text: Option<&str>) -> u32
-    ensures { IsNumberOr default 0 4294967295 (text_of text.entry) result }
+    ensures { IsNumberOr default 0 (2 ^ 32 - 1) (text_of text.entry) result }
 {
     match text {
         Some(text) => text.parse().unwrap_or(default),

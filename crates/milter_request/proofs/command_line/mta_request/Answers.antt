@@ -1,6 +1,7 @@
 use Rattle.std.proofs.Common.{codes, refl, arith}
 use Rattle.clap.specs.Words.{found_of}
 use Rattle.milter_request.specs.CommandLine.{IsLoss}
+use Rattle.milter_request.specs.declared.command_line.TheConstants.{TIMEOUT_DEFAULT, TIMEOUT_MAX}
 use Rattle.milter_request.proofs.RequestLaws.{holds_of, no_mta_address, no_mta_session, number_given, text_given, value_given}
 use Rattle.milter_request.proofs.command_line.mta_request.Goals as goal
 
@@ -17,7 +18,7 @@ returns c =
       value_given found (codes "address") _ c.in_ok-address.ensures,
       value_given found (codes "session") _ c.in_ok-session.ensures,
       holds_of (λ t. IsLoss t c.loss_named.result) found (codes "loss") c.get_str-3.result c.get_str-3.ensures c.loss_named.ensures,
-      number_given 30 1 3600 found (codes "timeout") c.get_str-4.result c.number_or.result (omega arith) c.get_str-4.ensures c.number_or.ensures,
+      number_given TIMEOUT_DEFAULT 1 TIMEOUT_MAX found (codes "timeout") c.get_str-4.result c.number_or.result (omega arith) c.get_str-4.ensures c.number_or.ensures,
       text_given found (codes "actions") c.get_str-5.result c.get_str-5.ensures,
       text_given found (codes "protocol") c.get_str-6.result c.get_str-6.ensures,
     )
