@@ -1,15 +1,10 @@
 -- The division of a stream of which a splitter took a piece.
-use Rattle.std.proofs.Common.{◌≡◌, ◌≢◌, ℕ, ◌+◌, ◌<◌, Bool, true, false, List, [], ◌∷◌, ◌++◌, length, get_or, take, drop, Option, Some, None, Err, refl, sym, ap, subst, ◌∙◌, ◌⊎◌, inl, inr, arith, append_assoc, append-nil, take-append-drop}
-use Rattle.std.specs.Prelude.{◌==◌, nat_lt, if◌then◌else◌}
-use Rattle.std.specs.List.{flat_map}
-use Rattle.std.proofs.lemmas.List.{take_more}
-use Rattle.std.proofs.lemmas.List.Concat.{flat_map-append}
+use Rattle.std.proofs.Common.{◌≡◌, ℕ, List, [], ◌∷◌, ◌++◌, take, drop, Option, Some, None, refl, sym, ap, subst, ◌∙◌, append_assoc, take-append-drop}
 use Rattle.milter_stream.specs.declared.fault.WireFault.{WireFault}
-use Rattle.milter_stream.specs.declared.fault.WireFault.TheVariants.{ZeroLength, TooLong, UnknownCode, Malformed, Truncated, NoMemory}
 use Rattle.milter_stream.specs.Number.{number_from_bytes}
-use Rattle.milter_stream.specs.Stream.{Frame, Division, IsFrame, IsUnfinished, IsRest, divide, fault_of, frame_bytes, length_fault, with_frame}
+use Rattle.milter_stream.specs.Stream.{Frame, IsFrame, IsUnfinished, IsRest, divide, fault_of, frame_bytes, length_fault, with_frame}
 use Rattle.milter_stream.proofs.Frames.{first_frame-packet, first_frame-rest}
-use Rattle.milter_stream.proofs.Division.{divide-none, divide-first, divide-append}
+use Rattle.milter_stream.proofs.Division.{divide-none, divide-first}
 
 -- ---- the start of a stream
 

@@ -1,5 +1,5 @@
 -- The laws of streams, for proofs in the crates above: each is also the contract of a function in src/laws.rt.
-use Rattle.std.proofs.Common.{◌≡◌, ℕ, ◌<◌, ◌^◌, List, [], ◌++◌, take, drop, None, Some}
+use Rattle.std.proofs.Common.{◌≡◌, ◌≢◌, ℕ, ◌<◌, ◌^◌, List, [], ◌++◌, take, drop, None, Some}
 use Rattle.milter_stream.specs.declared.fault.WireFault.{WireFault}
 use Rattle.milter_stream.specs.Stream.{Frame, IsFrame, IsUnfinished, divide, frame_bytes, length_fault, with_frame}
 use Rattle.milter_stream.specs.Number.{BeginsWithNumber, IsBytes, number, number_at}
@@ -54,3 +54,6 @@ packet-same = packets.packet-same
 
 pub packet-whole : (code other : ℕ) (payload others more : List ℕ) → IsPayload payload → IsPayload others → packet code payload ++ more ≡ packet other others → more ≡ []
 packet-whole = packets.packet-whole
+
+pub prefix-unfinished : (bytes more : List ℕ) (f : Frame) → IsFrame f → more ≢ [] → bytes ++ more ≡ frame_bytes f → IsUnfinished bytes
+prefix-unfinished = packets.prefix-unfinished

@@ -1,6 +1,6 @@
 //! Laws of numbers, packets and streams, each the contract of a function that does nothing.
 
-ghost use Rattle.std.specs.Prelude.{◌≡◌, ◌<◌, ◌^◌, ◌++◌, ◌∷◌, List, ℕ, [], None, Some, All, take, drop};
+ghost use Rattle.std.specs.Prelude.{◌≡◌, ◌≢◌, ◌<◌, ◌^◌, ◌++◌, ◌∷◌, List, ℕ, [], None, Some, All, take, drop};
 ghost use Rattle.milter_stream.specs.declared.fault.WireFault.{WireFault};
 ghost use Rattle.milter_stream.specs.Number.{BeginsWithNumber, IsBytes, number, number_at};
 ghost use Rattle.milter_stream.specs.Packet.{IsPayload, packet};
@@ -13,12 +13,15 @@ pub fn four_byte_numbers()
         BeginsWithNumber bytes n rest }
 {}
 
-/// A packet has one code and one payload, and no packet is a proper prefix of another.
+/// A packet has one code and one payload, no packet is a proper prefix of another, and a proper prefix of one begins
+/// with no packet and no fault.
 pub fn packets_apart()
     ensures same { (code other : ℕ) (payload others : List ℕ) → packet code payload ≡ packet other others →
         (code ≡ other) × (payload ≡ others) }
     ensures whole { (code other : ℕ) (payload others more : List ℕ) → IsPayload payload → IsPayload others →
         packet code payload ++ more ≡ packet other others → more ≡ [] }
+    ensures unfinished { (bytes more : List ℕ) (f : Frame) → IsFrame f → more ≢ [] →
+        bytes ++ more ≡ frame_bytes f → IsUnfinished bytes }
 {}
 
 /// Every stream of bytes divides into packets and a rest, and `divide` computes them.

@@ -1,4 +1,4 @@
-use Rattle.std.proofs.Common.{take, ap, ◌∙◌, ◌-◌, ℕ, min, length}
+use Rattle.std.proofs.Common.{ap, ◌∙◌, ◌-◌, ℕ, min, length}
 use Rattle.milter_stream.proofs.FirstPackets.{filled}
 use Rattle.milter_stream.proofs.first_packet.fill.Goals as goal
 

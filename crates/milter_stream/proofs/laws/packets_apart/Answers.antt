@@ -1,4 +1,4 @@
-use Rattle.milter_stream.proofs.PacketLaws.{packet-same, packet-whole}
+use Rattle.milter_stream.proofs.PacketLaws.{packet-same, packet-whole, prefix-unfinished}
 use Rattle.milter_stream.proofs.laws.packets_apart.Goals as goal
 
 pub returns-clause-same : goal.returns-clause-same
@@ -6,3 +6,6 @@ returns-clause-same c = packet-same
 
 pub returns-clause-whole : goal.returns-clause-whole
 returns-clause-whole c = packet-whole
+
+pub returns-clause-unfinished : goal.returns-clause-unfinished
+returns-clause-unfinished c = prefix-unfinished

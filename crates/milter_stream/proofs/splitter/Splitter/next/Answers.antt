@@ -1,4 +1,4 @@
-use Rattle.std.proofs.Common.{rules, ◌≡◌, ℕ, List, take, refl, sym, ◌∙◌}
+use Rattle.std.proofs.Common.{rules, ◌≡◌, take, refl}
 use Rattle.milter_stream.proofs.NextPacket.{no_fault_at_ok, passed_on}
 use Rattle.milter_stream.proofs.splitter.Splitter.next.Goals as goal
 
