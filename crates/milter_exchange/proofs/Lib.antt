@@ -2,6 +2,8 @@ pub mod Histories
 pub mod Seeing
 pub mod Permitting
 pub mod Talking
+pub mod Sendable
+pub mod WholeTalks
 pub mod Going
 pub mod HistoryParts
 pub mod Standings

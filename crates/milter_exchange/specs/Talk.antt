@@ -1,7 +1,7 @@
 -- The talk of a mail server with a filter about the commands of one connection and message: the filter is asked about
 -- one after the other, until its answers let no command follow.
 use Rattle.std.specs.Prelude.{◌≡◌, Bool, true, false, ◌&&◌, ◌||◌, not, List, [], ◌∷◌, Option, None, Some, if◌then◌else◌}
-use Rattle.std.specs.List.{list_any}
+use Rattle.std.specs.List.{filter, list_any}
 use Rattle.milter_wire.specs.declared.agreement.Agreed.{Agreed}
 use Rattle.milter_wire.specs.declared.command.Command.{Command}
 use Rattle.milter_wire.specs.declared.command.Command.TheVariants as commands
@@ -21,6 +21,14 @@ is_body other = false
 abbrev pub is_rcpt : Command → Bool
 is_rcpt (commands.Rcpt recipient) = true
 is_rcpt other = false
+
+abbrev pub is_end_command : Command → Bool
+is_end_command (commands.Eob bytes) = true
+is_end_command other = false
+
+-- the end of a message is among the commands
+abbrev pub has_end : List Command → Bool
+has_end commands = list_any is_end_command commands
 
 -- the filter wants no further piece of the body
 abbrev pub is_skipping : Exchange → Bool
@@ -47,6 +55,10 @@ is_final exchange = is_final_answer (stage_of exchange.command) exchange.answer
 abbrev pub is_left_out : List Exchange → Command → Bool
 is_left_out before command = is_body command && list_any is_skipping before
 
+-- the commands that are left without pieces of the body after a Skip
+abbrev pub sendable : List Exchange → List Command → List Command
+sendable before left = filter (λ command. not (is_left_out before command)) left
+
 -- the last recipient, where all are refused
 abbrev pub are_all_refused : List Exchange → List Command → Bool
 are_all_refused [] left = false
@@ -57,6 +69,16 @@ are_all_refused (exchange ∷ before) left =
 abbrev pub is_closed : List Exchange → List Command → Bool
 is_closed [] left = false
 is_closed (exchange ∷ before) left = is_final exchange || are_all_refused (exchange ∷ before) left
+
+-- no exchange of a walk, the latest first, closes it, where these commands are left after it
+abbrev pub IsOpen : List Exchange → List Command → Type 0
+IsOpen [] left = Unit {0}
+IsOpen (last ∷ before) left = (is_closed (last ∷ before) left ≡ false) × IsOpen before (last.command ∷ left)
+
+-- its last exchange closes it, and no earlier one does
+abbrev pub IsEnded : List Exchange → List Command → Type 0
+IsEnded [] left = ⊥
+IsEnded (last ∷ before) left = (is_closed (last ∷ before) left ≡ true) × IsOpen before (last.command ∷ left)
 
 -- ---- the talk
 
@@ -87,3 +109,19 @@ HaveNoSkippedPiece before (exchange ∷ more) =
 abbrev pub EndAtFinalAnswer : List Exchange → Type 0
 EndAtFinalAnswer [] = Unit {0}
 EndAtFinalAnswer (exchange ∷ more) = (is_final exchange ≡ true → more ≡ []) × EndAtFinalAnswer more
+
+-- the next exchange about the commands that are left: about the first that is not left out, with the filter's answer to
+-- all that was sent up to it
+pub record IsNext (b : Behavior) (agreed : Agreed) (before : List Exchange) (commands : List Command)
+    (exchange : Exchange) (left : List Command) : Type 0 where
+  pub sent : sendable before commands ≡ exchange.command ∷ left
+  pub answered : exchange ≡ exchange_of b agreed (commands_of before) exchange.command
+
+-- each exchange is the next one; the last one closes the talk, and no earlier one does
+abbrev pub IsTalk : Behavior → Agreed → List Exchange → List Command → List Exchange → Type 0
+IsTalk b agreed before commands [] = ⊥
+IsTalk b agreed before commands (exchange ∷ []) =
+    (left : List Command) × IsNext b agreed before commands exchange left × (is_closed (exchange ∷ before) left ≡ true)
+IsTalk b agreed before commands (exchange ∷ next ∷ more) =
+    (left : List Command) × IsNext b agreed before commands exchange left
+    × (is_closed (exchange ∷ before) left ≡ false) × IsTalk b agreed (exchange ∷ before) left (next ∷ more)

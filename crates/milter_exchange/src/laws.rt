@@ -12,7 +12,7 @@ ghost use Rattle.milter_exchange.specs.Exchanges.{Exchange, latest, since, up_to
 ghost use Rattle.milter_exchange.specs.Permitted.{is_permitted, permitted};
 ghost use Rattle.milter_exchange.specs.Seen.{seen, seen_with, value_in};
 ghost use Rattle.milter_exchange.specs.StageOrder.{may_follow, may_repeat, rank_of};
-ghost use Rattle.milter_exchange.specs.Talk.{AreAnsweredBy, EndAtFinalAnswer, HaveNoSkippedPiece, talk};
+ghost use Rattle.milter_exchange.specs.Talk.{AreAnsweredBy, EndAtFinalAnswer, HaveNoSkippedPiece, IsTalk, has_end, talk};
 
 /// One command more adds its own part to what is shown, and leaves all else as it is.
 pub fn seen_in_turn()
@@ -51,7 +51,8 @@ pub fn permitted_answers()
 {}
 
 /// Each answer of a talk is the filter's to all that was sent up to its command; no piece of a body follows a Skip, and
-/// nothing follows a final answer.
+/// nothing follows a final answer. Where the commands go on to the end of the message, the talk is closed by its last
+/// exchange and by no earlier one, and no other exchanges are so.
 pub fn talks()
     ensures answered { (b : Behavior) (agreed : Agreed) (before : List Exchange) (commands : List Command) →
         AreAnsweredBy b agreed before (talk b agreed before commands) }
@@ -59,4 +60,9 @@ pub fn talks()
         HaveNoSkippedPiece before (talk b agreed before commands) }
     ensures ended { (b : Behavior) (agreed : Agreed) (before : List Exchange) (commands : List Command) →
         EndAtFinalAnswer (talk b agreed before commands) }
+    ensures whole { (b : Behavior) (agreed : Agreed) (before : List Exchange) (commands : List Command) →
+        has_end commands ≡ true → IsTalk b agreed before commands (talk b agreed before commands) }
+    ensures only { (b : Behavior) (agreed : Agreed) (before : List Exchange) (commands : List Command)
+        (exchanges : List Exchange) → IsTalk b agreed before commands exchanges →
+        exchanges ≡ talk b agreed before commands }
 {}

@@ -25,7 +25,7 @@ pub use edits::Edits;
 pub use filter_fault::FilterFault;
 pub use filter_state::FilterState;
 pub use laws::{histories_cut, permitted_answers, seen_in_turn, stages_in_order, talks};
-pub use limits::{ACTIONS_MAX, PROTOCOL_MAX, VERSION_MAX, VERSION_MIN};
+pub use limits::{ACTIONS_MAX, PROTOCOL_MAX, VERSION_MAX, VERSION_MIN, protocol_limits};
 pub use permitted::{permits, permitted_verdict};
 pub use stage_order::{may_follow, rank_of};
 pub use verdicts::is_final_at;

@@ -1,4 +1,4 @@
--- An edit that is heard is that of its reply, and there is room for it.
+-- An edit that is heard is that of its reply, comes at the end, was agreed on, and there is room for it.
 use Rattle.std.proofs.Common.{◌≡◌, ◌≢◌, ◌≤◌, ◌+◌, ℕ, nat_lt, Bool, true, false, not, Ok, Err, Result, refl, sym, ap, ◌∙◌, if◌then◌else◌}
 use Rattle.std.proofs.lemmas.Bool.{ltb-false}
 use Rattle.milter_wire.specs.declared.agreement.Agreed.{Agreed}
@@ -17,13 +17,19 @@ use Rattle.milter_outcome.specs.declared.loss.MtaFault.{MtaFault}
 use Rattle.milter_outcome.specs.declared.loss.MtaFault.TheVariants.{NotAtThisStage, EditNotNegotiated, TooManyEdits}
 use Rattle.milter_outcome.specs.Hearing.{heard_by, is_end, is_given, verdict_heard}
 
+record IsTaken (early refused heavy : Bool) (edit found : Edit) : Type 0 where
+  found_is : found ≡ edit
+  in_time : early ≡ false
+  allowed : refused ≡ false
+  light : heavy ≡ false
+
 edit_if : (early refused heavy : Bool) (edit found : Edit)
     → (if early then Err NotAtThisStage else if refused then Err EditNotNegotiated else if heavy then Err TooManyEdits else Ok (heard.Edit found)) ≡ Ok (heard.Edit edit)
-    → (found ≡ edit) × (heavy ≡ false)
+    → IsTaken early refused heavy edit found
 edit_if true refused heavy edit found h = absurd cc
 edit_if false true heavy edit found h = absurd cc
 edit_if false false true edit found h = absurd cc
-edit_if false false false edit found h = (cc, refl)
+edit_if false false false edit found h = record { found_is = cc; in_time = refl; allowed = refl; light = refl }
 
 no_verdict : (given : Bool) (verdict : Verdict) (edit : Edit)
     → (if given then Ok (heard.Verdict verdict) else Err NotAtThisStage) ≢ Ok (heard.Edit edit)
@@ -35,14 +41,28 @@ no_edit : (agreed : Agreed) (stage : Stage) (found : Result Verdict Reply) (edit
 no_edit agreed stage (Err other) edit h = absurd cc
 no_edit agreed stage (Ok verdict) edit h = no_verdict (is_given agreed stage verdict) verdict edit h
 
+pub record IsEditHeard (agreed : Agreed) (stage : Stage) (weight : ℕ) (found : Result Edit Reply) (edit : Edit) : Type 0 where
+  pub found_is : found ≡ Ok edit
+  pub at_end : is_end stage ≡ true
+  pub permitted : is_permitted agreed edit ≡ true
+  pub room : weight + weight_of edit ≤ WEIGHT_MAX
+
+true_of : (b : Bool) → not b ≡ false → b ≡ true
+true_of true e = refl
+true_of false e = absurd cc
+
 pub edit_heard_is : (agreed : Agreed) (stage : Stage) (weight : ℕ) (found : Result Edit Reply) (edit : Edit)
-    → heard_by agreed stage weight found ≡ Ok (heard.Edit edit)
-    → (found ≡ Ok edit) × (weight + weight_of edit ≤ WEIGHT_MAX)
+    → heard_by agreed stage weight found ≡ Ok (heard.Edit edit) → IsEditHeard agreed stage weight found edit
 edit_heard_is agreed stage weight (Err other) edit h = absurd (no_edit agreed stage (verdict_of other) edit h)
 edit_heard_is agreed stage weight (Ok found) edit h =
     let is = edit_if (not (is_end stage)) (not (is_permitted agreed found)) (nat_lt WEIGHT_MAX (weight + weight_of found)) edit found h in
-    let light = ltb-false WEIGHT_MAX (weight + weight_of found) is.1 in
-    (ap Ok is.0, rw (sym is.0) light)
+    let light = ltb-false WEIGHT_MAX (weight + weight_of found) is.light in
+    record {
+      found_is = ap Ok is.found_is;
+      at_end = true_of (is_end stage) is.in_time;
+      permitted = ap (is_permitted agreed) (sym is.found_is) ∙ true_of (is_permitted agreed found) is.allowed;
+      room = rw (sym is.found_is) light;
+    }
 
 -- the reply of what one asks for
 abbrev reply_back : Result Edit Reply → Reply

@@ -1,5 +1,5 @@
 -- What a mail server makes of a filter's reply, whatever filter it is.
-use Rattle.std.specs.Prelude.{ℕ, ◌+◌, ◌==◌, nat_le, nat_lt, Bool, true, false, not, ◌&&◌, ◌||◌, List, [], ◌∷◌, Some, Result, Ok, Err, if◌then◌else◌}
+use Rattle.std.specs.Prelude.{◌≡◌, ◌≢◌, ◌≤◌, ℕ, ◌+◌, ◌==◌, nat_le, nat_lt, Bool, true, false, not, ◌&&◌, ◌||◌, List, [], ◌∷◌, Some, Result, Ok, Err, if◌then◌else◌}
 use Rattle.std.specs.Int.Bits.{bit_and}
 use Rattle.milter_options.specs.declared.options.Actions.{Actions}
 use Rattle.milter_options.specs.declared.options.Options.{Options}
@@ -50,6 +50,14 @@ agreed_by offer options lists =
 abbrev pub options_heard : Options → Reply → Result Agreed MtaFault
 options_heard offer (replies.Options options lists) = agreed_by offer options lists
 options_heard offer other = Err NotAtThisStage
+
+-- what an offer lets be agreed on: a version that is known, and no action, protocol bit or list that was not offered
+pub record IsWithinOffer (offer : Options) (agreed : Agreed) : Type 0 where
+  pub version_from : VERSION_MIN ≤ agreed.options.version
+  pub version_to : agreed.options.version ≤ VERSION_MAX
+  pub actions : bit_and offer.actions.0 agreed.options.actions.0 ≡ agreed.options.actions.0
+  pub protocol : bit_and offer.protocol.0 agreed.options.protocol.0 ≡ agreed.options.protocol.0
+  pub lists : agreed.lists ≢ [] → has_bit offer.actions.0 SETSYMLIST.0 ≡ true
 
 -- ---- a reply to a command
 

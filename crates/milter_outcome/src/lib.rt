@@ -17,7 +17,7 @@ mod settling;
 pub use acted::{Acted, ActedVerdicts};
 pub use fallback::{OnLoss, fall_back};
 pub use hearing::{Heard, hear_options, hear_reply};
-pub use laws::heard_replies;
+pub use laws::{heard_options, heard_replies};
 pub use loss::{By, Loss, MtaFault};
 pub use outcome::Outcome;
 pub use refusal::Refusal;

@@ -1,4 +1,5 @@
 use Rattle.milter_exchange.proofs.Talking.{talk-answered, talk-ends, talk-skips}
+use Rattle.milter_exchange.proofs.WholeTalks.{talk-only, talk-whole}
 use Rattle.milter_exchange.proofs.laws.talks.Goals as goal
 
 pub returns-clause-answered : goal.returns-clause-answered
@@ -9,3 +10,9 @@ returns-clause-skipped c = talk-skips
 
 pub returns-clause-ended : goal.returns-clause-ended
 returns-clause-ended c b agreed before commands = talk-ends b agreed before commands
+
+pub returns-clause-whole : goal.returns-clause-whole
+returns-clause-whole c b agreed before commands end = talk-whole b agreed commands before end
+
+pub returns-clause-only : goal.returns-clause-only
+returns-clause-only c b agreed before commands exchanges is = talk-only b agreed commands before exchanges is

@@ -1,0 +1,142 @@
+-- A talk whose commands go on to the end of the message is closed by its last exchange alone; and it is the only one.
+use Rattle.std.proofs.Common.{◌≡◌, ◌≢◌, Bool, true, false, List, [], ◌∷◌, refl, sym, ap, ◌∙◌, subst, if◌then◌else◌}
+use Rattle.std.specs.List.{list_any}
+use Rattle.std.proofs.lemmas.Bool.{true≢false}
+use Rattle.milter_wire.specs.declared.agreement.Agreed.{Agreed}
+use Rattle.milter_wire.specs.declared.command.Command.{Command}
+use Rattle.milter_wire.specs.declared.command.Command.TheVariants as commands
+use Rattle.milter_exchange.specs.Behavior.{Behavior, exchange_of}
+use Rattle.milter_exchange.specs.Exchanges.{Exchange, commands_of}
+use Rattle.milter_exchange.specs.Talk.{IsNext, IsTalk, has_end, is_closed, is_end_command, is_left_out, is_skipping, sendable, talk}
+use Rattle.milter_exchange.proofs.Sendable.{end_left, no_end, sendable-closed, sendable-further, sendable-next, sendable-out}
+
+same-head : {A : Type 0} (x y : A) (xs ys : List A) → x ∷ xs ≡ y ∷ ys → x ≡ y
+same-head x y xs ys e = cc
+
+same-tail : {A : Type 0} (x y : A) (xs ys : List A) → x ∷ xs ≡ y ∷ ys → xs ≡ ys
+same-tail x y xs ys e = cc
+
+module _ (b : Behavior) (agreed : Agreed) where
+  abbrev next : List Exchange → Command → Exchange
+  next before command = exchange_of b agreed (commands_of before) command
+
+  -- the rest of a talk after an exchange that closes it or not
+  abbrev rest_of : Bool → List Exchange → List Exchange
+  rest_of closed more = if closed then [] else more
+
+  -- what is left out changes nothing
+  same-talk : (before : List Exchange) (commands others : List Command) (exchanges : List Exchange) → sendable before commands ≡ sendable before others
+      → IsTalk b agreed before commands exchanges → IsTalk b agreed before others exchanges
+  same-talk before commands others [] e is = is
+  same-talk before commands others (exchange ∷ []) e is =
+      (is.0, record { sent = sym e ∙ is.1.sent; answered = is.1.answered }, is.2)
+  same-talk before commands others (exchange ∷ following ∷ more) e is =
+      (is.0, record { sent = sym e ∙ is.1.sent; answered = is.1.answered }, is.2, is.3)
+
+  -- ---- it is whole
+
+  -- the end of a message lets nothing follow
+  pub goes_no_further : (before : List Exchange) (command : Command) (left : List Command) → is_closed (next before command ∷ before) left ≡ false → is_end_command command ≡ false
+  goes_no_further before (commands.Eob bytes) left e = absurd (true≢false e)
+  goes_no_further before other left e = refl
+
+  -- an exchange, and then the talk from there
+  on_and_on : (before : List Exchange) (command : Command) (left : List Command) (more : List Exchange) → is_left_out before command ≡ false
+      → is_closed (next before command ∷ before) left ≡ false → IsTalk b agreed (next before command ∷ before) left more
+      → IsTalk b agreed before (command ∷ left) (next before command ∷ more)
+  on_and_on before command left [] stays goes_on is = absurd is
+  on_and_on before command left (following ∷ more) stays goes_on is = (
+    sendable before left,
+    record { sent = sendable-next before command left stays; answered = refl },
+    sendable-closed before (next before command ∷ before) left ∙ goes_on,
+    same-talk (next before command ∷ before) left (sendable before left) (following ∷ more) (sym (sendable-further (next before command) before left)) is,
+  )
+
+  pub talk-whole : (commands : List Command) (before : List Exchange) → has_end commands ≡ true → IsTalk b agreed before commands (talk b agreed before commands)
+  unfolding talk
+  talk-whole [] before end = absurd (true≢false (sym end))
+  talk-whole (command ∷ left) before end =
+      by_out (is_left_out before command) refl (λ out. talk-whole left before (end_left command left (no_end command (list_any is_skipping before) out) end))
+      (λ goes_on. talk-whole left (next before command ∷ before) (end_left command left (goes_no_further before command left goes_on) end))
+    where
+      by_closed : (closed : Bool) → is_closed (next before command ∷ before) left ≡ closed → is_left_out before command ≡ false
+          → (is_closed (next before command ∷ before) left ≡ false → IsTalk b agreed (next before command ∷ before) left (talk b agreed (next before command ∷ before) left))
+          → IsTalk b agreed before (command ∷ left) (next before command ∷ rest_of closed (talk b agreed (next before command ∷ before) left))
+      by_closed true e stays rest = (
+        sendable before left,
+        record { sent = sendable-next before command left stays; answered = refl },
+        sendable-closed before (next before command ∷ before) left ∙ e,
+      )
+      by_closed false e stays rest = on_and_on before command left (talk b agreed (next before command ∷ before) left) stays e (rest e)
+
+      by_out : (out : Bool) → is_left_out before command ≡ out
+          → (is_left_out before command ≡ true → IsTalk b agreed before left (talk b agreed before left))
+          → (is_closed (next before command ∷ before) left ≡ false → IsTalk b agreed (next before command ∷ before) left (talk b agreed (next before command ∷ before) left))
+          → IsTalk b agreed before (command ∷ left)
+          (if out then talk b agreed before left
+          else next before command ∷ (if is_closed (next before command ∷ before) left then [] else talk b agreed (next before command ∷ before) left))
+      by_out true e skipped goes =
+          same-talk before left (command ∷ left) (talk b agreed before left) (sym (sendable-out before command left e)) (skipped e)
+      by_out false e skipped goes = by_closed (is_closed (next before command ∷ before) left) refl e goes
+
+  -- ---- it is the only one
+
+  -- the next exchange is this one
+  record IsThis (before : List Exchange) (command : Command) (left : List Command) (exchange : Exchange) (after : List Command) : Type 0 where
+    exchange_is : exchange ≡ next before command
+    after_is : after ≡ sendable before left
+
+  is-this : (before : List Exchange) (command : Command) (left : List Command) (exchange : Exchange) (after : List Command) → is_left_out before command ≡ false
+      → IsNext b agreed before (command ∷ left) exchange after → IsThis before command left exchange after
+  is-this before command left exchange after stays is =
+      let both : command ∷ sendable before left ≡ exchange.command ∷ after = sym (sendable-next before command left stays) ∙ is.sent in
+      let same : command ≡ exchange.command = same-head command exchange.command (sendable before left) after both in
+      record {
+        exchange_is = is.answered ∙ ap (next before) (sym same);
+        after_is = sym (same-tail command exchange.command (sendable before left) after both);
+      }
+
+  -- and it closes the talk as this one does
+  closes-as : (before : List Exchange) (command : Command) (left : List Command) (exchange : Exchange) (after : List Command) → IsThis before command left exchange after
+      → is_closed (next before command ∷ before) left ≡ is_closed (exchange ∷ before) after
+  closes-as before command left exchange after is =
+      sym (sendable-closed before (next before command ∷ before) left)
+      ∙ ap (λ (l : List Command). is_closed (next before command ∷ before) l) (sym is.after_is)
+      ∙ ap (λ (e : Exchange). is_closed (e ∷ before) after) (sym is.exchange_is)
+
+  pub talk-only : (commands : List Command) (before exchanges : List Exchange) → IsTalk b agreed before commands exchanges → exchanges ≡ talk b agreed before commands
+  unfolding talk
+  talk-only commands before [] is = absurd is
+  talk-only [] before (exchange ∷ []) is = let no : [] ≡ exchange.command ∷ is.0 = is.1.sent in absurd cc
+  talk-only [] before (exchange ∷ following ∷ more) is = let no : [] ≡ exchange.command ∷ is.0 = is.1.sent in absurd cc
+  talk-only (command ∷ left) before (exchange ∷ more) is =
+      by_out (is_left_out before command) refl (λ same. talk-only left before (exchange ∷ more) same)
+      (λ others same. talk-only left (next before command ∷ before) others same)
+    where
+      by_more : (more : List Exchange) → is_left_out before command ≡ false → IsTalk b agreed before (command ∷ left) (exchange ∷ more)
+          → ((more : List Exchange) → IsTalk b agreed (next before command ∷ before) left more → more ≡ talk b agreed (next before command ∷ before) left)
+          → exchange ∷ more ≡ next before command ∷ (if is_closed (next before command ∷ before) left then [] else talk b agreed (next before command ∷ before) left)
+      by_more [] stays is rest =
+          let this = is-this before command left exchange is.0 stays is.1 in
+          let closed : is_closed (next before command ∷ before) left ≡ true = closes-as before command left exchange is.0 this ∙ is.2 in
+          ap (λ (e : Exchange). e ∷ []) this.exchange_is ∙ ap (λ (k : Bool). next before command ∷ (if k then [] else talk b agreed (next before command ∷ before) left)) (sym closed)
+      by_more (following ∷ others) stays is rest =
+          let this = is-this before command left exchange is.0 stays is.1 in
+          let goes_on : is_closed (next before command ∷ before) left ≡ false = closes-as before command left exchange is.0 this ∙ is.2 in
+          let here : IsTalk b agreed (next before command ∷ before) is.0 (following ∷ others) =
+          subst (λ (e : Exchange). IsTalk b agreed (e ∷ before) is.0 (following ∷ others)) this.exchange_is is.3 in
+          let there : IsTalk b agreed (next before command ∷ before) left (following ∷ others) =
+          same-talk (next before command ∷ before) is.0 left (following ∷ others)
+          (ap (sendable (next before command ∷ before)) this.after_is ∙ sendable-further (next before command) before left) here in
+          ap (λ (e : Exchange). e ∷ following ∷ others) this.exchange_is
+          ∙ ap (λ (t : List Exchange). next before command ∷ t) (rest (following ∷ others) there)
+          ∙ ap (λ (k : Bool). next before command ∷ (if k then [] else talk b agreed (next before command ∷ before) left)) (sym goes_on)
+
+      by_out : (out : Bool) → is_left_out before command ≡ out
+          → (IsTalk b agreed before left (exchange ∷ more) → exchange ∷ more ≡ talk b agreed before left)
+          → ((others : List Exchange) → IsTalk b agreed (next before command ∷ before) left others → others ≡ talk b agreed (next before command ∷ before) left)
+          → exchange ∷ more
+          ≡ (if out then talk b agreed before left
+          else next before command ∷ (if is_closed (next before command ∷ before) left then [] else talk b agreed (next before command ∷ before) left))
+      by_out true e skipped rest = skipped (same-talk before (command ∷ left) left (exchange ∷ more) (sendable-out before command left e) is)
+      by_out false e skipped rest = by_more more e is rest
