@@ -4,3 +4,4 @@ mod CursorSteps
 mod TalkStages
 mod TalkSteps
 pub mod PlanLaws
+pub mod PlanOrders

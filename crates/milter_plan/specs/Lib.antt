@@ -3,3 +3,4 @@ pub mod OutgoingValue
 pub mod EditWeights
 pub mod TalkVerdicts
 pub mod Talks
+pub mod PlanOrder

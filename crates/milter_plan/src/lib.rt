@@ -15,5 +15,5 @@ mod talk;
 pub use acting::{begin_acted, copy_acted, without_last};
 pub use cursor::{Cursor, Opening};
 pub use heard_edits::HeardEdits;
-pub use laws::{plans_by_stage, talks_begin};
+pub use laws::{plans_by_stage, plans_in_order, plans_in_parts, talks_begin};
 pub use talk::Talk;
