@@ -6,7 +6,7 @@ use Rattle.milter_exchange.specs.Behavior.{Behavior, exchange_of}
 use Rattle.milter_exchange.specs.Exchanges.{Exchange, commands_of}
 use Rattle.milter_exchange.specs.Talk.{AreAnsweredBy, EndAtFinalAnswer, HaveNoSkippedPiece, is_closed, is_final, is_left_out, talk}
 
-left-false : (a b : Bool) → (a || b) ≡ false → a ≡ false
+pub left-false : (a b : Bool) → (a || b) ≡ false → a ≡ false
 left-false true b e = e
 left-false false b e = refl
 

@@ -8,13 +8,8 @@ use Rattle.milter_wire.specs.declared.command.Command.TheVariants as commands
 use Rattle.milter_exchange.specs.Behavior.{Behavior, exchange_of}
 use Rattle.milter_exchange.specs.Exchanges.{Exchange, commands_of}
 use Rattle.milter_exchange.specs.Talk.{IsNext, IsTalk, has_end, is_closed, is_end_command, is_left_out, is_skipping, sendable, talk}
+use Rattle.milter_exchange.proofs.Lists.{same-head, same-tail}
 use Rattle.milter_exchange.proofs.Sendable.{end_left, no_end, sendable-closed, sendable-further, sendable-next, sendable-out}
-
-same-head : {A : Type 0} (x y : A) (xs ys : List A) → x ∷ xs ≡ y ∷ ys → x ≡ y
-same-head x y xs ys e = cc
-
-same-tail : {A : Type 0} (x y : A) (xs ys : List A) → x ∷ xs ≡ y ∷ ys → xs ≡ ys
-same-tail x y xs ys e = cc
 
 module _ (b : Behavior) (agreed : Agreed) where
   abbrev next : List Exchange → Command → Exchange

@@ -1,14 +1,16 @@
 -- The answer of a lawful filter, as it is permitted, is heard whole: each edit, and then the verdict.
 use Rattle.std.specs.Prelude.{if◌then◌else◌}
-use Rattle.std.proofs.Common.{◌≡◌, ◌≢◌, ◌≤◌, ◌+◌, ℕ, Bool, true, false, cond, not, ◌&&◌, List, [], ◌∷◌, ◌++◌, All, map, drop, Option, Some, Result, Ok, Err, refl, sym, ap, ◌∙◌, arith, append-nil, append_assoc}
+use Rattle.std.proofs.Common.{◌≡◌, ◌≢◌, ◌≤◌, ◌+◌, ℕ, Bool, true, false, cond, not, ◌&&◌, List, [], ◌∷◌, ◌++◌, All, map, drop, Option, None, Some, Result, Ok, Err, refl, sym, ap, ◌∙◌, subst, arith, append-nil, append_assoc}
 use Rattle.std.specs.List.{filter, flat_map}
 use Rattle.std.proofs.lemmas.Bool.{le-ltb, true≢false}
+use Rattle.std.proofs.lemmas.Option.{same_Some}
 use Rattle.std.proofs.lemmas.List.Elements.{All-cons, All-filter, All-head, All-nil, All-tail}
 use Rattle.std.proofs.lemmas.List.Sums.{fold-append, sum_by-append, sum_by-cons}
 use Rattle.milter_walk.proofs.TruthValues.{and-true}
 use Rattle.milter_options.specs.declared.options.TheConstants.Protocol.{SKIP}
 use Rattle.milter_wire.specs.declared.agreement.Agreed.{Agreed}
 use Rattle.milter_wire.specs.declared.command.Command.{Command}
+use Rattle.milter_wire.specs.declared.command.Command.TheVariants as commands
 use Rattle.milter_wire.specs.declared.reply.Reply.{Reply}
 use Rattle.milter_wire.specs.declared.stage.Stage.{Stage}
 use Rattle.milter_wire.specs.declared.stage.Stage.TheVariants as stages
@@ -16,6 +18,7 @@ use Rattle.milter_wire.specs.declared.verdict.Verdict.{Verdict}
 use Rattle.milter_wire.specs.declared.verdict.Verdict.TheVariants.{Continue, Accept, Reject, Tempfail, Discard, Skip, Code}
 use Rattle.milter_wire.specs.Agreement.{has}
 use Rattle.milter_wire.specs.Reply.{Fits, encoding}
+use Rattle.milter_wire.specs.Stages.{stage_of}
 use Rattle.milter_wire.specs.Verdicts as verdicts
 use Rattle.milter_message.specs.declared.edit.Edit.{Edit}
 use Rattle.milter_message.specs.declared.edit.Edit.TheVariants.{AddHeader, InsertHeader, ChangeHeader, AddRcpt, AddRcptPar, DelRcpt, ChangeFrom, ReplaceBody, Quarantine, Progress}
@@ -26,6 +29,7 @@ use Rattle.milter_message.specs.MailObject.{MailObject}
 use Rattle.milter_exchange.specs.declared.answer.Answer.{Answer}
 use Rattle.milter_exchange.specs.Lawful.{AnswerFits}
 use Rattle.milter_exchange.specs.Permitted.{is_permitted, permitted, permitted_verdict}
+use Rattle.milter_exchange.specs.Talk.{is_end_command}
 use Rattle.milter_outcome.specs.declared.acted.Acted.{Acted}
 use Rattle.milter_outcome.specs.declared.hearing.Heard.{Heard}
 use Rattle.milter_outcome.specs.declared.hearing.Heard.TheVariants as heard_as
@@ -39,6 +43,7 @@ use Rattle.milter_mta.specs.Mta.{Link, Mta, Position, at_packet}
 use Rattle.milter_mta.specs.Mta.Position.{Sending}
 use Rattle.milter_mta.specs.Receiving.{After, at, goes_on, heard, heard_at, heard_byte, heard_on, replied, replied_at, ruled_on}
 use Rattle.milter_mta.specs.Settling.{settled_all, settled_in}
+use Rattle.milter_walk.specs.Order.{MayAnswer}
 
 -- ---- what a mail server hears whole
 
@@ -49,6 +54,24 @@ pub record IsHeard (agreed : Agreed) (stage : Stage) (answer : Answer) : Type 0 
   pub weight : weight_of_all answer.edits ≤ WEIGHT_MAX
   pub given : is_given agreed stage answer.verdict ≡ true
   pub verdict_fits : Fits (verdicts.reply_of answer.verdict)
+
+-- ---- by stage
+
+abbrev pub end_at : Option Stage → Bool
+end_at None = false
+end_at (Some stage) = is_end stage
+
+pub end_by_stage : (command : Command) → is_end_command command ≡ end_at (stage_of command)
+end_by_stage (commands.Connect client) = refl
+end_by_stage (commands.Helo name) = refl
+end_by_stage (commands.Mail sender) = refl
+end_by_stage (commands.Rcpt recipient) = refl
+end_by_stage commands.DataCmd = refl
+end_by_stage (commands.Header header) = refl
+end_by_stage commands.Eoh = refl
+end_by_stage (commands.Body bytes) = refl
+end_by_stage (commands.Eob bytes) = refl
+end_by_stage other = refl
 
 -- ---- what is permitted
 
@@ -113,6 +136,18 @@ permitted-heard agreed stage answer fits =
       weight = omega (arith, bound, less);
       given = given agreed stage answer.verdict fits.given;
       verdict_fits = verdict_fits agreed answer.verdict fits.verdict;
+    }
+
+-- such an answer may be given to a command of the stage
+pub may-answer : (agreed : Agreed) (command : Command) (stage : Stage) (answer : Answer) → stage_of command ≡ Some stage → IsHeard agreed stage answer → MayAnswer agreed command answer
+may-answer agreed command stage answer at is =
+    record {
+      given = λ other at_other. subst (λ (s : Stage). is_given agreed s answer.verdict ≡ true) (same_Some stage other (sym at ∙ at_other)) is.given;
+      edits = record {
+        only_at_end = λ other. is.at_end (sym (end_by_stage command ∙ ap end_at at) ∙ other);
+        permitted = is.permitted;
+        weight = is.weight;
+      };
     }
 
 -- ---- one reply

@@ -35,7 +35,7 @@ use Rattle.milter_mta.specs.Receiving.{agreed_on, at, byte_at, fails, framed, he
 use Rattle.milter_mta.specs.Sending.{advanced, advanced_in, dialled, dialled_if, sent, sent_in, want}
 use Rattle.milter_mta.specs.Settling.{acted_in, defaulted, lost, report, settled_all, settled_first, settled_in}
 use Rattle.milter_walk.specs.AnyFilter.{ConnectionIsReported, HaveLastVerdict, IsLinkOnWalk, IsOnWalk, IsOptionOnWalk, IsPositionOnWalk, client_reports, is_by_client, without_messages}
-use Rattle.milter_walk.proofs.AnyFilter.{GivenVerdicts, byte-goes}
+use Rattle.milter_walk.proofs.AnyFilter.{HeardFacts, byte-goes}
 use Rattle.milter_walk.proofs.Numbers.{last_added}
 
 -- ---- one report more, or those of all messages
@@ -185,18 +185,18 @@ module _ (m : Mta) (is : ConnectionIsReported m) where
   agreed-keeps (Err fault) = failed fault
   agreed-keeps (Ok agreed) = same _
 
-  replied-keeps : (position : Position) (reply : Reply) → IsPositionOnWalk (without_messages m.session) m.session.messages position → ConnectionIsReported (replied position reply m).mta
+  replied-keeps : (position : Position) (reply : Reply) → IsPositionOnWalk m.config.offer (without_messages m.session) m.session.messages position → ConnectionIsReported (replied position reply m).mta
   replied-keeps Offering reply on = agreed-keeps (options_heard m.config.offer reply)
   replied-keeps (Sending agreed verdicts es left) reply on = replied_at-keeps agreed verdicts es left (stage_first left) reply on.1
   replied-keeps Quitting reply on = failed Early
   replied-keeps Ended reply on = failed Early
 
-  framed-keeps : (position : Position) (found : Result Reply WireFault) → IsPositionOnWalk (without_messages m.session) m.session.messages position
+  framed-keeps : (position : Position) (found : Result Reply WireFault) → IsPositionOnWalk m.config.offer (without_messages m.session) m.session.messages position
       → ConnectionIsReported (framed position found m).mta
   framed-keeps position (Err fault) on = failed (Wire fault)
   framed-keeps position (Ok reply) on = replied-keeps position reply on
 
-  unread-keeps : (link : Link) (unread : List ℕ) (fault : Option WireFault) (frame : Option (Frame × List ℕ)) → IsLinkOnWalk (without_messages m.session) m.session.messages link
+  unread-keeps : (link : Link) (unread : List ℕ) (fault : Option WireFault) (frame : Option (Frame × List ℕ)) → IsLinkOnWalk m.config.offer (without_messages m.session) m.session.messages link
       → ConnectionIsReported (unread_is link unread fault frame m).mta
   unread-keeps link unread (Some fault) frame on = failed (Wire fault)
   unread-keeps link unread None None on = same _
@@ -205,22 +205,22 @@ module _ (m : Mta) (is : ConnectionIsReported m) where
   byte-keeps : (byte : ℕ) → IsOnWalk m → ConnectionIsReported (byte_at m.link byte m).mta
   byte-keeps byte on = by_link m.link on
     where
-      by_owed : (link : Link) → IsLinkOnWalk (without_messages m.session) m.session.messages link → (owed : Bool)
+      by_owed : (link : Link) → IsLinkOnWalk m.config.offer (without_messages m.session) m.session.messages link → (owed : Bool)
           → ConnectionIsReported (if owed then unread_is link (link.unread ++ byte ∷ []) (length_fault (link.unread ++ byte ∷ [])) (first_frame (link.unread ++ byte ∷ [])) m else fails Early m).mta
       by_owed link is true = unread-keeps link _ _ _ is
       by_owed link is false = failed Early
 
-      by_link : (link : Option Link) → IsOptionOnWalk (without_messages m.session) m.session.messages link → ConnectionIsReported (byte_at link byte m).mta
+      by_link : (link : Option Link) → IsOptionOnWalk m.config.offer (without_messages m.session) m.session.messages link → ConnectionIsReported (byte_at link byte m).mta
       by_link None is = failed Early
       by_link (Some link) is = by_owed link is link.owed
 
-heard-on-keeps : GivenVerdicts → (bytes : List ℕ) (m : Mta) (loss : Option Loss) → IsOnWalk m → ConnectionIsReported m
+heard-on-keeps : HeardFacts → (bytes : List ℕ) (m : Mta) (loss : Option Loss) → IsOnWalk m → ConnectionIsReported m
     → ConnectionIsReported (heard_on (record { mta = m; loss = loss }) bytes).mta
-heard-on-keeps given [] m loss on is = is
-heard-on-keeps given (byte ∷ bytes) m (Some loss) on is = heard-on-keeps given bytes m (Some loss) on is
-heard-on-keeps given (byte ∷ bytes) m None on is =
+heard-on-keeps facts [] m loss on is = is
+heard-on-keeps facts (byte ∷ bytes) m (Some loss) on is = heard-on-keeps facts bytes m (Some loss) on is
+heard-on-keeps facts (byte ∷ bytes) m None on is =
     let after = byte_at m.link byte m in
-    heard-on-keeps given bytes after.mta after.loss (byte-goes given m on byte).on_walk (byte-keeps m is byte on)
+    heard-on-keeps facts bytes after.mta after.loss (byte-goes facts m on byte).on_walk (byte-keeps m is byte on)
 
-pub heard-keeps : GivenVerdicts → (m : Mta) (bytes : List ℕ) → IsOnWalk m → ConnectionIsReported m → ConnectionIsReported (heard m bytes).mta
-heard-keeps given m bytes on is = heard-on-keeps given bytes m None on is
+pub heard-keeps : HeardFacts → (m : Mta) (bytes : List ℕ) → IsOnWalk m → ConnectionIsReported m → ConnectionIsReported (heard m bytes).mta
+heard-keeps facts m bytes on is = heard-on-keeps facts bytes m None on is

@@ -4,7 +4,6 @@ use Rattle.std.proofs.Common.{◌≡◌, ◌≢◌, ◌≤◌, ◌+◌, ℕ, ◌
 use Rattle.std.specs.List.{filter, list_all, list_any}
 use Rattle.std.proofs.Common.{drop_of_length-le}
 use Rattle.std.proofs.lemmas.Bool.{eq-eqb}
-use Rattle.milter_walk.proofs.TruthValues.{none_refused}
 use Rattle.milter_stream.specs.Number.{number}
 use Rattle.milter_wire.specs.declared.agreement.Agreed.{Agreed}
 use Rattle.milter_wire.specs.declared.command.Command.{Command}
@@ -19,8 +18,9 @@ use Rattle.milter_exchange.specs.declared.answer.Answer.{Answer}
 use Rattle.milter_exchange.specs.Exchanges.{Exchange, commands_of}
 use Rattle.milter_exchange.specs.Histories.{rank_at}
 use Rattle.milter_exchange.specs.StageOrder.{rank_of}
-use Rattle.milter_exchange.specs.Talk.{are_all_refused, is_closed, is_final_answer, is_kept_rcpt, is_left_out, is_rcpt}
+use Rattle.milter_exchange.specs.Talk.{are_all_refused, is_closed, is_final_answer, is_kept_rcpt, is_left_out, is_rcpt, sendable}
 use Rattle.milter_exchange.specs.Verdicts.{has_verdict, is_final_at, is_refusal}
+use Rattle.milter_exchange.proofs.Sendable.{same_rcpts, sendable-next}
 use Rattle.milter_outcome.specs.declared.acted.Acted.{Acted}
 use Rattle.milter_outcome.specs.Acting.{rcpt_verdicts}
 use Rattle.milter_outcome.specs.Walks.{acted, acted_at, count_at, is_at}
@@ -34,10 +34,11 @@ use Rattle.milter_mta.specs.Sending.{asks_at, finished, sent_from, sent_of, afte
 use Rattle.milter_mta.specs.Settling.{settled}
 use Rattle.milter_walk.specs.Lines.{after_line, answer_bytes, next_packet, sent_whole}
 use Rattle.milter_walk.specs.Order.{AreProper, AreInOrder, ComeBefore}
-use Rattle.milter_walk.specs.Walks.{at_walk, sendable, settled_at, settled_by}
+use Rattle.milter_walk.specs.Walks.{at_walk, settled_at, settled_by}
 use Rattle.milter_walk.proofs.Answers.{HearsReplies, IsHeard, owed_at, replies-heard}
+use Rattle.milter_walk.proofs.Closed.{unanswered-open}
 use Rattle.milter_walk.proofs.Numbers.{numbered}
-use Rattle.milter_walk.proofs.Refusals.{is_rcpt_at, left-sendable, rcpt_by_stage, refused_as_walked, same-sendable, same_rcpts, sendable-next}
+use Rattle.milter_walk.proofs.Refusals.{is_rcpt_at, left-sendable, rcpt_by_stage, refused_as_walked, same-sendable}
 
 -- ---- a command is sent
 
@@ -88,10 +89,6 @@ abbrev pub walked : Agreed → List Exchange → List Command → Mta → Bool �
 walked agreed walk left m closed = if closed then settled_by agreed walk m else at_walk agreed walk left m
 
 -- no answer, nothing settled
-no_final : (at : Option Stage) → is_final_answer at None ≡ false
-no_final None = refl
-no_final (Some stage) = refl
-
 pub no_acted : (at : Option Stage) (walk : List Exchange) → acted_at at None walk ≡ []
 no_acted None walk = refl
 no_acted (Some stage) walk = refl
@@ -107,14 +104,6 @@ module _ (agreed : Agreed) (m : Mta) (last : Exchange) (walk : List Exchange) (l
   packet-is = ap next_packet start-is
 
   module _ (unanswered : last.answer ≡ None) where
-    open-on : is_closed (last ∷ walk) left ≡ false
-    open-on =
-        ap (λ (a : Option Answer). is_final_answer (stage_of last.command) a || are_all_refused (last ∷ walk) left) unanswered
-        ∙ ap (λ (b : Bool). b || are_all_refused (last ∷ walk) left) (no_final (stage_of last.command))
-        ∙ ap (λ (a : Option Answer). is_rcpt last.command && not (list_any is_rcpt left)
-        && not ((is_rcpt last.command && not (has_verdict is_refusal a)) || list_any is_kept_rcpt walk)) unanswered
-        ∙ none_refused (is_rcpt last.command) (not (list_any is_rcpt left)) (list_any is_kept_rcpt walk)
-
     same_acted : acted (last ∷ walk) ≡ acted walk
     same_acted =
         ap (λ (a : Option Answer). acted walk ++ acted_at (stage_of last.command) a (last ∷ walk)) unanswered
@@ -129,7 +118,7 @@ module _ (agreed : Agreed) (m : Mta) (last : Exchange) (walk : List Exchange) (l
         ∙ ap goes_on (sent-unasked agreed (acted walk) last.command (sendable walk left) m asked)
         ∙ ap (λ (l : List Acted). goes_on (at (at_packet (Sending agreed l [] (sendable walk left))) m)) (sym same_acted)
         ∙ ap (λ (l : List Command). goes_on (at (at_packet (Sending agreed (acted (last ∷ walk)) [] l)) m)) (sym (same-sendable last walk left unanswered))
-        ∙ ap (λ (b : Bool). goes_on (walked agreed (last ∷ walk) left m b)) (sym open-on)
+        ∙ ap (λ (b : Bool). goes_on (walked agreed (last ∷ walk) left m b)) (sym (unanswered-open last walk left unanswered))
 
   module _ (stage : Stage) (answer : Answer) (at_stage : stage_of last.command ≡ Some stage) (answered : last.answer ≡ Some answer)
       (asked : is_asked agreed last.command ≡ true) (all : AreProper agreed (last ∷ walk)) (order : AreInOrder (last.command ∷ commands_of walk)) where

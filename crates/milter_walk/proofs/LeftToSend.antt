@@ -2,17 +2,17 @@
 use Rattle.std.proofs.Common.{◌≡◌, ◌≤◌, Bool, true, false, cond, not, ◌||◌, List, [], ◌∷◌, length, refl, sym, ap, ◌∙◌, arith}
 use Rattle.std.specs.List.{list_any}
 use Rattle.std.proofs.lemmas.Bool.{true≢false}
-use Rattle.milter_walk.proofs.Lists.{same-tail}
 use Rattle.milter_wire.specs.declared.agreement.Agreed.{Agreed}
 use Rattle.milter_wire.specs.declared.command.Command.{Command}
 use Rattle.milter_wire.specs.declared.command.Command.TheVariants as commands
 use Rattle.milter_wire.specs.Agreement.{is_asked}
 use Rattle.milter_exchange.specs.Exchanges.{Exchange, onto}
-use Rattle.milter_exchange.specs.Talk.{is_left_out, is_skipping}
-use Rattle.milter_walk.specs.Order.{AreInOrder, has_end, is_end_command}
-use Rattle.milter_walk.specs.Walks.{sendable}
+use Rattle.milter_exchange.specs.Talk.{has_end, is_end_command, is_left_out, is_skipping, sendable}
+use Rattle.milter_walk.specs.Order.{AreInOrder}
 use Rattle.milter_exchange.proofs.Permitting.{filter-again}
-use Rattle.milter_walk.proofs.Ordered.{end_left, no_end, order-without}
+use Rattle.milter_exchange.proofs.Lists.{same-tail}
+use Rattle.milter_exchange.proofs.Sendable.{end_left, no_end}
+use Rattle.milter_walk.proofs.Ordered.{order-without}
 
 shorter : (walk : List Exchange) (left : List Command) → length (sendable walk left) ≤ length left
 shorter walk [] = omega arith

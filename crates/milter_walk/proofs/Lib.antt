@@ -7,6 +7,7 @@ mod Exchanges
 mod Played
 mod Ordered
 mod Openings
+mod Closed
 mod Settled
 mod Losses
 mod PartAnswers

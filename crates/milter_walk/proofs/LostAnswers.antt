@@ -13,7 +13,7 @@ use Rattle.milter_exchange.specs.Exchanges.{Exchange, commands_of}
 use Rattle.milter_exchange.specs.Lawful.{IsLawful}
 use Rattle.milter_exchange.specs.Permitted.{permitted}
 use Rattle.milter_exchange.specs.Seen.{Seen, seen}
-use Rattle.milter_exchange.specs.Talk.{is_left_out}
+use Rattle.milter_exchange.specs.Talk.{is_left_out, sendable}
 use Rattle.milter_outcome.specs.Walks.{acted}
 use Rattle.milter_plan.specs.EditWeights.{weight_of_all}
 use Rattle.milter_mta.specs.Mta.{Link, Mta, at_packet}
@@ -21,7 +21,7 @@ use Rattle.milter_mta.specs.Mta.Position.{Sending}
 use Rattle.milter_mta.specs.Receiving.{After, heard}
 use Rattle.milter_walk.specs.Lines.{after_line, answer_bytes, sent_whole}
 use Rattle.milter_walk.specs.Settled.{ChangesNoLoss}
-use Rattle.milter_walk.specs.Walks.{at_walk, sendable}
+use Rattle.milter_walk.specs.Walks.{at_walk}
 use Rattle.milter_walk.proofs.Answers.{HearsReplies, IsHeard, owed_at, permitted-heard}
 use Rattle.milter_walk.proofs.Exchanges.{sent-asked, start-is}
 use Rattle.milter_walk.proofs.Losses.{lost-over}

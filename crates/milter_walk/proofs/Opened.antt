@@ -23,13 +23,14 @@ use Rattle.milter_exchange.specs.Behavior.{Behavior, exchange_of}
 use Rattle.milter_exchange.specs.Commands.{is_of_connection}
 use Rattle.milter_plan.specs.TalkVerdicts as stages
 use Rattle.milter_exchange.specs.Exchanges.{Exchange, commands_of, onto}
-use Rattle.milter_exchange.specs.Talk.{are_all_refused, is_closed, is_final, is_kept_rcpt, is_left_out, is_rcpt, is_skipping, talk}
+use Rattle.milter_exchange.specs.Talk.{are_all_refused, has_end, is_closed, is_final, is_kept_rcpt, is_left_out, is_rcpt, is_skipping, talk}
+use Rattle.milter_exchange.proofs.Sendable.{end_left, no_end}
 use Rattle.milter_walk.specs.Sessions.{walk_of}
 use Rattle.milter_walk.specs.Settled.{ends_with_client}
-use Rattle.milter_walk.specs.Order.{has_end}
 use Rattle.milter_walk.specs.Walks.{opening_of}
+use Rattle.milter_walk.proofs.Closed.{no_rcpt}
 use Rattle.milter_walk.proofs.Openings.{no_body}
-use Rattle.milter_walk.proofs.Ordered.{end_left, message-ends, no_end}
+use Rattle.milter_walk.proofs.Ordered.{message-ends}
 
 -- ---- commands that are about the client, or all not
 
@@ -96,10 +97,6 @@ opening_is_of agreed session =
     (step_of agreed (macros_of agreed session) Helo (commands.Helo session.helo) refl)
 
 -- ---- the talk about the client, and then about others
-
-no_rcpt : (command : Command) → is_of_connection command ≡ true → is_rcpt command ≡ false
-no_rcpt (commands.Rcpt recipient) e = absurd (true≢false (sym e))
-no_rcpt other e = refl
 
 onto-append : (xs ys before : List Exchange) → onto (xs ++ ys) before ≡ onto ys (onto xs before)
 onto-append [] ys before = refl

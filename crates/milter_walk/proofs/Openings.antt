@@ -13,13 +13,13 @@ use Rattle.milter_exchange.specs.Commands.{is_of_connection}
 use Rattle.milter_exchange.specs.Exchanges.{Exchange, commands_of}
 use Rattle.milter_exchange.specs.Histories.{rank_at}
 use Rattle.milter_exchange.specs.StageOrder.{rank_of}
-use Rattle.milter_exchange.specs.Talk.{is_body, is_skipping}
+use Rattle.milter_exchange.specs.Talk.{is_body, is_skipping, sendable}
 use Rattle.milter_outcome.specs.declared.acted.Acted.{Acted}
 use Rattle.milter_outcome.specs.Walks.{acted, acted_at, count_at, is_at}
 use Rattle.milter_plan.specs.TalkVerdicts as plan
 use Rattle.milter_plan.specs.TalkVerdicts.{on_connection}
 use Rattle.milter_walk.specs.Order.{AreInOrder, AreProper, ComeBefore, ReachAtMost}
-use Rattle.milter_walk.specs.Walks.{opening_of, sendable}
+use Rattle.milter_walk.specs.Walks.{opening_of}
 use Rattle.milter_walk.proofs.Numbers.{same_stage, some_rank}
 use Rattle.milter_walk.proofs.Ordered.{Reaches}
 use Rattle.milter_walk.proofs.Refusals.{keep_all, keep_if}

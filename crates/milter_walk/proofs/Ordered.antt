@@ -19,12 +19,12 @@ use Rattle.milter_mail.specs.MailSession.{MailSession}
 use Rattle.milter_mail.specs.Plan.{macros_of, opening, plan}
 use Rattle.milter_mail.specs.Steps.{macro_step, macros_at, message_steps, step}
 use Rattle.milter_exchange.specs.Exchanges.{onto}
-use Rattle.milter_exchange.specs.Talk.{is_body}
+use Rattle.milter_exchange.specs.Talk.{has_end, is_body, is_end_command}
 use Rattle.milter_exchange.specs.Histories.{rank_at}
 use Rattle.milter_exchange.specs.StageOrder.{rank_of}
 use Rattle.milter_plan.specs.PlanCursor.{Outgoing, commands_of, outgoing_of, stages_after, steps_at}
 use Rattle.milter_plan.proofs.PlanLaws.{message_by_stages, plan_by_stages}
-use Rattle.milter_walk.specs.Order.{AreInOrder, ComeBefore, ReachAtMost, has_end, is_end_command}
+use Rattle.milter_walk.specs.Order.{AreInOrder, ComeBefore, ReachAtMost}
 
 -- ---- parts of what is in order
 
@@ -163,14 +163,6 @@ module _ (agreed : Agreed) (session : MailSession) (message : MailObject) where
       is)
 
 -- ---- the end of a message
-
--- a piece of the body is not the end
-pub no_end : (command : Command) (skips : Bool) → (is_body command && skips) ≡ true → is_end_command command ≡ false
-no_end (commands.Eob bytes) skips e = absurd (true≢false (sym e))
-no_end other skips e = refl
-
-pub end_left : (command : Command) (left : List Command) → is_end_command command ≡ false → has_end (command ∷ left) ≡ true → has_end left ≡ true
-end_left command left none end = ap (λ (e : Bool). e || has_end left) (sym none) ∙ end
 
 has_end-append : (xs ys : List Command) → has_end ys ≡ true → has_end (xs ++ ys) ≡ true
 has_end-append [] ys e = e

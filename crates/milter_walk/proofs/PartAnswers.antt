@@ -4,7 +4,6 @@ use Rattle.std.specs.List.{flat_map}
 use Rattle.std.proofs.lemmas.Bool.{true≢false}
 use Rattle.std.proofs.lemmas.List.Elements.{All-head, All-tail}
 use Rattle.std.proofs.lemmas.List.Sums.{fold-append, sum_by-append, sum_by-cons}
-use Rattle.milter_walk.proofs.Lists.{same-head, same-tail}
 use Rattle.milter_wire.specs.declared.agreement.Agreed.{Agreed}
 use Rattle.milter_wire.specs.declared.command.Command.{Command}
 use Rattle.milter_wire.specs.declared.reply.Reply.{Reply}
@@ -17,6 +16,7 @@ use Rattle.milter_message.specs.declared.message.TheConstants.{WEIGHT_MAX}
 use Rattle.milter_message.specs.EditReplies as edits
 use Rattle.milter_message.specs.EditReplies.{weight_of}
 use Rattle.milter_exchange.specs.Permitted.{is_permitted}
+use Rattle.milter_exchange.proofs.Lists.{same-head, same-tail}
 use Rattle.milter_outcome.specs.declared.acted.Acted.{Acted}
 use Rattle.milter_outcome.specs.declared.hearing.Heard.TheVariants as heard_as
 use Rattle.milter_outcome.specs.Hearing.{is_end}

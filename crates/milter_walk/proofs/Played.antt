@@ -3,7 +3,7 @@ use Rattle.std.specs.Prelude.{if◌then◌else◌}
 use Rattle.std.proofs.Common.{◌≡◌, ◌≢◌, Bool, true, false, ◌&&◌, ◌||◌, List, [], ◌∷◌, map, is_some, Option, None, Some, refl, sym, ap, ◌∙◌, subst, not}
 use Rattle.std.specs.List.{list_any}
 use Rattle.std.proofs.lemmas.Bool.{true≢false}
-use Rattle.milter_walk.proofs.TruthValues.{none_refused}
+use Rattle.std.proofs.lemmas.Option.{same_Some}
 use Rattle.milter_wire.specs.declared.agreement.Agreed.{Agreed}
 use Rattle.milter_wire.specs.declared.command.Command.{Command}
 use Rattle.milter_wire.specs.declared.command.Command.TheVariants as commands
@@ -21,20 +21,22 @@ use Rattle.milter_exchange.specs.Exchanges.{Exchange, commands_of, onto}
 use Rattle.milter_exchange.specs.Lawful.{IsLawful}
 use Rattle.milter_exchange.specs.Permitted.{permitted, permitted_verdict}
 use Rattle.milter_exchange.specs.Seen.{Seen, seen}
-use Rattle.milter_exchange.specs.Talk.{are_all_refused, is_body, is_closed, is_final, is_final_answer, is_kept_rcpt, is_left_out, is_rcpt, is_skipping, talk}
+use Rattle.milter_exchange.specs.Talk.{are_all_refused, has_end, is_body, is_closed, is_end_command, is_final, is_final_answer, is_kept_rcpt, is_left_out, is_rcpt, is_skipping, talk}
 use Rattle.milter_exchange.specs.Verdicts.{has_verdict, is_refusal, is_skip}
+use Rattle.milter_exchange.proofs.Sendable.{end_left, no_end, sendable-out}
 use Rattle.milter_outcome.specs.Acting.{kept}
 use Rattle.milter_outcome.specs.Walks.{acted, ruled, ruled_by}
 use Rattle.milter_mta.specs.Mta.{Mta, at_packet}
 use Rattle.milter_mta.specs.Mta.Position.{Sending}
 use Rattle.milter_mta.specs.Receiving.{After, at, goes_on}
 use Rattle.milter_walk.specs.Lines.{Plays, after_line, line_of}
-use Rattle.milter_walk.specs.Order.{AreInOrder, AreProper, IsProper, has_end, is_end_command}
+use Rattle.milter_walk.specs.Order.{AreInOrder, AreProper, IsProper, MayAnswer}
 use Rattle.milter_walk.specs.Walks.{at_walk, settled_by}
-use Rattle.milter_walk.proofs.Answers.{HearsReplies, permitted-heard}
+use Rattle.milter_walk.proofs.Answers.{HearsReplies, IsHeard, may-answer, permitted-heard}
+use Rattle.milter_walk.proofs.Closed.{closed-rules}
 use Rattle.milter_walk.proofs.Exchanges.{answered-goes, packet-is, unanswered-goes, walked}
-use Rattle.milter_walk.proofs.Ordered.{end_left, no_end, order-before, order-without}
-use Rattle.milter_walk.proofs.Refusals.{is_rcpt_at, rcpt_by_stage, sendable-out}
+use Rattle.milter_walk.proofs.Ordered.{order-before, order-without}
+use Rattle.milter_walk.proofs.Refusals.{is_rcpt_at, rcpt_by_stage}
 
 -- a command of the stage of bodies is a piece of one
 pub is_body_at : (command : Command) → stage_of command ≡ Some Body → is_body command ≡ true
@@ -48,30 +50,6 @@ is_body_at (commands.Header header) at = absurd cc
 is_body_at commands.Eoh at = absurd cc
 is_body_at (commands.Eob bytes) at = absurd cc
 is_body_at other at = absurd cc
-
--- ---- a walk that ends has a last answer
-
-pub closed-rules : (last : Exchange) (before : List Exchange) (left : List Command) → is_closed (last ∷ before) left ≡ true
-    → (leading_space : Bool) (message : MailObject) → is_some (ruled leading_space message (last ∷ before)) ≡ true
-closed-rules last before left closed leading_space message = by_last (stage_of last.command) last.answer refl refl
-  where
-    open_by : is_final last ≡ false → last.answer ≡ None → is_closed (last ∷ before) left ≡ false
-    open_by none unanswered =
-        ap (λ (k : Bool). k || are_all_refused (last ∷ before) left) none
-        ∙ ap (λ (a : Option Answer). is_rcpt last.command && not (list_any is_rcpt left) && not ((is_rcpt last.command && not (has_verdict is_refusal a)) || list_any is_kept_rcpt before)) unanswered
-        ∙ none_refused (is_rcpt last.command) (not (list_any is_rcpt left)) (list_any is_kept_rcpt before)
-
-    no_stage : stage_of last.command ≡ None → is_closed (last ∷ before) left ≡ false
-    no_stage at =
-        ap (λ (s : Option Stage). is_final_answer s last.answer || are_all_refused (last ∷ before) left) at
-        ∙ ap (λ (k : Bool). k && not (list_any is_rcpt left) && not (list_any is_kept_rcpt (last ∷ before))) (rcpt_by_stage last.command ∙ ap is_rcpt_at at)
-
-    by_last : (at : Option Stage) (answer : Option Answer) → stage_of last.command ≡ at → last.answer ≡ answer
-        → is_some (ruled_by leading_space (kept message (acted (last ∷ before))) at answer) ≡ true
-    by_last None answer at unanswered = absurd (true≢false (sym closed ∙ no_stage at))
-    by_last (Some stage) None at unanswered =
-        absurd (true≢false (sym closed ∙ open_by (ap (λ (s : Option Stage). is_final_answer s last.answer) at ∙ ap (is_final_answer (Some stage)) unanswered) unanswered))
-    by_last (Some stage) (Some answer) at answered = refl
 
 module _ (hears : HearsReplies) (b : Behavior) (lawful : IsLawful b) (agreed : Agreed) (m : Mta) (some : m.session.messages ≢ []) where
   abbrev next : List Exchange → Command → Exchange
@@ -107,8 +85,21 @@ module _ (hears : HearsReplies) (b : Behavior) (lawful : IsLawful b) (agreed : A
   body-skips command stage other at given skips = absurd (true≢false (sym skips))
 
   proper : (walk : List Exchange) (command : Command) → IsProper agreed (next walk command)
-  proper walk command = record { answered = answered-as walk command; skipped = by_stage (stage_of command) (is_asked agreed command) refl }
+  proper walk command =
+      record {
+        answered = answered-as walk command;
+        may = λ answer answered. may-by (stage_of command) (is_asked agreed command) refl answer answered;
+        skipped = by_stage (stage_of command) (is_asked agreed command) refl;
+      }
     where
+      may-by : (at : Option Stage) (asked : Bool) → stage_of command ≡ at → (answer : Answer) → answer_to b agreed at asked (shown walk command) ≡ Some answer
+          → MayAnswer agreed command answer
+      may-by None asked at answer answered = absurd cc
+      may-by (Some stage) false at answer answered = absurd cc
+      may-by (Some stage) true at answer answered =
+          may-answer agreed command stage answer at
+          (subst (IsHeard agreed stage) (same_Some _ answer answered) (permitted-heard agreed stage (b.decide stage (shown walk command)) (lawful.answers stage (shown walk command))))
+
       by_stage : (at : Option Stage) (asked : Bool) → stage_of command ≡ at
           → has_verdict is_skip (answer_to b agreed at asked (shown walk command)) ≡ true → is_body command ≡ true
       by_stage None asked e skips = absurd (true≢false (sym skips))

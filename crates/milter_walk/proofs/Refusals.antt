@@ -15,14 +15,13 @@ use Rattle.milter_wire.specs.Agreement.{is_answered, is_asked_at}
 use Rattle.milter_wire.specs.Stages.{stage_of}
 use Rattle.milter_exchange.specs.declared.answer.Answer.{Answer}
 use Rattle.milter_exchange.specs.Exchanges.{Exchange}
-use Rattle.milter_exchange.specs.Talk.{is_body, is_kept_rcpt, is_left_out, is_rcpt, is_refused, is_skipping}
+use Rattle.milter_exchange.specs.Talk.{is_body, is_kept_rcpt, is_left_out, is_rcpt, is_refused, is_skipping, sendable}
 use Rattle.milter_exchange.specs.Verdicts.{has_verdict, is_refusal, is_skip}
 use Rattle.milter_outcome.specs.Acting.{rcpt_verdict, rcpt_verdicts}
 use Rattle.milter_outcome.specs.Walks.{acted, acted_at}
 use Rattle.milter_plan.specs.PlanCursor.{without_body}
 use Rattle.milter_plan.specs.TalkVerdicts.{is_rcpt_stage, left_after}
 use Rattle.milter_walk.specs.Order.{AreProper}
-use Rattle.milter_walk.specs.Walks.{sendable}
 
 -- ---- truth values
 
@@ -115,35 +114,6 @@ module _ (agreed : Agreed) (answered : is_answered agreed Rcpt ≡ true) where
       ∙ ap (λ (b : Bool). not ((b && not (is_refused last)) || list_any is_kept_rcpt before)) (sym (rcpt_by_stage last.command))
 
 -- ---- what is left to send
-
--- pieces of the body are no recipients
-pub same_rcpts : (walk : List Exchange) (left : List Command) → list_any is_rcpt (sendable walk left) ≡ list_any is_rcpt left
-same_rcpts walk [] = refl
-same_rcpts walk (command ∷ left) = by_out (is_left_out walk command) refl (same_rcpts walk left)
-  where
-    no_rcpt : (command : Command) (skips : Bool) → (is_body command && skips) ≡ true → is_rcpt command ≡ false
-    no_rcpt (commands.Rcpt recipient) skips e = absurd (true≢false (sym e))
-    no_rcpt (commands.Body bytes) skips e = refl
-    no_rcpt other skips e = absurd (true≢false (sym e))
-
-    by_out : (out : Bool) → is_left_out walk command ≡ out → list_any is_rcpt (sendable walk left) ≡ list_any is_rcpt left
-        → list_any is_rcpt (sendable walk (command ∷ left)) ≡ list_any is_rcpt (command ∷ left)
-    by_out true e rest =
-        ap (λ (b : Bool). list_any is_rcpt (cond (not b) (command ∷ sendable walk left) (sendable walk left))) e
-        ∙ rest
-        ∙ ap (λ (b : Bool). b || list_any is_rcpt left) (sym (no_rcpt command (list_any is_skipping walk) e))
-    by_out false e rest =
-        ap (λ (b : Bool). list_any is_rcpt (cond (not b) (command ∷ sendable walk left) (sendable walk left))) e
-        ∙ ap (λ (b : Bool). is_rcpt command || b) rest
-
--- the next command, where it is not left out
-pub sendable-next : (walk : List Exchange) (command : Command) (left : List Command) → is_left_out walk command ≡ false
-    → sendable walk (command ∷ left) ≡ command ∷ sendable walk left
-sendable-next walk command left e = ap (λ (b : Bool). cond (not b) (command ∷ sendable walk left) (sendable walk left)) e
-
-pub sendable-out : (walk : List Exchange) (command : Command) (left : List Command) → is_left_out walk command ≡ true
-    → sendable walk (command ∷ left) ≡ sendable walk left
-sendable-out walk command left e = ap (λ (b : Bool). cond (not b) (command ∷ sendable walk left) (sendable walk left)) e
 
 -- after one exchange more
 abbrev pub keep_if : Bool → List Command → List Command

@@ -2,7 +2,6 @@
 use Rattle.std.proofs.Common.{◌≡◌, ◌≢◌, Bool, true, false, cond, not, ◌||◌, List, [], ◌∷◌, ◌++◌, refl, sym, ap, ◌∙◌, subst, append-nil, append_assoc}
 use Rattle.std.specs.List.{filter, list_any}
 use Rattle.std.proofs.lemmas.Bool.{true≢false}
-use Rattle.milter_walk.proofs.Lists.{same-head, same-tail}
 use Rattle.milter_walk.proofs.TruthValues.{or-true}
 use Rattle.milter_wire.specs.declared.agreement.Agreed.{Agreed}
 use Rattle.milter_wire.specs.declared.command.Command.{Command}
@@ -12,12 +11,13 @@ use Rattle.milter_mail.specs.Plan.{macros_of, opening, plan}
 use Rattle.milter_mail.specs.Steps.{message_steps}
 use Rattle.milter_exchange.specs.Commands.{is_of_connection}
 use Rattle.milter_exchange.specs.Exchanges.{Exchange, commands_of, onto}
-use Rattle.milter_exchange.specs.Talk.{is_body, is_skipping}
+use Rattle.milter_exchange.specs.Talk.{is_body, is_skipping, sendable}
+use Rattle.milter_exchange.proofs.Lists.{same-head, same-tail}
 use Rattle.milter_plan.specs.PlanCursor.{without_body}
 use Rattle.milter_walk.specs.Beginnings.{IsSentOf}
 use Rattle.milter_walk.specs.Order.{AreProper}
 use Rattle.milter_walk.specs.Settled.{ends_with_client}
-use Rattle.milter_walk.specs.Walks.{opening_of, sendable}
+use Rattle.milter_walk.specs.Walks.{opening_of}
 use Rattle.milter_walk.proofs.Opened.{AreOf, of-append, message_of, opening_is_of}
 use Rattle.milter_walk.proofs.Openings.{no_body, opening-sendable}
 use Rattle.milter_walk.proofs.Ordered.{onto-append}

@@ -22,6 +22,7 @@ use Rattle.milter_exchange.specs.Commands.{is_of_connection}
 use Rattle.milter_exchange.specs.Exchanges.{Exchange, commands_of}
 use Rattle.milter_exchange.specs.Histories.{rank_at}
 use Rattle.milter_exchange.specs.StageOrder.{rank_of}
+use Rattle.milter_exchange.specs.Talk.{is_end_command}
 use Rattle.milter_outcome.specs.declared.acted.Acted.{Acted}
 use Rattle.milter_outcome.specs.declared.loss.By.TheVariants.{Connection, Filter}
 use Rattle.milter_outcome.specs.declared.outcome.Outcome.{Outcome}
@@ -35,29 +36,12 @@ use Rattle.milter_plan.specs.TalkVerdicts.{on_connection}
 use Rattle.milter_mta.specs.Mta.{Link, Mta, Position, link_at}
 use Rattle.milter_mta.specs.Mta.Position.{Sending}
 use Rattle.milter_mta.specs.Settling.{next_message, report, settled_all, settled_first, settled_in}
-use Rattle.milter_walk.specs.Order.{AreInOrder, AreProper, ComeBefore, IsWalked, ReachAtMost, is_end_command}
+use Rattle.milter_walk.specs.Order.{AreInOrder, AreProper, ComeBefore, IsWalked, ReachAtMost}
 use Rattle.milter_walk.specs.Settled.{AreAllSettled, ends_with_client, next_link, next_position}
 use Rattle.milter_walk.specs.Walks.{opening_of, settled_at, settled_by}
-use Rattle.milter_walk.proofs.Ordered.{further}
+use Rattle.milter_walk.proofs.Answers.{end_at, end_by_stage}
+use Rattle.milter_walk.proofs.Closed.{client-low}
 use Rattle.milter_walk.proofs.Openings.{client_by_stage, low_rank, opening-acted, opening-sendable}
-
--- ---- by stage
-
-abbrev end_at : Option Stage → Bool
-end_at None = false
-end_at (Some stage) = is_end stage
-
-end_by_stage : (command : Command) → is_end_command command ≡ end_at (stage_of command)
-end_by_stage (commands.Connect client) = refl
-end_by_stage (commands.Helo name) = refl
-end_by_stage (commands.Mail sender) = refl
-end_by_stage (commands.Rcpt recipient) = refl
-end_by_stage commands.DataCmd = refl
-end_by_stage (commands.Header header) = refl
-end_by_stage commands.Eoh = refl
-end_by_stage (commands.Body bytes) = refl
-end_by_stage (commands.Eob bytes) = refl
-end_by_stage other = refl
 
 -- ---- the next message
 
@@ -144,15 +128,6 @@ kept-all : (message : MailObject) (walk : List Exchange) → ReachAtMost 2 (comm
 kept-all message walk below =
     ap (λ (l : List Verdict). record message { recipients = kept_recipients message.recipients l }) (no_rcpts walk below)
     ∙ ap (λ (l : List Path). record message { recipients = l }) (all_recipients message.recipients)
-
--- a walk that ends with the client has not reached a message
-client-low : (last : Exchange) (before : List Exchange) (stage : Stage) → stage_of last.command ≡ Some stage → is_of_connection last.command ≡ true
-    → AreInOrder (commands_of (last ∷ before)) → ReachAtMost 2 (commands_of (last ∷ before))
-client-low last before stage at client order =
-    let low : rank_of stage ≤ 2 = subst (λ (s : Option Stage). rank_at s ≤ 2) at (low_rank last.command client) in (
-      low_rank last.command client,
-      further (rank_of stage) 2 low (commands_of before) (subst (λ (s : Option Stage). ComeBefore s (commands_of before)) at order.0),
-    )
 
 module _ (agreed : Agreed) (last : Exchange) (before : List Exchange) (m : Mta) (all : IsWalked agreed (last ∷ before)) (outcome_of : MailObject → Outcome)
     (client : is_of_connection last.command ≡ true) where

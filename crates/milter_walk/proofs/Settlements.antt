@@ -1,9 +1,10 @@
 -- What is settled from one time to another, by a loss or by the last answer of a walk.
 use Rattle.std.specs.Prelude.{if◌then◌else◌}
-use Rattle.std.proofs.Common.{◌≡◌, ◌≢◌, inl, inr, Bool, true, false, List, [], ◌∷◌, ◌++◌, drop, map, is_some, Option, None, Some, refl, sym, ap, ◌∙◌, subst, append-nil, append_assoc}
+use Rattle.std.proofs.Common.{◌≡◌, ◌≢◌, inl, inr, Bool, true, false, List, [], ◌∷◌, ◌++◌, drop, map, is_some, Option, None, Some, refl, sym, ap, ◌∙◌, subst, arith, append-nil, append_assoc}
+use Rattle.std.specs.Int.Bits.{and_zero_r}
 use Rattle.std.specs.List.{AllZip}
+use Rattle.std.proofs.lemmas.List.Elements.{All-nil}
 use Rattle.std.proofs.lemmas.Bool.{true≢false}
-use Rattle.milter_walk.proofs.Lists.{same-head}
 use Rattle.milter_wire.specs.declared.agreement.Agreed.{Agreed}
 use Rattle.milter_wire.specs.declared.stage.Stage.{Stage}
 use Rattle.milter_wire.specs.Agreement.{has_leading_space}
@@ -15,6 +16,11 @@ use Rattle.milter_mail.specs.Plan.{macros_of, plan}
 use Rattle.milter_mail.specs.Steps.{message_steps}
 use Rattle.milter_exchange.specs.declared.answer.Answer.{Answer}
 use Rattle.milter_exchange.specs.Exchanges.{Exchange, commands_of}
+use Rattle.milter_exchange.specs.declared.limits.TheConstants.{VERSION_MIN}
+use Rattle.milter_exchange.specs.Permitted.{is_permitted}
+use Rattle.milter_exchange.specs.Talk.{IsEnded, IsOpen}
+use Rattle.milter_exchange.proofs.Lists.{same-head}
+use Rattle.milter_exchange.specs.Talk.{sendable}
 use Rattle.milter_outcome.specs.declared.acted.Acted.{Acted}
 use Rattle.milter_outcome.specs.declared.loss.By.TheVariants.{Connection, Default, Filter}
 use Rattle.milter_outcome.specs.declared.loss.Loss.{Loss}
@@ -23,15 +29,17 @@ use Rattle.milter_outcome.specs.declared.report.Report.{Report}
 use Rattle.milter_outcome.specs.Acting.{kept}
 use Rattle.milter_outcome.specs.Outcomes.{fallback}
 use Rattle.milter_outcome.specs.Walks.{acted, ruled}
+use Rattle.milter_outcome.specs.Hearing.{IsWithinOffer}
 use Rattle.milter_plan.specs.TalkVerdicts as plan_stages
 use Rattle.milter_plan.specs.TalkVerdicts.{with_verdict}
 use Rattle.milter_mta.specs.Mta.{Configuration, Link, Mta, Position}
 use Rattle.milter_mta.specs.Mta.Position.{Ended, Offering, Quitting, Sending}
 use Rattle.milter_mta.specs.Settling.{acted_at, acted_in, default_report, defaulted, lost, report, settled_all, settled_in}
-use Rattle.milter_walk.specs.AnyFilter.{without_messages, GoesOnWalks, IsLinkOnWalk, IsOnWalk, IsOptionOnWalk, IsPositionOnWalk, IsReportByWalk, SettlesByWalks}
-use Rattle.milter_walk.specs.Order.{IsWalked}
+use Rattle.milter_walk.specs.AnyFilter.{without_messages, GoesOnWalks, IsLinkOnWalk, IsOnWalk, IsOptionOnWalk, IsPositionOnWalk, IsReportByWalk, SettlesByWalks, is_end_next}
+use Rattle.milter_walk.specs.Order.{IsWalked, MayEdit}
 use Rattle.milter_walk.specs.Settled.{ends_with_client, next_link}
-use Rattle.milter_walk.specs.Walks.{sendable, opening_of, settled_at, settled_by}
+use Rattle.milter_walk.specs.Walks.{opening_of, settled_at, settled_by}
+use Rattle.milter_walk.proofs.Closed.{ended-client, opening-ended}
 use Rattle.milter_walk.proofs.Openings.{opening-proper, opening-reaches}
 use Rattle.milter_walk.proofs.Ordered.{message-ends, message-ordered, order-before}
 use Rattle.milter_walk.proofs.Settled.{all-settled-walk, one-settled-walk, reported}
@@ -42,6 +50,11 @@ use Rattle.milter_walk.proofs.LeftToSend.{kept-end, kept-order, sendable-twice}
 
 pub not_owed : {A : Type 0} → false ≡ true → A
 not_owed e = absurd (true≢false (sym e))
+
+-- before any edit came
+pub no-edits : (agreed : Agreed) (at_end : Bool) → MayEdit agreed at_end []
+no-edits agreed at_end =
+    record { only_at_end = λ other. refl; permitted = All-nil (λ edit. is_permitted agreed edit ≡ true); weight = omega arith }
 
 -- ---- what is settled from one time to another
 
@@ -74,9 +87,9 @@ settles-on a b c first next =
       added = first.added ++ next.added;
       messages_are = first.messages_are ∙ ap (λ (l : List MailObject). first.settled ++ l) next.messages_are ∙ sym (append_assoc first.settled next.settled c.session.messages);
       reports_are = next.reports_are ∙ ap (λ (l : List Report). l ++ next.added) first.reports_are ∙ append_assoc a.reports first.added next.added;
-      by_walks = zip-append (IsReportByWalk (without_messages a.session) a.config.on_loss) first.settled next.settled first.added next.added first.by_walks
-          (subst (λ (k : Configuration). AllZip (IsReportByWalk (without_messages a.session) k.on_loss) next.settled next.added) first.same_config
-          (subst (λ (s : MailSession). AllZip (IsReportByWalk s b.config.on_loss) next.settled next.added) first.same_session next.by_walks));
+      by_walks = zip-append (IsReportByWalk a.config (without_messages a.session)) first.settled next.settled first.added next.added first.by_walks
+          (subst (λ (k : Configuration). AllZip (IsReportByWalk k (without_messages a.session)) next.settled next.added) first.same_config
+          (subst (λ (s : MailSession). AllZip (IsReportByWalk b.config s) next.settled next.added) first.same_session next.by_walks));
       same_config = next.same_config ∙ first.same_config;
       same_session = next.same_session ∙ first.same_session;
     }
@@ -87,30 +100,43 @@ goes-on a b c first next = record { on_walk = next.on_walk; settles = settles-on
 -- ---- a loss
 
 module _ (m : Mta) (loss : Loss) where
-  any_agreed : Agreed
-  any_agreed = record { options = m.config.offer; lists = [] }
+  -- the lowest version without a bit is within any offer
+  abbrev any_agreed : Agreed
+  any_agreed = record { options = record { version = VERSION_MIN; actions = record { 0 = 0 }; protocol = record { 0 = 0 } }; lists = [] }
+
+  any-within : IsWithinOffer m.config.offer any_agreed
+  any-within =
+      record {
+        version_from = omega arith;
+        version_to = omega arith;
+        actions = and_zero_r m.config.offer.actions.0;
+        protocol = and_zero_r m.config.offer.protocol.0;
+        lists = λ some. absurd (some refl);
+      }
 
   -- the verdicts that were acted on are a walk's
   record Verdicts (verdicts : List Acted) : Type 0 where
     agreed : Agreed
+    within : IsWithinOffer m.config.offer agreed
     walk : List Exchange
     walked_is : IsWalked agreed walk
     verdicts_are : verdicts ≡ acted walk
     of_plan : (message : MailObject) (others : List MailObject) → m.session.messages ≡ message ∷ others
-        → (left : List Command) × IsSentOf (plan agreed (without_messages m.session) message) walk left
+        → (left : List Command) × IsSentOf (plan agreed (without_messages m.session) message) walk left × IsOpen walk left
 
   -- before anything was sent of it
   nothing_acted : Verdicts []
   nothing_acted =
       record {
         agreed = any_agreed;
+        within = any-within;
         walk = [];
         walked_is = record { proper = tt; in_order = tt };
         verdicts_are = refl;
-        of_plan = λ message others e. (plan any_agreed (without_messages m.session) message, sent-start (plan any_agreed (without_messages m.session) message));
+        of_plan = λ message others e. (plan any_agreed (without_messages m.session) message, sent-start (plan any_agreed (without_messages m.session) message), tt);
       }
 
-  at-position : (position : Position) → IsPositionOnWalk (without_messages m.session) m.session.messages position → Verdicts (acted_at position)
+  at-position : (position : Position) → IsPositionOnWalk m.config.offer (without_messages m.session) m.session.messages position → Verdicts (acted_at position)
   at-position Offering on = nothing_acted
   at-position Quitting on = nothing_acted
   at-position Ended on = nothing_acted
@@ -118,13 +144,14 @@ module _ (m : Mta) (loss : Loss) where
       let is = on.0 in
       record {
         agreed = agreed;
+        within = is.within;
         walk = is.walk;
         walked_is = record { proper = is.is_walk.proper; in_order = order-before left (commands_of is.walk) is.is_walk.in_order };
         verdicts_are = is.verdicts_are;
-        of_plan = λ message others e. (left, is.of_plan message others e);
+        of_plan = λ message others e. (left, is.of_plan message others e, is.is_open);
       }
 
-  in-link : (link : Option Link) → IsOptionOnWalk (without_messages m.session) m.session.messages link → Verdicts (acted_in link)
+  in-link : (link : Option Link) → IsOptionOnWalk m.config.offer (without_messages m.session) m.session.messages link → Verdicts (acted_in link)
   in-link None on = nothing_acted
   in-link (Some link) on = at-position link.position on.position
 
@@ -142,9 +169,11 @@ module _ (m : Mta) (loss : Loss) where
         by_walks = (
           inr (record {
             agreed = is.agreed;
+            within = is.within;
             walk = is.walk;
             left = (is.of_plan message messages e).0;
             walked = is.walked_is;
+            is_open = (is.of_plan message messages e).2;
             of_plan = (is.of_plan message messages e).1;
             loss = loss;
             report_is = ap (λ (a : List Acted). report a (fallback m.config.on_loss (kept message a)) (Default loss)) is.verdicts_are;
@@ -196,10 +225,10 @@ zip-map P f [] all = tt
 zip-map P f (x ∷ xs) all = (all x, zip-map P f xs all)
 
 -- a walk that ended settles what it rules
-module _ (agreed : Agreed) (w : List Exchange) (m : Mta) (all : IsWalked agreed w) (some : m.session.messages ≢ [])
+module _ (agreed : Agreed) (w : List Exchange) (m : Mta) (within : IsWithinOffer m.config.offer agreed) (all : IsWalked agreed w) (some : m.session.messages ≢ [])
     (rules : (each : MailObject) → is_some (ruled (has_leading_space agreed) each w) ≡ true)
     (of_plan : (message : MailObject) (others : List MailObject) → m.session.messages ≡ message ∷ others
-    → (left : List Command) × IsSentOf (plan agreed (without_messages m.session) message) w left) where
+    → (left : List Command) × IsSentOf (plan agreed (without_messages m.session) message) w left × IsEnded w left) where
   abbrev outcome_of : MailObject → Outcome
   outcome_of each = or_none (ruled (has_leading_space agreed) each w)
 
@@ -207,19 +236,29 @@ module _ (agreed : Agreed) (w : List Exchange) (m : Mta) (all : IsWalked agreed 
   is_ruled each = some-is (ruled (has_leading_space agreed) each w) (rules each)
 
   ruled-report : (each : MailObject) (client : Bool) → ends_with_client w ≡ client
-      → (left : List Command) × IsSentOf (plan agreed (without_messages m.session) each) w left
-      → IsReportByWalk (without_messages m.session) m.config.on_loss each (report (acted w) (outcome_of each) (if client then Connection else Filter))
+      → (left : List Command) × IsSentOf (plan agreed (without_messages m.session) each) w left × IsEnded w left
+      → IsReportByWalk m.config (without_messages m.session) each (report (acted w) (outcome_of each) (if client then Connection else Filter))
   ruled-report each client e sent =
       inl (record {
         agreed = agreed;
+        within = within;
         walk = w;
         left = sent.0;
         walked = all;
+        ended = sent.2;
         of_plan = sent.1;
         outcome = outcome_of each;
         ruled_is = is_ruled each;
         report_is = ap (λ (k : Bool). report (acted w) (outcome_of each) (if k then Connection else Filter)) (sym e);
       })
+
+  -- a walk that ends with the client ends that of each message
+  other-message : (message : MailObject) (messages : List MailObject) → m.session.messages ≡ message ∷ messages → ends_with_client w ≡ true → (each : MailObject)
+      → (left : List Command) × IsSentOf (plan agreed (without_messages m.session) each) w left × IsEnded w left
+  other-message message messages e client each =
+      let is = of_plan message messages e in
+      let other = sent-other-walk agreed (without_messages m.session) message w is.0 is.1 client each in
+      (other.0, other.1, ended-client w is.0 other.0 all.in_order client is.2)
 
   by_client : (message : MailObject) (messages : List MailObject) → m.session.messages ≡ message ∷ messages → ends_with_client w ≡ true
       → GoesOnWalks m (settled_by agreed w m)
@@ -228,15 +267,14 @@ module _ (agreed : Agreed) (w : List Exchange) (m : Mta) (all : IsWalked agreed 
       let is = all-settled-walk agreed w m message outcome_of all client is_ruled in
       let f : MailObject → Report = λ each. report (acted w) (outcome_of each) Connection in
       record {
-        on_walk = subst (IsOptionOnWalk (without_messages n.session) n.session.messages) (sym is.quits) (record { position = is.none_left; asked = λ o. not_owed o });
+        on_walk = subst (IsOptionOnWalk n.config.offer (without_messages n.session) n.session.messages) (sym is.quits) (record { position = is.none_left; asked = λ o. not_owed o });
         settles = record {
           settled = m.session.messages;
           added = map f m.session.messages;
           messages_are = sym (ap (λ (l : List MailObject). m.session.messages ++ l) is.none_left ∙ append-nil m.session.messages);
           reports_are = is.reported;
-          by_walks = zip-map (IsReportByWalk (without_messages m.session) m.config.on_loss) f m.session.messages
-              (λ each. ruled-report each true client
-              (sent-other-walk agreed (without_messages m.session) message w (of_plan message messages e).0 (of_plan message messages e).1 client each));
+          by_walks = zip-map (IsReportByWalk m.config (without_messages m.session)) f m.session.messages
+              (λ each. ruled-report each true client (other-message message messages e client each));
           same_config = (same-parts agreed w m).0;
           same_session = (same-parts agreed w m).1;
         };
@@ -247,7 +285,7 @@ module _ (agreed : Agreed) (w : List Exchange) (m : Mta) (all : IsWalked agreed 
 
   -- the next message begins after the exchanges about the client
   next-on : (settled : MailObject) (messages : List MailObject) → m.session.messages ≡ settled ∷ messages → ends_with_client w ≡ false
-      → IsLinkOnWalk (without_messages m.session) messages (next_link agreed w m.session messages)
+      → IsLinkOnWalk m.config.offer (without_messages m.session) messages (next_link agreed w m.session messages)
   next-on settled [] e client = record { position = refl; asked = λ o. not_owed o }
   next-on settled (message ∷ messages) e client =
       let steps = message_steps agreed (macros_of agreed m.session) message in
@@ -255,7 +293,9 @@ module _ (agreed : Agreed) (w : List Exchange) (m : Mta) (all : IsWalked agreed 
       record {
         position = (
           record {
+            within = within;
             walk = o;
+            is_open = opening-ended w (of_plan settled (message ∷ messages) e).0 (sendable o steps) client (of_plan settled (message ∷ messages) e).2;
             is_walk = record {
               proper = opening-proper agreed w all.proper;
               in_order = kept-order o steps (commands_of o) (message-ordered agreed m.session message (commands_of o) (opening-reaches w all.in_order));
@@ -269,6 +309,7 @@ module _ (agreed : Agreed) (w : List Exchange) (m : Mta) (all : IsWalked agreed 
                 (some_walk settled) all.proper message);
           },
           λ none. absurd cc,
+          no-edits agreed (is_end_next (sendable o steps)),
         );
         asked = λ owed. not_owed owed;
       }

@@ -1,6 +1,7 @@
 -- A mail server's end against any filter, whatever it sends: the verdicts that it acts on are always those of a walk.
 use Rattle.std.specs.Prelude.{◌≡◌, ◌≢◌, ◌⊎◌, Bool, true, false, List, [], ◌∷◌, ◌++◌, Option, None, Some, option_map}
 use Rattle.std.specs.List.{AllZip, filter}
+use Rattle.milter_options.specs.declared.options.Options.{Options}
 use Rattle.milter_wire.specs.declared.agreement.Agreed.{Agreed}
 use Rattle.milter_wire.specs.declared.command.Command.{Command}
 use Rattle.milter_wire.specs.declared.verdict.Verdict.{Verdict}
@@ -9,23 +10,23 @@ use Rattle.milter_message.specs.MailObject.{MailObject}
 use Rattle.milter_mail.specs.MailSession.{MailSession}
 use Rattle.milter_mail.specs.Plan.{plan}
 use Rattle.milter_exchange.specs.Exchanges.{Exchange}
+use Rattle.milter_exchange.specs.Talk.{IsEnded, IsOpen, is_end_command, sendable}
 use Rattle.milter_outcome.specs.declared.acted.Acted.{Acted}
-use Rattle.milter_outcome.specs.declared.fallback.OnLoss.{OnLoss}
 use Rattle.milter_outcome.specs.declared.loss.By.{By}
 use Rattle.milter_outcome.specs.declared.loss.By.TheVariants.{Connection, Default}
 use Rattle.milter_outcome.specs.declared.loss.Loss.{Loss}
 use Rattle.milter_outcome.specs.declared.outcome.Outcome.{Outcome}
 use Rattle.milter_outcome.specs.declared.report.Report.{Report}
+use Rattle.milter_outcome.specs.Hearing.{IsWithinOffer}
 use Rattle.milter_outcome.specs.Walks.{acted, given_up, ruled}
 use Rattle.milter_plan.specs.TalkVerdicts.{last_verdict}
-use Rattle.milter_mta.specs.Mta.{Link, Mta, Position}
+use Rattle.milter_mta.specs.Mta.{Configuration, Link, Mta, Position}
 use Rattle.milter_mta.specs.Mta.Position.{Offering, Sending, Quitting, Ended}
 use Rattle.milter_mta.specs.Sending.{asks_at}
 use Rattle.milter_mta.specs.Settling.{report}
 use Rattle.milter_walk.specs.Beginnings.{IsSentOf}
-use Rattle.milter_walk.specs.Order.{IsWalk, IsWalked}
+use Rattle.milter_walk.specs.Order.{IsWalk, IsWalked, MayEdit}
 use Rattle.milter_walk.specs.Sessions.{settled_through}
-use Rattle.milter_walk.specs.Walks.{sendable}
 
 -- ---- what always holds of it
 
@@ -33,61 +34,73 @@ use Rattle.milter_walk.specs.Walks.{sendable}
 abbrev pub without_messages : MailSession → MailSession
 without_messages session = record session { messages = [] }
 
--- these verdicts are those of a walk through the plan of the first of these messages, of which these commands are left
-pub record IsAfterWalk (s : MailSession) (messages : List MailObject) (agreed : Agreed) (verdicts : List Acted)
-    (left : List Command) : Type 0 where
+-- these verdicts are those of an open walk through the plan of the first of these messages, of which these commands are
+-- left
+pub record IsAfterWalk (offer : Options) (s : MailSession) (messages : List MailObject) (agreed : Agreed)
+    (verdicts : List Acted) (left : List Command) : Type 0 where
+  pub within : IsWithinOffer offer agreed
   pub walk : List Exchange
   pub is_walk : IsWalk agreed walk left
+  pub is_open : IsOpen walk left
   pub is_sendable : sendable walk left ≡ left
   pub verdicts_are : verdicts ≡ acted walk
   pub of_plan : (message : MailObject) (others : List MailObject) → messages ≡ message ∷ others →
       IsSentOf (plan agreed s message) walk left
 
--- a message isn't settled while its commands are sent, and each is at the end of the connection
-abbrev pub IsPositionOnWalk : MailSession → List MailObject → Position → Type 0
-IsPositionOnWalk s messages Offering = Unit {0}
-IsPositionOnWalk s messages (Sending agreed verdicts edits left) =
-    IsAfterWalk s messages agreed verdicts left × (messages ≢ [])
-IsPositionOnWalk s messages Quitting = messages ≡ []
-IsPositionOnWalk s messages Ended = messages ≡ []
+abbrev pub is_end_next : List Command → Bool
+is_end_next [] = false
+is_end_next (command ∷ left) = is_end_command command
+
+-- a message isn't settled while its commands are sent, and the edits that came may come; each message is settled at the
+-- end of the connection
+abbrev pub IsPositionOnWalk : Options → MailSession → List MailObject → Position → Type 0
+IsPositionOnWalk offer s messages Offering = Unit {0}
+IsPositionOnWalk offer s messages (Sending agreed verdicts edits left) =
+    IsAfterWalk offer s messages agreed verdicts left × (messages ≢ []) × MayEdit agreed (is_end_next left) edits
+IsPositionOnWalk offer s messages Quitting = messages ≡ []
+IsPositionOnWalk offer s messages Ended = messages ≡ []
 
 -- a reply is owed to what is asked about alone
-pub record IsLinkOnWalk (s : MailSession) (messages : List MailObject) (link : Link) : Type 0 where
-  pub position : IsPositionOnWalk s messages link.position
+pub record IsLinkOnWalk (offer : Options) (s : MailSession) (messages : List MailObject) (link : Link) : Type 0 where
+  pub position : IsPositionOnWalk offer s messages link.position
   pub asked : link.owed ≡ true → asks_at link.position ≡ true
 
-abbrev pub IsOptionOnWalk : MailSession → List MailObject → Option Link → Type 0
-IsOptionOnWalk s messages None = Unit {0}
-IsOptionOnWalk s messages (Some link) = IsLinkOnWalk s messages link
+abbrev pub IsOptionOnWalk : Options → MailSession → List MailObject → Option Link → Type 0
+IsOptionOnWalk offer s messages None = Unit {0}
+IsOptionOnWalk offer s messages (Some link) = IsLinkOnWalk offer s messages link
 
 abbrev pub IsOnWalk : Mta → Type 0
-IsOnWalk m = IsOptionOnWalk (without_messages m.session) m.session.messages m.link
+IsOnWalk m = IsOptionOnWalk m.config.offer (without_messages m.session) m.session.messages m.link
 
 -- ---- what is reported
 
--- the message was settled by the last answer of a walk through its plan
-pub record IsRuledReport (s : MailSession) (message : MailObject) (r : Report) : Type 0 where
+-- the message was settled by the last answer of a walk through its plan, which that answer ended
+pub record IsRuledReport (offer : Options) (s : MailSession) (message : MailObject) (r : Report) : Type 0 where
   pub agreed : Agreed
+  pub within : IsWithinOffer offer agreed
   pub walk : List Exchange
   pub left : List Command
   pub walked : IsWalked agreed walk
+  pub ended : IsEnded walk left
   pub of_plan : IsSentOf (plan agreed s message) walk left
   pub outcome : Outcome
   pub ruled_is : ruled (has_leading_space agreed) message walk ≡ Some outcome
   pub report_is : r ≡ report (acted walk) outcome (settled_through walk)
 
--- or by default after a walk through its plan
-pub record IsGivenUpReport (s : MailSession) (on_loss : OnLoss) (message : MailObject) (r : Report) : Type 0 where
+-- or by default after a walk through its plan that was open
+pub record IsGivenUpReport (config : Configuration) (s : MailSession) (message : MailObject) (r : Report) : Type 0 where
   pub agreed : Agreed
+  pub within : IsWithinOffer config.offer agreed
   pub walk : List Exchange
   pub left : List Command
   pub walked : IsWalked agreed walk
+  pub is_open : IsOpen walk left
   pub of_plan : IsSentOf (plan agreed s message) walk left
   pub loss : Loss
-  pub report_is : r ≡ report (acted walk) (given_up on_loss message walk) (Default loss)
+  pub report_is : r ≡ report (acted walk) (given_up config.on_loss message walk) (Default loss)
 
-abbrev pub IsReportByWalk : MailSession → OnLoss → MailObject → Report → Type 0
-IsReportByWalk s on_loss message r = IsRuledReport s message r ⊎ IsGivenUpReport s on_loss message r
+abbrev pub IsReportByWalk : Configuration → MailSession → MailObject → Report → Type 0
+IsReportByWalk config s message r = IsRuledReport config.offer s message r ⊎ IsGivenUpReport config s message r
 
 -- from one time to a later one the first messages that were left are settled, each as its report has it by a walk
 pub record SettlesByWalks (old new : Mta) : Type 0 where
@@ -95,7 +108,7 @@ pub record SettlesByWalks (old new : Mta) : Type 0 where
   pub added : List Report
   pub messages_are : old.session.messages ≡ settled ++ new.session.messages
   pub reports_are : new.reports ≡ old.reports ++ added
-  pub by_walks : AllZip (IsReportByWalk (without_messages old.session) old.config.on_loss) settled added
+  pub by_walks : AllZip (IsReportByWalk old.config (without_messages old.session)) settled added
   pub same_config : new.config ≡ old.config
   pub same_session : without_messages new.session ≡ without_messages old.session
 

@@ -7,6 +7,7 @@ use Rattle.milter_mail.specs.Plan.{macros_of}
 use Rattle.milter_mail.specs.Steps.{message_steps}
 use Rattle.milter_exchange.specs.Commands.{is_of_connection}
 use Rattle.milter_exchange.specs.Exchanges.{Exchange}
+use Rattle.milter_exchange.specs.Talk.{is_end_command}
 use Rattle.milter_outcome.specs.declared.loss.By.TheVariants.{Connection}
 use Rattle.milter_outcome.specs.declared.loss.Loss.{Loss}
 use Rattle.milter_outcome.specs.declared.outcome.Outcome.{Outcome}
@@ -15,7 +16,6 @@ use Rattle.milter_mta.specs.Mta.{Link, Mta, Position, at_packet, link_at}
 use Rattle.milter_mta.specs.Mta.Position.{Quitting}
 use Rattle.milter_mta.specs.Receiving.{After}
 use Rattle.milter_mta.specs.Settling.{lost, report}
-use Rattle.milter_walk.specs.Order.{is_end_command}
 use Rattle.milter_walk.specs.Walks.{opening_of, position_in}
 
 -- the last exchange is about the client or its greeting

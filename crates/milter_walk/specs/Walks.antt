@@ -1,6 +1,6 @@
 -- A mail server's end in the midst of its talk about a message: after some exchanges, the latest first, where some
 -- commands are left of the plan.
-use Rattle.std.specs.Prelude.{not, List, [], ◌∷◌, Option, None, Some}
+use Rattle.std.specs.Prelude.{List, [], ◌∷◌, Option, None, Some}
 use Rattle.std.specs.List.{filter}
 use Rattle.milter_wire.specs.declared.agreement.Agreed.{Agreed}
 use Rattle.milter_wire.specs.declared.command.Command.{Command}
@@ -9,17 +9,13 @@ use Rattle.milter_wire.specs.Stages.{stage_of}
 use Rattle.milter_exchange.specs.declared.answer.Answer.{Answer}
 use Rattle.milter_exchange.specs.Commands.{is_of_connection}
 use Rattle.milter_exchange.specs.Exchanges.{Exchange}
-use Rattle.milter_exchange.specs.Talk.{is_left_out}
+use Rattle.milter_exchange.specs.Talk.{sendable}
 use Rattle.milter_outcome.specs.declared.acted.Acted.{Acted}
 use Rattle.milter_outcome.specs.Walks.{acted}
 use Rattle.milter_mta.specs.Mta.{Mta, Position, at_packet}
 use Rattle.milter_mta.specs.Mta.Position.{Sending}
 use Rattle.milter_mta.specs.Receiving.{at}
 use Rattle.milter_mta.specs.Settling.{settled}
-
--- the commands that are left without pieces of the body after a skip
-abbrev pub sendable : List Exchange → List Command → List Command
-sendable walk left = filter (λ command. not (is_left_out walk command)) left
 
 -- the verdicts of the walk were acted on, no edit has come since, and the first of these commands is sent next
 abbrev pub position_in : Agreed → List Exchange → List Command → Position

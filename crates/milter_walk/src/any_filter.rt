@@ -11,7 +11,7 @@ ghost use Rattle.milter_mta.specs.Sending.{advanced, dialled, sent, want};
 ghost use Rattle.milter_mta.specs.Settling.{lost};
 ghost use Rattle.milter_walk.specs.AnyFilter.{ConnectionIsReported, GoesOnWalks, IsOnWalk};
 
-use milter_outcome::heard_replies;
+use milter_outcome::{heard_options, heard_replies};
 
 /// From the start on, and whatever a filter sends, the verdicts that are acted on are those of a walk through the plan
 /// of the message that is sent, and each report is by a walk through its message's plan: as the walk rules, or by
@@ -30,6 +30,7 @@ pub fn messages_are_settled_by_walks()
     ensures done { (m : Mta) → IsOnWalk m → want m ≡ wants.Done → m.session.messages ≡ [] }
 {
     heard_replies();
+    heard_options();
 }
 
 /// There is a verdict on the connection exactly where it settled messages: it is the last verdict of each of these, and
@@ -44,4 +45,5 @@ pub fn connections_are_reported()
     ensures lost { (m : Mta) (loss : Loss) → ConnectionIsReported m → ConnectionIsReported (lost loss m) }
 {
     heard_replies();
+    heard_options();
 }

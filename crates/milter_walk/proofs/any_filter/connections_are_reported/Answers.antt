@@ -16,7 +16,13 @@ returns-clause-sent c m count is = sent-keeps m is count
 
 pub returns-clause-heard : goal.returns-clause-heard
 returns-clause-heard c m bytes on is =
-    heard-keeps (λ agreed stage weight reply verdict e. c.heard_replies.ensures.verdict agreed stage weight reply verdict e) m bytes on is
+    heard-keeps (record {
+      given = c.heard_replies.ensures.verdict;
+      at_end = c.heard_replies.ensures.at_end;
+      permitted = c.heard_replies.ensures.permitted;
+      light = λ agreed stage weight reply edit e. (c.heard_replies.ensures.edit agreed stage weight reply edit e).1;
+      within = c.heard_options.ensures.within;
+    }) m bytes on is
 
 pub returns-clause-lost : goal.returns-clause-lost
 returns-clause-lost c m loss is = lost-reported m is loss
