@@ -1,5 +1,5 @@
 -- What the last answer of a walk settles.
-use Rattle.std.specs.Prelude.{if◌then◌else◌}
+use Rattle.std.specs.Prelude.{if◌then◌else◌, option_map}
 use Rattle.std.proofs.Common.{◌≡◌, ◌≤◌, arith, Bool, true, false, not, List, [], ◌∷◌, ◌++◌, map, Option, None, Some, refl, sym, ap, ◌∙◌, subst}
 use Rattle.std.proofs.lemmas.Bool.{true≢false}
 use Rattle.std.proofs.lemmas.List.Elements.{filter_map-append}
@@ -30,17 +30,18 @@ use Rattle.milter_outcome.specs.declared.report.Report.{Report}
 use Rattle.milter_outcome.specs.Acting.{kept, kept_recipients, rcpt_verdict, rcpt_verdicts}
 use Rattle.milter_outcome.specs.Hearing.{is_end}
 use Rattle.milter_outcome.specs.Outcomes.{at_connection, outcome}
-use Rattle.milter_outcome.specs.Walks.{acted, acted_at, ruled, ruled_by}
+use Rattle.milter_outcome.specs.Walks.{acted, acted_at, count_at, ruled, ruled_by}
 use Rattle.milter_plan.specs.TalkVerdicts as plan
-use Rattle.milter_plan.specs.TalkVerdicts.{on_connection}
+use Rattle.milter_plan.specs.TalkVerdicts.{last_verdict, on_connection}
 use Rattle.milter_mta.specs.Mta.{Link, Mta, Position, link_at}
 use Rattle.milter_mta.specs.Mta.Position.{Sending}
 use Rattle.milter_mta.specs.Settling.{next_message, report, settled_all, settled_first, settled_in}
 use Rattle.milter_walk.specs.Order.{AreInOrder, AreProper, ComeBefore, IsWalked, ReachAtMost}
-use Rattle.milter_walk.specs.Settled.{AreAllSettled, ends_with_client, next_link, next_position}
+use Rattle.milter_walk.specs.Settled.{AreAllSettled, ends_with_client, next_link, next_position, walk_verdict}
 use Rattle.milter_walk.specs.Walks.{opening_of, settled_at, settled_by}
 use Rattle.milter_walk.proofs.Answers.{end_at, end_by_stage}
 use Rattle.milter_walk.proofs.Closed.{client-low}
+use Rattle.milter_walk.proofs.Numbers.{last_added}
 use Rattle.milter_walk.proofs.Openings.{client_by_stage, low_rank, opening-acted, opening-sendable}
 
 -- ---- the next message
@@ -159,24 +160,33 @@ module _ (agreed : Agreed) (last : Exchange) (before : List Exchange) (m : Mta) 
       ap (λ (b : Bool). if b then settled_all answer.verdict (acted (last ∷ before)) m else settled_first agreed stage answer.edits answer.verdict (acted (last ∷ before)) m)
       (sym (client_by_stage last.command stage at) ∙ client)
 
-  by_client : (message : MailObject) (at : Option Stage) (answer : Option Answer) → stage_of last.command ≡ at
+  -- the verdict on the connection
+  last-is : (stage : Stage) (answer : Answer) → stage_of last.command ≡ Some stage → last.answer ≡ Some answer → walk_verdict (last ∷ before) ≡ Some answer.verdict
+  last-is stage answer at answered =
+      let a : Acted = record { stage = stage; nth = count_at stage (last ∷ before); verdict = answer.verdict } in
+      ap (λ (s : Option Stage). option_map (λ (a : Acted). a.verdict) (last_verdict (acted before ++ acted_at s last.answer (last ∷ before)))) at
+      ∙ ap (λ (found : Option Answer). option_map (λ (a : Acted). a.verdict) (last_verdict (acted before ++ acted_at (Some stage) found (last ∷ before)))) answered
+      ∙ ap (option_map (λ (a : Acted). a.verdict)) (last_added (acted before) a)
+
+  by_client : (message : MailObject) (at : Option Stage) (answer : Option Answer) → stage_of last.command ≡ at → last.answer ≡ answer
       → ((each : MailObject) → ruled_by (has_leading_space agreed) (kept each (acted (last ∷ before))) at answer ≡ Some (outcome_of each))
       → AreAllSettled (last ∷ before) outcome_of m (settled_at agreed at answer (acted (last ∷ before)) m)
-  by_client message None answer at is = let no = is message in absurd cc
-  by_client message (Some stage) None at is = let no = is message in absurd cc
-  by_client message (Some stage) (Some answer) at is =
+  by_client message None answer at answered is = let no = is message in absurd cc
+  by_client message (Some stage) None at answered is = let no = is message in absurd cc
+  by_client message (Some stage) (Some answer) at answered is =
       let same : (λ (each : MailObject). report (acted (last ∷ before)) (at_connection answer.verdict each) Connection) ≡ (λ (each : MailObject). report (acted (last ∷ before)) (outcome_of each) Connection) =
       λ i each. report (acted (last ∷ before)) (same-outcome stage answer at each (is each) i) Connection in
       subst (λ (n : Mta). AreAllSettled (last ∷ before) outcome_of m n) (sym (client-settled stage answer at))
       (record {
         none_left = refl;
         reported = ap (λ (f : MailObject → Report). m.reports ++ map f m.session.messages) same;
+        connection = sym (last-is stage answer at answered);
         quits = refl;
       })
 
   pub all-settled : (message : MailObject) → ((each : MailObject) → ruled (has_leading_space agreed) each (last ∷ before) ≡ Some (outcome_of each))
       → AreAllSettled (last ∷ before) outcome_of m (settled_by agreed (last ∷ before) m)
-  all-settled message is = by_client message (stage_of last.command) last.answer refl is
+  all-settled message is = by_client message (stage_of last.command) last.answer refl refl is
 
 -- ---- any walk
 

@@ -28,8 +28,8 @@ use Rattle.milter_mta.specs.Sending.{want}
 use Rattle.milter_mta.specs.Settling.{report}
 use Rattle.milter_walk.specs.Lines.{Line, Plays, abort_line, line_of, quit_line}
 use Rattle.milter_walk.specs.Order.{IsWalk, IsWalked}
-use Rattle.milter_walk.specs.Sessions.{lines_after, lines_from, report_by, settled_through, walk_of}
-use Rattle.milter_walk.specs.Settled.{AreAllSettled, ends_with_client, ends_with_message, next_position}
+use Rattle.milter_walk.specs.Sessions.{connection_after, lines_after, lines_from, report_by, settled_through, walk_of}
+use Rattle.milter_walk.specs.Settled.{AreAllSettled, ends_with_client, ends_with_message, next_position, walk_verdict}
 use Rattle.milter_walk.specs.Walks.{at_walk, opening_of, settled_by}
 use Rattle.milter_walk.proofs.Answers.{HearsReplies}
 use Rattle.milter_walk.proofs.Bare.{aborted, quitted}
@@ -66,16 +66,18 @@ module _ (b : Behavior) (agreed : Agreed) (s : MailSession) where
     pub plays : Plays old lines new
     pub ended : want new ≡ wants.Done
     pub reports : map Some new.reports ≡ map Some old.reports ++ reported_by messages
+    pub connection : new.connection ≡ connection_after b agreed s messages old.connection
 
   -- others before them
   after-lines : (first more : List Line) (old middle : Mta) (messages : List MailObject) → Plays old first middle → map Some middle.reports ≡ map Some old.reports
-      → Finishes middle more messages → Finishes old (first ++ more) messages
-  after-lines first more old middle messages goes same rest =
+      → middle.connection ≡ old.connection → Finishes middle more messages → Finishes old (first ++ more) messages
+  after-lines first more old middle messages goes same connected rest =
       record {
         new = rest.new;
         plays = plays-append first more old middle rest.new goes rest.plays;
         ended = rest.ended;
         reports = rest.reports ∙ ap (λ (l : List (Option Report)). l ++ reported_by messages) same;
+        connection = rest.connection ∙ ap (connection_after b agreed s messages) connected;
       }
 
   quits : (m : Mta) → Finishes (at (at_packet Quitting) m) (quit_line ∷ []) []
@@ -85,6 +87,7 @@ module _ (b : Behavior) (agreed : Agreed) (s : MailSession) where
         plays = quitted m;
         ended = refl;
         reports = sym (append-nil (map Some m.reports));
+        connection = refl;
       }
 
   module _ (messages : List MailObject) (message : MailObject) (w : List Exchange) (m : Mta) (e : m.session ≡ record s { messages = message ∷ messages })
@@ -121,9 +124,15 @@ module _ (b : Behavior) (agreed : Agreed) (s : MailSession) where
         ∙ ap (λ (l : List (Option Report)). map Some m.reports ++ l) (map-agree (λ each. Some (report (acted w) (outcome_of each) Connection)) (λ each. report_by agreed (whole each) each) (each-is client) m.session.messages)
         ∙ ap (λ (l : List MailObject). map Some m.reports ++ reported_by l) all_messages
 
-    client-done : (next : List Line) → ends_with_client w ≡ true → (old : Mta) → (first : List Line) → old.reports ≡ m.reports → Plays old first (settled_by agreed w m)
+    client-connection : ends_with_client w ≡ true → (settled_by agreed w m).connection ≡ connection_after b agreed s (message ∷ messages) m.connection
+    client-connection client =
+        (settled-all client).connection
+        ∙ ap (λ (k : Bool). if k then walk_verdict w else m.connection) (sym client)
+        ∙ ap (λ (z : List Exchange). if ends_with_client z then walk_verdict z else m.connection) same
+
+    client-done : (next : List Line) → ends_with_client w ≡ true → (old : Mta) → (first : List Line) → old.reports ≡ m.reports → old.connection ≡ m.connection → Plays old first (settled_by agreed w m)
         → Finishes old (first ++ lines_after w next) (message ∷ messages)
-    client-done next client old first kept goes =
+    client-done next client old first kept connected goes =
         let n = settled_by agreed w m in
         let n_is : n ≡ at (at_packet Quitting) n = ap (λ (l : Option Link). record n { link = l }) (settled-all client).quits in
         let quit : Plays n (quit_line ∷ []) (at (at_packet Ended) n) = subst (λ (z : Mta). Plays z (quit_line ∷ []) (at (at_packet Ended) n)) (sym n_is) (quitted n) in
@@ -133,6 +142,7 @@ module _ (b : Behavior) (agreed : Agreed) (s : MailSession) where
               (plays-append first (quit_line ∷ []) old n (at (at_packet Ended) n) goes quit);
           ended = refl;
           reports = client-reports client ∙ ap (λ (l : List Report). map Some l ++ reported_by (message ∷ messages)) (sym kept);
+          connection = client-connection client ∙ ap (connection_after b agreed s (message ∷ messages)) (sym connected);
         }
 
     -- ---- by the message
@@ -160,12 +170,27 @@ module _ (b : Behavior) (agreed : Agreed) (s : MailSession) where
     after-abort : (next : List Line) (over : Bool) → Finishes (at (at_packet goes_to) base) next messages
         → Finishes (at (link_at (not over) goes_to) base) (if over then next else abort_line ∷ next) messages
     after-abort next true rest = rest
-    after-abort next false rest = after-lines (abort_line ∷ []) next (at (link_at true goes_to) base) (at (at_packet goes_to) base) messages (aborted base goes_to) refl rest
+    after-abort next false rest = after-lines (abort_line ∷ []) next (at (link_at true goes_to) base) (at (at_packet goes_to) base) messages (aborted base goes_to) refl refl rest
+
+    -- nor does another message's walk end with the client
+    no_connection : (others : List MailObject) → ends_with_client w ≡ false → connection_after b agreed s others m.connection ≡ m.connection
+    no_connection [] client = refl
+    no_connection (other ∷ others) client = by_other (ends_with_client (whole other)) refl
+      where
+        by_other : (ends : Bool) → ends_with_client (whole other) ≡ ends → (if ends then walk_verdict (whole other) else m.connection) ≡ m.connection
+        by_other false e = refl
+        by_other true e = absurd (true≢false (sym e ∙ ap ends_with_client (sym (walk-same b agreed s other message e) ∙ sym same) ∙ client))
+
+    one-connection : ends_with_client w ≡ false → connection_after b agreed s messages m.connection ≡ connection_after b agreed s (message ∷ messages) m.connection
+    one-connection client =
+        no_connection messages client
+        ∙ ap (λ (k : Bool). if k then walk_verdict w else m.connection) (sym client)
+        ∙ ap (λ (z : List Exchange). if ends_with_client z then walk_verdict z else m.connection) same
 
     one-done : (next : List Line) → ends_with_client w ≡ false → Finishes (at (at_packet goes_to) base) next messages
-        → (old : Mta) → (first : List Line) → old.reports ≡ m.reports → Plays old first (settled_by agreed w m)
+        → (old : Mta) → (first : List Line) → old.reports ≡ m.reports → old.connection ≡ m.connection → Plays old first (settled_by agreed w m)
         → Finishes old (first ++ lines_after w next) (message ∷ messages)
-    one-done next client rest old first kept goes =
+    one-done next client rest old first kept connected goes =
         let more = after-abort next (ends_with_message w) rest in
         let goes_there = subst (λ (z : Mta). Plays old first z) (one-is client) goes in
         let lines : lines_after w next ≡ (if ends_with_message w then next else abort_line ∷ next) = ap (λ (k : Bool). if k then quit_line ∷ [] else (if ends_with_message w then next else abort_line ∷ next)) client in
@@ -174,16 +199,17 @@ module _ (b : Behavior) (agreed : Agreed) (s : MailSession) where
           plays = subst (λ (l : List Line). Plays old (first ++ l) more.new) (sym lines) (plays-append first _ old _ more.new goes_there more.plays);
           ended = more.ended;
           reports = more.reports ∙ one-report client ∙ ap (λ (l : List Report). map Some l ++ reported_by (message ∷ messages)) (sym kept);
+          connection = more.connection ∙ one-connection client ∙ ap (connection_after b agreed s (message ∷ messages)) (sym connected);
         }
 
     pub done : (next : List Line) → (ends_with_client w ≡ false → Finishes (at (at_packet goes_to) base) next messages)
-        → (old : Mta) → (first : List Line) → old.reports ≡ m.reports → Plays old first (settled_by agreed w m)
+        → (old : Mta) → (first : List Line) → old.reports ≡ m.reports → old.connection ≡ m.connection → Plays old first (settled_by agreed w m)
         → Finishes old (first ++ lines_after w next) (message ∷ messages)
-    done next rest old first kept goes = by_end (ends_with_client w) refl
+    done next rest old first kept connected goes = by_end (ends_with_client w) refl
       where
         by_end : (client : Bool) → ends_with_client w ≡ client → Finishes old (first ++ lines_after w next) (message ∷ messages)
-        by_end true is = client-done next is old first kept goes
-        by_end false is = one-done next is (rest is) old first kept goes
+        by_end true is = client-done next is old first kept connected goes
+        by_end false is = one-done next is (rest is) old first kept connected goes
 
 -- ---- message after message
 
@@ -208,7 +234,7 @@ module _ (hears : HearsReplies) (b : Behavior) (lawful : IsLawful b) (agreed : A
       let w = onto (talk b agreed walk left) walk in
       let n : Mta = settled_alone w message [] m in
       done b agreed s [] message w m e (record { proper = p.all; in_order = p.order }) same (λ each. p.rules (has_leading_space agreed) each)
-      (quit_line ∷ []) (λ client. quits b agreed s n) (at_walk agreed walk left m) (map line_of (talk b agreed walk left)) refl p.plays
+      (quit_line ∷ []) (λ client. quits b agreed s n) (at_walk agreed walk left m) (map line_of (talk b agreed walk left)) refl refl p.plays
   each (next ∷ messages) message walk left m e is same =
       let p = played hears b lawful agreed m (some_messages message (next ∷ messages) m e) left walk is.proper is.in_order is.ends in
       let w = onto (talk b agreed walk left) walk in
@@ -225,4 +251,4 @@ module _ (hears : HearsReplies) (b : Behavior) (lawful : IsLawful b) (agreed : A
         ends = message-ends agreed (macros_of agreed s) next;
       })
       (ap (λ (z : List Exchange). onto (talk b agreed (opening_of z) steps) (opening_of z)) same ∙ walk-next b agreed s message next (ap ends_with_client (sym same) ∙ client))))
-      (at_walk agreed walk left m) (map line_of (talk b agreed walk left)) refl p.plays
+      (at_walk agreed walk left m) (map line_of (talk b agreed walk left)) refl refl p.plays

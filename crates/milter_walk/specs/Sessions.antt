@@ -2,6 +2,7 @@
 use Rattle.std.specs.Prelude.{◌≡◌, List, [], ◌∷◌, ◌++◌, map, Option, Some, option_map, if◌then◌else◌}
 use Rattle.milter_wire.specs.declared.agreement.Agreed.{Agreed}
 use Rattle.milter_wire.specs.declared.command.Command.{Command}
+use Rattle.milter_wire.specs.declared.verdict.Verdict.{Verdict}
 use Rattle.milter_options.specs.declared.options.Options.{Options}
 use Rattle.milter_wire.specs.Agreement.{agree, has_leading_space}
 use Rattle.milter_message.specs.MailObject.{MailObject}
@@ -20,7 +21,7 @@ use Rattle.milter_mta.specs.Mta.{Mta}
 use Rattle.milter_mta.specs.Sending.{want}
 use Rattle.milter_mta.specs.Settling.{report}
 use Rattle.milter_walk.specs.Lines.{Line, Plays, abort_line, line_of, offer_line, quit_line}
-use Rattle.milter_walk.specs.Settled.{ends_with_client, ends_with_message}
+use Rattle.milter_walk.specs.Settled.{ends_with_client, ends_with_message, walk_verdict}
 use Rattle.milter_walk.specs.Walks.{opening_of}
 
 -- ---- one message, asked of the filter directly
@@ -72,6 +73,12 @@ abbrev pub reports_by : Behavior → Agreed → MailSession → List MailObject 
 reports_by b agreed session messages =
     map (λ message. report_by agreed (walk_of b agreed session message) message) messages
 
+-- the verdict on the connection after these messages: where the first one's walk ends with the client, its last one
+abbrev pub connection_after : Behavior → Agreed → MailSession → List MailObject → Option Verdict → Option Verdict
+connection_after b agreed session [] before = before
+connection_after b agreed session (message ∷ messages) before =
+    let walk = walk_of b agreed session message in if ends_with_client walk then walk_verdict walk else before
+
 -- by these lines it comes to an end, and each message that was left is settled by its own talk
 pub record SettlesEach (b : Behavior) (agreed : Agreed) (old : Mta) (lines : List Line) : Type 0 where
   pub new : Mta
@@ -79,3 +86,5 @@ pub record SettlesEach (b : Behavior) (agreed : Agreed) (old : Mta) (lines : Lis
   pub ended : want new ≡ wants.Done
   pub reports : map Some new.reports
       ≡ map Some old.reports ++ reports_by b agreed old.session old.session.messages
+  pub connection : new.connection
+      ≡ connection_after b agreed old.session old.session.messages old.connection

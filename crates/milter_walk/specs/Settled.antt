@@ -1,6 +1,7 @@
 -- How a walk settles messages, and where a mail server's end goes on.
-use Rattle.std.specs.Prelude.{◌≡◌, Bool, false, not, List, [], ◌∷◌, ◌++◌, map, None, Some}
+use Rattle.std.specs.Prelude.{◌≡◌, Bool, false, not, List, [], ◌∷◌, ◌++◌, map, Option, None, Some, option_map}
 use Rattle.milter_wire.specs.declared.agreement.Agreed.{Agreed}
+use Rattle.milter_wire.specs.declared.verdict.Verdict.{Verdict}
 use Rattle.milter_message.specs.MailObject.{MailObject}
 use Rattle.milter_mail.specs.MailSession.{MailSession}
 use Rattle.milter_mail.specs.Plan.{macros_of}
@@ -12,6 +13,7 @@ use Rattle.milter_outcome.specs.declared.loss.By.TheVariants.{Connection}
 use Rattle.milter_outcome.specs.declared.loss.Loss.{Loss}
 use Rattle.milter_outcome.specs.declared.outcome.Outcome.{Outcome}
 use Rattle.milter_outcome.specs.Walks.{acted}
+use Rattle.milter_plan.specs.TalkVerdicts.{last_verdict}
 use Rattle.milter_mta.specs.Mta.{Link, Mta, Position, at_packet, link_at}
 use Rattle.milter_mta.specs.Mta.Position.{Quitting}
 use Rattle.milter_mta.specs.Receiving.{After}
@@ -39,11 +41,17 @@ abbrev pub next_link : Agreed → List Exchange → MailSession → List MailObj
 next_link agreed walk session messages =
     link_at (not (ends_with_message walk)) (next_position agreed (opening_of walk) session messages)
 
--- every message that was left is reported with its outcome, and the filter is asked to quit
+-- the last verdict of a walk
+abbrev pub walk_verdict : List Exchange → Option Verdict
+walk_verdict walk = option_map (λ a. a.verdict) (last_verdict (acted walk))
+
+-- every message that was left is reported with its outcome, the last verdict is the connection's, and the filter is
+-- asked to quit
 pub record AreAllSettled (walk : List Exchange) (outcome_of : MailObject → Outcome) (old new : Mta) : Type 0 where
   pub none_left : new.session.messages ≡ []
   pub reported : new.reports
       ≡ old.reports ++ map (λ message. report (acted walk) (outcome_of message) Connection) old.session.messages
+  pub connection : new.connection ≡ walk_verdict walk
   pub quits : new.link ≡ Some (at_packet Quitting)
 
 -- it goes on, and a loss settles then what it settled before

@@ -37,7 +37,8 @@ pub fn walks_settle_one()
         } }
 {}
 
-/// A walk that ends with the client settles every message that is left, each as it is ruled by the walk.
+/// A walk that ends with the client settles every message that is left, each as it is ruled by the walk; its last
+/// verdict is the verdict on the connection.
 pub fn walks_settle_all()
     ensures { (agreed : Agreed) (walk : List Exchange) (m : Mta) (message : MailObject) (messages : List MailObject)
         (outcome_of : MailObject → Outcome) → IsWalked agreed walk → ends_with_client walk ≡ true →

@@ -7,7 +7,7 @@ use Rattle.milter_mta.specs.Mta.{at_packet}
 use Rattle.milter_mta.specs.Mta.Position.{Offering}
 use Rattle.milter_mta.specs.Receiving.{at}
 use Rattle.milter_walk.specs.Lines.{offer_line}
-use Rattle.milter_walk.specs.Sessions.{lines_from, reports_by}
+use Rattle.milter_walk.specs.Sessions.{connection_after, lines_from, reports_by}
 use Rattle.milter_walk.specs.Walks.{at_walk}
 use Rattle.milter_walk.proofs.Agreeing.{agreed-fits, agreed-heard}
 use Rattle.milter_walk.proofs.Answers.{HearsReplies}
@@ -30,4 +30,5 @@ returns c b m message messages lawful from to e =
           (at (at_packet Offering) m) (at_walk agreed [] (plan agreed m.session message) m) is.new opens is.plays;
       ended = is.ended;
       reports = is.reports ∙ ap (λ (ms : List MailObject). map Some m.reports ++ reports_by b agreed m.session ms) (sym e);
+      connection = is.connection ∙ ap (λ (ms : List MailObject). connection_after b agreed m.session ms m.connection) (sym e);
     }
