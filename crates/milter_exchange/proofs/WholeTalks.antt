@@ -74,6 +74,13 @@ module _ (b : Behavior) (agreed : Agreed) where
           same-talk before left (command ∷ left) (talk b agreed before left) (sym (sendable-out before command left e)) (skipped e)
       by_out false e skipped goes = by_closed (is_closed (next before command ∷ before) left) refl e goes
 
+  no-talk : (before exchanges : List Exchange) (commands : List Command) → IsTalk b agreed before commands exchanges → exchanges ≢ []
+  no-talk before [] commands is none = absurd is
+  no-talk before (exchange ∷ more) commands is none = absurd cc
+
+  pub talk-some : (before : List Exchange) (commands : List Command) → has_end commands ≡ true → talk b agreed before commands ≢ []
+  talk-some before commands end = no-talk before (talk b agreed before commands) commands (talk-whole commands before end)
+
   -- ---- it is the only one
 
   -- the next exchange is this one

@@ -1,6 +1,6 @@
 //! Laws of what both ends share, each the contract of a function that does nothing.
 
-ghost use Rattle.std.specs.Prelude.{◌≡◌, ◌++◌, ◌∷◌, ◌<◌, All, Bool, IfSome, List, ℕ, false, true};
+ghost use Rattle.std.specs.Prelude.{◌≡◌, ◌≢◌, ◌++◌, ◌∷◌, ◌<◌, [], All, Bool, IfSome, List, ℕ, false, true};
 ghost use Rattle.std.specs.Option.{option_or};
 ghost use Rattle.milter_wire.specs.declared.agreement.Agreed.{Agreed};
 ghost use Rattle.milter_wire.specs.declared.command.Command.{Command};
@@ -51,8 +51,8 @@ pub fn permitted_answers()
 {}
 
 /// Each answer of a talk is the filter's to all that was sent up to its command; no piece of a body follows a Skip, and
-/// nothing follows a final answer. Where the commands go on to the end of the message, the talk is closed by its last
-/// exchange and by no earlier one, and no other exchanges are so.
+/// nothing follows a final answer. Where the commands go on to the end of the message, the talk isn't empty: it is closed
+/// by its last exchange and by no earlier one, and no other exchanges are so.
 pub fn talks()
     ensures answered { (b : Behavior) (agreed : Agreed) (before : List Exchange) (commands : List Command) →
         AreAnsweredBy b agreed before (talk b agreed before commands) }
@@ -62,6 +62,8 @@ pub fn talks()
         EndAtFinalAnswer (talk b agreed before commands) }
     ensures whole { (b : Behavior) (agreed : Agreed) (before : List Exchange) (commands : List Command) →
         has_end commands ≡ true → IsTalk b agreed before commands (talk b agreed before commands) }
+    ensures some { (b : Behavior) (agreed : Agreed) (before : List Exchange) (commands : List Command) →
+        has_end commands ≡ true → talk b agreed before commands ≢ [] }
     ensures only { (b : Behavior) (agreed : Agreed) (before : List Exchange) (commands : List Command)
         (exchanges : List Exchange) → IsTalk b agreed before commands exchanges →
         exchanges ≡ talk b agreed before commands }

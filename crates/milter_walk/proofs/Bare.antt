@@ -1,5 +1,5 @@
 -- Lines beside those of a message: the offer, an abort, and the end of the connection.
-use Rattle.std.proofs.Common.{◌≡◌, ◌≢◌, true, List, [], ◌∷◌, Ok, Result, refl, sym, ap, ◌∙◌}
+use Rattle.std.proofs.Common.{◌≡◌, ◌≢◌, ℕ, true, List, ◌++◌, [], ◌∷◌, Ok, Result, refl, sym, ap, ◌∙◌}
 use Rattle.milter_wire.specs.declared.agreement.Agreed.{Agreed}
 use Rattle.milter_wire.specs.declared.command.Command.{Command}
 use Rattle.milter_wire.specs.declared.command.Command.TheVariants as commands
@@ -17,6 +17,7 @@ use Rattle.milter_walk.specs.Lines.{Plays, abort_line, after_line, offer_line, q
 use Rattle.milter_walk.specs.Walks.{at_walk}
 use Rattle.milter_walk.proofs.Answers.{HearsReplies, owed_at}
 use Rattle.milter_walk.proofs.Exchanges.{all_sent, some_bytes}
+use Rattle.milter_walk.proofs.PartAnswers.{KeepsPrefixes}
 use Rattle.milter_walk.proofs.Refusals.{keep_all}
 
 pub aborted : (m : Mta) (position : Position) → Plays (at (link_at true position) m) (abort_line ∷ []) (at (at_packet position) m)
@@ -24,6 +25,16 @@ aborted m position =
     let sends = all_sent (sent_to.encoding commands.Abort) (record (link_at true position) { pending = sent_to.encoding commands.Abort }) (some_bytes commands.Abort) in
     let goes = ap (λ (l : Link). goes_on (at l m)) sends in
     (refl, ap (λ (a : After). a.loss) goes, ap (λ (a : After). a.mta) goes)
+
+-- of the reply to the offer fewer bytes than all are kept
+pub offer-part : KeepsPrefixes → (m : Mta) (agreed : Agreed) (bytes more : List ℕ) → Fits (options_reply agreed) → more ≢ [] → bytes ++ more ≡ encoding (options_reply agreed)
+    → after_line bytes (at (at_packet Offering) m) ≡ goes_on (at (record (at_packet Offering) { owed = true; unread = bytes }) m)
+offer-part keeps m agreed bytes more fits remains e =
+    let offer = commands.Options m.config.offer in
+    let sends : sent_whole (at (at_packet Offering) m) ≡ owed_at Offering m =
+    ap (λ (l : Link). at l m) (all_sent (sent_to.encoding offer) (record (at_packet Offering) { pending = sent_to.encoding offer }) (some_bytes offer)) in
+    ap (λ (n : Mta). heard n bytes) sends
+    ∙ keeps m (record (at_packet Offering) { owed = true }) (options_reply agreed) bytes more refl refl fits remains e
 
 pub quitted : (m : Mta) → Plays (at (at_packet Quitting) m) (quit_line ∷ []) (at (at_packet Ended) m)
 quitted m =

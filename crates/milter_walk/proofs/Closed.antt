@@ -3,6 +3,7 @@ use Rattle.std.specs.Prelude.{if◌then◌else◌}
 use Rattle.std.proofs.Common.{◌≡◌, ◌≤◌, Bool, true, false, cond, not, ◌&&◌, ◌||◌, List, [], ◌∷◌, is_some, Option, None, Some, refl, sym, ap, ◌∙◌, subst, arith}
 use Rattle.std.specs.List.{list_any}
 use Rattle.std.proofs.lemmas.Bool.{true≢false}
+use Rattle.milter_wire.specs.declared.agreement.Agreed.{Agreed}
 use Rattle.milter_wire.specs.declared.command.Command.{Command}
 use Rattle.milter_wire.specs.declared.command.Command.TheVariants as commands
 use Rattle.milter_wire.specs.declared.stage.Stage.{Stage}
@@ -10,11 +11,12 @@ use Rattle.milter_wire.specs.declared.stage.Stage.TheVariants.{Connect, Helo, Ma
 use Rattle.milter_wire.specs.Stages.{stage_of}
 use Rattle.milter_message.specs.MailObject.{MailObject}
 use Rattle.milter_exchange.specs.declared.answer.Answer.{Answer}
+use Rattle.milter_exchange.specs.Behavior.{Behavior}
 use Rattle.milter_exchange.specs.Commands.{is_of_connection}
-use Rattle.milter_exchange.specs.Exchanges.{Exchange, commands_of}
+use Rattle.milter_exchange.specs.Exchanges.{Exchange, commands_of, onto}
 use Rattle.milter_exchange.specs.Histories.{rank_at}
 use Rattle.milter_exchange.specs.StageOrder.{rank_of}
-use Rattle.milter_exchange.specs.Talk.{IsEnded, IsOpen, are_all_refused, is_closed, is_final, is_final_answer, is_kept_rcpt, is_rcpt}
+use Rattle.milter_exchange.specs.Talk.{IsEnded, IsOpen, IsTalk, are_all_refused, is_closed, is_final, is_final_answer, is_kept_rcpt, is_rcpt}
 use Rattle.milter_exchange.specs.Verdicts.{has_verdict, is_refusal}
 use Rattle.milter_exchange.proofs.Talking.{left-false}
 use Rattle.milter_outcome.specs.Acting.{kept}
@@ -62,6 +64,14 @@ pub ended-rules : (walk : List Exchange) (left : List Command) → IsEnded walk 
     → is_some (ruled leading_space message walk) ≡ true
 ended-rules [] left ended leading_space message = absurd ended
 ended-rules (last ∷ before) left ended leading_space message = closed-rules last before left ended.0 leading_space message
+
+-- and so does a whole talk, by its last exchange
+pub talk-rules : (b : Behavior) (agreed : Agreed) (before : List Exchange) (commands : List Command) (exchanges : List Exchange)
+    → IsTalk b agreed before commands exchanges → (leading_space : Bool) (message : MailObject) → is_some (ruled leading_space message (onto exchanges before)) ≡ true
+talk-rules b agreed before commands [] is leading_space message = absurd is
+talk-rules b agreed before commands (exchange ∷ []) is leading_space message = closed-rules exchange before is.0 is.2 leading_space message
+talk-rules b agreed before commands (exchange ∷ next ∷ more) is leading_space message =
+    talk-rules b agreed (exchange ∷ before) is.0 (next ∷ more) is.3 leading_space message
 
 -- ---- before there is a message, nothing depends on what is left
 

@@ -11,7 +11,7 @@ mod Closed
 mod Settled
 mod Losses
 mod PartAnswers
-mod LostAnswers
+mod HeardParts
 mod Agreeing
 mod Bare
 mod Begun

@@ -1,5 +1,5 @@
 -- A part of an answer is heard: some of its edits, and bytes of the next reply.
-use Rattle.std.proofs.Common.{◌≡◌, ◌≢◌, ◌≤◌, ◌+◌, ℕ, Bool, true, false, List, [], ◌∷◌, ◌++◌, All, map, Some, refl, sym, ap, ◌∙◌, subst, arith}
+use Rattle.std.proofs.Common.{◌≡◌, ◌≢◌, ◌≤◌, ◌+◌, ℕ, Bool, true, false, List, [], ◌∷◌, ◌++◌, All, map, Some, refl, sym, ap, ◌∙◌, subst, arith, append-nil, append_assoc}
 use Rattle.std.specs.List.{flat_map}
 use Rattle.std.proofs.lemmas.Bool.{true≢false}
 use Rattle.std.proofs.lemmas.List.Elements.{All-head, All-tail}
@@ -25,6 +25,7 @@ use Rattle.milter_plan.specs.Talks.{stage_first}
 use Rattle.milter_mta.specs.Mta.{Link, Mta, at_packet}
 use Rattle.milter_mta.specs.Mta.Position.{Sending}
 use Rattle.milter_mta.specs.Receiving.{After, at, goes_on, heard, heard_byte, heard_on}
+use Rattle.milter_walk.specs.PartAnswers.{IsPartHeard}
 use Rattle.milter_walk.proofs.Answers.{HearsReplies, hears_edit, one, owed_at}
 
 -- ---- bytes that begin others
@@ -53,36 +54,52 @@ abbrev pub KeepsPrefixes : Type 0
 KeepsPrefixes = (m : Mta) (link : Link) (reply : Reply) (bytes more : List ℕ) → link.owed ≡ true → link.unread ≡ [] → Fits reply → more ≢ []
     → bytes ++ more ≡ encoding reply → heard (at link m) bytes ≡ goes_on (at (record link { unread = bytes }) m)
 
--- some edits came, and some bytes
-pub record IsPartHeard (agreed : Agreed) (acted : List Acted) (left : List Command) (m : Mta) (after : After) : Type 0 where
-  pub so_far : List Edit
-  pub unread : List ℕ
-  pub heard_is : after ≡ goes_on (at (record (at_packet (Sending agreed acted so_far left)) { owed = true; unread = unread }) m)
-
 module _ (hears : HearsReplies) (keeps : KeepsPrefixes) (agreed : Agreed) (stage : Stage) (acted : List Acted) (left : List Command) (m : Mta)
     (some : m.session.messages ≢ []) (first : stage_first left ≡ Some stage) where
-  inside : (so_far : List Edit) (reply : Reply) (bytes : List ℕ) (byte : ℕ) (more : List ℕ) → Fits reply → bytes ++ byte ∷ more ≡ encoding reply
-      → IsPartHeard agreed acted left m (heard (owed_at (Sending agreed acted so_far left) m) bytes)
-  inside so_far reply bytes byte more fits e =
+  inside : (so_far more : List Edit) (reply : Reply) (bytes : List ℕ) (byte : ℕ) (rest : List ℕ) → Fits reply → bytes ++ byte ∷ rest ≡ encoding reply
+      → IsPartHeard agreed acted left m so_far more bytes (heard (owed_at (Sending agreed acted so_far left) m) bytes)
+  inside so_far more reply bytes byte rest fits e =
       record {
-        so_far = so_far;
+        came = [];
+        others = more;
         unread = bytes;
-        heard_is = keeps m (record (at_packet (Sending agreed acted so_far left)) { owed = true }) reply bytes (byte ∷ more) refl refl fits (λ none. absurd cc) e;
+        edits_are = refl;
+        bytes_are = refl;
+        heard_is =
+            keeps m (record (at_packet (Sending agreed acted so_far left)) { owed = true }) reply bytes (byte ∷ rest) refl refl fits (λ none. absurd cc) e
+            ∙ ap (λ (es : List Edit). goes_on (at (record (at_packet (Sending agreed acted es left)) { owed = true; unread = bytes }) m)) (sym (append-nil so_far));
+      }
+
+  -- an edit more, and then a part
+  with_edit : (so_far more : List Edit) (edit : Edit) (bytes tail : List ℕ) (after : After) → bytes ≡ encoding (edits.reply_of edit) ++ tail
+      → IsPartHeard agreed acted left m (so_far ++ edit ∷ []) more tail after → IsPartHeard agreed acted left m so_far (edit ∷ more) bytes after
+  with_edit so_far more edit bytes tail after e is =
+      record {
+        came = edit ∷ is.came;
+        others = is.others;
+        unread = is.unread;
+        edits_are = ap (λ (es : List Edit). edit ∷ es) is.edits_are;
+        bytes_are =
+            e ∙ ap (λ (l : List ℕ). encoding (edits.reply_of edit) ++ l) is.bytes_are
+            ∙ sym (append_assoc (encoding (edits.reply_of edit)) (flat_map encoding (map edits.reply_of is.came)) is.unread);
+        heard_is =
+            is.heard_is
+            ∙ ap (λ (es : List Edit). goes_on (at (record (at_packet (Sending agreed acted es left)) { owed = true; unread = is.unread }) m)) (append_assoc so_far (edit ∷ []) is.came);
       }
 
   pub part-heard : (more so_far : List Edit) (verdict : Verdict) → (is_end stage ≡ false → more ≡ [])
       → All (λ edit. is_permitted agreed edit ≡ true) more → All (λ edit. Fits (edits.reply_of edit)) more
       → weight_of_all so_far + weight_of_all more ≤ WEIGHT_MAX → Fits (verdicts.reply_of verdict)
       → (bytes rest : List ℕ) → rest ≢ [] → bytes ++ rest ≡ flat_map encoding (map edits.reply_of more ++ verdicts.reply_of verdict ∷ [])
-      → IsPartHeard agreed acted left m (heard (owed_at (Sending agreed acted so_far left) m) bytes)
+      → IsPartHeard agreed acted left m so_far more bytes (heard (owed_at (Sending agreed acted so_far left) m) bytes)
   part-heard [] so_far verdict end may fit light verdict_fits bytes rest remains e = by_cut (cut bytes rest (encoding (verdicts.reply_of verdict)) [] e)
     where
       none_left : (more : List ℕ) → more ++ rest ≡ [] → rest ≡ []
       none_left [] e = e
       none_left (x ∷ more) e = absurd cc
 
-      by_cut : Cut bytes rest (encoding (verdicts.reply_of verdict)) [] → IsPartHeard agreed acted left m (heard (owed_at (Sending agreed acted so_far left) m) bytes)
-      by_cut (Inside byte more is) = inside so_far (verdicts.reply_of verdict) bytes byte more verdict_fits is
+      by_cut : Cut bytes rest (encoding (verdicts.reply_of verdict)) [] → IsPartHeard agreed acted left m so_far [] bytes (heard (owed_at (Sending agreed acted so_far left) m) bytes)
+      by_cut (Inside byte more is) = inside so_far [] (verdicts.reply_of verdict) bytes byte more verdict_fits is
       by_cut (Beyond more is others) = absurd (remains (none_left more others))
   part-heard (edit ∷ more) so_far verdict end may fit light verdict_fits bytes rest remains e =
       let sum = sum_by-cons weight_of edit more in
@@ -105,12 +122,13 @@ module _ (hears : HearsReplies) (keeps : KeepsPrefixes) (agreed : Agreed) (stage
           → Fits (edits.reply_of edit)
           → heard (owed_at (Sending agreed acted so_far left) m) (encoding (edits.reply_of edit)) ≡ goes_on (owed_at (Sending agreed acted (so_far ++ edit ∷ []) left) m)
           → ((bytes rest : List ℕ) → rest ≢ [] → bytes ++ rest ≡ flat_map encoding (map edits.reply_of more ++ verdicts.reply_of verdict ∷ [])
-          → IsPartHeard agreed acted left m (heard (owed_at (Sending agreed acted (so_far ++ edit ∷ []) left) m) bytes))
-          → IsPartHeard agreed acted left m (heard (owed_at (Sending agreed acted so_far left) m) bytes)
-      by_cut (Inside byte tail is) fits hears_it rest_heard = inside so_far (edits.reply_of edit) bytes byte tail fits is
+          → IsPartHeard agreed acted left m (so_far ++ edit ∷ []) more bytes (heard (owed_at (Sending agreed acted (so_far ++ edit ∷ []) left) m) bytes))
+          → IsPartHeard agreed acted left m so_far (edit ∷ more) bytes (heard (owed_at (Sending agreed acted so_far left) m) bytes)
+      by_cut (Inside byte tail is) fits hears_it rest_heard = inside so_far (edit ∷ more) (edits.reply_of edit) bytes byte tail fits is
       by_cut (Beyond tail is others) fits hears_it rest_heard =
           let goes : heard (owed_at (Sending agreed acted so_far left) m) bytes ≡ heard (owed_at (Sending agreed acted (so_far ++ edit ∷ []) left) m) tail =
           ap (heard (owed_at (Sending agreed acted so_far left) m)) is
           ∙ fold-append heard_byte (goes_on (owed_at (Sending agreed acted so_far left) m)) (encoding (edits.reply_of edit)) tail
           ∙ ap (λ (a : After). heard_on a tail) hears_it in
-          subst (IsPartHeard agreed acted left m) (sym goes) (rest_heard tail rest remains others)
+          subst (IsPartHeard agreed acted left m so_far (edit ∷ more) bytes) (sym goes)
+          (with_edit so_far more edit bytes tail (heard (owed_at (Sending agreed acted (so_far ++ edit ∷ []) left) m) tail) is (rest_heard tail rest remains others))

@@ -23,6 +23,7 @@ use Rattle.milter_exchange.specs.Permitted.{permitted, permitted_verdict}
 use Rattle.milter_exchange.specs.Seen.{Seen, seen}
 use Rattle.milter_exchange.specs.Talk.{are_all_refused, has_end, is_body, is_closed, is_end_command, is_final, is_final_answer, is_kept_rcpt, is_left_out, is_rcpt, is_skipping, talk}
 use Rattle.milter_exchange.specs.Verdicts.{has_verdict, is_refusal, is_skip}
+use Rattle.milter_exchange.proofs.WholeTalks.{goes_no_further}
 use Rattle.milter_exchange.proofs.Sendable.{end_left, no_end, sendable-out}
 use Rattle.milter_outcome.specs.Acting.{kept}
 use Rattle.milter_outcome.specs.Walks.{acted, ruled, ruled_by}
@@ -51,13 +52,13 @@ is_body_at commands.Eoh at = absurd cc
 is_body_at (commands.Eob bytes) at = absurd cc
 is_body_at other at = absurd cc
 
-module _ (hears : HearsReplies) (b : Behavior) (lawful : IsLawful b) (agreed : Agreed) (m : Mta) (some : m.session.messages ≢ []) where
-  abbrev next : List Exchange → Command → Exchange
+module _ (b : Behavior) (lawful : IsLawful b) (agreed : Agreed) where
+  abbrev pub next : List Exchange → Command → Exchange
   next walk command = exchange_of b agreed (commands_of walk) command
 
   -- ---- one exchange
 
-  abbrev shown : List Exchange → Command → Seen
+  abbrev pub shown : List Exchange → Command → Seen
   shown walk command = seen (has_leading_space agreed) (command ∷ commands_of walk)
 
   answered-as : (walk : List Exchange) (command : Command) → is_some (next walk command).answer ≡ is_asked agreed command
@@ -84,7 +85,7 @@ module _ (hears : HearsReplies) (b : Behavior) (lawful : IsLawful b) (agreed : A
       by_body command Eob at given = absurd (true≢false (sym given))
   body-skips command stage other at given skips = absurd (true≢false (sym skips))
 
-  proper : (walk : List Exchange) (command : Command) → IsProper agreed (next walk command)
+  pub proper : (walk : List Exchange) (command : Command) → IsProper agreed (next walk command)
   proper walk command =
       record {
         answered = answered-as walk command;
@@ -107,37 +108,31 @@ module _ (hears : HearsReplies) (b : Behavior) (lawful : IsLawful b) (agreed : A
       by_stage (Some stage) true e skips =
           body-skips command stage (b.decide stage (shown walk command)).verdict e (lawful.answers stage (shown walk command)).given skips
 
-  goes : (walk : List Exchange) (command : Command) (left : List Command) → is_left_out walk command ≡ false → AreProper agreed walk
+module _ (hears : HearsReplies) (b : Behavior) (lawful : IsLawful b) (agreed : Agreed) (m : Mta) (some : m.session.messages ≢ []) where
+  pub goes : (walk : List Exchange) (command : Command) (left : List Command) → is_left_out walk command ≡ false → AreProper agreed walk
       → AreInOrder (command ∷ commands_of walk)
-      → after_line (line_of (next walk command)).back (at_walk agreed walk (command ∷ left) m)
-      ≡ goes_on (walked agreed (next walk command ∷ walk) left m (is_closed (next walk command ∷ walk) left))
+      → after_line (line_of (next b lawful agreed walk command)).back (at_walk agreed walk (command ∷ left) m)
+      ≡ goes_on (walked agreed (next b lawful agreed walk command ∷ walk) left m (is_closed (next b lawful agreed walk command ∷ walk) left))
   goes walk command left stays all order = by_stage (stage_of command) (is_asked agreed command) refl refl
     where
       by_stage : (at : Option Stage) (asked : Bool) → stage_of command ≡ at → is_asked agreed command ≡ asked
-          → after_line (line_of (next walk command)).back (at_walk agreed walk (command ∷ left) m)
-          ≡ goes_on (walked agreed (next walk command ∷ walk) left m (is_closed (next walk command ∷ walk) left))
+          → after_line (line_of (next b lawful agreed walk command)).back (at_walk agreed walk (command ∷ left) m)
+          ≡ goes_on (walked agreed (next b lawful agreed walk command ∷ walk) left m (is_closed (next b lawful agreed walk command ∷ walk) left))
       by_stage None asked at is =
-          unanswered-goes agreed m (next walk command) walk left stays
-          (ap (λ (s : Option Stage). answer_to b agreed s (is_asked agreed command) (shown walk command)) at)
+          unanswered-goes agreed m (next b lawful agreed walk command) walk left stays
+          (ap (λ (s : Option Stage). answer_to b agreed s (is_asked agreed command) (shown b lawful agreed walk command)) at)
           (ap (is_asked_at agreed) at)
       by_stage (Some stage) false at is =
-          unanswered-goes agreed m (next walk command) walk left stays
-          (ap (λ (s : Option Stage). answer_to b agreed s (is_asked agreed command) (shown walk command)) at
-          ∙ ap (λ (a : Bool). answer_to b agreed (Some stage) a (shown walk command)) is)
+          unanswered-goes agreed m (next b lawful agreed walk command) walk left stays
+          (ap (λ (s : Option Stage). answer_to b agreed s (is_asked agreed command) (shown b lawful agreed walk command)) at
+          ∙ ap (λ (a : Bool). answer_to b agreed (Some stage) a (shown b lawful agreed walk command)) is)
           is
       by_stage (Some stage) true at is =
-          answered-goes agreed m (next walk command) walk left stays stage (permitted agreed (b.decide stage (shown walk command))) at
-          (ap (λ (s : Option Stage). answer_to b agreed s (is_asked agreed command) (shown walk command)) at
-          ∙ ap (λ (a : Bool). answer_to b agreed (Some stage) a (shown walk command)) is)
-          is (proper walk command, all) order hears some
-          (permitted-heard agreed stage (b.decide stage (shown walk command)) (lawful.answers stage (shown walk command)))
-
-  -- ---- what is left
-
-  -- the end of a message lets nothing follow
-  goes_no_further : (walk : List Exchange) (command : Command) (left : List Command) → is_closed (next walk command ∷ walk) left ≡ false → is_end_command command ≡ false
-  goes_no_further walk (commands.Eob bytes) left e = absurd (true≢false e)
-  goes_no_further walk other left e = refl
+          answered-goes agreed m (next b lawful agreed walk command) walk left stays stage (permitted agreed (b.decide stage (shown b lawful agreed walk command))) at
+          (ap (λ (s : Option Stage). answer_to b agreed s (is_asked agreed command) (shown b lawful agreed walk command)) at
+          ∙ ap (λ (a : Bool). answer_to b agreed (Some stage) a (shown b lawful agreed walk command)) is)
+          is (proper b lawful agreed walk command, all) order hears some
+          (permitted-heard agreed stage (b.decide stage (shown b lawful agreed walk command)) (lawful.answers stage (shown b lawful agreed walk command)))
 
   -- ---- the talk
 
@@ -155,30 +150,30 @@ module _ (hears : HearsReplies) (b : Behavior) (lawful : IsLawful b) (agreed : A
   unfolding talk
   played [] walk = λ all order end. absurd (true≢false (sym end))
   played (command ∷ left) walk =
-      by_out (is_left_out walk command) refl (played left walk) (played left (next walk command ∷ walk))
+      by_out (is_left_out walk command) refl (played left walk) (played left (next b lawful agreed walk command ∷ walk))
     where
-      by_closed : (closed : Bool) → is_closed (next walk command ∷ walk) left ≡ closed → is_left_out walk command ≡ false
-          → Plan left (next walk command ∷ walk) (talk b agreed (next walk command ∷ walk) left)
-          → Plan (command ∷ left) walk (next walk command ∷ (if closed then [] else talk b agreed (next walk command ∷ walk) left))
+      by_closed : (closed : Bool) → is_closed (next b lawful agreed walk command ∷ walk) left ≡ closed → is_left_out walk command ≡ false
+          → Plan left (next b lawful agreed walk command ∷ walk) (talk b agreed (next b lawful agreed walk command ∷ walk) left)
+          → Plan (command ∷ left) walk (next b lawful agreed walk command ∷ (if closed then [] else talk b agreed (next b lawful agreed walk command ∷ walk) left))
       by_closed true e stays rest all order end =
           let here : AreInOrder (command ∷ commands_of walk) = order-before left (command ∷ commands_of walk) order in
-          let goes_to = goes walk command left stays all here ∙ ap (λ (c : Bool). goes_on (walked agreed (next walk command ∷ walk) left m c)) e in
+          let goes_to = goes walk command left stays all here ∙ ap (λ (c : Bool). goes_on (walked agreed (next b lawful agreed walk command ∷ walk) left m c)) e in
           record {
-            plays = (packet-is agreed m (next walk command) walk left stays, ap (λ (a : After). a.loss) goes_to, ap (λ (a : After). a.mta) goes_to);
-            all = (proper walk command, all);
+            plays = (packet-is agreed m (next b lawful agreed walk command) walk left stays, ap (λ (a : After). a.loss) goes_to, ap (λ (a : After). a.mta) goes_to);
+            all = (proper b lawful agreed walk command, all);
             order = here;
-            rules = λ leading_space message. closed-rules (next walk command) walk left e leading_space message;
+            rules = λ leading_space message. closed-rules (next b lawful agreed walk command) walk left e leading_space message;
           }
       by_closed false e stays rest all order end =
           let here : AreInOrder (command ∷ commands_of walk) = order-before left (command ∷ commands_of walk) order in
-          let goes_to = goes walk command left stays all here ∙ ap (λ (c : Bool). goes_on (walked agreed (next walk command ∷ walk) left m c)) e in
-          let more = rest (proper walk command, all) order (end_left command left (goes_no_further walk command left e) end) in
-          let others = talk b agreed (next walk command ∷ walk) left in
+          let goes_to = goes walk command left stays all here ∙ ap (λ (c : Bool). goes_on (walked agreed (next b lawful agreed walk command ∷ walk) left m c)) e in
+          let more = rest (proper b lawful agreed walk command, all) order (end_left command left (goes_no_further b agreed walk command left e) end) in
+          let others = talk b agreed (next b lawful agreed walk command ∷ walk) left in
           record {
             plays = (
-              packet-is agreed m (next walk command) walk left stays,
+              packet-is agreed m (next b lawful agreed walk command) walk left stays,
               ap (λ (a : After). a.loss) goes_to,
-              subst (λ (a : After). Plays a.mta (map line_of others) (settled_by agreed (onto others (next walk command ∷ walk)) m)) (sym goes_to) more.plays,
+              subst (λ (a : After). Plays a.mta (map line_of others) (settled_by agreed (onto others (next b lawful agreed walk command ∷ walk)) m)) (sym goes_to) more.plays,
             );
             all = more.all;
             order = more.order;
@@ -186,10 +181,10 @@ module _ (hears : HearsReplies) (b : Behavior) (lawful : IsLawful b) (agreed : A
           }
 
       by_out : (out : Bool) → is_left_out walk command ≡ out → Plan left walk (talk b agreed walk left)
-          → Plan left (next walk command ∷ walk) (talk b agreed (next walk command ∷ walk) left)
+          → Plan left (next b lawful agreed walk command ∷ walk) (talk b agreed (next b lawful agreed walk command ∷ walk) left)
           → Plan (command ∷ left) walk
           (if out then talk b agreed walk left
-          else next walk command ∷ (if is_closed (next walk command ∷ walk) left then [] else talk b agreed (next walk command ∷ walk) left))
+          else next b lawful agreed walk command ∷ (if is_closed (next b lawful agreed walk command ∷ walk) left then [] else talk b agreed (next b lawful agreed walk command ∷ walk) left))
       by_out true e skipped goes_further all order end =
           let is = skipped all (order-without left command (commands_of walk) order) (end_left command left (no_end command (list_any is_skipping walk) e) end) in
           record {
@@ -198,4 +193,4 @@ module _ (hears : HearsReplies) (b : Behavior) (lawful : IsLawful b) (agreed : A
             order = is.order;
             rules = is.rules;
           }
-      by_out false e skipped goes_further all order end = by_closed (is_closed (next walk command ∷ walk) left) refl e goes_further all order end
+      by_out false e skipped goes_further all order end = by_closed (is_closed (next b lawful agreed walk command ∷ walk) left) refl e goes_further all order end

@@ -2,6 +2,7 @@ pub mod Lines
 pub mod Order
 pub mod Walks
 pub mod Settled
+pub mod PartAnswers
 pub mod Beginnings
 pub mod Sessions
 pub mod AnyFilter

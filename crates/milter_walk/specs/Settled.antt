@@ -1,5 +1,5 @@
 -- How a walk settles messages, and where a mail server's end goes on.
-use Rattle.std.specs.Prelude.{◌≡◌, Bool, false, not, List, [], ◌∷◌, ◌++◌, map, Option, None, Some, option_map}
+use Rattle.std.specs.Prelude.{◌≡◌, Bool, false, not, List, [], ◌∷◌, ◌++◌, map, Option, Some, option_map}
 use Rattle.milter_wire.specs.declared.agreement.Agreed.{Agreed}
 use Rattle.milter_wire.specs.declared.verdict.Verdict.{Verdict}
 use Rattle.milter_message.specs.MailObject.{MailObject}
@@ -10,14 +10,12 @@ use Rattle.milter_exchange.specs.Commands.{is_of_connection}
 use Rattle.milter_exchange.specs.Exchanges.{Exchange}
 use Rattle.milter_exchange.specs.Talk.{is_end_command}
 use Rattle.milter_outcome.specs.declared.loss.By.TheVariants.{Connection}
-use Rattle.milter_outcome.specs.declared.loss.Loss.{Loss}
 use Rattle.milter_outcome.specs.declared.outcome.Outcome.{Outcome}
 use Rattle.milter_outcome.specs.Walks.{acted}
 use Rattle.milter_plan.specs.TalkVerdicts.{last_verdict}
 use Rattle.milter_mta.specs.Mta.{Link, Mta, Position, at_packet, link_at}
 use Rattle.milter_mta.specs.Mta.Position.{Quitting}
-use Rattle.milter_mta.specs.Receiving.{After}
-use Rattle.milter_mta.specs.Settling.{lost, report}
+use Rattle.milter_mta.specs.Settling.{report}
 use Rattle.milter_walk.specs.Walks.{opening_of, position_in}
 
 -- the last exchange is about the client or its greeting
@@ -53,8 +51,3 @@ pub record AreAllSettled (walk : List Exchange) (outcome_of : MailObject → Out
       ≡ old.reports ++ map (λ message. report (acted walk) (outcome_of message) Connection) old.session.messages
   pub connection : new.connection ≡ walk_verdict walk
   pub quits : new.link ≡ Some (at_packet Quitting)
-
--- it goes on, and a loss settles then what it settled before
-pub record ChangesNoLoss (old : Mta) (after : After) : Type 0 where
-  pub goes_on : after.loss ≡ None
-  pub settles : (loss : Loss) → lost loss after.mta ≡ lost loss old

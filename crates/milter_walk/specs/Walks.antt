@@ -1,6 +1,6 @@
 -- A mail server's end in the midst of its talk about a message: after some exchanges, the latest first, where some
 -- commands are left of the plan.
-use Rattle.std.specs.Prelude.{List, [], ◌∷◌, Option, None, Some}
+use Rattle.std.specs.Prelude.{List, [], ◌∷◌, Option, None, Some, if◌then◌else◌}
 use Rattle.std.specs.List.{filter}
 use Rattle.milter_wire.specs.declared.agreement.Agreed.{Agreed}
 use Rattle.milter_wire.specs.declared.command.Command.{Command}
@@ -9,7 +9,7 @@ use Rattle.milter_wire.specs.Stages.{stage_of}
 use Rattle.milter_exchange.specs.declared.answer.Answer.{Answer}
 use Rattle.milter_exchange.specs.Commands.{is_of_connection}
 use Rattle.milter_exchange.specs.Exchanges.{Exchange}
-use Rattle.milter_exchange.specs.Talk.{sendable}
+use Rattle.milter_exchange.specs.Talk.{is_closed, sendable}
 use Rattle.milter_outcome.specs.declared.acted.Acted.{Acted}
 use Rattle.milter_outcome.specs.Walks.{acted}
 use Rattle.milter_mta.specs.Mta.{Mta, Position, at_packet}
@@ -39,3 +39,7 @@ abbrev pub settled_by : Agreed → List Exchange → Mta → Mta
 settled_by agreed [] m = m
 settled_by agreed (last ∷ before) m =
     settled_at agreed (stage_of last.command) last.answer (acted (last ∷ before)) m
+
+-- after a walk: settled where its last exchange closed it; else the first of these commands is sent next
+abbrev pub after_walk : Agreed → List Exchange → List Command → Mta → Mta
+after_walk agreed walk left m = if is_closed walk left then settled_by agreed walk m else at_walk agreed walk left m

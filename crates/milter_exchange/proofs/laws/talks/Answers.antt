@@ -1,5 +1,5 @@
 use Rattle.milter_exchange.proofs.Talking.{talk-answered, talk-ends, talk-skips}
-use Rattle.milter_exchange.proofs.WholeTalks.{talk-only, talk-whole}
+use Rattle.milter_exchange.proofs.WholeTalks.{talk-only, talk-some, talk-whole}
 use Rattle.milter_exchange.proofs.laws.talks.Goals as goal
 
 pub returns-clause-answered : goal.returns-clause-answered
@@ -16,3 +16,6 @@ returns-clause-whole c b agreed before commands end = talk-whole b agreed comman
 
 pub returns-clause-only : goal.returns-clause-only
 returns-clause-only c b agreed before commands exchanges is = talk-only b agreed commands before exchanges is
+
+pub returns-clause-some : goal.returns-clause-some
+returns-clause-some c b agreed before commands end = talk-some b agreed before commands end
