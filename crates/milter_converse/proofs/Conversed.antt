@@ -74,7 +74,7 @@ reports-each old last s is goes none = record {
   by_walks =
       let all : goes.settles.settled ≡ old.session.messages =
       sym (goes.settles.messages_are ∙ ap (λ (l : List MailObject). goes.settles.settled ++ l) none ∙ append-nil goes.settles.settled) in
-      subst (λ (l : List MailObject). AllZip (IsReportByWalk (without_messages old.session) old.config.on_loss) l goes.settles.added) all goes.settles.by_walks;
+      subst (λ (l : List MailObject). AllZip (IsReportByWalk old.config (without_messages old.session)) l goes.settles.added) all goes.settles.by_walks;
 }
 
 pub converses : ((old new : Mta) (events : List Event) → IsOnWalk old → Runs old events new → GoesOnWalks old new)

@@ -18,12 +18,12 @@ first_events wants.Send = GaveUp Reset ∷ []
 first_events wants.Receive = GaveUp Reset ∷ []
 first_events other = []
 
--- each message that was left is reported, after the reports that were there: as a walk through its plan rules, or by
--- default after one
+-- each message that was left is reported, after the reports that were there: as a walk through its plan that ended rules,
+-- or by default after an open one
 pub record ReportsEach (old : Mta) (s : Settlement) : Type 0 where
   pub added : List Report
   pub reports_are : s.messages ≡ old.reports ++ added
-  pub by_walks : AllZip (IsReportByWalk (without_messages old.session) old.config.on_loss) old.session.messages added
+  pub by_walks : AllZip (IsReportByWalk old.config (without_messages old.session)) old.session.messages added
 
 pub record Converses (old : Mta) (s : Settlement) : Type 0 where
   -- what happened, each where it was wanted, and where it led
