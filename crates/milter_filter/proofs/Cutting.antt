@@ -13,7 +13,7 @@ use Rattle.milter_exchange.specs.declared.filter_state.FilterState.TheVariants.{
 use Rattle.milter_exchange.specs.Conversations.{Received}
 use Rattle.milter_exchange.specs.Standings.{Standing, standing_after, standing_replies}
 use Rattle.milter_exchange.proofs.Going.{standing_after-append, standing_replies-append}
-use Rattle.milter_filter.specs.Cores.{Core, GivesUp, GoesOn, Takes, fresh_core, given_up}
+use Rattle.milter_filter.specs.Cores.{Core, GivesUp, GoesOn, Takes, fresh_core, given_up, unread_after}
 use Rattle.milter_filter.specs.Streams.{fault_after, read_in, received_in}
 use Rattle.milter_filter.proofs.Progress.{ended-stays, read-append}
 
@@ -75,9 +75,23 @@ settled b s (Some f) quiet =
     some_fault : (g : WireFault) → Some g ≡ None → ⊥
     some_fault g e = absurd cc
 
+-- ---- the states of a connection
+
+quit_serving : Quit ≡ Serving → ⊥
+quit_serving e = absurd cc
+
+failed_serving : (fault : FilterFault) → Failed fault ≡ Serving → ⊥
+failed_serving fault e = absurd cc
+
+failed_quit : (fault : FilterFault) → Failed fault ≡ Quit → ⊥
+failed_quit fault e = absurd cc
+
+same_fault : (fault other : FilterFault) → Failed fault ≡ Failed other → fault ≡ other
+same_fault fault other e = cc
+
 module _ {P : Type 0} (b : Behavior) where
-  pub stays : (core : Core P) → IsUnfinished core.unread → (core.standing.state ≢ Serving → core.unread ≡ []) → GoesOn b core [] [] core
-  stays core unfinished nothing =
+  pub stays : (core : Core P) → IsUnfinished core.unread → core.standing.state ≡ Serving → GoesOn b core [] [] core
+  stays core unfinished serving =
       let d = ap divide (append-nil core.unread) ∙ divide-unfinished core.unread unfinished in
       let none : received_in (core.unread ++ []) ≡ [] =
       ap (λ (x : Division). map frame_command x.frames ++ fault_after (length_fault x.rest)) d ∙ ap fault_after (length_fault-unfinished core.unread unfinished) in
@@ -85,13 +99,14 @@ module _ {P : Type 0} (b : Behavior) where
         policy = refl;
         standing = ap (standing_after b core.standing) (sym none);
         replied = sym (append-nil core.pending) ∙ ap (λ rs. core.pending ++ bytes_of b core.standing rs) (sym none);
-        unread = λ serving. ap (λ (x : Division). x.rest) (sym d);
-        nothing_unread = nothing;
-        unfinished = unfinished;
+        unread = λ still. ap (λ (x : Division). x.rest) (sym d);
+        unfinished = λ still. unfinished;
+        nothing_unread = λ quit. absurd (quit_serving (sym quit ∙ serving));
+        at_fault = λ fault failed. absurd (failed_serving fault (sym failed ∙ serving));
       }
 
   pub fresh-begins : (policy : P) → GoesOn b (fresh_core policy) [] [] (fresh_core policy)
-  fresh-begins policy = stays (fresh_core policy) tt (λ other. refl)
+  fresh-begins policy = stays (fresh_core policy) tt refl
 
   takes-step : (old new : Core P) (piece : List ℕ) (n : ℕ) → old.pending ≡ [] → Takes b old piece n new → GoesOn b old (take n piece) [] new
   takes-step old new piece n none t =
@@ -112,8 +127,9 @@ module _ {P : Type 0} (b : Behavior) where
             ∙ sym (bytes-append b old.standing (read_in bytes) (fault_after f))
             ∙ ap (λ ps. ps ++ bytes_of b old.standing (received_in bytes)) (sym none);
         unread = t.unread;
-        nothing_unread = t.nothing_unread;
-        unfinished = t.unfinished;
+        unfinished = λ still. t.unfinished;
+        nothing_unread = λ quit. t.nothing_unread (λ serving. quit_serving (sym quit ∙ serving));
+        at_fault = λ fault failed. absurd (t.going fault failed);
       }
 
   gives_up-step : (core : Core P) (piece : List ℕ) (fault : FilterFault) → core.pending ≡ [] → GivesUp b core.standing (received_in (core.unread ++ piece)) fault
@@ -122,16 +138,15 @@ module _ {P : Type 0} (b : Behavior) where
     policy = refl;
     standing = sym g.failed;
     replied = ap (flat_map encoding) (sym g.silent) ∙ ap (λ ps. ps ++ bytes_of b core.standing (received_in (core.unread ++ piece))) (sym none);
-    unread = λ serving. absurd (failed serving);
-    nothing_unread = λ other. refl;
-    unfinished = tt;
+    unread = λ serving. absurd (failed_serving fault serving);
+    unfinished = λ serving. absurd (failed_serving fault serving);
+    nothing_unread = λ quit. absurd (failed_quit fault quit);
+    at_fault = λ other is. ap unread_after (same_fault fault other is);
   }
-    where
-      failed : Failed fault ≡ Serving → ⊥
-      failed e = absurd cc
 
-  ended-step : (core : Core P) (more : List ℕ) → core.standing.state ≢ Serving → core.unread ≡ [] → GoesOn b core more [] core
-  ended-step core more ended nothing =
+  ended-step : (core : Core P) (more : List ℕ) → core.standing.state ≢ Serving → (core.standing.state ≡ Quit → core.unread ≡ [])
+      → ((fault : FilterFault) → core.standing.state ≡ Failed fault → core.unread ≡ unread_after fault) → GoesOn b core more [] core
+  ended-step core more ended nothing at_fault =
       let rs = received_in (core.unread ++ more) in
       let still = ended-stays b core.standing rs ended in
       record {
@@ -139,8 +154,9 @@ module _ {P : Type 0} (b : Behavior) where
         standing = sym still.0;
         replied = sym (append-nil core.pending) ∙ ap (λ xs. core.pending ++ flat_map encoding xs) (sym still.1);
         unread = λ serving. absurd (ended serving);
-        nothing_unread = λ other. nothing;
-        unfinished = subst IsUnfinished (sym nothing) tt;
+        unfinished = λ serving. absurd (ended serving);
+        nothing_unread = nothing;
+        at_fault = at_fault;
       }
 
   -- ---- one step after the other
@@ -171,8 +187,9 @@ module _ {P : Type 0} (b : Behavior) where
               ∙ append_assoc old.pending _ _
               ∙ ap (λ xs. old.pending ++ xs) (sym (bytes-append b old.standing (received_in bytes) rs) ∙ ap (bytes_of b old.standing) (sym all));
           unread = λ serving. rest serving ∙ ap (λ xs. (divide xs).rest) (append_assoc old.unread input more);
-          nothing_unread = q.nothing_unread;
           unfinished = q.unfinished;
+          nothing_unread = q.nothing_unread;
+          at_fault = q.at_fault;
         }
 
     after-end : mid.standing.state ≢ Serving → GoesOn b old (input ++ more) (sent ++ sent_then) new
@@ -188,16 +205,10 @@ module _ {P : Type 0} (b : Behavior) where
       where
         by_state : (state : FilterState) → mid.standing.state ≡ state → GoesOn b old (input ++ more) (sent ++ sent_then) new
         by_state Serving serving =
-            with-more then (joined bytes more mid.unread (p.unread serving) (length_fault-unfinished mid.unread p.unfinished)) refl refl
+            with-more then (joined bytes more mid.unread (p.unread serving) (length_fault-unfinished mid.unread (p.unfinished serving))) refl refl
             (λ still. q.unread still ∙ ap (λ us. (divide (us ++ more)).rest) (p.unread serving) ∙ ap (λ (x : Division). x.rest) (sym (divide-append bytes more)))
         by_state Quit quit = after-end (λ serving. quit_serving (sym quit ∙ serving))
-          where
-            quit_serving : Quit ≡ Serving → ⊥
-            quit_serving e = absurd cc
-        by_state (Failed fault) failed = after-end (λ serving. failed_serving (sym failed ∙ serving))
-          where
-            failed_serving : Failed fault ≡ Serving → ⊥
-            failed_serving e = absurd cc
+        by_state (Failed fault) failed = after-end (λ serving. failed_serving fault (sym failed ∙ serving))
 
   module _ (old core : Core P) (input sent : List ℕ) (p : GoesOn b old input sent core) where
     silently : (new : Core P) (more : List ℕ) → GoesOn b core more [] new → GoesOn b old (input ++ more) sent new
@@ -211,7 +222,7 @@ module _ {P : Type 0} (b : Behavior) where
     goes_on-gives_up piece fault none g = silently (given_up core fault) piece (gives_up-step core piece fault none g)
 
     pub goes_on-ended : (more : List ℕ) → core.standing.state ≢ Serving → GoesOn b old (input ++ more) sent core
-    goes_on-ended more ended = silently core more (ended-step core more ended (p.nothing_unread ended))
+    goes_on-ended more ended = silently core more (ended-step core more ended p.nothing_unread p.at_fault)
 
     pub goes_on-sends : (n : ℕ) → GoesOn b old input (sent ++ take n core.pending) (record core { pending = drop n core.pending })
     goes_on-sends n = record {
@@ -219,6 +230,7 @@ module _ {P : Type 0} (b : Behavior) where
       standing = p.standing;
       replied = append_assoc sent (take n core.pending) (drop n core.pending) ∙ ap (λ xs. sent ++ xs) (take-append-drop n core.pending) ∙ p.replied;
       unread = p.unread;
-      nothing_unread = p.nothing_unread;
       unfinished = p.unfinished;
+      nothing_unread = p.nothing_unread;
+      at_fault = p.at_fault;
     }

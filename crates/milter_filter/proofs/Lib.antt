@@ -2,6 +2,7 @@ pub mod MacroLists
 pub mod EditPackets
 pub mod Agreeing
 pub mod PacketCommands
+pub mod LengthFaults
 pub mod PieceStreams
 pub mod Progress
 pub mod FirstReplies

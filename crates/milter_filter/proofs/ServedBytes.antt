@@ -84,14 +84,15 @@ module _ {P : Type 0} where
     standing = p.standing;
     replied = append_assoc sent part new.pending ∙ ap (λ xs. sent ++ xs) whole ∙ p.replied;
     unread = p.unread;
-    nothing_unread = p.nothing_unread;
     unfinished = p.unfinished;
+    nothing_unread = p.nothing_unread;
+    at_fault = p.at_fault;
   })
 
   pub goes-none : (b : Behavior) (core : Core P) (a : Option (List ℕ)) → IsUnfinished core.unread → core.standing.state ≡ Serving → Goes b core [] core a a
   goes-none b core a unfinished serving = record {
     sent = [];
-    goes_on = stays b core unfinished (λ other. absurd (other serving));
+    goes_on = stays b core unfinished serving;
     was_written = Appends-nil a;
   }
 

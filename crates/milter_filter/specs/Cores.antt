@@ -1,11 +1,15 @@
 -- What a filter's core is to its callers.
 use Rattle.std.specs.Prelude.{◌≡◌, ◌≢◌, ◌≤◌, ◌<◌, ℕ, List, [], ◌∷◌, ◌++◌, length, take}
 use Rattle.std.specs.List.{flat_map}
+use Rattle.milter_stream.specs.declared.fault.WireFault.{WireFault}
+use Rattle.milter_stream.specs.declared.fault.WireFault.TheVariants.{ZeroLength, TooLong}
+use Rattle.milter_stream.specs.Number.{number}
 use Rattle.milter_stream.specs.Stream.{IsUnfinished, divide}
 use Rattle.milter_wire.specs.Reply.{encoding}
 use Rattle.milter_exchange.specs.Behavior.{Behavior}
 use Rattle.milter_exchange.specs.declared.filter_fault.FilterFault.{FilterFault}
-use Rattle.milter_exchange.specs.declared.filter_state.FilterState.TheVariants.{Failed, Serving}
+use Rattle.milter_exchange.specs.declared.filter_fault.FilterFault.TheVariants.{Wire}
+use Rattle.milter_exchange.specs.declared.filter_state.FilterState.TheVariants.{Failed, Quit, Serving}
 use Rattle.milter_exchange.specs.Conversations.{Received}
 use Rattle.milter_exchange.specs.Standings.{Standing, fresh, nothing_kept, standing_after, standing_replies}
 use Rattle.milter_filter.specs.Streams.{read_in, received_in}
@@ -53,10 +57,27 @@ pub record Takes {P : Type 0} (b : Behavior) (old : Core P) (piece : List ℕ) (
   pub first : new.pending ≢ [] → EndsAtReplies b old.standing (old.unread ++ take n piece)
   pub all : new.pending ≡ [] → n ≡ length piece
 
+-- the four bytes of a length that no packet has, where that is the fault
+abbrev pub length_field : WireFault → List ℕ
+length_field ZeroLength = number 0
+length_field (TooLong stated) = number stated
+length_field other = []
+
+-- What stays unread after a fault: of a length at fault its four bytes. After any other fault nothing does, since the
+-- packet at fault was handed out.
+abbrev pub unread_after : FilterFault → List ℕ
+unread_after (Wire fault) = length_field fault
+unread_after other = []
+
 -- a core that was given up for a fault
 abbrev pub given_up : {P : Type 0} → Core P → FilterFault → Core P
 given_up core fault =
-    record { policy = core.policy; standing = nothing_kept (Failed fault); unread = []; pending = [] }
+    record {
+      policy = core.policy;
+      standing = nothing_kept (Failed fault);
+      unread = unread_after fault;
+      pending = [];
+    }
 
 -- A core goes on to another: these bytes came to it in whatever pieces, and these bytes of replies were sent. It makes
 -- of them what their packets, with those that were unread, make of what it kept, and what was sent comes before what
@@ -68,5 +89,6 @@ pub record GoesOn {P : Type 0} (b : Behavior) (old : Core P) (input sent : List 
       sent ++ new.pending
       ≡ old.pending ++ flat_map encoding (standing_replies b old.standing (received_in (old.unread ++ input)))
   pub unread : new.standing.state ≡ Serving → new.unread ≡ (divide (old.unread ++ input)).rest
-  pub nothing_unread : new.standing.state ≢ Serving → new.unread ≡ []
-  pub unfinished : IsUnfinished new.unread
+  pub unfinished : new.standing.state ≡ Serving → IsUnfinished new.unread
+  pub nothing_unread : new.standing.state ≡ Quit → new.unread ≡ []
+  pub at_fault : (fault : FilterFault) → new.standing.state ≡ Failed fault → new.unread ≡ unread_after fault

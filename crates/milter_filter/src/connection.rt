@@ -1,11 +1,12 @@
 //! What a filter's end keeps of a connection.
 
-ghost use Rattle.std.specs.Prelude.{◌≡◌, ◌≤◌, ◌+◌, ◌↔◌, IsTrue, OnOk, length, true};
+ghost use Rattle.std.specs.Prelude.{◌≡◌, ◌≤◌, ◌+◌, ◌↔◌, [], IfSome, IsTrue, OnOk, length, true};
 ghost use Rattle.std.specs.Option.{option_copied};
 ghost use Rattle.milter_wire.specs.Command.{encoding};
 ghost use Rattle.milter_wire.specs.LentCommand.{command_of};
 ghost use Rattle.milter_exchange.specs.Commands.{is_shown};
 ghost use Rattle.milter_exchange.specs.Faults.{fault_in_message, fault_of};
+ghost use Rattle.milter_filter.specs.Cores.{unread_after};
 ghost use Rattle.milter_exchange.specs.Standings.{after_client, after_message, after_options, fresh, nothing_kept, with_shown};
 
 use crate::commands::{is_of_connection, is_shown};
@@ -94,8 +95,10 @@ impl Connection {
     /// The fault of a command whose packet has `len` bytes, if it is at one.
     pub(crate) fn fault_of(&self, command: &CommandRef<'_>, len: usize) -> Option<FilterFault>
         requires { len ≤ WEIGHT_MAX }
-        ensures { result
+        ensures fault { result
             ≡ fault_of self.now.agreed self.now.last_rank (len + self.now.shown.bytes) (command_of command.now) }
+        // No such fault is one of a length.
+        ensures no_length { IfSome result (λ fault. unread_after fault ≡ []) }
     {
         match (&self.agreed, command) {
             (None, CommandRef::Options(offer)) => {
@@ -111,8 +114,9 @@ impl Connection {
     /// The fault of a command after the options: of its order, or of the amount that is shown with it.
     fn fault_in_message(&self, command: &CommandRef<'_>, len: usize) -> Option<FilterFault>
         requires { len ≤ WEIGHT_MAX }
-        ensures { result
+        ensures fault { result
             ≡ fault_in_message self.now.last_rank (len + self.now.shown.bytes) (command_of command.now) }
+        ensures no_length { IfSome result (λ fault. unread_after fault ≡ []) }
     {
         if let Some(stage) = command.stage() {
             if !may_follow(self.last_rank, stage) {

@@ -28,8 +28,10 @@ pub struct FilterCore<'p, P: Policy> {
 }
 
 impl<'p, P: Policy> Model for FilterCore<'p, P> {
-    ghost use Rattle.std.specs.Prelude.{◌≤◌, drop, length};
+    ghost use Rattle.std.specs.Prelude.{◌≡◌, ◌≤◌, drop, length};
+    ghost use Rattle.milter_stream.specs.Number.{IsBytes};
     ghost use Rattle.milter_stream.specs.Stream.{IsUnfinished};
+    ghost use Rattle.milter_exchange.specs.declared.filter_state.FilterState.TheVariants.{Serving};
     ghost use Rattle.milter_filter.specs.Cores.{Core};
 
     ghost Value = { Core P };
@@ -41,7 +43,8 @@ impl<'p, P: Policy> Model for FilterCore<'p, P> {
       pending = drop c.sent c.pending.items;
     } };
 
-    ghost invariant = { λ c. IsUnfinished c.splitter × (c.sent ≤ length c.pending.items) };
+    ghost invariant = { λ c. (c.connection.state ≡ Serving → IsUnfinished c.splitter × IsBytes c.splitter)
+        × (c.sent ≤ length c.pending.items) };
 }
 
 impl<'p, P: Policy> FilterCore<'p, P> {
@@ -77,8 +80,9 @@ impl<'p, P: Policy> FilterCore<'p, P> {
         self.sent += count;
     }
 
-    /// How many bytes were taken of a packet that isn't whole yet: none after the mail server has quit, and none after
-    /// a fault. No memory is taken.
+    /// How many bytes were taken and not handed out: while it serves, those of a packet that isn't whole yet; none after
+    /// the mail server has quit; after a length at fault its four bytes, and after any other fault none. No memory is
+    /// taken.
     pub fn unread(&self) -> usize
         ensures { result ≡ length self.now.unread }
     {
@@ -95,7 +99,8 @@ impl<'p, P: Policy> FilterCore<'p, P> {
     /// Takes bytes from the start of a piece of what the mail server sends, and answers how many. While replies wait
     /// to be sent it takes none. Else it takes bytes up to the end of the first packet that has replies, or all where
     /// none has; after the mail server has quit it takes all and does nothing with them. After a fault nothing is kept
-    /// but that, and every later call answers it again. Source: mfdef.h, and the libmilter callback documentation.
+    /// but that and the four bytes of a length at fault, and every later call answers it again and takes nothing.
+    /// Source: mfdef.h, and the libmilter callback documentation.
     pub fn feed(&mut self, piece: &[u8]) -> Result<usize, FilterFault>
         ensures failed { (fault : Fault) → self.old.standing.state ≡ Failed fault →
             (result ≡ Err fault) × (self.new ≡ self.old) }
@@ -145,7 +150,6 @@ impl<'p, P: Policy> FilterCore<'p, P> {
             Ok(taken) => taken,
             Err(fault) => {
                 *connection = Connection::failed(*alloc, fault);
-                splitter.clear();
                 pending.clear();
                 return Err(fault);
             }

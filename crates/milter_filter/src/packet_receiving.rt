@@ -14,6 +14,7 @@ ghost use Rattle.milter_wire.specs.Reply.{encoding};
 ghost use Rattle.milter_exchange.specs.declared.filter_fault.FilterFault.{FilterFault as Fault};
 ghost use Rattle.milter_exchange.specs.declared.filter_fault.FilterFault.TheVariants.{NoMemory};
 ghost use Rattle.milter_exchange.specs.declared.filter_state.FilterState.TheVariants.{Failed, Serving};
+ghost use Rattle.milter_filter.specs.Cores.{unread_after};
 ghost use Rattle.milter_exchange.specs.Standings.{nothing_kept, standing_next, standing_replies_at};
 
 use crate::connection::Connection;
@@ -43,6 +44,7 @@ pub(crate) fn receive_packet<P: Policy>(
         ≡ nothing_kept (Failed fault)) }
     ensures silent { IfErr result (λ fault. fault ≢ NoMemory →
         standing_replies_at (P.behavior policy.now) connection.old (frame_command (frame_of packet.now)) ≡ []) }
+    ensures no_length { IfErr result (λ fault. unread_after fault ≡ []) }
     ensures going { OnOk result ((fault : Fault) → connection.new.state ≢ Failed fault) }
 {
     let command = match read_command(packet.code, packet.payload) {

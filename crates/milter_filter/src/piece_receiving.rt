@@ -2,12 +2,13 @@
 
 ghost use Rattle.std.specs.Prelude.{◌≡◌, ◌≢◌, ◌<◌, ◌≤◌, ◌++◌, [], IfErr, IfOk, OnOk, length, take};
 ghost use Rattle.std.specs.List.{flat_map};
+ghost use Rattle.milter_stream.specs.Number.{IsBytes};
 ghost use Rattle.milter_stream.specs.Stream.{IsUnfinished, divide};
 ghost use Rattle.milter_wire.specs.Reply.{encoding};
 ghost use Rattle.milter_exchange.specs.declared.filter_fault.FilterFault.{FilterFault as Fault};
 ghost use Rattle.milter_exchange.specs.declared.filter_fault.FilterFault.TheVariants.{NoMemory};
 ghost use Rattle.milter_exchange.specs.declared.filter_state.FilterState.TheVariants.{Failed, Serving};
-ghost use Rattle.milter_filter.specs.Cores.{EndsAtReplies, GivesUp};
+ghost use Rattle.milter_filter.specs.Cores.{EndsAtReplies, GivesUp, unread_after};
 ghost use Rattle.milter_exchange.specs.Standings.{standing_after, standing_replies};
 ghost use Rattle.milter_filter.specs.Streams.{IsOnePacketAtMost, read_in, received_in};
 
@@ -20,7 +21,7 @@ use std::alloc::Global;
 
 /// Takes bytes of a piece up to the end of one packet, and answers how many; does with the packet, if it is whole,
 /// what a filter's end does with it, and appends the replies. After a fault nothing is known of what was kept and
-/// appended.
+/// appended; the bytes of a length at fault stay unread.
 pub(crate) fn receive_some<P: Policy>(
     alloc: Global,
     policy: &P,
@@ -30,11 +31,14 @@ pub(crate) fn receive_some<P: Policy>(
     out: &mut Vec<u8>,
 ) -> Result<usize, FilterFault>
     requires unfinished { IsUnfinished splitter.old }
+    requires bytes { IsBytes splitter.old }
     requires serving { connection.old.state ≡ Serving }
     ensures taken { IfOk result (λ n. n ≤ length piece.now) }
     ensures progress { piece.now ≢ [] → IfOk result (λ n. 0 < n) }
     ensures unread { IfOk result (λ n. splitter.new ≡ (divide (splitter.old ++ take n piece.now)).rest) }
     ensures unfinished { OnOk result (IsUnfinished splitter.new) }
+    ensures bytes { OnOk result (IsBytes splitter.new) }
+    ensures unread_after { IfErr result (λ fault. splitter.new ≡ unread_after fault) }
     ensures one { IfOk result (λ n. IsOnePacketAtMost (splitter.old ++ take n piece.now)) }
     ensures standing { IfOk result (λ n. connection.new
         ≡ standing_after (P.behavior policy.now) connection.old (read_in (splitter.old ++ take n piece.now))) }
@@ -58,7 +62,8 @@ pub(crate) fn receive_some<P: Policy>(
 }
 
 /// Takes bytes of a piece up to the end of the first packet that has replies, or of one with which the mail server
-/// quits, or else all of them, and answers how many. After a fault nothing is known of what was kept and appended.
+/// quits, or else all of them, and answers how many. After a fault nothing is known of what was kept and appended; the
+/// bytes of a length at fault stay unread.
 pub(crate) fn receive_piece<P: Policy>(
     alloc: Global,
     policy: &P,
@@ -68,6 +73,7 @@ pub(crate) fn receive_piece<P: Policy>(
     out: &mut Vec<u8>,
 ) -> Result<usize, FilterFault>
     requires unfinished { IsUnfinished splitter.old }
+    requires bytes { IsBytes splitter.old }
     requires serving { connection.old.state ≡ Serving }
     requires nothing_pending { out.old.items ≡ [] }
     ensures taken { IfOk result (λ n. n ≤ length piece.now) }
@@ -78,6 +84,8 @@ pub(crate) fn receive_piece<P: Policy>(
     ensures silent_end { OnOk result (connection.new.state ≢ Serving → out.new.items ≡ []) }
     ensures unread { IfOk result (λ n. splitter.new ≡ (divide (splitter.old ++ take n piece.now)).rest) }
     ensures unfinished { OnOk result (IsUnfinished splitter.new) }
+    ensures bytes { OnOk result (IsBytes splitter.new) }
+    ensures unread_after { IfErr result (λ fault. splitter.new ≡ unread_after fault) }
     ensures standing { IfOk result (λ n. connection.new
         ≡ standing_after (P.behavior policy.now) connection.old (read_in (splitter.old ++ take n piece.now))) }
     ensures replied { IfOk result (λ n. out.new.items ≡ flat_map encoding

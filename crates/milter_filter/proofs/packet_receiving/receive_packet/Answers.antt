@@ -12,7 +12,7 @@ returns-in-Some-clause-fault g c =
     let command = command_of c.in-Ok.command in
     let s = c.args.connection.now in
     let encoded = c.in-Ok.ensures.encoded in
-    let fault = fault-by_len s f command c.fault_of.result encoded c.fault_of.ensures ∙ c.in-Some.is in
+    let fault = fault-by_len s f command c.fault_of.result encoded c.fault_of.ensures.fault ∙ c.in-Some.is in
     λ other. next-fault (g.P.Policy.behavior c.args.policy.now) s (frame_command f) command c.in-Some.fault c.in-Ok.ensures.read c.requires.serving fault
 
 pub receive-requires-clause-fits : goal.receive-requires-clause-fits
@@ -34,7 +34,7 @@ receive-requires-clause-no_fault g c =
     let f = frame_of c.args.packet.now in
     let command = command_of c.in-Ok.command in
     let encoded = c.in-Ok.ensures.encoded in
-    fault-by_len c.args.connection.now f command c.fault_of.result encoded c.fault_of.ensures ∙ c.in_default.is
+    fault-by_len c.args.connection.now f command c.fault_of.result encoded c.fault_of.ensures.fault ∙ c.in_default.is
 
 pub returns-clause-standing : goal.returns-clause-standing
 returns-clause-standing g c =
@@ -42,7 +42,7 @@ returns-clause-standing g c =
     let command = command_of c.in-Ok.command in
     let s = c.args.connection.now in
     let encoded = c.in-Ok.ensures.encoded in
-    let none = fault-by_len s f command c.fault_of.result encoded c.fault_of.ensures ∙ c.in_default.is in
+    let none = fault-by_len s f command c.fault_of.result encoded c.fault_of.ensures.fault ∙ c.in_default.is in
     c.in_ok-receive.ensures.standing
     ∙ next-in_order (g.P.Policy.behavior c.args.policy.now) s (frame_command f) command c.in-Ok.ensures.read c.requires.serving none
 
@@ -52,7 +52,7 @@ returns-clause-replied g c =
     let command = command_of c.in-Ok.command in
     let s = c.args.connection.now in
     let encoded = c.in-Ok.ensures.encoded in
-    let none = fault-by_len s f command c.fault_of.result encoded c.fault_of.ensures ∙ c.in_default.is in
+    let none = fault-by_len s f command c.fault_of.result encoded c.fault_of.ensures.fault ∙ c.in_default.is in
     let replies = replies-in_order (g.P.Policy.behavior c.args.policy.now) s (frame_command f) command c.in-Ok.ensures.read c.requires.serving none in
     c.in_ok-receive.ensures.replied ∙ ap (λ rs. c.args.out.now.items ++ flat_map encoding rs) replies
 
@@ -62,7 +62,7 @@ returns-in-Some-clause-silent g c =
     let command = command_of c.in-Ok.command in
     let s = c.args.connection.now in
     let encoded = c.in-Ok.ensures.encoded in
-    let fault = fault-by_len s f command c.fault_of.result encoded c.fault_of.ensures ∙ c.in-Some.is in
+    let fault = fault-by_len s f command c.fault_of.result encoded c.fault_of.ensures.fault ∙ c.in-Some.is in
     λ other. silent-fault (g.P.Policy.behavior c.args.policy.now) s (frame_command f) command c.in-Some.fault c.in-Ok.ensures.read c.requires.serving fault
 
 pub returns-clause-going : goal.returns-clause-going

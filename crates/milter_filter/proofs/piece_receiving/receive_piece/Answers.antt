@@ -16,6 +16,7 @@ loop-taken-init g c =
       began = λ none. (c.requires.nothing_pending, c.requires.serving);
       going = λ fault failed. serves fault (sym c.requires.serving ∙ failed);
       stops = inl c.requires.nothing_pending;
+      bytes = c.requires.bytes;
       progress = subst (λ out. Progress b s (u ++ []) s u out) (sym c.requires.nothing_pending) (begin b s u c.requires.unfinished);
     }
 
@@ -54,6 +55,7 @@ loop-taken-preserved g c =
       within = let m = rw (take_rest piece i) at c.in-Ok.ensures.taken in omega (arith, m, c.loop-taken.invariant.within, length-drop i piece);
       began = λ nothing. absurd (omega (arith, nothing, more-bytes));
       going = c.in-Ok.ensures.going;
+      bytes = c.in-Ok.ensures.bytes;
       stops = subst (λ bytes. Stops b s bytes c.receive_some.new.connection c.receive_some.new.out.items) at stops;
       progress = subst (λ bytes. Progress b s bytes c.receive_some.new.connection c.receive_some.new.splitter c.receive_some.new.out.items) at now;
     }

@@ -1,6 +1,8 @@
-use Rattle.std.proofs.Common.{◌++◌, take, Ok, sym, ◌∙◌, ap, subst}
+use Rattle.std.proofs.Common.{◌++◌, take, Ok, sym, ◌∙◌, ap, subst, arith}
+use Rattle.milter_stream.specs.FirstPacket.{fed_len}
 use Rattle.milter_stream.specs.Splitter.{frame_of}
 use Rattle.milter_stream.specs.Stream.{IsUnfinished}
+use Rattle.milter_filter.proofs.LengthFaults.{fed-bytes, fed-count, field-unread, piece-bytes}
 use Rattle.milter_filter.proofs.PieceStreams.{length-gives_up, one-packet, one-unfinished, packet-gives_up, replies-packet, replies-unfinished, rest-packet, rest-unfinished, standing-packet, standing-unfinished}
 use Rattle.milter_filter.proofs.piece_receiving.receive_some.Goals as goal
 
@@ -9,6 +11,16 @@ returns-in-Err-clause-fault g c =
     let b = g.P.Policy.behavior c.args.policy.now in
     let is = (c.next.ensures.fault c.in-Err.fault).0 c.in-Err.is in
     λ other. length-gives_up b c.args.connection.now c.args.splitter.now c.args.piece.now c.feed.new.self c.in_ok-taken.taken c.in_ok-taken.ensures.taken c.in-Err.fault c.requires.serving is
+
+pub returns-in-Err-clause-unread_after : goal.returns-in-Err-clause-unread_after
+returns-in-Err-clause-unread_after g c =
+    let is = (c.next.ensures.fault c.in-Err.fault).0 c.in-Err.is in
+    let piece = piece-bytes c.args.piece.now (λ i. omega (arith, c.type_inv.piece i)) in
+    let bytes = fed-bytes c.args.splitter.now c.args.piece.now c.feed.new.self c.in_ok-taken.taken c.requires.bytes piece c.in_ok-taken.ensures.taken in
+    let count = fed-count c.in_ok-taken.taken (fed_len c.args.splitter.now c.args.piece.now) c.in_ok-taken.ensures.count in
+    let left = rw c.in-Err.is at c.next.follows.holds-at-none in
+    left
+    ∙ field-unread c.args.splitter.now c.args.piece.now c.feed.new.self c.in_ok-taken.taken c.in-Err.fault c.requires.unfinished bytes count c.in_ok-taken.ensures.taken is
 
 pub returns-in-Ok-None-clause-unread : goal.returns-in-Ok-None-clause-unread
 returns-in-Ok-None-clause-unread g c =
