@@ -80,9 +80,8 @@ impl<'p, P: Policy> FilterCore<'p, P> {
         self.sent += count;
     }
 
-    /// How many bytes were taken and not handed out: while it serves, those of a packet that isn't whole yet; none after
-    /// the mail server has quit; after a length at fault its four bytes, and after any other fault none. No memory is
-    /// taken.
+    /// How many bytes were taken and not handed out: those of a packet that isn't whole yet, or after a length at fault
+    /// its four bytes; none after the mail server has quit, and none after any other fault. No memory is taken.
     pub fn unread(&self) -> usize
         ensures { result ≡ length self.now.unread }
     {
