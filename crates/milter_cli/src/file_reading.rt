@@ -10,6 +10,11 @@ use std::io::Read;
 /// The most bytes that a file has.
 const FILE_MAX: u64 = 134_217_728;
 
+/// The number that the clauses name: the most bytes of a file.
+pub fn file_limit()
+    ensures { FILE_MAX ≡ 134217728 }
+{}
+
 /// The bytes of a file. One that has more than 134,217,728 is refused.
 pub(crate) fn read_file<R: Read + Drop>(
     alloc: Global,

@@ -20,6 +20,7 @@ pub use answering::answer_run;
 pub use connection_report::ConnectionReport;
 pub use dialling::{TcpDial, UnixDial};
 pub use file_error::{FileError, InputFile, read_error};
+pub use file_reading::file_limit;
 pub use filtering::{Connections, filter_run};
 pub use playing::mta_run;
 pub use rules_run::{load_rules, print_rules};

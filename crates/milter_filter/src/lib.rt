@@ -29,4 +29,4 @@ pub use pass::Pass;
 pub use policy::Policy;
 pub use seen::Seen;
 pub use served::Served;
-pub use serving::serve;
+pub use serving::{serve, serving_limits};

@@ -19,6 +19,12 @@ const PIECE_MAX: usize = 65_536;
 /// The most reads of one connection.
 const READS_MAX: u64 = 1_073_741_824;
 
+/// The numbers of serving: the most bytes that are read at once, and the most reads of one connection.
+pub fn serving_limits()
+    ensures piece { PIECE_MAX ≡ 65536 }
+    ensures reads { READS_MAX ≡ 1073741824 }
+{}
+
 /// Serves one connection: reads what the mail server sends, at most 65,536 bytes at once, and writes what the policy
 /// replies, until the mail server quits, the input ends, or one of the faults of [`Served`]. All replies to what was
 /// read are written before more is read, each write is given all that waits, and no call that failed is made again. It

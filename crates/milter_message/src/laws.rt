@@ -1,10 +1,12 @@
-//! Laws of edits, each the contract of a function that does nothing.
+//! Laws of messages and their edits, each the contract of a function that does nothing.
 
 ghost use Rattle.std.specs.Prelude.{◌≡◌, ◌≢◌, ◌+◌, ◌-◌, ◌∷◌, ◌++◌, [], All, Bool, drop, take, Err, List, Ok, Some, ℕ};
 ghost use Rattle.std.specs.List.{concat, filter_map};
 ghost use Rattle.milter_fields.specs.declared.header.Header.{Header};
 ghost use Rattle.milter_fields.specs.declared.path.Path.{Path};
 ghost use Rattle.milter_wire.specs.declared.reply.Reply.{Reply};
+ghost use Rattle.milter_message.specs.declared.leading_space.TheConstants.{LEADING_SPACE};
+ghost use Rattle.milter_message.specs.declared.message.TheConstants.{PIECE_LEN, WEIGHT_MAX};
 ghost use Rattle.milter_message.specs.declared.edit.Edit.{Edit};
 ghost use Rattle.milter_message.specs.declared.edit.Edit.TheVariants.{Quarantine};
 ghost use Rattle.milter_message.specs.EditedMessage.{change, edited_message, headers_after, new_piece, recipients_after};
@@ -12,6 +14,14 @@ ghost use Rattle.milter_message.specs.EditReplies.{edit_of, reply_of};
 ghost use Rattle.milter_message.specs.LeadingSpace.{FieldFits, WholeFieldFits, put_header, sent_header};
 ghost use Rattle.milter_message.specs.MailObject.{MailObject};
 ghost use Rattle.milter_message.specs.Occurrences.{others_than, value_if_any, values_of};
+
+/// The numbers that the definitions name: the bytes of a whole piece of a body, the most bytes of the packets of a
+/// message with those of its connection, and the blank that begins the value of a header field.
+pub fn message_limits()
+    ensures piece { PIECE_LEN ≡ 65535 }
+    ensures weight { WEIGHT_MAX ≡ 16777216 }
+    ensures leading_space { LEADING_SPACE ≡ 32 }
+{}
 
 /// Each edit is asked for by one reply, and what asks for none comes back.
 pub fn edits_of_replies()

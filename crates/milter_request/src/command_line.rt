@@ -30,6 +30,15 @@ const TIMEOUT_DEFAULT: u32 = 30;
 /// The most seconds that a read or a write may be given.
 const TIMEOUT_MAX: u64 = 3600;
 
+/// The numbers that the definitions name: how many connections are served, and how many seconds a read or a write may
+/// take, where the command line has no such number and at most.
+pub fn command_line_limits()
+    ensures count_default { COUNT_DEFAULT ≡ 1 }
+    ensures count_most { COUNT_MAX ≡ 1000000 }
+    ensures timeout_default { TIMEOUT_DEFAULT ≡ 30 }
+    ensures timeout_most { TIMEOUT_MAX ≡ 3600 }
+{}
+
 /// The words of `--loss`.
 const LOSS_WORDS: &[&str] = &["accept", "tempfail", "reject"];
 

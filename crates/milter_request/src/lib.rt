@@ -9,6 +9,6 @@ mod target;
 mod usage_error;
 
 pub use address::Address;
-pub use command_line::{MtaRequest, Request, parse};
+pub use command_line::{MtaRequest, Request, command_line_limits, parse};
 pub use target::{Offer, Target};
 pub use usage_error::UsageError;

@@ -9,11 +9,17 @@ ghost use Rattle.milter_ruleset.specs.declared.rule.Action.{Action};
 ghost use Rattle.milter_ruleset.specs.ActionFits.{fields_fit};
 ghost use Rattle.milter_rules.specs.ActionText.{action_words};
 ghost use Rattle.milter_rules.specs.ActionWords.{action_of};
+ghost use Rattle.milter_rules.specs.declared.rule_draft.TheConstants.{RULES_MAX};
 ghost use Rattle.milter_rules.specs.RuleFile.{IsRuleFile};
 ghost use Rattle.milter_ruleset.specs.RuleSet.{RuleSet, is_lawful};
 ghost use Rattle.milter_rules.specs.RulesGiven.{CanBeText};
 ghost use Rattle.milter_rules.specs.RulesText.{rules_text};
 ghost use Rattle.milter_rules.specs.WordsText.{CanBeLine, line_text};
+
+/// The number that the definitions name: the most rules of a file.
+pub fn rule_limit()
+    ensures { RULES_MAX ≡ 10000 }
+{}
 
 /// The lines that are not skipped, of a text of lines of words one after the other, are these lines: each has the words
 /// that were written.

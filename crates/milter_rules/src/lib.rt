@@ -12,7 +12,7 @@ mod rule_line;
 mod rules_text;
 mod words_text;
 
-pub use laws::{lines_of_written_words, words_of_actions, written_rules};
+pub use laws::{lines_of_written_words, rule_limit, words_of_actions, written_rules};
 pub use milter_ruleset::{
     Action, Condition, Conditions, Field, Rule, RuleList, Rules, StageRules, Test,
 };

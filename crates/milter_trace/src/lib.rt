@@ -16,4 +16,4 @@ mod trace_printer;
 
 pub use direction::Direction;
 pub use fault::TraceFault;
-pub use trace::trace_run;
+pub use trace::{trace_limits, trace_run};

@@ -5,6 +5,7 @@ ghost use Rattle.std.specs.Io.KnownBytes.{Appends, IsAtEnd};
 ghost use Rattle.milter_text.specs.Lines.{lines_of};
 ghost use Rattle.milter_text.specs.Writing.{WritesPrefix};
 ghost use Rattle.milter_trace.specs.PrinterState.{printer_state};
+ghost use Rattle.milter_trace.specs.declared.trace_line.TheConstants.{LINE_MAX};
 ghost use Rattle.milter_trace.specs.TraceRun.{HasBytes, read_max, WritesPrefixOf, WritesTraceOf};
 ghost use Rattle.milter_trace.specs.AssemblerState.{IsInitial, IsBetweenPieces};
 ghost use Rattle.milter_trace.specs.TraceState.{trace_to_come, trace_from};
@@ -21,6 +22,12 @@ const READ_SIZE: usize = 65_536;
 
 /// The reads after which a trace gives up.
 const READ_MAX: u64 = 1_073_741_824;
+
+/// The numbers that the definitions name: the most bytes of a line before its LF, and the most reads of a trace.
+pub fn trace_limits()
+    ensures line { LINE_MAX ≡ 262144 }
+    ensures reads { READ_MAX ≡ read_max }
+{}
 
 /// Reads a trace to its end, and writes a line for each packet as it becomes whole.
 ///

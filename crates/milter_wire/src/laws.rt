@@ -1,15 +1,29 @@
 //! Laws of the encodings, each the contract of a function that does nothing.
 
-ghost use Rattle.std.specs.Prelude.{◌≡◌, ◌≢◌, ◌++◌, ◌↔◌, All, IsTrue, List, ℕ, [], length, map, Err, Ok, Result, Some};
+ghost use Rattle.std.specs.Prelude.{◌≡◌, ◌≢◌, ◌∷◌, ◌++◌, ◌↔◌, All, IsTrue, List, ℕ, [], codes, length, map, Err, Ok, Result, Some};
 ghost use Rattle.std.specs.List.{flat_map};
 ghost use Rattle.milter_stream.specs.declared.fault.WireFault.{WireFault};
 ghost use Rattle.milter_stream.specs.Stream.{Divides, Frame, IsRest, divide};
+ghost use Rattle.milter_wire.specs.declared.codes.TheConstants.{SMFIC_ABORT, SMFIC_BODY, SMFIC_BODYEOB, SMFIC_CONNECT, SMFIC_DATA, SMFIC_EOH, SMFIC_HEADER, SMFIC_HELO, SMFIC_MACRO, SMFIC_MAIL, SMFIC_OPTNEG, SMFIC_QUIT, SMFIC_QUIT_NC, SMFIC_RCPT, SMFIC_UNKNOWN};
+ghost use Rattle.milter_wire.specs.declared.codes.TheConstants.{SMFIR_ACCEPT, SMFIR_ADDHEADER, SMFIR_ADDRCPT, SMFIR_ADDRCPT_PAR, SMFIR_CHGFROM, SMFIR_CHGHEADER, SMFIR_CONTINUE, SMFIR_DELRCPT, SMFIR_DISCARD, SMFIR_INSHEADER, SMFIR_PROGRESS, SMFIR_QUARANTINE, SMFIR_REJECT, SMFIR_REPLBODY, SMFIR_REPLYCODE, SMFIR_SKIP, SMFIR_TEMPFAIL};
 ghost use Rattle.milter_wire.specs.declared.command.Command.{Command};
 ghost use Rattle.milter_wire.specs.declared.reply.Reply.{Reply};
 ghost use Rattle.milter_wire.specs.Command as commands;
 ghost use Rattle.milter_wire.specs.Reply as replies;
 ghost use Rattle.milter_wire.specs.Tables.{Decodes};
 ghost use Rattle.milter_wire.specs.Frames.{command_frame, frame_command, frame_reply, frames_and, reply_frame};
+
+/// The codes of commands and of replies, in the order of their characters. Source: mfdef.h.
+pub fn code_characters()
+    ensures commands { SMFIC_ABORT ∷ SMFIC_BODY ∷ SMFIC_CONNECT ∷ SMFIC_MACRO ∷ SMFIC_BODYEOB ∷ SMFIC_HELO ∷
+        SMFIC_QUIT_NC ∷ SMFIC_HEADER ∷ SMFIC_MAIL ∷ SMFIC_EOH ∷ SMFIC_OPTNEG ∷ SMFIC_QUIT ∷ SMFIC_RCPT ∷
+        SMFIC_DATA ∷ SMFIC_UNKNOWN ∷ []
+        ≡ codes "ABCDEHKLMNOQRTU" }
+    ensures replies { SMFIR_ADDRCPT ∷ SMFIR_DELRCPT ∷ SMFIR_ADDRCPT_PAR ∷ SMFIR_ACCEPT ∷ SMFIR_REPLBODY ∷
+        SMFIR_CONTINUE ∷ SMFIR_DISCARD ∷ SMFIR_CHGFROM ∷ SMFIR_ADDHEADER ∷ SMFIR_INSHEADER ∷ SMFIR_CHGHEADER ∷
+        SMFIR_PROGRESS ∷ SMFIR_QUARANTINE ∷ SMFIR_REJECT ∷ SMFIR_SKIP ∷ SMFIR_TEMPFAIL ∷ SMFIR_REPLYCODE ∷ []
+        ≡ codes "+-2abcdehimpqrsty" }
+{}
 
 /// A command that fits has exactly one encoding, and another has none.
 pub fn command_encodings()

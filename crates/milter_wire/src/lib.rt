@@ -20,7 +20,7 @@ pub use agreement::{Agreed, agree};
 pub use command::Command;
 pub use command_ref::CommandRef;
 pub use laws::{
-    command_codes, command_encodings, command_frames, commands_apart, replies_apart, reply_codes,
+    code_characters, command_codes, command_encodings, command_frames, commands_apart, replies_apart, reply_codes,
     reply_encodings, reply_frames,
 };
 pub use lengths::{
