@@ -3,8 +3,8 @@
 second one, and so on, until a run makes fewer allocations than that; and the same for milter_rows, milter_mta_rows and
 milter_links. The programs are run as both compilers built them, milter_tool on each case of cases/ that has `args`
 and, as milter_mta_rows and milter_links, on the rows of the tables cases/*_refused_memory.table, and milter_rows on the
-rows of cases/edits_values.table; the tests are those below `tests::packets`. What is run is what `rt ci` built; nothing
-is proved here. refuse.c says what counts as an allocation.
+rows of cases/edits_values.table and cases/filter_faults.table; the tests are those below `tests::packets`. What is run
+is what `rt ci` built; nothing is proved here. refuse.c says what counts as an allocation.
 
 A test passes, or ends with the result `NoMemory`. A run of a program ends as it does with ample memory, or as one
 that is out of memory: after a part of the standard output from its beginning, with `out of memory` alone on standard
@@ -34,7 +34,7 @@ TABLES = {
     'milter_tool': [
         'trace_refused_memory', 'session_refused_memory', 'rules_refused_memory', 'answer_refused_memory',
         'answer_rules_refused_memory'],
-    'milter_rows': ['edits_values'],
+    'milter_rows': ['edits_values', 'filter_faults'],
     'milter_mta_rows': ['mta_refused_memory'],
     'milter_links': ['links_refused_memory']}
 OUT_OF_MEMORY = [b'out of memory\n'] + [

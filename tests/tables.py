@@ -18,8 +18,8 @@ TABLES = [
     'session_faults', 'session_sizes', 'session_values', 'session_refused_memory', 'answer_replies', 'answer_faults',
     'answer_sizes', 'answer_refused_memory', 'answer_rules', 'rules_canonical', 'rules_faults',
     'rules_sizes', 'rules_refused_memory', 'answer_rules_refused_memory', 'guard_replies', 'edits_values',
-    'edits_faults', 'packets_totals', 'mta_conversations', 'mta_agreements', 'mta_edits', 'mta_faults', 'mta_losses',
-    'mta_refused_memory', 'links_losses', 'links_refused_memory']
+    'edits_faults', 'filter_faults', 'packets_totals', 'mta_conversations', 'mta_agreements', 'mta_edits',
+    'mta_faults', 'mta_losses', 'mta_refused_memory', 'links_losses', 'links_refused_memory']
 # What plays the tables of each kind: a program and its words, of which FILE stands for a file of the input.
 FILE = object()
 PLAYERS = {
@@ -29,6 +29,7 @@ PLAYERS = {
     'rules': ('milter_tool', ['rules', FILE]),
     'guard': ('milter_loop_guard', []),
     'edits': ('milter_rows', ['edits', 'text']),
+    'filter': ('milter_rows', ['faults']),
     'packets': ('milter_rows', ['packets']),
     'mta': ('milter_mta_rows', []),
     'links': ('milter_links', []),

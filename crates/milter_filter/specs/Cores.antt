@@ -14,7 +14,7 @@ use Rattle.milter_exchange.specs.Conversations.{Received}
 use Rattle.milter_exchange.specs.Standings.{Standing, fresh, nothing_kept, standing_after, standing_replies}
 use Rattle.milter_filter.specs.Streams.{read_in, received_in}
 
--- its policy, what is kept of the connection, the bytes of a packet that isn't whole yet, and those that wait to be
+-- its policy, what is kept of the connection, the bytes that were taken and not handed out, and those that wait to be
 -- sent
 pub record Core (P : Type 0) : Type 0 where
   pub policy : P
