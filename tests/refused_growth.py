@@ -9,9 +9,10 @@ is what `rt ci` built; nothing is proved here. refuse.c says what counts as an a
 A test passes, or ends with the result `NoMemory`. A run of a program ends as it does with ample memory, or as one
 that is out of memory: after a part of the standard output from its beginning, with `out of memory` alone on standard
 error, and status 1. milter_mta_rows and milter_links may also report one of the messages as settled by default, out of
-memory, after some of the message's verdicts, from the first one on; the others are as ever. milter_links may also report
-so of all messages, none of which was begun; so may `milter_tool mta` in the cases without a filter, where it would
-report a loss of the connection. The last run of each, in which nothing was refused, is as ever.
+memory, after some of the message's verdicts, from the first one on; the others are as ever. Of milter_mta_rows the last
+verdict on the last message is always acted on where it takes no memory. milter_links may also report so of all
+messages, none of which was begun; so may `milter_tool mta` in the cases without a filter, where it would report a loss
+of the connection. The last run of each, in which nothing was refused, is as ever.
 
 The last line is 'N passed, M failed', counting the runs. The status is 1 where one failed, where no run of the tests or
 of a program came to a refused allocation, or where what is run is missing.
@@ -42,6 +43,8 @@ OUT_OF_MEMORY = [b'out of memory\n'] + [
 NO_MEMORY = b'Error: NoMemory\n'
 REFUSED_BY_DEFAULT = {
     'reject': b'refused 550 5.7.1 Command rejected', 'tempfail': b'refused 451 4.3.2 Please try again later'}
+# After so many verdicts on a message the list of them takes more memory for the next one.
+GROWN_AFTER = (2, 4, 8, 16)
 PASSED = b'\ntest result: ok\n'
 NO_TEST = 'a name that no test has'
 
@@ -87,9 +90,9 @@ def reports_in(out):
 def kept(message, acted):
     """The lines of a message without the recipients that these verdicts refused."""
     refused = [verdict.split()[1] for verdict in acted if re.fullmatch(rb'rcpt \d+ (code|reject|tempfail)', verdict)]
-    recipients = [line for line in message if line.startswith(b'recipient ')]
+    recipients = [at for at, line in enumerate(message) if line.startswith(b'recipient ')]
     gone = [recipients[int(number) - 1] for number in refused]
-    return [line for line in message if line not in gone]
+    return [line for at, line in enumerate(message) if at not in gone]
 
 
 def by_default(message, acted, on_loss):
@@ -101,6 +104,11 @@ def by_default(message, acted, on_loss):
     return [b'%s; %s; default out of memory\n' % (b', '.join(acted), outcome)] + lines
 
 
+def takes_memory(verdicts, message, lines):
+    """Whether the last of these verdicts takes memory where no message follows: for the list of them, or for edits."""
+    return len(verdicts) - 1 in GROWN_AFTER or lines != kept(message, verdicts)
+
+
 def mta_rows_by_default(given, out):
     """What milter_mta_rows may print in place of its output where one message is settled by default."""
     file, script = given.split(b'%%\n')
@@ -109,7 +117,10 @@ def mta_rows_by_default(given, out):
     reports = reports_in(out)
     for at, (report, message) in enumerate(zip(reports, messages)):
         verdicts = report[0].split(b'; ')[0].split(b', ')
-        for count in range(len(verdicts) + 1):
+        counts = set(range(len(verdicts) + 1))
+        if at == len(messages) - 1 and not takes_memory(verdicts, message, report[1:]):
+            counts.remove(len(verdicts) - 1)
+        for count in counts:
             other = by_default(message, verdicts[:count], on_loss)
             yield b''.join(line for lines in reports[:at] + [other] + reports[at + 1:] for line in lines)
 

@@ -1,5 +1,5 @@
 -- What a message that begins is to the mail server's end.
-use Rattle.std.proofs.Common.{◌≡◌, Bool, false, List, [], ◌∷◌, ◌++◌, None, Some, refl, sym, ap, ◌∙◌}
+use Rattle.std.proofs.Common.{◌≡◌, ◌≢◌, Bool, false, List, [], ◌∷◌, ◌++◌, None, Some, refl, sym, ap, ◌∙◌}
 use Rattle.milter_message.specs.MailObject.{MailObject}
 use Rattle.milter_wire.specs.declared.agreement.Agreed.{Agreed}
 use Rattle.milter_wire.specs.declared.command.Command.{Command}
@@ -27,6 +27,13 @@ pub begun_next : (agreed : Agreed) (opened : List Acted) (session : MailSession)
 begun_next agreed opened session [] = refl
 begun_next agreed opened session (message ∷ messages) =
     ap (λ (left : List Command). Sending agreed opened [] left) (message_by_stages (outgoing_of agreed session message))
+
+-- the verdicts on the client matter where a message waits
+pub next_after : (agreed : Agreed) (opened acted : List Acted) (session : MailSession) (messages : List MailObject) → (messages ≢ [] → opened ≡ acted)
+    → next_message agreed opened session messages ≡ next_message agreed acted session messages
+next_after agreed opened acted session [] same = refl
+next_after agreed opened acted session (message ∷ messages) same =
+    ap (λ (a : List Acted). next_message agreed a session (message ∷ messages)) (same (λ none. absurd cc))
 
 module _ (old : SessionState) where
   abbrev made : List MailObject → Link → Mta

@@ -33,7 +33,7 @@ use Rattle.milter_mta.specs.declared.session_state.SessionState.{SessionState}
 use Rattle.milter_mta.specs.Conversations.{Leaves, awaiting, link_of, messages_at, mta_of, position_of}
 use Rattle.milter_mta.specs.Mta.{Link, Mta, Position, at_packet}
 use Rattle.milter_mta.specs.Mta.Position.{Offering, Sending, Quitting, Ended}
-use Rattle.milter_mta.specs.Receiving.{After, agreed_on, at, fails, framed, goes_on, heard, heard_at, heard_byte, heard_on, replied, replied_at, ruled_on, wire_loss}
+use Rattle.milter_mta.specs.Receiving.{After, agreed_on, at, byte_at, fails, framed, goes_on, heard, heard_at, heard_byte, heard_on, replied, replied_at, ruled_on, wire_loss}
 use Rattle.milter_mta.specs.Settling.{acted_at, defaulted, lost, settled_all, settled_in}
 use Rattle.milter_mta.proofs.HeardFrames.{heard-fault, heard-packet, heard-unfinished, lost-stays, with_unread}
 
@@ -187,10 +187,15 @@ module _ (old m : Mta) (piece : List ℕ) (i : ℕ) (so_far : heard old (take i 
       ∙ ap (λ (a : After). heard_on a (drop i piece)) so_far
       ∙ is
 
-early : (link : Link) (m : Mta) (bytes : List ℕ) → link.owed ≡ false → 0 < length bytes → heard (at link m) bytes ≡ fails Early (at link m)
+pub early : (link : Link) (m : Mta) (bytes : List ℕ) → link.owed ≡ false → 0 < length bytes → heard (at link m) bytes ≡ fails Early (at link m)
 early link m [] owed some = absurd (omega arith)
 early link m (x ∷ bytes) owed some =
     let step : heard_byte (goes_on (at link m)) x ≡ fails Early (at link m) = rw owed refl in
+    ap (λ (a : After). heard_on a bytes) step ∙ lost-stays _ _ bytes
+
+pub early-at_none : (m : Mta) (byte : ℕ) (bytes : List ℕ) → m.link ≡ None → heard m (byte ∷ bytes) ≡ fails Early m
+early-at_none m byte bytes unlinked =
+    let step : heard_byte (goes_on m) byte ≡ fails Early m = ap (λ (l : Option Link). byte_at l byte m) unlinked in
     ap (λ (a : After). heard_on a bytes) step ∙ lost-stays _ _ bytes
 
 -- nothing may come while no reply is owed

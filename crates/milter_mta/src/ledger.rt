@@ -82,6 +82,13 @@ impl Ledger {
         self.waiting.len()
     }
 
+    /// How many messages are settled. No memory is taken.
+    pub(crate) fn count(&self) -> usize
+        ensures { result ≡ length self.now.reports }
+    {
+        self.reports.len()
+    }
+
     /// The first message that waits, which is under way from now on. No memory is taken.
     pub(crate) fn next_message(&mut self) -> Option<Message>
         ensures some { IfSome result (λ message. self.old.waiting ≡ message ∷ self.new.waiting) }

@@ -28,7 +28,12 @@ mod starting;
 mod want;
 
 pub use config::Config;
-pub use laws::{losses_settle_one, pieces_go_on, replies_are_heard, reply_prefixes_are_kept};
+pub use laws::{
+    faults_are_heard, losses_settle_one, pieces_go_on, replies_are_heard, reply_prefixes_are_kept,
+};
+pub use milter_outcome::{
+    Acted, ActedVerdicts, By, Loss, MtaFault, OnLoss, Outcome, Refusal, Report,
+};
 pub use mta_core::MtaCore;
 pub use reports::Reports;
 pub use want::Want;

@@ -154,7 +154,8 @@ impl MtaCore {
     }
 
     /// Takes a piece of what the filter sent, all of it. An empty piece changes nothing. After a loss it is as after
-    /// [`MtaCore::lost`]: what came before is acted on. Source: the libmilter callback documentation.
+    /// [`MtaCore::lost`]: what came before is acted on. Where memory is refused a reply is still owed, so no verdict in
+    /// the piece is acted on. Source: the libmilter callback documentation.
     pub fn feed(&mut self, piece: &[u8]) -> Result<(), Loss>
         ensures { Hears self.old piece.now self.new result }
     {
@@ -192,6 +193,13 @@ impl MtaCore {
             Some(link) => self.state.lose(link.next, loss),
             None => self.state.lose_waiting(loss),
         }
+    }
+
+    /// How many messages are settled. No memory is taken.
+    pub fn settled(&self) -> usize
+        ensures { result ≡ length self.now.reports }
+    {
+        self.state.ledger.count()
     }
 
     /// What became of the messages that were settled. No memory is taken.

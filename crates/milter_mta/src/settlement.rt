@@ -1,9 +1,9 @@
 //! How a message is settled by the last verdict on it.
 
-ghost use Rattle.std.specs.Prelude.{◌≡◌, ◌<◌, ◌≤◌, ◌-◌, ◌++◌, ◌∷◌, [], All, IfErr, IfOk, List, Some, length};
+ghost use Rattle.std.specs.Prelude.{◌≡◌, ◌≢◌, ◌<◌, ◌≤◌, ◌-◌, ◌++◌, ◌∷◌, [], All, IfErr, IfOk, List, Some, length};
 ghost use Rattle.milter_outcome.specs.declared.acted.Acted.{Acted as ActedValue};
 ghost use Rattle.milter_outcome.specs.Outcomes.{at_connection, fallback};
-ghost use Rattle.milter_plan.specs.TalkVerdicts.{with_verdict};
+ghost use Rattle.milter_plan.specs.TalkVerdicts.{on_connection, with_verdict};
 ghost use Rattle.milter_mta.specs.declared.link.Next.TheVariants as nexts;
 ghost use Rattle.milter_mta.specs.Conversations.{IsStanding, StandsAfter, awaiting, mta_of, with_all_reports, with_state_report};
 ghost use Rattle.milter_mta.specs.Settling.{default_report, lost, report, settled, settled_all, settled_first};
@@ -86,6 +86,25 @@ impl SessionState {
         Loss::Memory
     }
 
+    /// The verdicts with which the next message that waits begins, copied in a room of its own. Where none waits no
+    /// memory is taken.
+    fn opened_next(&mut self, acted: &ActedVerdicts) -> Result<ActedVerdicts, NoMemory>
+        ensures opened { self.old.ledger.waiting ≢ [] → IfOk result (λ opened. opened ≡ on_connection acted.now) }
+        ensures same { self.new ≡ self.old }
+    {
+        if self.ledger.len() == 0 {
+            return Ok(ActedVerdicts::new(Vec::new(self.alloc)));
+        }
+        let room = self.ledger.take_room(self.alloc);
+        match begin_acted(self.alloc, room, acted.as_slice()) {
+            Ok(opened) => Ok(opened),
+            Err(room) => {
+                self.ledger.give_room(room);
+                Err(NoMemory)
+            }
+        }
+    }
+
     /// Settles the message under way, whose last verdict is this one at this stage, and goes on to the next one.
     fn settle_first(&mut self, talk: Talk, stage: Stage, verdict: Verdict) -> Result<Link, Loss>
         requires { IsStanding self.old (Some (awaiting (nexts.Command talk))) }
@@ -107,13 +126,8 @@ impl SessionState {
             edits,
             ..
         } = talk;
-        let room = self.ledger.take_room(self.alloc);
-        let opened = match begin_acted(self.alloc, room, acted.as_slice()) {
-            Ok(opened) => opened,
-            Err(room) => {
-                self.ledger.give_room(room);
-                return Err(self.refuse_last(message, acted));
-            }
+        let Ok(opened) = self.opened_next(&acted) else {
+            return Err(self.refuse_last(message, acted));
         };
         let answer = Answer {
             edits: edits.into_edits(),
@@ -136,7 +150,18 @@ impl SessionState {
         }
     }
 
-    /// Copies of the verdicts, one for each message that waits.
+    /// Gives back the rooms of copies that aren't needed. No memory is taken.
+    fn give_rooms(&mut self, copies: Vec<ActedVerdicts>)
+        ensures { self.new ≡ self.old }
+    {
+        let mut copies = copies;
+        while let Some(copy) = copies.pop() {
+            self.ledger.give_room(copy.into_vec());
+        }
+    }
+
+    /// Copies of the verdicts, one for each message that waits, each in the room of one. After `NoMemory` each message
+    /// has its room.
     fn copies(&mut self, acted: &ActedVerdicts) -> Result<Vec<ActedVerdicts>, NoMemory>
         ensures len { IfOk result (λ copies. length copies.items ≡ length self.old.ledger.waiting) }
         ensures equal { IfOk result (λ copies. All (λ copy. copy ≡ acted.now) copies.items) }
@@ -146,10 +171,14 @@ impl SessionState {
         let mut copies = Vec::with_capacity(self.alloc, count)?;
         while copies.len() < count {
             let room = self.ledger.take_room(self.alloc);
-            let Ok(copy) = copy_acted(self.alloc, room, acted.as_slice()) else {
-                return Err(NoMemory);
-            };
-            copies.push(copy)?;
+            match copy_acted(self.alloc, room, acted.as_slice()) {
+                Ok(copy) => copies.push(copy)?,
+                Err(room) => {
+                    self.ledger.give_room(room);
+                    self.give_rooms(copies);
+                    return Err(NoMemory);
+                }
+            }
         }
         Ok(copies)
     }
