@@ -14,4 +14,7 @@ mod link_calls;
 pub use conversing::converse;
 pub use dialling::{Dial, DialFault};
 pub use laws::{events_keep_to_walks, events_report_connections};
-pub use milter_mta::{Config, MtaCore, Reports, Want};
+pub use milter_mta::{
+    Acted, ActedVerdicts, By, Config, Loss, MtaCore, MtaFault, OnLoss, Outcome, Refusal, Report,
+    Reports, Want,
+};
