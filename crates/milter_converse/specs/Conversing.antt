@@ -18,8 +18,8 @@ first_events wants.Send = GaveUp Reset ∷ []
 first_events wants.Receive = GaveUp Reset ∷ []
 first_events other = []
 
--- each message that was left is reported, after the reports that were there: as a walk through its plan that ended rules,
--- or by default after an open one
+-- each message that was left is reported, after the reports that were there: as a walk through its plan that ended
+-- rules, or by default after an open one
 pub record ReportsEach (old : Mta) (s : Settlement) : Type 0 where
   pub added : List Report
   pub reports_are : s.messages ≡ old.reports ++ added

@@ -51,8 +51,8 @@ pub fn permitted_answers()
 {}
 
 /// Each answer of a talk is the filter's to all that was sent up to its command; no piece of a body follows a Skip, and
-/// nothing follows a final answer. Where the commands go on to the end of the message, the talk isn't empty: it is closed
-/// by its last exchange and by no earlier one, and no other exchanges are so.
+/// nothing follows a final answer. Where the commands go on to the end of the message, the talk isn't empty: its last
+/// exchange closes it and no earlier one does, and no other exchanges are so.
 pub fn talks()
     ensures answered { (b : Behavior) (agreed : Agreed) (before : List Exchange) (commands : List Command) →
         AreAnsweredBy b agreed before (talk b agreed before commands) }

@@ -16,8 +16,8 @@ ghost use Rattle.milter_exchange.specs.Replies.{options_reply};
 ghost use Rattle.milter_outcome.specs.declared.hearing.Heard.TheVariants.{Edit, Verdict};
 ghost use Rattle.milter_outcome.specs.Hearing.{IsWithinOffer, is_end, is_given, options_heard, reply_heard};
 
-/// An edit that is heard is that of its reply, and there is room for it; it comes at the end of a message, and its action
-/// was agreed on. A verdict that is heard is given at the stage; and a body's pieces alone are skipped.
+/// An edit that is heard is that of its reply, and there is room for it; it comes at the end of a message, by an action
+/// that was agreed on. A verdict that is heard is given at the stage; and a body's pieces alone are skipped.
 pub fn heard_replies()
     ensures edit { (agreed : Agreed) (stage : AnyStage) (weight : ℕ) (reply : Reply) (edit : AnyEdit) →
         reply_heard agreed stage weight reply ≡ Ok (Edit edit) →

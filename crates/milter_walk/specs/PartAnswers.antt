@@ -20,5 +20,5 @@ pub record IsPartHeard (agreed : Agreed) (verdicts : List Acted) (left : List Co
   pub unread : List ℕ
   pub edits_are : edits ≡ came ++ others
   pub bytes_are : bytes ≡ flat_map encoding (map reply_of came) ++ unread
-  pub heard_is : after
-      ≡ goes_on (at (record (at_packet (Sending agreed verdicts (before ++ came) left)) { owed = true; unread = unread }) m)
+  pub heard_is : let position = Sending agreed verdicts (before ++ came) left in
+      after ≡ goes_on (at (record (at_packet position) { owed = true; unread = unread }) m)

@@ -64,8 +64,8 @@ pub fn closed_walks_rule()
         is_some (ruled leading_space message (onto (talk b agreed before commands) before)) ≡ true }
 {}
 
-/// The walk of another message of the session: what is sent of it after the exchanges about the client, or the same walk
-/// where that ended with the client.
+/// The walk of another message of the session: what is sent of it after the exchanges about the client, or the same
+/// walk where that ended with the client.
 pub fn walks_of_messages()
     ensures next { (b : Behavior) (agreed : Agreed) (session : MailSession) (message other : MailObject) →
         ends_with_client (walk_of b agreed session message) ≡ false →
