@@ -20,6 +20,7 @@ pub record IsCore (state : SessionState) (connection : Option Connected) (pendin
   pub sent_whole : IsSentWhole connection pending
   pub unfinished : IsUnfinished unread
 
+-- a reply is owed
 abbrev pub is_owed_in : Option Link → Bool
 is_owed_in None = false
 is_owed_in (Some link) = link.owed

@@ -37,8 +37,8 @@ pub fn reply_prefixes_are_kept()
         heard (at link m) bytes ≡ goes_on (at (record link { unread = bytes }) m) }
 {}
 
-/// What a filter sends that no reply is, is heard as that fault, whatever message is under way; what comes while no reply
-/// is owed is heard as `Early`; and after a loss nothing more is heard.
+/// A packet that no reply has, and a length that no packet has, are heard as that fault, while a reply is owed; what
+/// comes while none is owed is `Early`; and after a loss nothing more is heard.
 pub fn faults_are_heard()
     ensures packet { (m : Mta) (link : Link) (f : Frame) (bytes : List ℕ) (fault : WireFault) → link.owed ≡ true →
         IsUnfinished link.unread → IsFrame f → link.unread ++ bytes ≡ frame_bytes f → frame_reply f ≡ Err fault →

@@ -81,6 +81,7 @@ pub fn obey<R: Print + AllocGlobal>(rt: &R, core: &mut MtaCore, line: &str) -> a
         "lost" => core.lost(loss_in(word)?),
         "want" => println!(rt; "{}", word_of(core.want()))?,
         "pending" => print_pending(rt, core)?,
+        "settled" => println!(rt; "{}", core.settled())?,
         _ => bail!("{command} is no command"),
     }
     Ok(())

@@ -13,7 +13,8 @@
 //! - `converse START=REPLY ..`: until nothing is wanted, it is dialled, and packets are sent and answered where they
 //!   have a reply: one that begins with a START by its REPLY, both HEX, and others as by `pass`. Where memory is
 //!   refused for a packet, the filter is lost. Nothing is printed.
-//! - `want`, `pending`: what is wanted, and the bytes that wait to be sent as HEX, are printed.
+//! - `want`, `pending`, `settled`: what is wanted, the bytes that wait to be sent as HEX, and how many messages are
+//!   settled, are printed.
 //! - `finish`, the last: a line is printed for each report. It has the verdicts that were acted on, what became of the
 //!   message, and what settled it. `finish messages`: after the line of a message that is released comes its text.
 #![tactic(auto)]
