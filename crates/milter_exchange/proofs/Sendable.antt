@@ -5,7 +5,7 @@ use Rattle.std.proofs.lemmas.Bool.{true≢false}
 use Rattle.milter_wire.specs.declared.command.Command.{Command}
 use Rattle.milter_wire.specs.declared.command.Command.TheVariants as commands
 use Rattle.milter_exchange.specs.Exchanges.{Exchange}
-use Rattle.milter_exchange.specs.Talk.{are_all_refused, is_body, is_closed, is_end_command, is_final, is_kept_rcpt, is_left_out, is_rcpt, is_skipping, has_end, sendable, IsOpen}
+use Rattle.milter_exchange.specs.Talk.{is_body, is_closed, is_end_command, is_final, is_kept_rcpt, is_left_out, is_rcpt, is_skipping, has_end, sendable, IsOpen}
 
 -- the next command, where it is not left out
 pub sendable-next : (walk : List Exchange) (command : Command) (left : List Command) → is_left_out walk command ≡ false

@@ -1,11 +1,11 @@
 -- What is heard of the bytes of a piece, up to the end of one packet.
 use Rattle.std.proofs.Common.{◌≡◌, ℕ, ◌+◌, true, List, [], ◌∷◌, ◌++◌, length, Option, None, Some, refl, sym, ◌∙◌, ap, subst, append_assoc, append-nil, arith, length-append}
 use Rattle.milter_stream.specs.declared.fault.WireFault.{WireFault}
-use Rattle.milter_stream.specs.Number.{number_from_bytes}
 use Rattle.milter_stream.specs.Stream.{Frame, IsFrame, IsRest, IsUnfinished, fault_of, first_frame, frame_bytes, length_fault}
 use Rattle.milter_stream.proofs.Frames.{fault_of-valid, first_frame-packet, first_frame-rest}
-use Rattle.milter_stream.proofs.Numbers.{FourBytes, four_bytes}
-use Rattle.milter_stream.proofs.StreamLaws.{length_fault-unfinished}
+use Rattle.milter_stream.proofs.Numbers.{four_bytes}
+use Rattle.milter_stream.proofs.PacketLaws.{packet_cells}
+use Rattle.milter_stream.proofs.StreamLaws.{length_fault-unfinished, prefix-unfinished}
 use Rattle.milter_wire.specs.Frames.{frame_reply}
 use Rattle.milter_outcome.specs.declared.loss.Loss.{Loss}
 use Rattle.milter_outcome.specs.declared.loss.MtaFault.TheVariants.{Wire}
@@ -34,27 +34,6 @@ unfinished-before (a ∷ []) more u = tt
 unfinished-before (a ∷ b ∷ []) more u = tt
 unfinished-before (a ∷ b ∷ c ∷ []) more u = tt
 
-cells_of : (f : Frame) (k : FourBytes (length f.payload + 1)) → frame_bytes f ≡ k.a ∷ k.b ∷ k.c ∷ k.d ∷ f.code ∷ f.payload
-cells_of f k = rw k.encoded refl
-
--- a packet that lacks its last bytes
-pub unfinished-packet : (bytes : List ℕ) (y : ℕ) (more : List ℕ) (f : Frame) → IsFrame f → bytes ++ y ∷ more ≡ frame_bytes f → IsUnfinished bytes
-unfinished-packet (a ∷ b ∷ c ∷ d ∷ body) y more f fits is =
-    let k = four_bytes (length f.payload + 1) (omega arith) in
-    let cells : a ∷ b ∷ c ∷ d ∷ (body ++ y ∷ more) ≡ k.a ∷ k.b ∷ k.c ∷ k.d ∷ f.code ∷ f.payload = is ∙ cells_of f k in
-    let ea : a ≡ k.a = cc in
-    let eb : b ≡ k.b = cc in
-    let ec : c ≡ k.c = cc in
-    let ed : d ≡ k.d = cc in
-    let left : body ++ y ∷ more ≡ f.code ∷ f.payload = cc in
-    let number_is : number_from_bytes a b c d ≡ length f.payload + 1 = rw (ea, eb, ec, ed) k.value in
-    let size = ap length left in
-    (ap fault_of number_is ∙ fault_of-valid (length f.payload + 1) (omega arith) (omega arith), omega (arith, number_is, size, length-append body (y ∷ more)))
-unfinished-packet [] y more f fits is = tt
-unfinished-packet (a ∷ []) y more f fits is = tt
-unfinished-packet (a ∷ b ∷ []) y more f fits is = tt
-unfinished-packet (a ∷ b ∷ c ∷ []) y more f fits is = tt
-
 no_frame_there : (first : Frame × List ℕ) (found : Option (Frame × List ℕ)) → found ≡ Some first → found ≡ None → ⊥
 no_frame_there first found some none = cc
 
@@ -68,7 +47,7 @@ unfinished-no_packet bytes f fits u is = no_frame_there (f, []) (first_frame byt
 no_fault-packet : (bytes : List ℕ) (f : Frame) → IsFrame f → bytes ≡ frame_bytes f → length_fault bytes ≡ None
 no_fault-packet bytes f fits is =
     let k = four_bytes (length f.payload + 1) (omega arith) in
-    ap length_fault (is ∙ cells_of f k) ∙ ap fault_of k.value ∙ fault_of-valid (length f.payload + 1) (omega arith) (omega arith)
+    ap length_fault (is ∙ packet_cells f k) ∙ ap fault_of k.value ∙ fault_of-valid (length f.payload + 1) (omega arith) (omega arith)
 
 -- ---- one byte
 
@@ -130,7 +109,7 @@ heard-packet (x ∷ []) unread link m f owed u fits is =
     }
 heard-packet (x ∷ y ∷ bytes) unread link m f owed u fits is =
     let whole : (unread ++ x ∷ []) ++ y ∷ bytes ≡ unread ++ x ∷ y ∷ bytes = append_assoc unread (x ∷ []) (y ∷ bytes) in
-    let here = unfinished-packet (unread ++ x ∷ []) y bytes f fits (whole ∙ is) in
+    let here = prefix-unfinished (unread ++ x ∷ []) (y ∷ bytes) f fits (λ none. absurd cc) (whole ∙ is) in
     let step : heard_byte (goes_on (at (with_unread link unread) m)) x ≡ goes_on (at (with_unread link (unread ++ x ∷ [])) m) =
     one_byte (with_unread link unread) m x owed
     ∙ unread_none (with_unread link unread) (at (with_unread link unread) m) (unread ++ x ∷ []) _ _ (length_fault-unfinished _ here) (no_frame-unfinished _ here) in

@@ -1,8 +1,8 @@
 -- What is heard of the reply to an offer is within the offer.
 use Rattle.std.specs.Prelude.{nat_le, if◌then◌else◌}
-use Rattle.std.proofs.Common.{◌≡◌, ◌≢◌, ◌≤◌, ℕ, Bool, true, false, not, ◌&&◌, List, [], ◌∷◌, Ok, Err, Result, refl, ap, subst}
+use Rattle.std.proofs.Common.{◌≡◌, ◌≢◌, Bool, true, false, not, ◌&&◌, List, [], ◌∷◌, Ok, Err, Result, refl, ap, subst}
 use Rattle.std.specs.Int.Bits.{bit_and}
-use Rattle.std.proofs.lemmas.Bool.{eq-eqb, eqb-true, le-leb, leb-true, true≢false}
+use Rattle.std.proofs.lemmas.Bool.{eq-eqb, eqb-true, le-leb, leb-true}
 use Rattle.milter_options.specs.declared.options.Actions.{Actions}
 use Rattle.milter_options.specs.declared.options.Options.{Options}
 use Rattle.milter_options.specs.declared.options.TheConstants.Actions.{SETSYMLIST}

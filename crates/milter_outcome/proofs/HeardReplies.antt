@@ -11,9 +11,7 @@ use Rattle.milter_message.specs.declared.edit.Edit.{Edit}
 use Rattle.milter_message.specs.declared.message.TheConstants.{WEIGHT_MAX}
 use Rattle.milter_message.specs.EditReplies.{edit_of, reply_of, weight_of}
 use Rattle.milter_exchange.specs.Permitted.{is_permitted}
-use Rattle.milter_outcome.specs.declared.hearing.Heard.{Heard}
 use Rattle.milter_outcome.specs.declared.hearing.Heard.TheVariants as heard
-use Rattle.milter_outcome.specs.declared.loss.MtaFault.{MtaFault}
 use Rattle.milter_outcome.specs.declared.loss.MtaFault.TheVariants.{NotAtThisStage, EditNotNegotiated, TooManyEdits}
 use Rattle.milter_outcome.specs.Hearing.{heard_by, is_end, is_given, verdict_heard}
 

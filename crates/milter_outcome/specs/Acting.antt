@@ -1,5 +1,5 @@
 -- What the verdicts that were acted on leave of a message.
-use Rattle.std.specs.Prelude.{ℕ, Bool, true, false, List, [], ◌∷◌, Option, None, Some, if◌then◌else◌}
+use Rattle.std.specs.Prelude.{Bool, false, List, [], ◌∷◌, Option, None, Some, if◌then◌else◌}
 use Rattle.std.specs.List.{filter_map}
 use Rattle.milter_fields.specs.declared.path.Path.{Path}
 use Rattle.milter_wire.specs.declared.stage.Stage.{Stage}

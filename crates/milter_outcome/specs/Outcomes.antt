@@ -1,11 +1,10 @@
 -- What settles a message: the last verdict on it, or the default for a lost filter.
-use Rattle.std.specs.Prelude.{Bool, List, Option, None, Some}
+use Rattle.std.specs.Prelude.{Bool, List, None}
 use Rattle.milter_wire.specs.declared.stage.Stage.{Stage}
 use Rattle.milter_wire.specs.declared.stage.Stage.TheVariants as stages
 use Rattle.milter_wire.specs.declared.verdict.Verdict.{Verdict}
 use Rattle.milter_wire.specs.declared.verdict.Verdict.TheVariants as verdicts
 use Rattle.milter_message.specs.declared.edit.Edit.{Edit}
-use Rattle.milter_message.specs.declared.message.Held.{Held}
 use Rattle.milter_message.specs.EditedMessage.{edited_message}
 use Rattle.milter_message.specs.MailObject.{MailObject}
 use Rattle.milter_exchange.specs.declared.answer.Answer.{Answer}

@@ -194,4 +194,3 @@ module _ (agreed : Agreed) (s : MailSession) (m : MailObject) where
   pub plan-within : IsWithinRanks 0 9 (plan agreed s m)
   plan-within = within-append 0 2 9 (opening agreed s) (message_steps agreed (macros_of agreed s) m)
       (within-opening agreed (macros_of agreed s) s.client s.helo) (within-message agreed (macros_of agreed s) m)
-

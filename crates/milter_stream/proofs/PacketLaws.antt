@@ -20,15 +20,16 @@ packet-whole code other payload others more fits fit e =
     let same = same_Some _ _ (sym a ∙ ap first_frame (e ∙ sym (append-nil (packet other others))) ∙ b) in
     ap (λ (x : Frame × List ℕ). x.1) same
 
-cells_of : (f : Frame) (k : FourBytes (length f.payload + 1)) → frame_bytes f ≡ k.a ∷ k.b ∷ k.c ∷ k.d ∷ f.code ∷ f.payload
-cells_of f k = rw k.encoded refl
+-- the bytes of a packet, where those of its length are known
+pub packet_cells : (f : Frame) (k : FourBytes (length f.payload + 1)) → frame_bytes f ≡ k.a ∷ k.b ∷ k.c ∷ k.d ∷ f.code ∷ f.payload
+packet_cells f k = rw k.encoded refl
 
 -- a packet that lacks its last bytes begins with no packet and no fault
 pub prefix-unfinished : (bytes more : List ℕ) (f : Frame) → IsFrame f → more ≢ [] → bytes ++ more ≡ frame_bytes f → IsUnfinished bytes
 prefix-unfinished bytes [] f fits some is = absurd (some refl)
 prefix-unfinished (a ∷ b ∷ c ∷ d ∷ body) (y ∷ more) f fits some is =
     let k = four_bytes (length f.payload + 1) (omega arith) in
-    let cells : a ∷ b ∷ c ∷ d ∷ (body ++ y ∷ more) ≡ k.a ∷ k.b ∷ k.c ∷ k.d ∷ f.code ∷ f.payload = is ∙ cells_of f k in
+    let cells : a ∷ b ∷ c ∷ d ∷ (body ++ y ∷ more) ≡ k.a ∷ k.b ∷ k.c ∷ k.d ∷ f.code ∷ f.payload = is ∙ packet_cells f k in
     let ea : a ≡ k.a = cc in
     let eb : b ≡ k.b = cc in
     let ec : c ≡ k.c = cc in

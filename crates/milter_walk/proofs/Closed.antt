@@ -1,5 +1,4 @@
 -- What closes a walk, and walks that are open.
-use Rattle.std.specs.Prelude.{if◌then◌else◌}
 use Rattle.std.proofs.Common.{◌≡◌, ◌≤◌, Bool, true, false, cond, not, ◌&&◌, ◌||◌, List, [], ◌∷◌, is_some, Option, None, Some, refl, sym, ap, ◌∙◌, subst, arith}
 use Rattle.std.specs.List.{list_any}
 use Rattle.std.proofs.lemmas.Bool.{true≢false}
@@ -145,7 +144,7 @@ opening-open (last ∷ before) left other is =
         → IsOpen (cond client (last ∷ opening_of before) (opening_of before)) other
     by_client true c rest more = (
       no_rcpt-closed last (opening_of before) other (no_rcpt last.command c)
-      ∙ ap (λ (k : Bool). k || false) (left-false (is_final last) (are_all_refused (last ∷ before) left) is.0),
+          ∙ ap (λ (k : Bool). k || false) (left-false (is_final last) (are_all_refused (last ∷ before) left) is.0),
       more,
     )
     by_client false c rest more = rest

@@ -19,7 +19,7 @@ use Rattle.milter_exchange.specs.Exchanges.{Exchange, commands_of}
 use Rattle.milter_exchange.specs.Histories.{rank_at}
 use Rattle.milter_exchange.specs.StageOrder.{rank_of}
 use Rattle.milter_exchange.specs.Talk.{are_all_refused, is_closed, is_final_answer, is_kept_rcpt, is_left_out, is_rcpt, sendable}
-use Rattle.milter_exchange.specs.Verdicts.{has_verdict, is_final_at, is_refusal}
+use Rattle.milter_exchange.specs.Verdicts.{is_final_at, is_refusal}
 use Rattle.milter_exchange.proofs.Sendable.{same_rcpts, sendable-next}
 use Rattle.milter_outcome.specs.declared.acted.Acted.{Acted}
 use Rattle.milter_outcome.specs.Acting.{rcpt_verdicts}

@@ -12,7 +12,6 @@ use Rattle.milter_exchange.specs.declared.answer.Answer.{Answer}
 use Rattle.milter_exchange.specs.Behavior.{Behavior, answer_to, exchange_of}
 use Rattle.milter_exchange.specs.Exchanges.{Exchange, commands_of}
 use Rattle.milter_exchange.specs.Lawful.{IsLawful}
-use Rattle.milter_exchange.specs.Permitted.{permitted}
 use Rattle.milter_exchange.specs.Seen.{Seen, seen}
 use Rattle.milter_exchange.specs.Talk.{is_left_out, sendable}
 use Rattle.milter_exchange.proofs.Sendable.{sendable-next}
@@ -20,7 +19,7 @@ use Rattle.milter_outcome.specs.declared.acted.Acted.{Acted}
 use Rattle.milter_outcome.specs.declared.loss.Loss.{Loss}
 use Rattle.milter_outcome.specs.Walks.{acted}
 use Rattle.milter_plan.specs.EditWeights.{weight_of_all}
-use Rattle.milter_mta.specs.Mta.{Link, Mta, at_packet}
+use Rattle.milter_mta.specs.Mta.{Mta, at_packet}
 use Rattle.milter_mta.specs.Mta.Position.{Sending}
 use Rattle.milter_mta.specs.declared.want.Want.TheVariants as wants
 use Rattle.milter_mta.specs.Receiving.{After, at, heard}

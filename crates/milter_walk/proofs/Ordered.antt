@@ -1,7 +1,6 @@
 -- The commands of a plan come in the order of their stages, and so do those of a part of them.
 use Rattle.std.specs.Prelude.{if◌then◌else◌}
-use Rattle.std.proofs.Common.{◌≡◌, ◌≤◌, ℕ, Bool, true, false, ◌&&◌, ◌||◌, List, [], ◌∷◌, ◌++◌, map, Option, None, Some, refl, sym, ap, ◌∙◌, subst, arith}
-use Rattle.std.proofs.lemmas.Bool.{true≢false}
+use Rattle.std.proofs.Common.{◌≡◌, ◌≤◌, ℕ, Bool, true, false, ◌||◌, List, [], ◌∷◌, ◌++◌, map, Option, None, Some, refl, sym, ap, ◌∙◌, subst, arith}
 use Rattle.std.specs.List.{flat_map}
 use Rattle.milter_fields.specs.declared.pair.Pair.{Pair}
 use Rattle.milter_wire.specs.declared.agreement.Agreed.{Agreed}
@@ -19,7 +18,7 @@ use Rattle.milter_mail.specs.MailSession.{MailSession}
 use Rattle.milter_mail.specs.Plan.{macros_of, opening, plan}
 use Rattle.milter_mail.specs.Steps.{macro_step, macros_at, message_steps, step}
 use Rattle.milter_exchange.specs.Exchanges.{onto}
-use Rattle.milter_exchange.specs.Talk.{has_end, is_body, is_end_command}
+use Rattle.milter_exchange.specs.Talk.{has_end, is_end_command}
 use Rattle.milter_exchange.specs.Histories.{rank_at}
 use Rattle.milter_exchange.specs.StageOrder.{rank_of}
 use Rattle.milter_plan.specs.PlanCursor.{Outgoing, commands_of, outgoing_of, stages_after, steps_at}

@@ -1,6 +1,6 @@
 -- A whole talk is played.
 use Rattle.std.specs.Prelude.{if◌then◌else◌}
-use Rattle.std.proofs.Common.{◌≡◌, ◌≢◌, Bool, true, false, ◌&&◌, ◌||◌, List, [], ◌∷◌, map, is_some, Option, None, Some, refl, sym, ap, ◌∙◌, subst, not}
+use Rattle.std.proofs.Common.{◌≡◌, ◌≢◌, Bool, true, false, List, [], ◌∷◌, map, is_some, Option, None, Some, refl, sym, ap, ◌∙◌, subst}
 use Rattle.std.specs.List.{list_any}
 use Rattle.std.proofs.lemmas.Bool.{true≢false}
 use Rattle.std.proofs.lemmas.Option.{same_Some}
@@ -21,12 +21,11 @@ use Rattle.milter_exchange.specs.Exchanges.{Exchange, commands_of, onto}
 use Rattle.milter_exchange.specs.Lawful.{IsLawful}
 use Rattle.milter_exchange.specs.Permitted.{permitted, permitted_verdict}
 use Rattle.milter_exchange.specs.Seen.{Seen, seen}
-use Rattle.milter_exchange.specs.Talk.{are_all_refused, has_end, is_body, is_closed, is_end_command, is_final, is_final_answer, is_kept_rcpt, is_left_out, is_rcpt, is_skipping, talk}
-use Rattle.milter_exchange.specs.Verdicts.{has_verdict, is_refusal, is_skip}
+use Rattle.milter_exchange.specs.Talk.{has_end, is_body, is_closed, is_left_out, is_skipping, talk}
+use Rattle.milter_exchange.specs.Verdicts.{has_verdict, is_skip}
 use Rattle.milter_exchange.proofs.WholeTalks.{goes_no_further}
 use Rattle.milter_exchange.proofs.Sendable.{end_left, no_end, sendable-out}
-use Rattle.milter_outcome.specs.Acting.{kept}
-use Rattle.milter_outcome.specs.Walks.{acted, ruled, ruled_by}
+use Rattle.milter_outcome.specs.Walks.{acted, ruled}
 use Rattle.milter_mta.specs.Mta.{Mta, at_packet}
 use Rattle.milter_mta.specs.Mta.Position.{Sending}
 use Rattle.milter_mta.specs.Receiving.{After, at, goes_on}
@@ -37,7 +36,6 @@ use Rattle.milter_walk.proofs.Answers.{HearsReplies, IsHeard, may-answer, permit
 use Rattle.milter_walk.proofs.Closed.{closed-rules}
 use Rattle.milter_walk.proofs.Exchanges.{answered-goes, packet-is, unanswered-goes, walked}
 use Rattle.milter_walk.proofs.Ordered.{order-before, order-without}
-use Rattle.milter_walk.proofs.Refusals.{is_rcpt_at, rcpt_by_stage}
 
 -- a command of the stage of bodies is a piece of one
 pub is_body_at : (command : Command) → stage_of command ≡ Some Body → is_body command ≡ true

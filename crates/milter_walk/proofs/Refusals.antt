@@ -15,7 +15,7 @@ use Rattle.milter_wire.specs.Agreement.{is_answered, is_asked_at}
 use Rattle.milter_wire.specs.Stages.{stage_of}
 use Rattle.milter_exchange.specs.declared.answer.Answer.{Answer}
 use Rattle.milter_exchange.specs.Exchanges.{Exchange}
-use Rattle.milter_exchange.specs.Talk.{is_body, is_kept_rcpt, is_left_out, is_rcpt, is_refused, is_skipping, sendable}
+use Rattle.milter_exchange.specs.Talk.{is_body, is_kept_rcpt, is_rcpt, is_refused, is_skipping, sendable}
 use Rattle.milter_exchange.specs.Verdicts.{has_verdict, is_refusal, is_skip}
 use Rattle.milter_outcome.specs.Acting.{rcpt_verdict, rcpt_verdicts}
 use Rattle.milter_outcome.specs.Walks.{acted, acted_at}

@@ -7,7 +7,6 @@ use Rattle.std.proofs.lemmas.Option.{same_Some}
 use Rattle.milter_fields.specs.declared.path.Path.{Path}
 use Rattle.milter_wire.specs.declared.agreement.Agreed.{Agreed}
 use Rattle.milter_wire.specs.declared.command.Command.{Command}
-use Rattle.milter_wire.specs.declared.command.Command.TheVariants as commands
 use Rattle.milter_wire.specs.declared.stage.Stage.{Stage}
 use Rattle.milter_wire.specs.declared.stage.Stage.TheVariants.{Connect, Helo, Mail, Rcpt, DataCmd, Header, Eoh, Body, Eob}
 use Rattle.milter_wire.specs.declared.verdict.Verdict.{Verdict}
@@ -21,7 +20,6 @@ use Rattle.milter_exchange.specs.declared.answer.Answer.{Answer}
 use Rattle.milter_exchange.specs.Commands.{is_of_connection}
 use Rattle.milter_exchange.specs.Exchanges.{Exchange, commands_of}
 use Rattle.milter_exchange.specs.Histories.{rank_at}
-use Rattle.milter_exchange.specs.StageOrder.{rank_of}
 use Rattle.milter_exchange.specs.Talk.{is_end_command}
 use Rattle.milter_outcome.specs.declared.acted.Acted.{Acted}
 use Rattle.milter_outcome.specs.declared.loss.By.TheVariants.{Connection, Filter}
@@ -36,13 +34,13 @@ use Rattle.milter_plan.specs.TalkVerdicts.{last_verdict, on_connection}
 use Rattle.milter_mta.specs.Mta.{Link, Mta, Position, link_at}
 use Rattle.milter_mta.specs.Mta.Position.{Sending}
 use Rattle.milter_mta.specs.Settling.{next_message, report, settled_all, settled_first, settled_in}
-use Rattle.milter_walk.specs.Order.{AreInOrder, AreProper, ComeBefore, IsWalked, ReachAtMost}
+use Rattle.milter_walk.specs.Order.{AreProper, IsWalked, ReachAtMost}
 use Rattle.milter_walk.specs.Settled.{AreAllSettled, ends_with_client, next_link, next_position, walk_verdict}
 use Rattle.milter_walk.specs.Walks.{opening_of, settled_at, settled_by}
 use Rattle.milter_walk.proofs.Answers.{end_at, end_by_stage}
 use Rattle.milter_walk.proofs.Closed.{client-low}
 use Rattle.milter_walk.proofs.Numbers.{last_added}
-use Rattle.milter_walk.proofs.Openings.{client_by_stage, low_rank, opening-acted, opening-sendable}
+use Rattle.milter_walk.proofs.Openings.{client_by_stage, opening-acted, opening-sendable}
 
 -- ---- the next message
 

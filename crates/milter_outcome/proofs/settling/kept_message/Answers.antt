@@ -1,7 +1,5 @@
-use Rattle.std.proofs.Common.{All, subst}
 use Rattle.milter_wire.specs.declared.command.Command.TheVariants as commands
 use Rattle.milter_wire.specs.Command.{Fits}
-use Rattle.milter_message.specs.LeadingSpace.{FieldFits}
 use Rattle.milter_message.specs.MailObject.{IsMessage}
 use Rattle.milter_outcome.specs.Acting.{rcpt_verdicts, kept}
 use Rattle.milter_outcome.proofs.Keeping.{all_kept}
