@@ -20,8 +20,8 @@ pub use agreement::{Agreed, agree};
 pub use command::Command;
 pub use command_ref::CommandRef;
 pub use laws::{
-    code_characters, command_codes, command_encodings, command_frames, commands_apart, replies_apart, reply_codes,
-    reply_encodings, reply_frames,
+    code_characters, command_codes, command_encodings, command_frames, commands_apart,
+    replies_apart, reply_codes, reply_encodings, reply_frames,
 };
 pub use lengths::{
     connect_packet_len, header_packet_len, helo_packet_len, macro_packet_len, path_packet_len,
