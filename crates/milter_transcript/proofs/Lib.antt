@@ -1,0 +1,5 @@
+pub mod ByteCounting
+pub mod TranscriptLines
+mod TalkAnswers
+mod ByteAnswers
+mod SessionAnswers
