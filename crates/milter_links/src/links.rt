@@ -1,12 +1,10 @@
-//! Links in memory around a filter's end that lets all mail go on.
+//! Links that fail by a script.
 
 use crate::script::{Failed, Failure, Script};
 use milter_converse::{Dial, DialFault};
-use milter_filter::{FilterCore, FilterFault, Pass};
-use std::alloc::Global;
 use std::cell::Cell;
 use std::io;
-use std::io::{ErrorKind, Read, Write};
+use std::io::{Read, Write};
 
 /// Counts a call, and answers its number.
 fn count(calls: &Cell<u64>) -> u64 {
@@ -58,6 +56,11 @@ impl<'s> Network<'s> {
         self.is_out_of_memory.get()
     }
 
+    /// Notes that a filter's end was refused memory.
+    pub fn note_out_of_memory(&self) {
+        self.is_out_of_memory.set(true);
+    }
+
     /// Whether the dial of this number fails.
     fn fails(&self, number: u64) -> bool {
         for span in &self.script.dials {
@@ -69,15 +72,14 @@ impl<'s> Network<'s> {
     }
 }
 
-/// A connection to a filter's end of its own.
+/// A link of which calls fail.
 #[derive(Drop)]
-pub struct Link<'w> {
+pub struct FailingLink<'w, L> {
     network: &'w Network<'w>,
-    filter: FilterCore<'w, Pass>,
+    link: L,
 }
 
-impl Read for Link<'_> {
-    /// Reads of the replies that wait: those to one packet at most, which is one reply.
+impl<L: Read> Read for FailingLink<'_, L> {
     fn read(&mut self, buf: &mut [u8]) -> io::Result<usize> {
         let network = self.network;
         if let Some(failure) = failure_of(&network.script.reads, count(&network.reads)) {
@@ -86,16 +88,12 @@ impl Read for Link<'_> {
         if network.script.is_closed {
             return Ok(0);
         }
-        let pending = self.filter.pending();
-        let len = pending.len().min(buf.len()).min(network.script.read_max);
-        buf[..len].copy_from_slice(&pending[..len]);
-        self.filter.sent(len);
-        Ok(len)
+        let len = buf.len().min(network.script.read_max);
+        self.link.read(&mut buf[..len])
     }
 }
 
-impl Write for Link<'_> {
-    /// Hands the bytes to the filter's end.
+impl<L: Write> Write for FailingLink<'_, L> {
     fn write(&mut self, buf: &[u8]) -> io::Result<usize> {
         let network = self.network;
         if let Some(failure) = failure_of(&network.script.writes, count(&network.writes)) {
@@ -105,15 +103,7 @@ impl Write for Link<'_> {
         if network.script.is_closed {
             return Ok(len);
         }
-        match self.filter.feed(&buf[..len]) {
-            Ok(taken) => Ok(taken),
-            Err(fault) => {
-                if fault == FilterFault::NoMemory {
-                    network.is_out_of_memory.set(true);
-                }
-                Err(io::Error::from(ErrorKind::BrokenPipe))
-            }
-        }
+        self.link.write(&buf[..len])
     }
 
     fn flush(&mut self) -> io::Result<()> {
@@ -121,41 +111,31 @@ impl Write for Link<'_> {
     }
 }
 
-/// Makes links.
+/// Makes links that fail of those that another one makes.
 #[derive(Drop)]
-pub struct Dialler<'w> {
-    alloc: Global,
+pub struct FailingDial<'w, D> {
     network: &'w Network<'w>,
-    policy: &'w Pass,
+    dial: D,
 }
 
-impl<'w> Dialler<'w> {
-    /// One for this network and this policy.
-    pub fn new(alloc: Global, network: &'w Network<'w>, policy: &'w Pass) -> Self {
-        Dialler {
-            alloc,
-            network,
-            policy,
-        }
+impl<'w, D> FailingDial<'w, D> {
+    /// One for this network, over the links of `dial`.
+    pub fn new(network: &'w Network<'w>, dial: D) -> Self {
+        FailingDial { network, dial }
     }
 }
 
-impl<'w> Dial for Dialler<'w> {
-    type Link = Link<'w>;
+impl<'w, D: Dial> Dial for FailingDial<'w, D> {
+    type Link = FailingLink<'w, D::Link>;
 
-    fn dial(&mut self) -> Result<Link<'w>, DialFault> {
+    fn dial(&mut self) -> Result<FailingLink<'w, D::Link>, DialFault> {
         if self.network.fails(count(&self.network.dials)) {
             return Err(DialFault);
         }
-        match FilterCore::new(self.alloc, self.policy) {
-            Ok(filter) => Ok(Link {
-                network: self.network,
-                filter,
-            }),
-            Err(_) => {
-                self.network.is_out_of_memory.set(true);
-                Err(DialFault)
-            }
-        }
+        let link = self.dial.dial()?;
+        Ok(FailingLink {
+            network: self.network,
+            link,
+        })
     }
 }

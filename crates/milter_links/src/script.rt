@@ -1,4 +1,4 @@
-//! What fails of the calls on links, by the lines of a script.
+//! What links are, and what fails of the calls on them, by the lines of a script.
 
 ghost use Rattle.std.specs.Prelude.{◌≡◌, IfOk};
 
@@ -51,9 +51,22 @@ pub struct Failed {
     pub failure: Failure,
 }
 
-/// What fails.
+/// Over what links go.
+#[derive(Clone, Copy, Debug, PartialEq, Eq)]
+pub enum Way {
+    /// From memory to memory.
+    Memory,
+    /// A connection over TCP.
+    Tcp,
+    /// A connection over a Unix socket.
+    Unix,
+}
+
+/// What links are, and what fails of them.
 #[derive(Debug, Drop)]
 pub struct Script {
+    /// Over what they go.
+    pub way: Way,
     /// Whether a connection was made before the first dial.
     pub is_dialled: bool,
     /// Whether the far end of each link is closed at once.
@@ -114,6 +127,8 @@ fn failed_in(words: &str) -> anyhow::Result<Failed> {
 fn note(script: &mut Script, line: &str) -> anyhow::Result<()> {
     let (word, more) = line.split_once(' ').unwrap_or((line, ""));
     match word {
+        "tcp" => script.way = Way::Tcp,
+        "unix" => script.way = Way::Unix,
         "dialled" => script.is_dialled = true,
         "closed" => script.is_closed = true,
         "pieces" => {
@@ -129,9 +144,10 @@ fn note(script: &mut Script, line: &str) -> anyhow::Result<()> {
     Ok(())
 }
 
-/// What fails by these lines.
+/// The script of these lines.
 pub fn script_in(alloc: Global, lines: &str) -> anyhow::Result<Script> {
     let mut script = Script {
+        way: Way::Memory,
         is_dialled: false,
         is_closed: false,
         read_max: usize::MAX,
