@@ -1,0 +1,4 @@
+pub mod Schedule
+pub mod TalkReports
+pub mod Rounds
+pub mod Worked

@@ -1,0 +1,67 @@
+//! Laws of what becomes of a session over connections that fail, each the contract of a function that does nothing.
+
+ghost use Rattle.std.specs.Prelude.{◌≡◌, ◌⊎◌, ◌≤◌, ◌<◌, ◌+◌, List, length, min, true, ℕ};
+ghost use Rattle.std.specs.List.{AllZip};
+ghost use Rattle.milter_message.specs.MailObject.{MailObject};
+ghost use Rattle.milter_outcome.specs.declared.report.Report.{Report};
+ghost use Rattle.milter_outcome.specs.Walks.{acted};
+ghost use Rattle.milter_walk.specs.Lines.{Line};
+ghost use Rattle.milter_transcript.specs.ByteCounts.{due, packet_end, to_filter, to_mta};
+ghost use Rattle.milter_transcript.specs.Transcript.{reports_within};
+ghost use Rattle.milter_schedule.specs.declared.event.Event.{Event};
+ghost use Rattle.milter_schedule.specs.declared.state.Counts.{Counts};
+ghost use Rattle.milter_schedule.specs.declared.state.State.TheVariants.{Done, Linked};
+ghost use Rattle.milter_schedule.specs.Rounds.{AreCounts, MovesOn, after_round, round, to_move};
+ghost use Rattle.milter_schedule.specs.Schedule.{Scenario, after_all, entries_at, lines_at, run_reports};
+ghost use Rattle.milter_schedule.specs.TalkReports.{AreReported, IsDefaultAfter, IsRuledBy, StartsWith, by_reset, by_timeout, count_events, count_reports, is_lose, is_timeout, walk_about};
+
+use milter_walk::{closed_walks_rule, plans_are_walked, walks_of_messages};
+
+/// Whatever happens, the first messages of the session are reported, in order, each as its own talk with the filter
+/// rules, or by default after a beginning of that talk.
+pub fn schedules_report_talks()
+    ensures { (p : Scenario) (events : List Event) → AreReported p p.session.messages (run_reports p events) }
+{
+    closed_walks_rule();
+    plans_are_walked();
+    walks_of_messages();
+}
+
+/// At most one report is by default for each loss, and for each timeout.
+pub fn defaults_are_counted()
+    ensures reset { (p : Scenario) (events : List Event) →
+        count_reports by_reset (run_reports p events) ≤ count_events is_lose events }
+    ensures timeout { (p : Scenario) (events : List Event) →
+        count_reports by_timeout (run_reports p events) ≤ count_events is_timeout events }
+{
+    closed_walks_rule();
+    plans_are_walked();
+    walks_of_messages();
+}
+
+/// The verdicts that a default reports are the first ones of the talk about the message.
+pub fn beginnings_are_acted_on()
+    ensures { (p : Scenario) (message : MailObject) (r : Report) → IsDefaultAfter p message r →
+        StartsWith r.acted (acted (walk_about p message)) }
+{}
+
+/// A round in which each of the four moves comes brings a living connection nearer to its end, or ends it; and where all
+/// bytes of a connection were heard, each message is reported as its talk rules.
+pub fn rounds_move_on()
+    ensures waits { (lines : List Line) (c : Counts) (n : ℕ) → AreCounts lines c → 0 < n →
+        c.sent ≡ due lines c.heard → to_move lines (after_round lines c n) < to_move lines c }
+    ensures sends { (lines : List Line) (c : Counts) (n : ℕ) → AreCounts lines c → 0 < n → c.sent < due lines c.heard →
+        min (c.sent + n) (packet_end lines c.sent) < length (to_filter lines) →
+        to_move lines (after_round lines (record c { sent = min (c.sent + n) (packet_end lines c.sent) }) n)
+        < to_move lines c }
+    ensures goes_on { (p : Scenario) (settled n : ℕ) (c : Counts) (reports : List Report) → 0 < n →
+        AreCounts (lines_at p settled) c → c.lives ≡ true →
+        let after = after_all p (record { state = Linked settled c; reports = reports }) (round n) in
+        (after.state ≡ Done) ⊎ MovesOn (lines_at p settled) settled c after.state }
+    ensures all_heard { (p : Scenario) (heard : ℕ) → length (to_mta (lines_at p 0)) ≤ heard →
+        AllZip (IsRuledBy p) p.session.messages (reports_within (entries_at p 0) heard) }
+{
+    closed_walks_rule();
+    plans_are_walked();
+    walks_of_messages();
+}

@@ -1,0 +1,16 @@
+//! What becomes of a session over connections that fail: by any schedule of events, which messages are reported, and how.
+//!
+//! It is stated over whole lists of bytes and counts, apart from any code. Nothing here is run: each law is the contract
+//! of a function that does nothing.
+#![tactic(auto)]
+
+mod event;
+mod laws;
+mod rows;
+mod state;
+
+pub use event::Event;
+pub use laws::{
+    beginnings_are_acted_on, defaults_are_counted, rounds_move_on, schedules_report_talks,
+};
+pub use state::{Counts, State};
