@@ -1,8 +1,7 @@
 -- The verdicts of a beginning of a talk are a beginning of its verdicts, and no answer has an edit that was not agreed on.
-use Rattle.std.proofs.Common.{◌≡◌, true, List, [], ◌∷◌, ◌++◌, Option, None, Some, refl, sym, ap, ◌∙◌, append-nil, append_assoc, All}
+use Rattle.std.proofs.Common.{List, [], ◌∷◌, ◌++◌, sym, ◌∙◌, append-nil, append_assoc}
 use Rattle.milter_wire.specs.Stages.{stage_of}
 use Rattle.milter_exchange.specs.Exchanges.{Exchange, onto}
-use Rattle.milter_outcome.specs.declared.acted.Acted.{Acted}
 use Rattle.milter_outcome.specs.Walks.{acted, acted_at}
 use Rattle.milter_schedule.specs.TalkReports.{StartsWith}
 

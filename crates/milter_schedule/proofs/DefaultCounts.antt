@@ -1,6 +1,6 @@
 -- How many reports are by default.
-use Rattle.std.proofs.Common.{◌≡◌, ◌≢◌, ℕ, suc, zero, ◌+◌, ◌-◌, ◌≤◌, min, Bool, true, false, if◌then◌else◌, List, [], ◌∷◌, ◌++◌, drop, length, Option, None, Some, refl, sym, ◌∙◌, ap, subst, arith, nat_lt, nat_le}
-use Rattle.std.specs.List.{AllZip, count_by}
+use Rattle.std.proofs.Common.{◌≡◌, ℕ, suc, zero, ◌+◌, ◌-◌, ◌≤◌, min, Bool, true, false, if◌then◌else◌, List, [], ◌∷◌, ◌++◌, drop, length, Option, None, Some, refl, ◌∙◌, ap, subst, arith, nat_le}
+use Rattle.std.specs.List.{AllZip}
 use Rattle.std.specs.Option.{option_map}
 use Rattle.std.proofs.lemmas.Bool.{true≢false}
 use Rattle.milter_message.specs.MailObject.{MailObject}
@@ -14,15 +14,15 @@ use Rattle.milter_outcome.specs.declared.outcome.Outcome.{Outcome}
 use Rattle.milter_outcome.specs.declared.report.Report.{Report}
 use Rattle.milter_outcome.specs.Walks.{acted, ruled}
 use Rattle.milter_mta.specs.Settling.{report}
-use Rattle.milter_walk.specs.Sessions.{report_by, settled_through}
+use Rattle.milter_walk.specs.Sessions.{settled_through}
 use Rattle.milter_walk.specs.Settled.{ends_with_client}
 use Rattle.milter_schedule.specs.declared.event.Event.{Event}
 use Rattle.milter_schedule.specs.declared.event.Event.TheVariants.{Dial, Send, ToFilter, Answer, ToMta, Die, Lose, Timeout}
 use Rattle.milter_schedule.specs.declared.state.Counts.{Counts}
 use Rattle.milter_schedule.specs.declared.state.State.{State}
 use Rattle.milter_schedule.specs.declared.state.State.TheVariants.{Idle, Linked, Done}
-use Rattle.milter_schedule.specs.Schedule.{Scenario, after_all, first, happens, happens_linked, lines_at, entries_at}
-use Rattle.milter_schedule.specs.TalkReports.{IsRuledBy, agreed_of, by_reset, by_timeout, count_events, count_reports, is_lose, is_timeout, walk_about}
+use Rattle.milter_schedule.specs.Schedule.{Scenario, after_all, happens, happens_linked, entries_at}
+use Rattle.milter_schedule.specs.TalkReports.{IsRuledBy, agreed_of, count_events, count_reports, walk_about}
 use Rattle.milter_transcript.specs.Transcript.{Entry, default_reports, default_within, reports_within}
 
 -- of some kind of cause, each event adds at most so many

@@ -1,48 +1,32 @@
 -- What the entries of a transcript settle: the first messages that are left, by their talks or by default.
-use Rattle.std.proofs.Common.{◌≡◌, ◌≢◌, ◌⊎◌, inl, inr, ℕ, ◌+◌, ◌-◌, ◌≤◌, ◌<◌, Bool, true, false, if◌then◌else◌, nat_le, nat_lt, ◌==◌, min, List, [], ◌∷◌, ◌++◌, drop, length, map, Option, None, Some, refl, sym, ◌∙◌, ap, subst, arith, append-nil, append_assoc, length-append, is_some}
-use Rattle.std.specs.List.{AllZip, cons_option, filter_map, list_any}
+use Rattle.std.proofs.Common.{◌≡◌, ◌≢◌, ℕ, ◌+◌, ◌-◌, ◌≤◌, Bool, true, false, if◌then◌else◌, List, [], ◌∷◌, ◌++◌, drop, length, Option, None, Some, refl, sym, ◌∙◌, ap, subst, arith, append-nil, append_assoc, length-append, is_some}
+use Rattle.std.specs.List.{AllZip, cons_option, filter_map}
 use Rattle.std.specs.Option.{option_map}
-use Rattle.std.proofs.lemmas.Bool.{le-leb, le-ltb, lt-leb, true≢false}
-use Rattle.milter_wire.specs.declared.agreement.Agreed.{Agreed}
+use Rattle.std.proofs.lemmas.Bool.{le-leb, lt-leb, true≢false}
 use Rattle.milter_wire.specs.declared.command.Command.{Command}
-use Rattle.milter_wire.specs.Agreement.{agree}
 use Rattle.milter_message.specs.MailObject.{MailObject}
-use Rattle.milter_mail.specs.MailSession.{MailSession}
 use Rattle.milter_mail.specs.Plan.{macros_of, plan}
 use Rattle.milter_mail.specs.Steps.{message_steps}
-use Rattle.milter_exchange.specs.Behavior.{Behavior, exchange_of}
-use Rattle.milter_exchange.specs.Exchanges.{Exchange, commands_of, onto}
+use Rattle.milter_exchange.specs.Exchanges.{Exchange, onto}
 use Rattle.milter_exchange.specs.Talk.{has_end, talk}
-use Rattle.milter_outcome.specs.declared.fallback.OnLoss.{OnLoss}
-use Rattle.milter_outcome.specs.declared.loss.By.TheVariants.{Default}
 use Rattle.milter_outcome.specs.declared.loss.Loss.{Loss}
 use Rattle.milter_outcome.specs.declared.report.Report.{Report}
-use Rattle.milter_stream.specs.Number.{number}
-use Rattle.milter_wire.specs.declared.reply.Reply.{Reply}
-use Rattle.milter_wire.specs.Reply.{code_of, encoding, payload_of}
-use Rattle.milter_exchange.specs.Replies.{options_reply}
 use Rattle.std.proofs.lemmas.List.Concat.{flat_map-cons}
 use Rattle.milter_wire.specs.Agreement.{has_leading_space}
 use Rattle.milter_outcome.specs.declared.outcome.Outcome.{Outcome}
 use Rattle.milter_outcome.specs.Walks.{acted, ruled}
 use Rattle.milter_mta.specs.Settling.{report}
 use Rattle.milter_walk.specs.Order.{IsWalk}
-use Rattle.milter_walk.specs.Lines.{Line, abort_line, line_of, offer_line, quit_line}
-use Rattle.milter_walk.specs.Sessions.{report_by, settled_through, walk_of}
+use Rattle.milter_walk.specs.Lines.{Line, abort_line, quit_line}
+use Rattle.milter_walk.specs.Sessions.{report_by, settled_through}
 use Rattle.milter_walk.specs.Settled.{ends_with_client, ends_with_message}
 use Rattle.milter_walk.specs.Walks.{opening_of}
-use Rattle.milter_schedule.specs.TalkReports.{AreReported, Begins, IsDefaultAfter, IsRuledBy, IsReportOf, agreed_of, walk_about}
-use Rattle.milter_schedule.specs.declared.event.Event.{Event}
-use Rattle.milter_schedule.specs.declared.event.Event.TheVariants.{Dial, Send, ToFilter, Answer, ToMta, Die, Lose, Timeout}
-use Rattle.milter_schedule.specs.declared.state.Counts.{Counts}
-use Rattle.milter_schedule.specs.declared.state.State.{State}
-use Rattle.milter_schedule.specs.declared.state.State.TheVariants.{Idle, Linked, Done}
-use Rattle.milter_outcome.specs.declared.loss.Loss.TheVariants as losses
-use Rattle.milter_transcript.specs.ByteCounts.{due, owed, packet_end, to_filter, to_mta}
+use Rattle.milter_schedule.specs.TalkReports.{Begins, IsDefaultAfter, IsRuledBy, agreed_of, walk_about}
+use Rattle.milter_transcript.specs.ByteCounts.{to_mta}
 use Rattle.milter_exchange.proofs.WholeTalks.{talk-some}
-use Rattle.milter_schedule.specs.Schedule.{Scenario, after_all, first, gives_up, happens, happens_linked, hears, idle_at, if_lives, lines_at, loses, run_reports, sends, sent_to, entries_at}
+use Rattle.milter_schedule.specs.Schedule.{Scenario}
 use Rattle.milter_transcript.specs.Transcript.{Entry, exchange_entries, default_reports, lines_of, default_within, transcript, reports_of, reports_within, entry_of, entries_after, entries_from}
-use Rattle.milter_transcript.proofs.ByteCounting.{by_lt, lt-ltb, owed-mono, packet_end-more}
+use Rattle.milter_transcript.proofs.ByteCounting.{by_lt}
 
 pub drop-past : {A : Type 0} (xs ys : List A) → drop (length xs) (xs ++ ys) ≡ ys
 drop-past [] ys = refl
@@ -124,12 +108,14 @@ pub given-up : (p : Scenario) (loss : Loss) (left : List MailObject) (walk : Lis
     → ((message : MailObject) (others : List MailObject) → left ≡ message ∷ others → Begins p message walk)
     → (after : List MailObject) × Settles p left (IsDefaultAfter p) (default_reports p.config.on_loss loss left walk) after
 given-up p loss [] walk begins = ([], record { done = []; messages_are = refl; each = tt })
-given-up p loss (message ∷ others) walk begins =
-    (others, record {
-      done = message ∷ [];
-      messages_are = refl;
-      each = (record { walk = walk; begins = begins message others refl; loss = loss; report_is = refl }, tt);
-    })
+given-up p loss (message ∷ others) walk begins = (
+  others,
+  record {
+    done = message ∷ [];
+    messages_are = refl;
+    each = (record { walk = walk; begins = begins message others refl; loss = loss; report_is = refl }, tt);
+  },
+)
 
 unfoldable pub within : (p : Scenario) (entries : List Entry) (left : List MailObject) → Accounts p left entries → (heard : ℕ) → Within p left entries heard
 within p [] left acc heard = record { rest = left; settled = settles-none p left (IsRuledBy p); lost = λ loss. (left, settles-none p left (IsDefaultAfter p)) }
@@ -143,9 +129,11 @@ within p (entry ∷ entries) left acc heard =
       rest = left;
       settled = subst (λ (l : List Report). Settles p left (IsRuledBy p) l left) (sym none) (settles-none p left (IsRuledBy p));
       lost = λ loss.
-          let g = given-up p loss left entry.walk acc.1 in
-          (g.0, subst (λ (l : List Report). Settles p left (IsDefaultAfter p) l g.0)
-          (sym (lost_is loss ∙ ap (λ (l : List MailObject). default_reports p.config.on_loss loss l entry.walk) acc.0)) g.1);
+          let g = given-up p loss left entry.walk acc.1 in (
+            g.0,
+            subst (λ (l : List Report). Settles p left (IsDefaultAfter p) l g.0)
+                (sym (lost_is loss ∙ ap (λ (l : List MailObject). default_reports p.config.on_loss loss l entry.walk) acc.0)) g.1,
+          );
     })
     (λ past.
     let more = within p entries acc.2.0 acc.2.2 (heard - n) in
@@ -216,15 +204,20 @@ module _ (p : Scenario) (laws : TalkLaws p) where
   exchanges : (us : List Report) (message : MailObject) (messages rest : List MailObject) (next : List Entry) → Settles p (message ∷ messages) (IsRuledBy p) us rest → Accounts p rest next
       → (more walk : List Exchange) → more ≢ [] → onto more walk ≡ walk_about p message → Accounts p (message ∷ messages) (exchange_entries us (message ∷ messages) walk more ++ next)
   exchanges us message messages rest next settles acc [] walk some e = absurd (some refl)
-  exchanges us message messages rest next settles acc (x ∷ []) walk some e =
-      (refl,
-      λ other others is. subst (λ (m : MailObject). Begins p m walk) (first-same message other messages others is) (record { more = x ∷ []; whole = e }),
-      (rest, settles, acc))
-  exchanges us message messages rest next settles acc (x ∷ y ∷ more) walk some e =
-      (refl,
-      λ other others is. subst (λ (m : MailObject). Begins p m walk) (first-same message other messages others is) (record { more = x ∷ y ∷ more; whole = e }),
-      (message ∷ messages, settles-none p (message ∷ messages) (IsRuledBy p),
-      exchanges us message messages rest next settles acc (y ∷ more) (x ∷ walk) (λ none. absurd (let no : y ∷ more ≡ [] = none in cc)) e))
+  exchanges us message messages rest next settles acc (x ∷ []) walk some e = (
+    refl,
+    λ other others is. subst (λ (m : MailObject). Begins p m walk) (first-same message other messages others is) (record { more = x ∷ []; whole = e }),
+    (rest, settles, acc),
+  )
+  exchanges us message messages rest next settles acc (x ∷ y ∷ more) walk some e = (
+    refl,
+    λ other others is. subst (λ (m : MailObject). Begins p m walk) (first-same message other messages others is) (record { more = x ∷ y ∷ more; whole = e }),
+    (
+      message ∷ messages,
+      settles-none p (message ∷ messages) (IsRuledBy p),
+      exchanges us message messages rest next settles acc (y ∷ more) (x ∷ walk) (λ none. absurd (let no : y ∷ more ≡ [] = none in cc)) e,
+    ),
+  )
 
   -- ---- after a message
 
@@ -239,15 +232,16 @@ module _ (p : Scenario) (laws : TalkLaws p) where
       where
         by_message : (over : Bool) → ends_with_client w ≡ false → Accounts p messages (if over then next else entry_of abort_line messages (opening_of w) ∷ next)
         by_message true client = acc client
-        by_message false client =
-            (refl,
-            λ other others e. record {
-              more = talk p.filter (agreed_of p) (opening_of w) (message_steps (agreed_of p) (macros_of (agreed_of p) p.session) other);
-              whole =
-                  ap (λ (z : List Exchange). onto (talk p.filter (agreed_of p) (opening_of z) (message_steps (agreed_of p) (macros_of (agreed_of p) p.session) other)) (opening_of z)) (sym is)
-                  ∙ laws.next message other (ap ends_with_client is ∙ client);
-            },
-            (messages, settles-none p messages (IsRuledBy p), acc client))
+        by_message false client = (
+          refl,
+          λ other others e. record {
+            more = talk p.filter (agreed_of p) (opening_of w) (message_steps (agreed_of p) (macros_of (agreed_of p) p.session) other);
+            whole =
+                ap (λ (z : List Exchange). onto (talk p.filter (agreed_of p) (opening_of z) (message_steps (agreed_of p) (macros_of (agreed_of p) p.session) other)) (opening_of z)) (sym is)
+                ∙ laws.next message other (ap ends_with_client is ∙ client);
+          },
+          (messages, settles-none p messages (IsRuledBy p), acc client),
+        )
 
         by_client : (client : Bool) → ends_with_client w ≡ client → After
         by_client true e =
@@ -293,10 +287,11 @@ module _ (p : Scenario) (laws : TalkLaws p) where
   pub session : (messages : List MailObject) → Accounts p messages (transcript p.filter p.config.offer p.session messages)
   session [] = refl
   session (message ∷ messages) =
-      let first = plan (agreed_of p) p.session message in
-      (refl,
-      λ other others is. subst (λ (m : MailObject). Begins p m []) (first-same message other messages others is) (record { more = talk p.filter (agreed_of p) [] first; whole = refl }),
-      (message ∷ messages, settles-none p (message ∷ messages) (IsRuledBy p), from messages message [] first (laws.plan_end message) refl))
+      let first = plan (agreed_of p) p.session message in (
+        refl,
+        λ other others is. subst (λ (m : MailObject). Begins p m []) (first-same message other messages others is) (record { more = talk p.filter (agreed_of p) [] first; whole = refl }),
+        (message ∷ messages, settles-none p (message ∷ messages) (IsRuledBy p), from messages message [] first (laws.plan_end message) refl),
+      )
 
 -- ---- from the laws of walks
 

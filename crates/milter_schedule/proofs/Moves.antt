@@ -1,14 +1,10 @@
 -- Undisturbed, a connection comes to its end.
-use Rattle.std.proofs.Common.{◌≡◌, ◌≢◌, ◌⊎◌, inl, inr, ℕ, ◌+◌, ◌-◌, ◌≤◌, ◌<◌, ◌==◌, min, Bool, true, false, if◌then◌else◌, List, length, refl, sym, ◌∙◌, ap, subst, arith}
-use Rattle.std.proofs.lemmas.Bool.{eqb-true, le-ltb}
+use Rattle.std.proofs.Common.{◌≡◌, ℕ, ◌+◌, ◌-◌, ◌≤◌, ◌<◌, min, List, length, sym, ap, subst, arith}
 use Rattle.milter_walk.specs.Lines.{Line}
 use Rattle.milter_transcript.specs.ByteCounts.{due, owed, packet_end, to_filter, to_mta}
 use Rattle.milter_schedule.specs.declared.state.Counts.{Counts}
-use Rattle.milter_schedule.specs.declared.state.State.{State}
-use Rattle.milter_schedule.specs.declared.state.State.TheVariants.{Idle, Linked, Done}
 use Rattle.milter_schedule.specs.Rounds.{AreCounts}
-use Rattle.milter_schedule.specs.Schedule.{sends, sent_to}
-use Rattle.milter_transcript.proofs.ByteCounting.{by_lt, due-le, due-mono, due-owed, lt-ltb, owed-le, owed-mono, packet_end-due, packet_end-more}
+use Rattle.milter_transcript.proofs.ByteCounting.{by_lt, due-owed, owed-le, owed-mono, packet_end-due, packet_end-more}
 
 -- how many bytes are to move yet
 abbrev pub to_move : List Line → Counts → ℕ

@@ -1,17 +1,17 @@
 -- A round of moves.
-use Rattle.std.proofs.Common.{◌≡◌, ◌⊎◌, inl, inr, ℕ, ◌+◌, ◌<◌, ◌≤◌, ◌==◌, nat_lt, min, Bool, true, false, if◌then◌else◌, List, [], ◌∷◌, ◌++◌, length, refl, sym, ◌∙◌, ap, subst, arith}
+use Rattle.std.proofs.Common.{◌≡◌, ◌⊎◌, inl, inr, ℕ, ◌+◌, ◌<◌, ◌≤◌, ◌==◌, min, Bool, true, false, if◌then◌else◌, List, [], ◌∷◌, ◌++◌, length, refl, sym, ◌∙◌, ap, arith}
 use Rattle.std.proofs.lemmas.Bool.{eq-eqb, le-ltb, true≢false}
 use Rattle.milter_walk.specs.Lines.{Line}
 use Rattle.milter_outcome.specs.declared.report.Report.{Report}
-use Rattle.milter_transcript.specs.ByteCounts.{due, owed, packet_end, to_filter, to_mta}
-use Rattle.milter_schedule.specs.declared.event.Event.TheVariants.{Send, ToFilter, Answer, ToMta}
+use Rattle.milter_transcript.specs.ByteCounts.{due, owed, packet_end, to_filter}
+use Rattle.milter_schedule.specs.declared.event.Event.TheVariants.{ToFilter, Answer, ToMta}
 use Rattle.milter_schedule.specs.declared.state.Counts.{Counts}
 use Rattle.milter_schedule.specs.declared.state.State.{State}
-use Rattle.milter_schedule.specs.declared.state.State.TheVariants.{Idle, Linked, Done}
-use Rattle.milter_schedule.specs.Rounds.{MovesOn, after_round, round, to_move}
+use Rattle.milter_schedule.specs.declared.state.State.TheVariants.{Linked, Done}
+use Rattle.milter_schedule.specs.Rounds.{MovesOn, after_round, round}
 use Rattle.milter_schedule.specs.Rounds.{AreCounts}
-use Rattle.milter_schedule.specs.Schedule.{After, Scenario, after_all, if_lives, lines_at, sends, sent_to, stays}
-use Rattle.milter_transcript.proofs.ByteCounting.{by_lt, due-le, lt-ltb, owed-mono, packet_end-due, packet_end-more}
+use Rattle.milter_schedule.specs.Schedule.{After, Scenario, after_all, if_lives, lines_at, sends, sent_to}
+use Rattle.milter_transcript.proofs.ByteCounting.{by_lt, due-le, lt-ltb, owed-mono, packet_end-due}
 use Rattle.milter_schedule.proofs.Moves.{sends-moves, waits-moves}
 
 not_all : (a b : ℕ) → (a == b) ≡ false → a ≤ b → a < b
@@ -66,10 +66,10 @@ module _ (p : Scenario) (settled : ℕ) (n : ℕ) (some : 0 < n) where
         let d = counts.sent in
         let at_due : c.sent ≡ due lines c.heard = omega arith in
         inr (record {
-        next = after_round lines c n;
-        state_is = by_sent (Linked settled c) stays_so ∙ rest-linked (rs ++ []) c lives;
-        lives = lives;
-        less = waits-moves lines c counts n some at_due;
+          next = after_round lines c n;
+          state_is = by_sent (Linked settled c) stays_so ∙ rest-linked (rs ++ []) c lives;
+          lives = lives;
+          less = waits-moves lines c counts n some at_due;
         }))
       where
         by_end : c.sent < due lines c.heard → sends lines settled c n ≡ sent_to lines settled c sent_bytes → (ends : Bool) → (sent_bytes == length (to_filter lines)) ≡ ends
@@ -82,10 +82,10 @@ module _ (p : Scenario) (settled : ℕ) (n : ℕ) (some : 0 < n) where
             let f = due-le lines c.heard in
             let short : sent_bytes < length (to_filter lines) = not_all (sent_bytes) (length (to_filter lines)) at (omega arith) in
             inr (record {
-            next = after_round lines (record c { sent = sent_bytes }) n;
-            state_is = by_sent (Linked settled (record c { sent = sent_bytes }))
-            (picks ∙ ap (λ (b : Bool). if b then Done else Linked settled (record c { sent = sent_bytes })) at)
-            ∙ rest-linked (rs ++ []) (record c { sent = sent_bytes }) lives;
-            lives = lives;
-            less = sends-moves lines c counts n some early short;
+              next = after_round lines (record c { sent = sent_bytes }) n;
+              state_is = by_sent (Linked settled (record c { sent = sent_bytes }))
+                  (picks ∙ ap (λ (b : Bool). if b then Done else Linked settled (record c { sent = sent_bytes })) at)
+                  ∙ rest-linked (rs ++ []) (record c { sent = sent_bytes }) lives;
+              lives = lives;
+              less = sends-moves lines c counts n some early short;
             })

@@ -1,42 +1,26 @@
 -- The reports of a schedule are of the talks.
-use Rattle.std.proofs.Common.{◌≡◌, ◌≢◌, ◌⊎◌, inl, inr, ℕ, ◌+◌, ◌-◌, ◌≤◌, ◌<◌, Bool, true, false, if◌then◌else◌, nat_le, nat_lt, ◌==◌, min, List, [], ◌∷◌, ◌++◌, drop, length, map, Option, None, Some, refl, sym, ◌∙◌, ap, subst, arith, append-nil, append_assoc, length-append, is_some}
-use Rattle.std.specs.List.{AllZip, cons_option, filter_map, list_any}
-use Rattle.std.specs.Option.{option_map}
-use Rattle.std.proofs.lemmas.Bool.{le-leb, le-ltb, lt-leb, true≢false}
-use Rattle.milter_wire.specs.declared.agreement.Agreed.{Agreed}
-use Rattle.milter_wire.specs.declared.command.Command.{Command}
-use Rattle.milter_wire.specs.Agreement.{agree}
+use Rattle.std.proofs.Common.{◌≡◌, inl, inr, ℕ, ◌+◌, ◌-◌, ◌≤◌, ◌<◌, Bool, true, false, if◌then◌else◌, nat_lt, ◌==◌, min, List, [], ◌∷◌, ◌++◌, drop, length, refl, sym, ◌∙◌, ap, subst, arith, append-nil, append_assoc, length-append}
+use Rattle.std.specs.List.{AllZip}
+use Rattle.std.proofs.lemmas.Bool.{le-ltb, lt-leb}
 use Rattle.milter_message.specs.MailObject.{MailObject}
-use Rattle.milter_mail.specs.MailSession.{MailSession}
-use Rattle.milter_mail.specs.Plan.{macros_of, plan}
-use Rattle.milter_mail.specs.Steps.{message_steps}
-use Rattle.milter_exchange.specs.Behavior.{Behavior, exchange_of}
-use Rattle.milter_exchange.specs.Exchanges.{Exchange, commands_of, onto}
-use Rattle.milter_exchange.specs.Talk.{has_end, talk}
-use Rattle.milter_outcome.specs.declared.fallback.OnLoss.{OnLoss}
-use Rattle.milter_outcome.specs.declared.loss.By.TheVariants.{Default}
+use Rattle.milter_mail.specs.Plan.{plan}
+use Rattle.milter_exchange.specs.Talk.{talk}
 use Rattle.milter_outcome.specs.declared.loss.Loss.{Loss}
 use Rattle.milter_outcome.specs.declared.report.Report.{Report}
 use Rattle.milter_stream.specs.Number.{number}
 use Rattle.milter_wire.specs.declared.reply.Reply.{Reply}
 use Rattle.milter_wire.specs.Reply.{code_of, encoding, payload_of}
 use Rattle.milter_exchange.specs.Replies.{options_reply}
-use Rattle.std.proofs.lemmas.List.Concat.{flat_map-cons}
-use Rattle.milter_walk.specs.Lines.{Line, abort_line, line_of, offer_line, quit_line}
-use Rattle.milter_walk.specs.Sessions.{report_by, walk_of}
-use Rattle.milter_walk.specs.Settled.{ends_with_client, ends_with_message}
-use Rattle.milter_walk.specs.Walks.{opening_of}
-use Rattle.milter_schedule.specs.TalkReports.{AreReported, Begins, IsDefaultAfter, IsRuledBy, IsReportOf, agreed_of, walk_about}
+use Rattle.milter_schedule.specs.TalkReports.{AreReported, IsDefaultAfter, IsRuledBy, IsReportOf, agreed_of}
 use Rattle.milter_schedule.specs.declared.event.Event.{Event}
 use Rattle.milter_schedule.specs.declared.event.Event.TheVariants.{Dial, Send, ToFilter, Answer, ToMta, Die, Lose, Timeout}
 use Rattle.milter_schedule.specs.declared.state.Counts.{Counts}
 use Rattle.milter_schedule.specs.declared.state.State.{State}
 use Rattle.milter_schedule.specs.declared.state.State.TheVariants.{Idle, Linked, Done}
 use Rattle.milter_outcome.specs.declared.loss.Loss.TheVariants as losses
-use Rattle.milter_transcript.specs.ByteCounts.{due, owed, packet_end, to_filter, to_mta}
-use Rattle.milter_exchange.proofs.WholeTalks.{talk-some}
+use Rattle.milter_transcript.specs.ByteCounts.{due, owed, packet_end, to_filter}
 use Rattle.milter_schedule.specs.Schedule.{Scenario, after_all, first, gives_up, happens, happens_linked, hears, idle_at, if_lives, lines_at, loses, run_reports, sends, sent_to, entries_at}
-use Rattle.milter_transcript.specs.Transcript.{Entry, exchange_entries, default_reports, lines_of, default_within, transcript, reports_of, reports_within, entry_of, entries_after, entries_from}
+use Rattle.milter_transcript.specs.Transcript.{default_reports, default_within, transcript, reports_within}
 use Rattle.milter_transcript.proofs.ByteCounting.{by_lt, lt-ltb, owed-mono, packet_end-more}
 use Rattle.milter_schedule.proofs.EntryAccounts.{Settles, TalkLaws, added, drop-past, given-up, session, within, zip-append}
 
@@ -149,13 +133,16 @@ module _ (p : Scenario) (laws : TalkLaws p) where
 
   at-heard : (i : ℕ) (c : Counts) (reports : List Report) (n : ℕ) → c.heard ≤ n → IsAtState (Linked i c) reports → IsAtState (hears p i c n).state (reports ++ (hears p i c n).reports)
   at-heard i c reports n le h =
-      let e : c.heard + (n - c.heard) ≡ n = omega arith in
-      (h.0, h.1, h.2,
-      ap (λ (l : List Report). l ++ drop (length (reports_within (entries_at p i) c.heard)) (reports_within (entries_at p i) n)) h.3
-      ∙ append_assoc h.0 (reports_within (entries_at p i) c.heard) (drop (length (reports_within (entries_at p i) c.heard)) (reports_within (entries_at p i) n))
-      ∙ ap (λ (l : List Report). h.0 ++ l)
-      (ap (λ (k : ℕ). reports_within (entries_at p i) c.heard ++ drop (length (reports_within (entries_at p i) c.heard)) (reports_within (entries_at p i) k)) (sym e)
-      ∙ added (entries_at p i) c.heard (n - c.heard) ∙ ap (reports_within (entries_at p i)) e))
+      let e : c.heard + (n - c.heard) ≡ n = omega arith in (
+        h.0,
+        h.1,
+        h.2,
+        ap (λ (l : List Report). l ++ drop (length (reports_within (entries_at p i) c.heard)) (reports_within (entries_at p i) n)) h.3
+            ∙ append_assoc h.0 (reports_within (entries_at p i) c.heard) (drop (length (reports_within (entries_at p i) c.heard)) (reports_within (entries_at p i) n))
+            ∙ ap (λ (l : List Report). h.0 ++ l)
+            (ap (λ (k : ℕ). reports_within (entries_at p i) c.heard ++ drop (length (reports_within (entries_at p i) c.heard)) (reports_within (entries_at p i) k)) (sym e)
+            ∙ added (entries_at p i) c.heard (n - c.heard) ∙ ap (reports_within (entries_at p i)) e),
+      )
 
   at-linked : (i : ℕ) (c : Counts) (reports : List Report) (event : Event) → c.heard ≤ c.answered → IsAtState (Linked i c) reports
       → IsAtState (happens_linked p i c event).state (reports ++ (happens_linked p i c event).reports)

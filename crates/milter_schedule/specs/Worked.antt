@@ -1,5 +1,5 @@
 -- Worked schedules.
-use Rattle.std.specs.Prelude.{ℕ, zero, suc, List, [], ◌∷◌, ◌++◌, codes, length, map, if◌then◌else◌, ◌==◌}
+use Rattle.std.specs.Prelude.{ℕ, zero, suc, List, [], ◌++◌, length, map, if◌then◌else◌, ◌==◌}
 use Rattle.milter_wire.specs.declared.stage.Stage.{Stage}
 use Rattle.milter_wire.specs.declared.stage.Stage.TheVariants.{Rcpt}
 use Rattle.milter_wire.specs.declared.verdict.Verdict.{Verdict}
@@ -7,11 +7,9 @@ use Rattle.milter_wire.specs.declared.verdict.Verdict.TheVariants.{Continue, Rej
 use Rattle.milter_message.specs.MailObject.{MailObject}
 use Rattle.milter_exchange.specs.Behavior.{Behavior}
 use Rattle.milter_exchange.specs.Pass.{pass}
-use Rattle.milter_exchange.specs.Seen.{Seen}
 use Rattle.milter_outcome.specs.declared.fallback.OnLoss.{OnLoss}
 use Rattle.milter_outcome.specs.declared.loss.By.{By}
 use Rattle.milter_outcome.specs.declared.outcome.Outcome.{Outcome}
-use Rattle.milter_outcome.specs.declared.report.Report.{Report}
 use Rattle.milter_mta.specs.Worked.{greatest, session}
 use Rattle.milter_schedule.specs.declared.event.Event.{Event}
 use Rattle.milter_schedule.specs.Rounds.{round}

@@ -1,4 +1,4 @@
-use Rattle.std.proofs.Common.{◌≡◌, List, sym, ap, subst}
+use Rattle.std.proofs.Common.{List, sym, ap, subst}
 use Rattle.milter_exchange.specs.Exchanges.{Exchange}
 use Rattle.milter_outcome.specs.Walks.{acted}
 use Rattle.milter_schedule.specs.TalkReports.{StartsWith, walk_about}
