@@ -18,13 +18,8 @@ TABLES = [
     'session_faults', 'session_sizes', 'session_values', 'session_refused_memory', 'answer_replies', 'answer_faults',
     'answer_sizes', 'answer_refused_memory', 'answer_rules', 'rules_canonical', 'rules_faults',
     'rules_sizes', 'rules_refused_memory', 'answer_rules_refused_memory', 'guard_replies', 'edits_values',
-<<<<<<< HEAD
     'edits_faults', 'filter_faults', 'packets_totals', 'mta_conversations', 'mta_agreements', 'mta_edits',
-    'mta_faults', 'mta_losses', 'mta_refused_memory', 'links_losses', 'links_refused_memory']
-=======
-    'edits_faults', 'packets_totals', 'mta_conversations', 'mta_agreements', 'mta_edits', 'mta_faults', 'mta_losses',
-    'mta_refused_memory', 'links_losses', 'links_sockets', 'links_refused_memory']
->>>>>>> f1cbce6 (Play sessions over sockets of which one process holds both ends)
+    'mta_faults', 'mta_losses', 'mta_refused_memory', 'links_losses', 'links_sockets', 'links_refused_memory']
 # What plays the tables of each kind: a program and its words, of which FILE stands for a file of the input.
 FILE = object()
 PLAYERS = {

@@ -1,6 +1,6 @@
 //! `milter_links`: plays a session file to a filter that lets all mail go on, over links that fail, for the tables
-//! `cases/links_*.table` and for `tests/links.py`. Standard input is the session file, a line `%%`, and a line for what
-//! the links are, and for each thing that fails. What is offered has no action and no protocol bit, so that each command
+//! `cases/links_*.table` and for `tests/links.py`. Standard input is the session file, a line `%%`, and lines for what
+//! the links are and for each thing that fails. What is offered has no action and no protocol bit, so that each command
 //! is sent and answered, and a message whose filter is lost is refused for now.
 //!
 //! - `tcp`, `unix`: each link is a connection over TCP or over a Unix socket, of which this process holds both ends;

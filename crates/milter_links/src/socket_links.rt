@@ -22,7 +22,9 @@ const ANY_PORT: u16 = 0;
 /// A connection, and the filter's end that answers on it.
 #[derive(Drop)]
 pub struct SocketLink<'w, S> {
+    // The end that was dialled, the mail server's.
     client: S,
+    // The end that was accepted, the filter's.
     server: S,
     filter: FilterEnd<'w>,
 }
@@ -38,14 +40,14 @@ impl<S: Read + Write> Write for SocketLink<'_, S> {
     /// there before this ends.
     fn write(&mut self, buf: &[u8]) -> io::Result<usize> {
         let len = buf.len().min(PIECE_MAX);
-        let len = self.client.write(&buf[..len])?;
+        let count = self.client.write(&buf[..len])?;
         let mut piece = [0u8; PIECE_MAX];
-        self.server.read_exact(&mut piece[..len])?;
-        for byte in &piece[..len] {
+        self.server.read_exact(&mut piece[..count])?;
+        for byte in &piece[..count] {
             self.filter.write_all(&[*byte])?;
             io::copy(&mut self.filter, &mut self.server)?;
         }
-        Ok(len)
+        Ok(count)
     }
 
     fn flush(&mut self) -> io::Result<()> {

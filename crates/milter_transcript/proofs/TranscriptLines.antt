@@ -91,7 +91,7 @@ outs-append [] ys a b = b
 outs-append (x ∷ xs) ys a b = (a.0, outs-append xs ys a.1 b)
 
 -- a packet has bytes
-some_bytes : (command : Command) → encoding command ≢ []
+pub some_bytes : (command : Command) → encoding command ≢ []
 some_bytes command none =
     let is = length-append (number (length (payload_of command) + 1)) (code_of command ∷ payload_of command) in
     let no = ap (λ (l : List ℕ). length l) none in

@@ -1,0 +1,137 @@
+-- What a mail server's end does at one time, whatever it is.
+use Rattle.std.proofs.Common.{◌≡◌, ◌≢◌, ◌<◌, ℕ, zero, suc, Bool, true, false, if◌then◌else◌, List, [], ◌∷◌, drop, length, Option, None, Some, refl, sym, ap, ◌∙◌, arith, length-drop}
+use Rattle.milter_wire.specs.declared.command.Command.{Command}
+use Rattle.milter_mta.specs.declared.want.Want.{Want}
+use Rattle.milter_mta.specs.declared.want.Want.TheVariants as wants
+use Rattle.milter_mta.specs.Mta.{Link, Mta}
+use Rattle.milter_mta.specs.Sending.{after_packet, advanced, advanced_in, asks_at, bytes_at, finished, made, pending, pending_in, pending_or, sent, sent_from, sent_in, sent_of, want}
+
+abbrev with_link : Option Link → Mta → Mta
+with_link link m = record m { link = link }
+
+-- ---- what is pending
+
+none_pending : (l : Link) → (finished l).pending ≡ []
+none_pending l = by_tests l.aborts (asks_at l.position)
+  where
+    by_tests : (aborts asks : Bool) → (if aborts then record l { aborts = false; pending = []; owed = false }
+        else if asks then record l { pending = []; owed = true }
+        else record l { position = after_packet l.position; pending = []; owed = false }).pending ≡ []
+    by_tests true asks = refl
+    by_tests false true = refl
+    by_tests false false = refl
+
+pending-from : (l : Link) (left : List ℕ) → (sent_from l left).pending ≡ left
+pending-from l [] = none_pending l
+pending-from l (byte ∷ bytes) = refl
+
+pending-of : (count : ℕ) (bytes : List ℕ) (l : Link) → l.pending ≡ bytes → (sent_of count bytes l).pending ≡ drop count bytes
+pending-of count [] l e = e ∙ drop-nothing count
+  where
+    drop-nothing : (n : ℕ) → ◌≡◌ {A = List ℕ} [] (drop n [])
+    drop-nothing zero = refl
+    drop-nothing (suc n) = refl
+pending-of count (byte ∷ bytes) l e = pending-from l (drop count (byte ∷ bytes))
+
+pub pending-sent : (count : ℕ) (m : Mta) → pending (sent count m) ≡ drop count (pending m)
+pending-sent count m = by_link m.link
+  where
+    by_link : (link : Option Link) → pending (sent_in count link (with_link link m)) ≡ drop count (pending_in link)
+    by_link None = drop-nothing count
+      where
+        drop-nothing : (n : ℕ) → ◌≡◌ {A = List ℕ} [] (drop n [])
+        drop-nothing zero = refl
+        drop-nothing (suc n) = refl
+    by_link (Some l) = pending-of count l.pending l refl
+
+sent_of-nothing : (bytes : List ℕ) (l : Link) → l.pending ≡ bytes → sent_of 0 bytes l ≡ l
+sent_of-nothing [] l e = refl
+sent_of-nothing (byte ∷ bytes) l e = ap (λ (p : List ℕ). record l { pending = p }) (sym e)
+
+pub sent-nothing : (m : Mta) → sent 0 m ≡ m
+sent-nothing m = by_link m.link
+  where
+    by_link : (link : Option Link) → sent_in 0 link (with_link link m) ≡ with_link link m
+    by_link None = refl
+    by_link (Some l) = ap (λ (k : Link). with_link (Some k) m) (sent_of-nothing l.pending l refl)
+
+-- ---- the next packet
+
+advanced_in-some : (l : Link) (w : Want) (m : Mta) → w ≡ wants.Send → advanced_in (Some l) w m ≡ record m { link = Some (made m.config l) }
+advanced_in-some l wants.Send m e = refl
+advanced_in-some l wants.Dial m e = absurd cc
+advanced_in-some l wants.Receive m e = absurd cc
+advanced_in-some l wants.Done m e = absurd cc
+
+-- it wants what it wanted
+pub want-advanced : (m : Mta) → want (advanced m) ≡ want m
+want-advanced m = by_link m.link
+  where
+    by_want : (l : Link) (w : Want) → want (advanced_in (Some l) w (with_link (Some l) m)) ≡ want (with_link (Some l) m)
+    by_want l wants.Send = refl
+    by_want l wants.Dial = refl
+    by_want l wants.Receive = refl
+    by_want l wants.Done = refl
+
+    by_link : (link : Option Link) → want (advanced_in link (want (with_link link m)) (with_link link m)) ≡ want (with_link link m)
+    by_link None = refl
+    by_link (Some l) = by_want l (want (with_link (Some l) m))
+
+pending_or-full : (p : List ℕ) (c : Option Command) → p ≢ [] → pending_or p c ≡ p
+pending_or-full [] c some = absurd (some refl)
+pending_or-full (byte ∷ bytes) c some = refl
+
+-- where some of a packet is pending no other is made
+pub advanced-full : (m : Mta) → pending m ≢ [] → advanced m ≡ m
+advanced-full m some = by_link m.link some
+  where
+    by_want : (l : Link) (w : Want) → l.pending ≢ [] → advanced_in (Some l) w (with_link (Some l) m) ≡ with_link (Some l) m
+    by_want l wants.Send some = ap (λ (p : List ℕ). with_link (Some (record l { pending = p })) m) (pending_or-full l.pending _ some)
+    by_want l wants.Dial some = refl
+    by_want l wants.Receive some = refl
+    by_want l wants.Done some = refl
+
+    by_link : (link : Option Link) → pending_in link ≢ [] → advanced_in link (want (with_link link m)) (with_link link m) ≡ with_link link m
+    by_link None some = refl
+    by_link (Some l) some = by_want l (want (with_link (Some l) m)) some
+
+pending_or-again : (p : List ℕ) (c : Option Command) → pending_or (pending_or p c) c ≡ pending_or p c
+pending_or-again [] c = by_bytes (bytes_at c) refl
+  where
+    by_bytes : (bytes : List ℕ) → bytes_at c ≡ bytes → pending_or bytes c ≡ bytes
+    by_bytes [] e = e
+    by_bytes (byte ∷ bytes) e = refl
+pending_or-again (byte ∷ bytes) c = refl
+
+pub advanced-again : (m : Mta) → advanced (advanced m) ≡ advanced m
+advanced-again m = by_link m.link
+  where
+    by_want : (l : Link) (w : Want) → want (with_link (Some l) m) ≡ w → advanced (advanced_in (Some l) w (with_link (Some l) m)) ≡ advanced_in (Some l) w (with_link (Some l) m)
+    by_want l wants.Send e =
+        advanced_in-some (made m.config l) (want (with_link (Some l) m)) (with_link (Some (made m.config l)) m) e
+        ∙ ap (λ (p : List ℕ). with_link (Some (record l { pending = p })) m) (pending_or-again l.pending _)
+    by_want l wants.Dial e = ap (λ (w : Want). advanced_in (Some l) w (with_link (Some l) m)) e
+    by_want l wants.Receive e = ap (λ (w : Want). advanced_in (Some l) w (with_link (Some l) m)) e
+    by_want l wants.Done e = ap (λ (w : Want). advanced_in (Some l) w (with_link (Some l) m)) e
+
+    by_link : (link : Option Link) → advanced (advanced_in link (want (with_link link m)) (with_link link m)) ≡ advanced_in link (want (with_link link m)) (with_link link m)
+    by_link None = refl
+    by_link (Some l) = by_want l (want (with_link (Some l) m)) refl
+
+-- ---- in the midst of a packet
+
+-- where some of it is left nothing else changes
+pub want-sent : (count : ℕ) (m : Mta) → count < length (pending m) → want (sent count m) ≡ want m
+want-sent count m less = by_link m.link less
+  where
+    by_left : (l : Link) (left : List ℕ) → 0 < length left → want (with_link (Some (sent_from l left)) m) ≡ want (with_link (Some l) m)
+    by_left l [] some = absurd (let h : 0 < 0 = some in omega arith)
+    by_left l (byte ∷ bytes) some = refl
+
+    by_bytes : (l : Link) (bytes : List ℕ) → count < length bytes → want (with_link (Some (sent_of count bytes l)) m) ≡ want (with_link (Some l) m)
+    by_bytes l [] less = refl
+    by_bytes l (byte ∷ bytes) less = by_left l (drop count (byte ∷ bytes)) (let d = length-drop count (byte ∷ bytes) in omega arith)
+
+    by_link : (link : Option Link) → count < length (pending_in link) → want (sent_in count link (with_link link m)) ≡ want (with_link link m)
+    by_link None less = refl
+    by_link (Some l) less = by_bytes l l.pending less
