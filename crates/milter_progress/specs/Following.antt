@@ -43,7 +43,8 @@ pub record TakesEntry (on_loss : OnLoss) (m : Mta) (entry : Entry) : Type 0 wher
 -- entry by entry, to the end, where every message is settled
 abbrev pub Follows : OnLoss → Mta → List Entry → Type 0
 Follows on_loss m [] = (want m ≡ wants.Done) × (m.session.messages ≡ [])
-Follows on_loss m (entry ∷ entries) = TakesEntry on_loss m entry × Follows on_loss (after_line entry.line.back m).mta entries
+Follows on_loss m (entry ∷ entries) =
+    TakesEntry on_loss m entry × Follows on_loss (after_line entry.line.back m).mta entries
 
 -- ---- in pieces
 

@@ -92,8 +92,8 @@ pub fn talks_are_followed()
     walks_settle_one();
 }
 
-/// A mail server's end that has these messages left follows their transcript with a lawful filter from the moment that a
-/// connection is made: a reopened connection has the same talk.
+/// A mail server's end that has these messages left follows their transcript with a lawful filter from the moment that
+/// a connection is made: a reopened connection has the same talk.
 pub fn transcripts_are_followed()
     ensures { (b : Behavior) (session : MailSession) (config : Configuration) (m : Mta) (message : MailObject)
         (messages : List MailObject) → IsLawful b → VERSION_MIN ≤ config.offer.version →

@@ -1,5 +1,5 @@
-//! A mail server's end at any byte of a transcript: it follows the transcript of a session with a lawful filter, however
-//! the bytes are cut.
+//! A mail server's end at any byte of a transcript: it follows the transcript of a session with a lawful filter,
+//! however the bytes are cut.
 //!
 //! Nothing here is run: each law is the contract of a function that does nothing.
 #![tactic(auto)]

@@ -20,7 +20,8 @@ pub record AreCounts (lines : List Line) (c : Counts) : Type 0 where
 -- how many bytes are to move yet
 abbrev pub to_move : List Line → Counts → ℕ
 to_move lines c =
-    (length (to_filter lines) - c.sent) + (length (to_filter lines) - c.taken) + (length (to_mta lines) - c.answered) + (length (to_mta lines) - c.heard)
+    (length (to_filter lines) - c.sent) + (length (to_filter lines) - c.taken) + (length (to_mta lines) - c.answered)
+    + (length (to_mta lines) - c.heard)
 
 -- at most so many bytes moved at each place but that where they are sent
 abbrev pub after_round : List Line → Counts → ℕ → Counts

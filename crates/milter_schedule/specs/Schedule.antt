@@ -1,5 +1,5 @@
--- What becomes of a session over connections that fail: its state, by counts of bytes over two fixed lists of bytes, and
--- the reports that each event adds. No parser and no packet in flight is spoken of.
+-- What becomes of a session over connections that fail: its state, by counts of bytes over two fixed lists of bytes,
+-- and the reports that each event adds. No parser and no packet in flight is spoken of.
 use Rattle.std.specs.Prelude.{ℕ, ◌+◌, ◌==◌, nat_lt, min, Bool, true, false, List, [], ◌∷◌, ◌++◌, drop, length, if◌then◌else◌}
 use Rattle.milter_mail.specs.MailSession.{MailSession}
 use Rattle.milter_exchange.specs.Behavior.{Behavior}
@@ -96,7 +96,8 @@ happens_linked p settled c (ToFilter n) =
     stays (Linked settled (if_lives c.lives c (record c { taken = min (c.taken + n) c.sent })))
 happens_linked p settled c (Answer n) =
     stays
-    (Linked settled (if_lives c.lives c (record c { answered = min (c.answered + n) (owed (lines_at p settled) c.taken) })))
+    (Linked settled
+    (if_lives c.lives c (record c { answered = min (c.answered + n) (owed (lines_at p settled) c.taken) })))
 happens_linked p settled c (ToMta n) = hears p settled c (min (c.heard + n) c.answered)
 happens_linked p settled c Die = stays (Linked settled (record c { lives = false }))
 happens_linked p settled c Lose = loses p settled c losses.Reset

@@ -78,11 +78,13 @@ is_known by = by_reset by || by_timeout by
 
 abbrev pub count_reports : (By → Bool) → List Report → ℕ
 count_reports is_by [] = 0
-count_reports is_by (r ∷ reports) = if is_by r.settled_by then suc (count_reports is_by reports) else count_reports is_by reports
+count_reports is_by (r ∷ reports) =
+    if is_by r.settled_by then suc (count_reports is_by reports) else count_reports is_by reports
 
 abbrev pub count_events : (Event → Bool) → List Event → ℕ
 count_events is_event [] = 0
-count_events is_event (event ∷ events) = if is_event event then suc (count_events is_event events) else count_events is_event events
+count_events is_event (event ∷ events) =
+    if is_event event then suc (count_events is_event events) else count_events is_event events
 
 -- the first of these verdicts
 pub record StartsWith (first all : List Acted) : Type 0 where

@@ -40,4 +40,5 @@ pub record Summary : Type 0 where
 
 abbrev pub summaries : Scenario → List Event → List Summary
 summaries p events =
-    map (λ r. record { verdicts = map (λ a. a.verdict) r.acted; outcome = r.outcome; by = r.settled_by }) (run_reports p events)
+    map (λ r. record { verdicts = map (λ a. a.verdict) r.acted; outcome = r.outcome; by = r.settled_by })
+    (run_reports p events)

@@ -31,7 +31,8 @@ pub(crate) fn undisturbed()
 
 /// Sessions whose connections are lost, or whose filters die.
 pub(crate) fn lost()
-    ensures accepted { summaries (scenario refuses_first defaults.Accept (two_recipients ∷ [])) (Dial ∷ rounds 6 100 ++ Send 100 ∷ Lose ∷ [])
+    ensures accepted { summaries (scenario refuses_first defaults.Accept (two_recipients ∷ []))
+        (Dial ∷ rounds 6 100 ++ Send 100 ∷ Lose ∷ [])
         ≡ record {
           verdicts = Continue ∷ Continue ∷ Continue ∷ Reject ∷ Continue ∷ [];
           outcome = released (record two_recipients { recipients = at (codes "c@y") ∷ [] });

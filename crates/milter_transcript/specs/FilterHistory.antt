@@ -17,13 +17,15 @@ use Rattle.milter_walk.specs.Settled.{ends_with_message}
 use Rattle.milter_walk.specs.Walks.{opening_of}
 
 -- after this history the walk about a message has come so far, and what is left of its plan can follow
-pub record IsAt (b : Behavior) (agreed : Agreed) (session : MailSession) (history walk : List Exchange) (left : List Command) : Type 0 where
+pub record IsAt (b : Behavior) (agreed : Agreed) (session : MailSession) (history walk : List Exchange)
+    (left : List Command) : Type 0 where
   pub agreed_is : agreed_in b history ≡ Some agreed
   pub shown_is : shown history ≡ commands_of walk
   pub kept_is : of_connection history ≡ commands_of (opening_of walk)
   pub in_turn : AreInTurn (last_rank history) left
   pub amount : bytes_of (shown history) + bytes_of left ≤ WEIGHT_MAX
-  pub opened : bytes_of (of_connection history) + bytes_of (filter is_of_connection left) ≤ bytes_of (opening agreed session)
+  pub opened : bytes_of (of_connection history) + bytes_of (filter is_of_connection left)
+      ≤ bytes_of (opening agreed session)
   pub fits : All Fits left
   pub goes_on : ends_with_message walk ≡ false
 

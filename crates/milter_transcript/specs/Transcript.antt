@@ -62,16 +62,19 @@ entries_after walk left next =
     else entry_of abort_line left (opening_of walk) ∷ next
 
 -- from a message of which these commands are left after this walk, before these messages
-abbrev pub entries_from : Behavior → Agreed → MailSession → MailObject → List MailObject → List Exchange → List Command → List Entry
+abbrev pub entries_from : Behavior → Agreed → MailSession → MailObject → List MailObject → List Exchange
+    → List Command → List Entry
 entries_from b agreed session message [] walk left =
     let all = onto (talk b agreed walk left) walk in
     exchange_entries (reports_of agreed all message []) (message ∷ []) walk (talk b agreed walk left)
     ++ entries_after all [] (entry_of quit_line [] [] ∷ [])
 entries_from b agreed session message (next ∷ messages) walk left =
     let all = onto (talk b agreed walk left) walk in
-    exchange_entries (reports_of agreed all message (next ∷ messages)) (message ∷ next ∷ messages) walk (talk b agreed walk left)
+    exchange_entries (reports_of agreed all message (next ∷ messages)) (message ∷ next ∷ messages) walk
+    (talk b agreed walk left)
     ++ entries_after all (next ∷ messages)
-    (entries_from b agreed session next messages (opening_of all) (message_steps agreed (macros_of agreed session) next))
+    (entries_from b agreed session next messages (opening_of all)
+    (message_steps agreed (macros_of agreed session) next))
 
 -- of a connection that is opened where these messages are left
 abbrev pub transcript : Behavior → Options → MailSession → List MailObject → List Entry
@@ -87,7 +90,8 @@ transcript b offer session (message ∷ messages) =
 abbrev pub reports_within : List Entry → ℕ → List Report
 reports_within [] heard = []
 reports_within (entry ∷ entries) heard =
-    if nat_le (length entry.line.back) heard then entry.reports ++ reports_within entries (heard - length entry.line.back) else []
+    if nat_le (length entry.line.back) heard
+    then entry.reports ++ reports_within entries (heard - length entry.line.back) else []
 
 -- the first of these messages, by default after these exchanges
 abbrev pub default_reports : OnLoss → Loss → List MailObject → List Exchange → List Report

@@ -30,8 +30,8 @@ pub fn counts_of_bytes()
     ensures { (lines : List Line) (heard taken : ℕ) → heard < owed lines taken → due lines heard ≤ taken }
 {}
 
-/// The lines of a transcript are those of the session; and where no further packet is due all answers were heard, as the
-/// last packet has none.
+/// The lines of a transcript are those of the session; and where no further packet is due all answers were heard, as
+/// the last packet has none.
 pub fn transcripts_of_sessions()
     ensures lines { (b : Behavior) (offer : Options) (session : MailSession) (messages : List MailObject) →
         lines_of (transcript b offer session messages) ≡ session_lines b offer session messages }
