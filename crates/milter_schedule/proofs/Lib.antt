@@ -1,6 +1,7 @@
 pub mod EntryAccounts
 mod RunReports
 mod DefaultCounts
+mod Causes
 mod Beginnings
 mod Moves
 mod RoundMoves

@@ -1,6 +1,6 @@
 //! Laws of what becomes of a session over connections that fail, each the contract of a function that does nothing.
 
-ghost use Rattle.std.specs.Prelude.{◌≡◌, ◌⊎◌, ◌≤◌, ◌<◌, ◌+◌, List, length, min, true, ℕ};
+ghost use Rattle.std.specs.Prelude.{◌≡◌, ◌⊎◌, ◌≤◌, ◌<◌, ◌+◌, All, List, length, min, true, ℕ};
 ghost use Rattle.std.specs.List.{AllZip};
 ghost use Rattle.milter_message.specs.MailObject.{MailObject};
 ghost use Rattle.milter_outcome.specs.declared.report.Report.{Report};
@@ -13,7 +13,7 @@ ghost use Rattle.milter_schedule.specs.declared.state.Counts.{Counts};
 ghost use Rattle.milter_schedule.specs.declared.state.State.TheVariants.{Done, Linked};
 ghost use Rattle.milter_schedule.specs.Rounds.{AreCounts, MovesOn, after_round, round, to_move};
 ghost use Rattle.milter_schedule.specs.Schedule.{Scenario, after_all, entries_at, lines_at, run_reports};
-ghost use Rattle.milter_schedule.specs.TalkReports.{AreReported, IsDefaultAfter, IsRuledBy, StartsWith, by_reset, by_timeout, count_events, count_reports, is_lose, is_timeout, walk_about};
+ghost use Rattle.milter_schedule.specs.TalkReports.{AreReported, IsDefaultAfter, IsRuledBy, StartsWith, by_reset, by_timeout, count_events, count_reports, is_known, is_lose, is_timeout, walk_about};
 
 use milter_walk::{closed_walks_rule, plans_are_walked, walks_of_messages};
 
@@ -27,12 +27,15 @@ pub fn schedules_report_talks()
     walks_of_messages();
 }
 
-/// At most one report is by default for each loss, and for each timeout.
+/// At most one report is by default for each loss, and for each timeout; and no report is by another cause than the
+/// filter's verdicts, on the message or on the connection, and these.
 pub fn defaults_are_counted()
     ensures reset { (p : Scenario) (events : List Event) →
         count_reports by_reset (run_reports p events) ≤ count_events is_lose events }
     ensures timeout { (p : Scenario) (events : List Event) →
         count_reports by_timeout (run_reports p events) ≤ count_events is_timeout events }
+    ensures causes { (p : Scenario) (events : List Event) →
+        All (λ r. is_known r.settled_by ≡ true) (run_reports p events) }
 {
     closed_walks_rule();
     plans_are_walked();
