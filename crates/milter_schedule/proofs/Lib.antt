@@ -5,3 +5,4 @@ mod Causes
 mod Beginnings
 mod Moves
 mod RoundMoves
+mod Progress

@@ -24,12 +24,18 @@ use Rattle.milter_transcript.specs.Transcript.{default_reports, default_within, 
 use Rattle.milter_transcript.proofs.ByteCounting.{by_lt, lt-ltb, owed-mono, packet_end-more}
 use Rattle.milter_schedule.proofs.EntryAccounts.{Settles, TalkLaws, added, drop-past, given-up, session, within, zip-append}
 
+pub zip-length : {A B : Type 0} (R : A → B → Type 0) (xs : List A) (ys : List B) → AllZip R xs ys → length xs ≡ length ys
+zip-length R [] [] all = refl
+zip-length R [] (y ∷ ys) all = absurd all
+zip-length R (x ∷ xs) [] all = absurd all
+zip-length R (x ∷ xs) (y ∷ ys) all = let r = zip-length R xs ys all.1 in omega arith
+
 module _ (p : Scenario) (laws : TalkLaws p) where
   -- so many are settled, each as told
-  record Reported (messages : List MailObject) (reports : List Report) (left : List MailObject) : Type 0 where
-    done : List MailObject
-    messages_are : messages ≡ done ++ left
-    each : AllZip (IsReportOf p) done reports
+  pub record Reported (messages : List MailObject) (reports : List Report) (left : List MailObject) : Type 0 where
+    pub done : List MailObject
+    pub messages_are : messages ≡ done ++ left
+    pub each : AllZip (IsReportOf p) done reports
 
   weaker-ruled : (xs : List MailObject) (us : List Report) → AllZip (IsRuledBy p) xs us → AllZip (IsReportOf p) xs us
   weaker-ruled [] [] a = tt
@@ -43,14 +49,8 @@ module _ (p : Scenario) (laws : TalkLaws p) where
   weaker-lost (x ∷ xs) [] a = absurd a
   weaker-lost (x ∷ xs) (u ∷ us) a = (inr a.0, weaker-lost xs us a.1)
 
-  zip-length : {A B : Type 0} (R : A → B → Type 0) (xs : List A) (ys : List B) → AllZip R xs ys → length xs ≡ length ys
-  zip-length R [] [] all = refl
-  zip-length R [] (y ∷ ys) all = absurd all
-  zip-length R (x ∷ xs) [] all = absurd all
-  zip-length R (x ∷ xs) (y ∷ ys) all = let r = zip-length R xs ys all.1 in omega arith
-
   -- where a run has come
-  abbrev IsAtState : State → List Report → Type 0
+  abbrev pub IsAtState : State → List Report → Type 0
   IsAtState (Idle i) reports = Reported p.session.messages reports (drop i p.session.messages) × (length reports ≡ i)
   IsAtState (Linked i c) reports =
       (before : List Report) × Reported p.session.messages before (drop i p.session.messages) × (length before ≡ i)
@@ -165,11 +165,11 @@ module _ (p : Scenario) (laws : TalkLaws p) where
 
   -- ---- the counts are sound
 
-  abbrev Sound : State → Type 0
+  abbrev pub Sound : State → Type 0
   Sound (Linked i c) = (c.heard ≤ c.answered) × (c.answered ≤ owed (lines_at p i) c.taken) × (c.taken ≤ c.sent)
   Sound other = Unit {0}
 
-  sound-idle : (i : ℕ) → Sound (idle_at p i)
+  pub sound-idle : (i : ℕ) → Sound (idle_at p i)
   sound-idle i = by_some (nat_lt i (length p.session.messages))
     where
       by_some : (some : Bool) → Sound (if some then Idle i else Done)
@@ -207,7 +207,7 @@ module _ (p : Scenario) (laws : TalkLaws p) where
   sound-linked i c Lose ok = sound-idle _
   sound-linked i c Timeout ok = sound-idle _
 
-  sound-happens : (s : State) (event : Event) → Sound s → Sound (happens p s event).state
+  pub sound-happens : (s : State) (event : Event) → Sound s → Sound (happens p s event).state
   sound-happens (Idle i) Dial ok = (omega arith, omega arith, omega arith)
   sound-happens (Idle i) Lose ok = sound-idle _
   sound-happens (Idle i) Timeout ok = sound-idle _
@@ -224,7 +224,7 @@ module _ (p : Scenario) (laws : TalkLaws p) where
   idle-stays : (i : ℕ) (reports : List Report) → IsAtState (Idle i) reports → IsAtState (Idle i) (reports ++ [])
   idle-stays i reports h = subst (λ (l : List Report). IsAtState (Idle i) l) (sym (append-nil reports)) h
 
-  at-happens : (s : State) (event : Event) (reports : List Report) → Sound s → IsAtState s reports → IsAtState (happens p s event).state (reports ++ (happens p s event).reports)
+  pub at-happens : (s : State) (event : Event) (reports : List Report) → Sound s → IsAtState s reports → IsAtState (happens p s event).state (reports ++ (happens p s event).reports)
   at-happens (Idle i) Dial reports ok h =
       let w = within p (entries_at p i) (drop i p.session.messages) (session p laws (drop i p.session.messages)) 0 in
       (reports, h.0, h.1, ap (λ (l : List Report). reports ++ l) (sym (settled-nothing i)))
@@ -261,6 +261,8 @@ module _ (p : Scenario) (laws : TalkLaws p) where
   reported-after (event ∷ events) s reports ok h =
       reported-after events (happens p s event).state (reports ++ (happens p s event).reports) (sound-happens s event ok) (at-happens s event reports ok h)
 
+  pub at-first : IsAtState (first p) []
+  at-first = at-idle 0 [] p.session.messages (record { done = []; messages_are = refl; each = tt }) refl
+
   pub run-reported : (events : List Event) → AreReported p p.session.messages (run_reports p events)
-  run-reported events =
-      reported-after events (first p) [] (sound-idle 0) (at-idle 0 [] p.session.messages (record { done = []; messages_are = refl; each = tt }) refl)
+  run-reported events = reported-after events (first p) [] (sound-idle 0) at-first

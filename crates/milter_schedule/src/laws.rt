@@ -12,7 +12,7 @@ ghost use Rattle.milter_schedule.specs.declared.event.Event.{Event};
 ghost use Rattle.milter_schedule.specs.declared.state.Counts.{Counts};
 ghost use Rattle.milter_schedule.specs.declared.state.State.TheVariants.{Done, Linked};
 ghost use Rattle.milter_schedule.specs.Rounds.{AreCounts, MovesOn, after_round, round, to_move};
-ghost use Rattle.milter_schedule.specs.Schedule.{Scenario, after_all, entries_at, lines_at, run_reports};
+ghost use Rattle.milter_schedule.specs.Schedule.{Scenario, after_all, entries_at, first, lines_at, run_reports, stays};
 ghost use Rattle.milter_schedule.specs.TalkReports.{AreReported, IsDefaultAfter, IsRuledBy, StartsWith, by_reset, by_timeout, count_events, count_reports, is_known, is_lose, is_timeout, walk_about};
 
 use milter_walk::{closed_walks_rule, plans_are_walked, walks_of_messages};
@@ -36,6 +36,20 @@ pub fn defaults_are_counted()
         count_reports by_timeout (run_reports p events) ≤ count_events is_timeout events }
     ensures causes { (p : Scenario) (events : List Event) →
         All (λ r. is_known r.settled_by ≡ true) (run_reports p events) }
+{
+    closed_walks_rule();
+    plans_are_walked();
+    walks_of_messages();
+}
+
+/// At least as many messages are reported as there are losses and timeouts, or all; and all are where the session is
+/// over.
+pub fn losses_settle_messages()
+    ensures losses { (p : Scenario) (events : List Event) →
+        min (count_events is_lose events + count_events is_timeout events) (length p.session.messages)
+        ≤ length (run_reports p events) }
+    ensures done { (p : Scenario) (events : List Event) → (after_all p (stays (first p)) events).state ≡ Done →
+        length (run_reports p events) ≡ length p.session.messages }
 {
     closed_walks_rule();
     plans_are_walked();

@@ -11,6 +11,7 @@ mod state;
 
 pub use event::Event;
 pub use laws::{
-    beginnings_are_acted_on, defaults_are_counted, rounds_move_on, schedules_report_talks,
+    beginnings_are_acted_on, defaults_are_counted, losses_settle_messages, rounds_move_on,
+    schedules_report_talks,
 };
 pub use state::{Counts, State};
