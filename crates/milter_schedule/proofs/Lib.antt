@@ -6,3 +6,4 @@ mod Beginnings
 mod Moves
 mod RoundMoves
 mod Progress
+mod Given

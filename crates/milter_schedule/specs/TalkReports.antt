@@ -1,10 +1,17 @@
 -- What is reported of a message, by its own talk with the filter, asked directly.
-use Rattle.std.specs.Prelude.{◌≡◌, ◌⊎◌, ℕ, suc, Bool, true, false, ◌||◌, if◌then◌else◌, List, [], ◌∷◌, ◌++◌, Some}
+use Rattle.std.specs.Prelude.{◌≡◌, ◌⊎◌, ℕ, suc, Bool, true, false, ◌||◌, if◌then◌else◌, All, IfSome, List, [], ◌∷◌, ◌++◌, Some}
 use Rattle.std.specs.List.{AllZip}
 use Rattle.milter_wire.specs.declared.agreement.Agreed.{Agreed}
-use Rattle.milter_wire.specs.Agreement.{agree}
+use Rattle.milter_wire.specs.declared.command.Command.{Command}
+use Rattle.milter_wire.specs.declared.stage.Stage.{Stage}
+use Rattle.milter_wire.specs.Agreement.{agree, has_leading_space, is_asked}
+use Rattle.milter_wire.specs.Stages.{stage_of}
 use Rattle.milter_message.specs.MailObject.{MailObject}
-use Rattle.milter_exchange.specs.Exchanges.{Exchange, onto}
+use Rattle.milter_exchange.specs.declared.answer.Answer.{Answer}
+use Rattle.milter_exchange.specs.Behavior.{exchange_of}
+use Rattle.milter_exchange.specs.Exchanges.{Exchange, commands_of, onto}
+use Rattle.milter_exchange.specs.Permitted.{is_permitted, permitted}
+use Rattle.milter_exchange.specs.Seen.{seen}
 use Rattle.milter_outcome.specs.declared.acted.Acted.{Acted}
 use Rattle.milter_outcome.specs.declared.loss.By.{By}
 use Rattle.milter_outcome.specs.declared.loss.By.TheVariants.{Connection, Default, Filter}
@@ -14,7 +21,7 @@ use Rattle.milter_schedule.specs.declared.event.Event.{Event}
 use Rattle.milter_schedule.specs.declared.event.Event.TheVariants.{Lose, Timeout}
 use Rattle.milter_outcome.specs.declared.loss.Loss.{Loss}
 use Rattle.milter_outcome.specs.declared.report.Report.{Report}
-use Rattle.milter_outcome.specs.Walks.{acted, given_up}
+use Rattle.milter_outcome.specs.Walks.{acted, count_at, given_up}
 use Rattle.milter_mta.specs.Settling.{report}
 use Rattle.milter_walk.specs.Sessions.{report_by, walk_of}
 use Rattle.milter_schedule.specs.Schedule.{Scenario}
@@ -51,6 +58,33 @@ pub record AreReported (p : Scenario) (messages : List MailObject) (reports : Li
   pub rest : List MailObject
   pub messages_are : messages ≡ done ++ rest
   pub each : AllZip (IsReportOf p) done reports
+
+-- ---- what the filter gave
+
+-- the next exchange of a talk, about this command
+abbrev pub asked_after : Scenario → List Exchange → Command → Exchange
+asked_after p before command = exchange_of p.filter (agreed_of p) (commands_of before) command
+
+-- what the filter may give at this stage, shown what was sent up to this command
+abbrev pub given_at : Scenario → Stage → List Exchange → Command → Answer
+given_at p stage before command =
+    permitted (agreed_of p)
+    (p.filter.decide stage (seen (has_leading_space (agreed_of p)) (command ∷ commands_of before)))
+
+-- the talk about the message has this command, about which the filter is asked; it is the nth of its stage, and the
+-- verdict is what the filter gives there
+pub record WasGiven (p : Scenario) (message : MailObject) (a : Acted) : Type 0 where
+  pub before : List Exchange
+  pub command : Command
+  pub begins : Begins p message (asked_after p before command ∷ before)
+  pub stage_is : stage_of command ≡ Some a.stage
+  pub asked : is_asked (agreed_of p) command ≡ true
+  pub nth_is : a.nth ≡ count_at a.stage (asked_after p before command ∷ before)
+  pub verdict_is : a.verdict ≡ (given_at p a.stage before command).verdict
+
+-- each edit of the answer, if there is one, was agreed on
+abbrev pub AreAgreedOn : Agreed → Exchange → Type 0
+AreAgreedOn agreed exchange = IfSome exchange.answer (λ answer. All (λ edit. is_permitted agreed edit ≡ true) answer.edits)
 
 -- ---- how many are by default
 

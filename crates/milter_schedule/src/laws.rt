@@ -13,8 +13,9 @@ ghost use Rattle.milter_schedule.specs.declared.state.Counts.{Counts};
 ghost use Rattle.milter_schedule.specs.declared.state.State.TheVariants.{Done, Linked};
 ghost use Rattle.milter_schedule.specs.Rounds.{AreCounts, MovesOn, after_round, round, to_move};
 ghost use Rattle.milter_schedule.specs.Schedule.{Scenario, after_all, entries_at, first, lines_at, run_reports, stays};
-ghost use Rattle.milter_schedule.specs.TalkReports.{AreReported, IsDefaultAfter, IsRuledBy, StartsWith, by_reset, by_timeout, count_events, count_reports, is_known, is_lose, is_timeout, walk_about};
+ghost use Rattle.milter_schedule.specs.TalkReports.{AreAgreedOn, AreReported, IsDefaultAfter, IsReportOf, IsRuledBy, StartsWith, WasGiven, agreed_of, by_reset, by_timeout, count_events, count_reports, is_known, is_lose, is_timeout, walk_about};
 
+use milter_exchange::{permitted_answers, talks};
 use milter_walk::{closed_walks_rule, plans_are_walked, walks_of_messages};
 
 /// Whatever happens, the first messages of the session are reported, in order, each as its own talk with the filter
@@ -62,8 +63,20 @@ pub fn beginnings_are_acted_on()
         StartsWith r.acted (acted (walk_about p message)) }
 {}
 
-/// A round in which each of the four moves comes brings a living connection nearer to its end, or ends it; and where
-/// all bytes of a connection were heard, each message is reported as its talk rules.
+/// Each verdict that a report says was acted on is what the filter gives at a command of the talk about the message,
+/// of which it is the nth of its stage; and each edit of the talk was agreed on.
+pub fn verdicts_were_given()
+    ensures verdicts { (p : Scenario) (message : MailObject) (r : Report) → IsReportOf p message r →
+        All (WasGiven p message) r.acted }
+    ensures edits { (p : Scenario) (message : MailObject) →
+        All (AreAgreedOn (agreed_of p)) (walk_about p message) }
+{
+    permitted_answers();
+    talks();
+}
+
+/// A round in which each of the four moves comes brings a living connection nearer to its end, or ends it; and where all
+/// bytes of a connection were heard, each message is reported as its talk rules.
 pub fn rounds_move_on()
     ensures waits { (lines : List Line) (c : Counts) (n : ℕ) → AreCounts lines c → 0 < n →
         c.sent ≡ due lines c.heard → to_move lines (after_round lines c n) < to_move lines c }
