@@ -1,12 +1,14 @@
 -- Worked schedules.
-use Rattle.std.specs.Prelude.{ℕ, zero, suc, List, [], ◌++◌, length, map, if◌then◌else◌, ◌==◌}
+use Rattle.std.specs.Prelude.{ℕ, zero, suc, List, [], ◌∷◌, ◌++◌, codes, length, map, if◌then◌else◌, ◌==◌}
 use Rattle.milter_wire.specs.declared.stage.Stage.{Stage}
-use Rattle.milter_wire.specs.declared.stage.Stage.TheVariants.{Rcpt}
+use Rattle.milter_wire.specs.declared.stage.Stage.TheVariants.{Connect, Rcpt}
 use Rattle.milter_wire.specs.declared.verdict.Verdict.{Verdict}
-use Rattle.milter_wire.specs.declared.verdict.Verdict.TheVariants.{Continue, Reject}
+use Rattle.milter_wire.specs.declared.verdict.Verdict.TheVariants.{Accept, Continue, Reject}
+use Rattle.milter_message.specs.declared.edit.Edit.TheVariants.{AddRcpt, DelRcpt}
 use Rattle.milter_message.specs.MailObject.{MailObject}
 use Rattle.milter_exchange.specs.Behavior.{Behavior}
 use Rattle.milter_exchange.specs.Pass.{pass}
+use Rattle.milter_exchange.specs.Worked.{deciding, edits_at_end}
 use Rattle.milter_outcome.specs.declared.fallback.OnLoss.{OnLoss}
 use Rattle.milter_outcome.specs.declared.loss.By.{By}
 use Rattle.milter_outcome.specs.declared.outcome.Outcome.{Outcome}
@@ -31,6 +33,27 @@ abbrev pub refuses_first : Behavior
 refuses_first = record pass {
   decide = λ at seen. record { edits = []; verdict = decided at (map (λ r. 0) seen.recipients) };
 }
+
+-- the client is taken
+abbrev takes_client : Stage → Verdict
+takes_client Connect = Accept
+takes_client other = Continue
+
+abbrev pub accepts_client : Behavior
+accepts_client = record pass { decide = λ at seen. record { edits = []; verdict = takes_client at } }
+
+-- each recipient is refused
+abbrev refuses_recipient : Stage → Verdict
+refuses_recipient Rcpt = Reject
+refuses_recipient other = Continue
+
+abbrev pub refuses_each : Behavior
+refuses_each = record pass { decide = λ at seen. record { edits = []; verdict = refuses_recipient at } }
+
+-- at the end of a message another recipient is put in the place of the first; the packet of each edit has 9 bytes
+abbrev pub moves_recipient : Behavior
+moves_recipient =
+    deciding 0 (edits_at_end (AddRcpt (codes "c@y") ∷ DelRcpt (codes "b@y") ∷ []) Continue)
 
 -- what is reported of a message, in short
 pub record Summary : Type 0 where

@@ -1,17 +1,17 @@
 //! Worked schedules, as the definitions compute them.
 
 ghost use Rattle.std.specs.Prelude.{◌≡◌, ◌∷◌, ◌++◌, [], codes};
-ghost use Rattle.milter_wire.specs.declared.verdict.Verdict.TheVariants.{Continue, Reject};
+ghost use Rattle.milter_wire.specs.declared.verdict.Verdict.TheVariants.{Accept, Continue, Reject};
 ghost use Rattle.milter_exchange.specs.Pass.{pass};
 ghost use Rattle.milter_outcome.specs.declared.fallback.OnLoss.TheVariants as defaults;
 ghost use Rattle.milter_outcome.specs.declared.loss.By.TheVariants as by;
 ghost use Rattle.milter_outcome.specs.declared.loss.Loss.TheVariants as losses;
-ghost use Rattle.milter_outcome.specs.declared.outcome.Outcome.TheVariants.{Refused};
+ghost use Rattle.milter_outcome.specs.declared.outcome.Outcome.TheVariants.{NoRecipients, Refused};
 ghost use Rattle.milter_outcome.specs.declared.refusal.Refusal.TheVariants as refusals;
 ghost use Rattle.milter_outcome.specs.Outcomes.{released};
 ghost use Rattle.milter_mta.specs.Worked.{at, message, two_recipients};
 ghost use Rattle.milter_schedule.specs.declared.event.Event.TheVariants.{Dial, Send, ToFilter, Answer, ToMta, Die, Lose, Timeout};
-ghost use Rattle.milter_schedule.specs.Worked.{refuses_first, rounds, scenario, summaries};
+ghost use Rattle.milter_schedule.specs.Worked.{accepts_client, moves_recipient, refuses_each, refuses_first, rounds, scenario, summaries};
 
 /// A session whose bytes are moved in rounds.
 pub(crate) fn undisturbed()
@@ -65,4 +65,54 @@ pub(crate) fn lost()
     ensures twice { summaries (scenario pass defaults.Reject (message ∷ message ∷ [])) (Die ∷ Lose ∷ Lose ∷ [])
         ≡ record { verdicts = []; outcome = Refused refusals.Reject; by = by.Default losses.Reset }
         ∷ record { verdicts = []; outcome = Refused refusals.Reject; by = by.Default losses.Reset } ∷ [] }
+{}
+
+/// Messages that verdicts settle before a loss.
+pub(crate) fn settled_before()
+    // A verdict on the client settles each of the messages, and a loss after it none.
+    ensures client { summaries (scenario accepts_client defaults.Reject (message ∷ two_recipients ∷ message ∷ []))
+        (Dial ∷ rounds 2 100 ++ Lose ∷ Timeout ∷ [])
+        ≡ record { verdicts = Accept ∷ []; outcome = released message; by = by.Connection }
+        ∷ record { verdicts = Accept ∷ []; outcome = released two_recipients; by = by.Connection }
+        ∷ record { verdicts = Accept ∷ []; outcome = released message; by = by.Connection } ∷ [] }
+    // Before the abort is sent the next message is the one that a loss settles, without the verdicts on the recipients.
+    ensures all_refused { summaries (scenario refuses_each defaults.Accept (two_recipients ∷ two_recipients ∷ message ∷ []))
+        (Dial ∷ rounds 6 100 ++ Lose ∷ [])
+        ≡ record {
+          verdicts = Continue ∷ Continue ∷ Continue ∷ Reject ∷ Reject ∷ [];
+          outcome = NoRecipients;
+          by = by.Filter;
+        } ∷ record {
+          verdicts = Continue ∷ Continue ∷ [];
+          outcome = released two_recipients;
+          by = by.Default losses.Reset;
+        } ∷ [] }
+{}
+
+/// A connection that is lost within the answer to the end of a message.
+pub(crate) fn lost_at_end()
+    // The first of two edits was heard: none is made.
+    ensures one_edit { summaries (scenario moves_recipient defaults.Accept (message ∷ []))
+        (Dial ∷ rounds 7 100 ++ Send 100 ∷ ToFilter 100 ∷ Answer 100 ∷ ToMta 9 ∷ Lose ∷ [])
+        ≡ record {
+          verdicts = Continue ∷ Continue ∷ Continue ∷ Continue ∷ Continue ∷ Continue ∷ [];
+          outcome = released message;
+          by = by.Default losses.Reset;
+        } ∷ [] }
+    // All but the last byte of the verdict.
+    ensures both_edits { summaries (scenario moves_recipient defaults.Accept (message ∷ []))
+        (Dial ∷ rounds 7 100 ++ Send 100 ∷ ToFilter 100 ∷ Answer 100 ∷ ToMta 22 ∷ Lose ∷ [])
+        ≡ record {
+          verdicts = Continue ∷ Continue ∷ Continue ∷ Continue ∷ Continue ∷ Continue ∷ [];
+          outcome = released message;
+          by = by.Default losses.Reset;
+        } ∷ [] }
+    // The verdict too: both are made.
+    ensures verdict { summaries (scenario moves_recipient defaults.Accept (message ∷ []))
+        (Dial ∷ rounds 7 100 ++ Send 100 ∷ ToFilter 100 ∷ Answer 100 ∷ ToMta 23 ∷ Lose ∷ [])
+        ≡ record {
+          verdicts = Continue ∷ Continue ∷ Continue ∷ Continue ∷ Continue ∷ Continue ∷ Continue ∷ [];
+          outcome = released (record message { recipients = at (codes "c@y") ∷ [] });
+          by = by.Filter;
+        } ∷ [] }
 {}
