@@ -95,9 +95,8 @@ happens_linked p settled c (Send n) = stays (sends (lines_at p settled) settled 
 happens_linked p settled c (ToFilter n) =
     stays (Linked settled (if_lives c.lives c (record c { taken = min (c.taken + n) c.sent })))
 happens_linked p settled c (Answer n) =
-    stays
-    (Linked settled
-    (if_lives c.lives c (record c { answered = min (c.answered + n) (owed (lines_at p settled) c.taken) })))
+    let answered = min (c.answered + n) (owed (lines_at p settled) c.taken) in
+    stays (Linked settled (if_lives c.lives c (record c { answered = answered })))
 happens_linked p settled c (ToMta n) = hears p settled c (min (c.heard + n) c.answered)
 happens_linked p settled c Die = stays (Linked settled (record c { lives = false }))
 happens_linked p settled c Lose = loses p settled c losses.Reset

@@ -84,7 +84,8 @@ pub record WasGiven (p : Scenario) (message : MailObject) (a : Acted) : Type 0 w
 
 -- each edit of the answer, if there is one, was agreed on
 abbrev pub AreAgreedOn : Agreed → Exchange → Type 0
-AreAgreedOn agreed exchange = IfSome exchange.answer (λ answer. All (λ edit. is_permitted agreed edit ≡ true) answer.edits)
+AreAgreedOn agreed exchange =
+    IfSome exchange.answer (λ answer. All (λ edit. is_permitted agreed edit ≡ true) answer.edits)
 
 -- ---- how many are by default
 

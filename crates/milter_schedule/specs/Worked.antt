@@ -1,9 +1,10 @@
 -- Worked schedules.
-use Rattle.std.specs.Prelude.{ℕ, zero, suc, List, [], ◌∷◌, ◌++◌, codes, length, map, if◌then◌else◌, ◌==◌}
+use Rattle.std.specs.Prelude.{ℕ, zero, suc, ◌+◌, ◌*◌, List, [], ◌∷◌, ◌++◌, codes, length, map, replicate, if◌then◌else◌, ◌==◌}
 use Rattle.milter_wire.specs.declared.stage.Stage.{Stage}
-use Rattle.milter_wire.specs.declared.stage.Stage.TheVariants.{Connect, Rcpt}
+use Rattle.milter_wire.specs.declared.stage.Stage.TheVariants.{Body, Connect, Rcpt}
 use Rattle.milter_wire.specs.declared.verdict.Verdict.{Verdict}
-use Rattle.milter_wire.specs.declared.verdict.Verdict.TheVariants.{Accept, Continue, Reject}
+use Rattle.milter_wire.specs.declared.verdict.Verdict.TheVariants.{Accept, Continue, Reject, Skip}
+use Rattle.milter_message.specs.declared.message.TheConstants.{PIECE_LEN}
 use Rattle.milter_message.specs.declared.edit.Edit.TheVariants.{AddRcpt, DelRcpt}
 use Rattle.milter_message.specs.MailObject.{MailObject}
 use Rattle.milter_exchange.specs.Behavior.{Behavior}
@@ -12,7 +13,8 @@ use Rattle.milter_exchange.specs.Worked.{deciding, edits_at_end}
 use Rattle.milter_outcome.specs.declared.fallback.OnLoss.{OnLoss}
 use Rattle.milter_outcome.specs.declared.loss.By.{By}
 use Rattle.milter_outcome.specs.declared.outcome.Outcome.{Outcome}
-use Rattle.milter_mta.specs.Worked.{greatest, session}
+use Rattle.milter_options.specs.declared.options.TheConstants.Protocol.{SKIP}
+use Rattle.milter_mta.specs.Worked.{greatest, message, session}
 use Rattle.milter_schedule.specs.declared.event.Event.{Event}
 use Rattle.milter_schedule.specs.Rounds.{round}
 use Rattle.milter_schedule.specs.Schedule.{Scenario, run_reports}
@@ -54,6 +56,18 @@ refuses_each = record pass { decide = λ at seen. record { edits = []; verdict =
 abbrev pub moves_recipient : Behavior
 moves_recipient =
     deciding 0 (edits_at_end (AddRcpt (codes "c@y") ∷ DelRcpt (codes "b@y") ∷ []) Continue)
+
+-- no piece of a body is wanted after the first
+abbrev skips_body : Stage → Verdict
+skips_body Body = Skip
+skips_body other = Continue
+
+abbrev pub skips : Behavior
+skips = deciding SKIP.0 (λ at seen. record { edits = []; verdict = skips_body at })
+
+-- three pieces of a body of the letter A, the last one of one byte
+abbrev pub three_pieces : MailObject
+three_pieces = record message { body = replicate (2 * PIECE_LEN + 1) 65 }
 
 -- what is reported of a message, in short
 pub record Summary : Type 0 where

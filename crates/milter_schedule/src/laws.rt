@@ -75,8 +75,8 @@ pub fn verdicts_were_given()
     talks();
 }
 
-/// A round in which each of the four moves comes brings a living connection nearer to its end, or ends it; and where all
-/// bytes of a connection were heard, each message is reported as its talk rules.
+/// A round in which each of the four moves comes brings a living connection nearer to its end, or ends it; and where
+/// all bytes of a connection were heard, each message is reported as its talk rules.
 pub fn rounds_move_on()
     ensures waits { (lines : List Line) (c : Counts) (n : ℕ) → AreCounts lines c → 0 < n →
         c.sent ≡ due lines c.heard → to_move lines (after_round lines c n) < to_move lines c }

@@ -1,7 +1,7 @@
 //! Worked schedules, as the definitions compute them.
 
-ghost use Rattle.std.specs.Prelude.{◌≡◌, ◌∷◌, ◌++◌, [], codes};
-ghost use Rattle.milter_wire.specs.declared.verdict.Verdict.TheVariants.{Accept, Continue, Reject};
+ghost use Rattle.std.specs.Prelude.{◌≡◌, ◌∷◌, ◌++◌, [], codes, replicate};
+ghost use Rattle.milter_wire.specs.declared.verdict.Verdict.TheVariants.{Accept, Continue, Reject, Skip};
 ghost use Rattle.milter_exchange.specs.Pass.{pass};
 ghost use Rattle.milter_outcome.specs.declared.fallback.OnLoss.TheVariants as defaults;
 ghost use Rattle.milter_outcome.specs.declared.loss.By.TheVariants as by;
@@ -11,7 +11,7 @@ ghost use Rattle.milter_outcome.specs.declared.refusal.Refusal.TheVariants as re
 ghost use Rattle.milter_outcome.specs.Outcomes.{released};
 ghost use Rattle.milter_mta.specs.Worked.{at, message, two_recipients};
 ghost use Rattle.milter_schedule.specs.declared.event.Event.TheVariants.{Dial, Send, ToFilter, Answer, ToMta, Die, Lose, Timeout};
-ghost use Rattle.milter_schedule.specs.Worked.{accepts_client, moves_recipient, refuses_each, refuses_first, rounds, scenario, summaries};
+ghost use Rattle.milter_schedule.specs.Worked.{accepts_client, moves_recipient, refuses_each, refuses_first, rounds, scenario, skips, summaries, three_pieces};
 
 /// A session whose bytes are moved in rounds.
 pub(crate) fn undisturbed()
@@ -76,7 +76,8 @@ pub(crate) fn settled_before()
         ∷ record { verdicts = Accept ∷ []; outcome = released two_recipients; by = by.Connection }
         ∷ record { verdicts = Accept ∷ []; outcome = released message; by = by.Connection } ∷ [] }
     // Before the abort is sent the next message is the one that a loss settles, without the verdicts on the recipients.
-    ensures all_refused { summaries (scenario refuses_each defaults.Accept (two_recipients ∷ two_recipients ∷ message ∷ []))
+    ensures all_refused { summaries
+        (scenario refuses_each defaults.Accept (two_recipients ∷ two_recipients ∷ message ∷ []))
         (Dial ∷ rounds 6 100 ++ Lose ∷ [])
         ≡ record {
           verdicts = Continue ∷ Continue ∷ Continue ∷ Reject ∷ Reject ∷ [];
@@ -114,5 +115,34 @@ pub(crate) fn lost_at_end()
           verdicts = Continue ∷ Continue ∷ Continue ∷ Continue ∷ Continue ∷ Continue ∷ Continue ∷ [];
           outcome = released (record message { recipients = at (codes "c@y") ∷ [] });
           by = by.Filter;
+        } ∷ [] }
+{}
+
+/// Bodies of three pieces, of which the filter may want the first alone.
+pub(crate) fn skipped()
+    ensures skip { summaries (scenario skips defaults.Tempfail (three_pieces ∷ message ∷ []))
+        (Dial ∷ rounds 9 100000 ++ Lose ∷ [])
+        ≡ record {
+          verdicts = Continue ∷ Continue ∷ Continue ∷ Continue ∷ Continue ∷ Continue ∷ Skip ∷ Continue ∷ [];
+          outcome = released three_pieces;
+          by = by.Filter;
+        } ∷ record {
+          verdicts = Continue ∷ Continue ∷ [];
+          outcome = Refused refusals.Tempfail;
+          by = by.Default losses.Reset;
+        } ∷ [] }
+    ensures no_skip { summaries (scenario pass defaults.Tempfail (three_pieces ∷ [])) (Dial ∷ rounds 11 100000)
+        ≡ record {
+          verdicts = replicate 10 Continue;
+          outcome = released three_pieces;
+          by = by.Filter;
+        } ∷ [] }
+    // All but the last byte of the packet of the first piece.
+    ensures piece_lost { summaries (scenario skips defaults.Accept (three_pieces ∷ []))
+        (Dial ∷ rounds 7 100000 ++ Send 65539 ∷ ToFilter 100000 ∷ Answer 100 ∷ ToMta 100 ∷ Lose ∷ [])
+        ≡ record {
+          verdicts = Continue ∷ Continue ∷ Continue ∷ Continue ∷ Continue ∷ Continue ∷ [];
+          outcome = released three_pieces;
+          by = by.Default losses.Reset;
         } ∷ [] }
 {}
