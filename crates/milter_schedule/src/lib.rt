@@ -1,5 +1,4 @@
-//! What becomes of a session over connections that fail: by any schedule of events, which messages are reported, and
-//! how.
+//! What becomes of a session over connections that fail: which messages any schedule of events settles, and how.
 //!
 //! It is stated over whole lists of bytes and counts, apart from any code. Nothing here is run: each law is the
 //! contract of a function that does nothing.
