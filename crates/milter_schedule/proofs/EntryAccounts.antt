@@ -91,12 +91,16 @@ settles-more p messages mid rest R us vs a b =
 
 -- ---- entry by entry
 
+-- these exchanges begin the talk about the message, and more of it follows
+abbrev pub IsOpenAfter : Scenario → MailObject → List Exchange → Type 0
+IsOpenAfter p message walk = (b : Begins p message walk) × (b.more ≢ [])
+
 -- with each entry the first messages that are left are settled by their talks, and the walk of the first is a beginning of its talk
 abbrev pub Accounts : Scenario → List MailObject → List Entry → Type 0
 Accounts p left [] = left ≡ []
 Accounts p left (entry ∷ entries) =
     (entry.left ≡ left)
-    × ((message : MailObject) (others : List MailObject) → left ≡ message ∷ others → Begins p message entry.walk)
+    × ((message : MailObject) (others : List MailObject) → left ≡ message ∷ others → IsOpenAfter p message entry.walk)
     × ((rest : List MailObject) × Settles p left (IsRuledBy p) entry.reports rest × Accounts p rest entries)
 
 pub record Within (p : Scenario) (left : List MailObject) (entries : List Entry) (heard : ℕ) : Type 0 where
@@ -105,7 +109,7 @@ pub record Within (p : Scenario) (left : List MailObject) (entries : List Entry)
   pub lost : (loss : Loss) → (after : List MailObject) × Settles p rest (IsDefaultAfter p) (default_within p.config.on_loss loss entries heard) after
 
 pub given-up : (p : Scenario) (loss : Loss) (left : List MailObject) (walk : List Exchange)
-    → ((message : MailObject) (others : List MailObject) → left ≡ message ∷ others → Begins p message walk)
+    → ((message : MailObject) (others : List MailObject) → left ≡ message ∷ others → IsOpenAfter p message walk)
     → (after : List MailObject) × Settles p left (IsDefaultAfter p) (default_reports p.config.on_loss loss left walk) after
 given-up p loss [] walk begins = ([], record { done = []; messages_are = refl; each = tt })
 given-up p loss (message ∷ others) walk begins = (
@@ -113,7 +117,16 @@ given-up p loss (message ∷ others) walk begins = (
   record {
     done = message ∷ [];
     messages_are = refl;
-    each = (record { walk = walk; begins = begins message others refl; loss = loss; report_is = refl }, tt);
+    each = (
+      record {
+        walk = walk;
+        begins = (begins message others refl).0;
+        unfinished = (begins message others refl).1;
+        loss = loss;
+        report_is = refl;
+      },
+      tt,
+    );
   },
 )
 
@@ -206,12 +219,14 @@ module _ (p : Scenario) (laws : TalkLaws p) where
   exchanges us message messages rest next settles acc [] walk some e = absurd (some refl)
   exchanges us message messages rest next settles acc (x ∷ []) walk some e = (
     refl,
-    λ other others is. subst (λ (m : MailObject). Begins p m walk) (first-same message other messages others is) (record { more = x ∷ []; whole = e }),
+    λ other others is. subst (λ (m : MailObject). IsOpenAfter p m walk) (first-same message other messages others is)
+        (record { more = x ∷ []; whole = e }, λ none. absurd (let no : x ∷ [] ≡ [] = none in cc)),
     (rest, settles, acc),
   )
   exchanges us message messages rest next settles acc (x ∷ y ∷ more) walk some e = (
     refl,
-    λ other others is. subst (λ (m : MailObject). Begins p m walk) (first-same message other messages others is) (record { more = x ∷ y ∷ more; whole = e }),
+    λ other others is. subst (λ (m : MailObject). IsOpenAfter p m walk) (first-same message other messages others is)
+        (record { more = x ∷ y ∷ more; whole = e }, λ none. absurd (let no : x ∷ y ∷ more ≡ [] = none in cc)),
     (
       message ∷ messages,
       settles-none p (message ∷ messages) (IsRuledBy p),
@@ -234,12 +249,15 @@ module _ (p : Scenario) (laws : TalkLaws p) where
         by_message true client = acc client
         by_message false client = (
           refl,
-          λ other others e. record {
-            more = talk p.filter (agreed_of p) (opening_of w) (message_steps (agreed_of p) (macros_of (agreed_of p) p.session) other);
-            whole =
-                ap (λ (z : List Exchange). onto (talk p.filter (agreed_of p) (opening_of z) (message_steps (agreed_of p) (macros_of (agreed_of p) p.session) other)) (opening_of z)) (sym is)
-                ∙ laws.next message other (ap ends_with_client is ∙ client);
-          },
+          λ other others e. (
+            record {
+              more = talk p.filter (agreed_of p) (opening_of w) (message_steps (agreed_of p) (macros_of (agreed_of p) p.session) other);
+              whole =
+                  ap (λ (z : List Exchange). onto (talk p.filter (agreed_of p) (opening_of z) (message_steps (agreed_of p) (macros_of (agreed_of p) p.session) other)) (opening_of z)) (sym is)
+                  ∙ laws.next message other (ap ends_with_client is ∙ client);
+            },
+            talk-some p.filter (agreed_of p) (opening_of w) (message_steps (agreed_of p) (macros_of (agreed_of p) p.session) other) (laws.steps_end other),
+          ),
           (messages, settles-none p messages (IsRuledBy p), acc client),
         )
 
@@ -289,7 +307,8 @@ module _ (p : Scenario) (laws : TalkLaws p) where
   session (message ∷ messages) =
       let first = plan (agreed_of p) p.session message in (
         refl,
-        λ other others is. subst (λ (m : MailObject). Begins p m []) (first-same message other messages others is) (record { more = talk p.filter (agreed_of p) [] first; whole = refl }),
+        λ other others is. subst (λ (m : MailObject). IsOpenAfter p m []) (first-same message other messages others is)
+            (record { more = talk p.filter (agreed_of p) [] first; whole = refl }, talk-some p.filter (agreed_of p) [] first (laws.plan_end message)),
         (message ∷ messages, settles-none p (message ∷ messages) (IsRuledBy p), from messages message [] first (laws.plan_end message) refl),
       )
 

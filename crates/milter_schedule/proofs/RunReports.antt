@@ -21,6 +21,7 @@ use Rattle.milter_outcome.specs.declared.loss.Loss.TheVariants as losses
 use Rattle.milter_transcript.specs.ByteCounts.{due, owed, packet_end, to_filter}
 use Rattle.milter_schedule.specs.Schedule.{Scenario, after_all, first, gives_up, happens, happens_linked, hears, idle_at, if_lives, lines_at, loses, run_reports, sends, sent_to, entries_at}
 use Rattle.milter_transcript.specs.Transcript.{default_reports, default_within, transcript, reports_within}
+use Rattle.milter_exchange.proofs.WholeTalks.{talk-some}
 use Rattle.milter_transcript.proofs.ByteCounting.{by_lt, lt-ltb, owed-mono, packet_end-more}
 use Rattle.milter_schedule.proofs.EntryAccounts.{Settles, TalkLaws, added, drop-past, given-up, session, within, zip-append}
 
@@ -126,7 +127,7 @@ module _ (p : Scenario) (laws : TalkLaws p) where
       → IsAtState (gives_up p i (default_reports p.config.on_loss loss (drop i p.session.messages) [])).state (reports ++ default_reports p.config.on_loss loss (drop i p.session.messages) [])
   at-given_up i reports loss h =
       let us = default_reports p.config.on_loss loss (drop i p.session.messages) [] in
-      let g = given-up p loss (drop i p.session.messages) [] (λ message others e. record { more = talk p.filter (agreed_of p) [] (plan (agreed_of p) p.session message); whole = refl }) in
+      let g = given-up p loss (drop i p.session.messages) [] (λ message others e. (record { more = talk p.filter (agreed_of p) [] (plan (agreed_of p) p.session message); whole = refl }, talk-some p.filter (agreed_of p) [] (plan (agreed_of p) p.session message) (laws.plan_end message))) in
       let d = length-append reports us in
       let e = h.1 in
       at-idle (i + length us) (reports ++ us) g.0 (reported-lost reports us (drop i p.session.messages) g.0 h.0 g.1) (omega arith)

@@ -1,5 +1,5 @@
 -- What is reported of a message, by its own talk with the filter, asked directly.
-use Rattle.std.specs.Prelude.{◌≡◌, ◌⊎◌, ℕ, suc, Bool, true, false, ◌||◌, if◌then◌else◌, All, IfSome, List, [], ◌∷◌, ◌++◌, Some}
+use Rattle.std.specs.Prelude.{◌≡◌, ◌≢◌, ◌⊎◌, ℕ, suc, Bool, true, false, ◌||◌, if◌then◌else◌, All, IfSome, List, [], ◌∷◌, ◌++◌, Some}
 use Rattle.std.specs.List.{AllZip}
 use Rattle.milter_wire.specs.declared.agreement.Agreed.{Agreed}
 use Rattle.milter_wire.specs.declared.command.Command.{Command}
@@ -42,10 +42,11 @@ pub record Begins (p : Scenario) (message : MailObject) (walk : List Exchange) :
   pub more : List Exchange
   pub whole : onto more walk ≡ walk_about p message
 
--- or by default, after a beginning of its talk
+-- or by default, after a beginning of its talk that more follows
 pub record IsDefaultAfter (p : Scenario) (message : MailObject) (r : Report) : Type 0 where
   pub walk : List Exchange
   pub begins : Begins p message walk
+  pub unfinished : begins.more ≢ []
   pub loss : Loss
   pub report_is : r ≡ report (acted walk) (given_up p.config.on_loss message walk) (Default loss)
 
