@@ -1,0 +1,6 @@
+mod PieceMoves
+mod EndSteps
+mod EventMoves
+mod EventCases
+mod FreshEnds
+mod ShortLines
