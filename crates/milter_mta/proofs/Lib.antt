@@ -5,4 +5,4 @@ mod HeardFrames
 mod Keeping
 mod Reported
 mod Settled
-mod NextPackets
+pub mod NextPackets

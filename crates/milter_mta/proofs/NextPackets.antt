@@ -20,7 +20,8 @@ first_fits : (left : List Command) (command : Command) → All Fits left → fir
 first_fits [] command fit e = absurd cc
 first_fits (first ∷ left) command fit e = subst Fits (same_Some first command e) (All-head Fits first left fit)
 
-options_fit : (o : Options) → OptionsFit o → Fits (commands.Options o)
+-- options whose numbers fit four bytes
+pub options_fit : (o : Options) → OptionsFit o → Fits (commands.Options o)
 options_fit o fit =
     let a = length-append (number o.version) (number o.actions.0) in
     let b = length-append (number o.version ++ number o.actions.0) (number o.protocol.0) in

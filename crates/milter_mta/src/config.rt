@@ -17,11 +17,15 @@ pub struct Config {
 }
 
 impl Model for Config {
+    ghost use Rattle.std.specs.Prelude.{◌≡◌};
+    ghost use Rattle.milter_exchange.specs.declared.limits.TheConstants.{VERSION_MAX};
     ghost use Rattle.milter_mta.specs.Mta.{Configuration};
 
     ghost Value = { Configuration };
 
     ghost view = { λ c. record { offer = c.offer; on_loss = c.on_loss } };
+
+    ghost invariant = { λ c. c.offer.version ≡ VERSION_MAX };
 }
 
 impl Config {
@@ -48,7 +52,8 @@ impl Config {
 
     /// What is offered: version 6, and the bits. No memory is taken.
     pub fn offer(&self) -> Options
-        ensures { result ≡ self.now.offer }
+        ensures offer { result ≡ self.now.offer }
+        ensures version { result.version ≡ VERSION_MAX }
     {
         self.offer
     }

@@ -7,3 +7,4 @@ mod Moves
 mod RoundMoves
 mod Progress
 mod Given
+mod Undisturbed

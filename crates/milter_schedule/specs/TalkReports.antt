@@ -24,7 +24,8 @@ use Rattle.milter_outcome.specs.declared.report.Report.{Report}
 use Rattle.milter_outcome.specs.Walks.{acted, count_at, given_up}
 use Rattle.milter_mta.specs.Settling.{report}
 use Rattle.milter_walk.specs.Sessions.{report_by, walk_of}
-use Rattle.milter_schedule.specs.Schedule.{Scenario}
+use Rattle.milter_schedule.specs.declared.state.State.TheVariants.{Done}
+use Rattle.milter_schedule.specs.Schedule.{Scenario, after_all, first, stays}
 
 abbrev pub agreed_of : Scenario → Agreed
 agreed_of p = agree p.config.offer p.filter.wants p.filter.lists
@@ -112,6 +113,16 @@ is_known Filter = true
 is_known Connection = true
 is_known by = by_reset by || by_timeout by
 
+-- by the filter's verdicts, on the message or on its client
+abbrev pub is_by_verdict : By → Bool
+is_by_verdict Filter = true
+is_by_verdict Connection = true
+is_by_verdict other = false
+
+-- with all verdicts of the talk about it
+abbrev pub HasAllVerdicts : Scenario → MailObject → Report → Type 0
+HasAllVerdicts p message r = r.acted ≡ acted (walk_about p message)
+
 abbrev pub count_reports : (By → Bool) → List Report → ℕ
 count_reports is_by [] = 0
 count_reports is_by (r ∷ reports) =
@@ -121,6 +132,12 @@ abbrev pub count_events : (Event → Bool) → List Event → ℕ
 count_events is_event [] = 0
 count_events is_event (event ∷ events) =
     if is_event event then suc (count_events is_event events) else count_events is_event events
+
+-- no loss and no timeout comes, and the session is over at the end
+pub record IsUndisturbed (p : Scenario) (events : List Event) : Type 0 where
+  pub no_loss : count_events is_lose events ≡ 0
+  pub no_timeout : count_events is_timeout events ≡ 0
+  pub over : (after_all p (stays (first p)) events).state ≡ Done
 
 -- the first of these verdicts
 pub record StartsWith (first all : List Acted) : Type 0 where

@@ -13,7 +13,7 @@ ghost use Rattle.milter_schedule.specs.declared.state.Counts.{Counts};
 ghost use Rattle.milter_schedule.specs.declared.state.State.TheVariants.{Done, Linked};
 ghost use Rattle.milter_schedule.specs.Rounds.{AreCounts, MovesOn, after_round, round, to_move};
 ghost use Rattle.milter_schedule.specs.Schedule.{Scenario, after_all, entries_at, first, lines_at, run_reports, stays};
-ghost use Rattle.milter_schedule.specs.TalkReports.{AreAgreedOn, AreReported, IsDefaultAfter, IsReportOf, IsRuledBy, StartsWith, WasGiven, agreed_of, by_reset, by_timeout, count_events, count_reports, is_known, is_lose, is_timeout, walk_about};
+ghost use Rattle.milter_schedule.specs.TalkReports.{AreAgreedOn, AreReported, HasAllVerdicts, IsDefaultAfter, IsReportOf, IsRuledBy, IsUndisturbed, StartsWith, WasGiven, agreed_of, by_reset, by_timeout, count_events, count_reports, is_by_verdict, is_known, is_lose, is_timeout, walk_about};
 
 use milter_exchange::{permitted_answers, talks};
 use milter_walk::{closed_walks_rule, plans_are_walked, walks_of_messages};
@@ -55,6 +55,21 @@ pub fn losses_settle_messages()
     closed_walks_rule();
     plans_are_walked();
     walks_of_messages();
+}
+
+/// Without a loss or a timeout, a session that is over has a report for each message, in order, as its own talk with the
+/// filter rules: by a verdict of the filter on the message or on its client, with all verdicts of the talk.
+pub fn undisturbed_schedules_are_ruled()
+    ensures ruled { (p : Scenario) (events : List Event) → IsUndisturbed p events →
+        AllZip (IsRuledBy p) p.session.messages (run_reports p events) }
+    ensures verdicts { (p : Scenario) (events : List Event) → IsUndisturbed p events →
+        AllZip (HasAllVerdicts p) p.session.messages (run_reports p events) }
+    ensures causes { (p : Scenario) (events : List Event) → IsUndisturbed p events →
+        All (λ r. is_by_verdict r.settled_by ≡ true) (run_reports p events) }
+{
+    defaults_are_counted();
+    losses_settle_messages();
+    schedules_report_talks();
 }
 
 /// The verdicts that a default reports are the first ones of the talk about the message.
