@@ -2,8 +2,7 @@
 use Rattle.std.proofs.Common.{◌≡◌, ℕ, zero, suc, ◌+◌, ◌*◌, List, ◌++◌, length, refl, ap, ◌∙◌, arith}
 use Rattle.std.proofs.Common.{append_assoc, add-one, length-append}
 use Rattle.milter_schedule.specs.declared.event.Event.{Event}
-use Rattle.milter_schedule.specs.Rounds.{round}
-use Rattle.milter_schedule.specs.Worked.{rounds}
+use Rattle.milter_schedule.specs.Rounds.{round, rounds}
 
 pub rounds_length : (count bytes : ℕ) → length (rounds count bytes) ≡ 4 * count
 rounds_length zero bytes = refl

@@ -14,8 +14,7 @@ use Rattle.milter_text.specs.WordValues.{is_keyword, number_of}
 use Rattle.milter_schedule.specs.declared.event.Event.{Event}
 use Rattle.milter_schedule.specs.declared.event.Event.TheVariants.{Dial, Send, ToFilter, Answer, ToMta, Die}
 use Rattle.milter_schedule.specs.declared.event.Event.TheVariants.{Lose, Timeout}
-use Rattle.milter_schedule.specs.Rounds.{round}
-use Rattle.milter_schedule.specs.Worked.{rounds}
+use Rattle.milter_schedule.specs.Rounds.{round, rounds}
 use Rattle.milter_events.specs.declared.event_fault.EventFault.{EventFault}
 use Rattle.milter_events.specs.EventFile.{HaveEvents, LineHasEvents, bytes_moved, count_of, events_of, events_with}
 use Rattle.milter_events.specs.EventFile.{lone_event, rounds_of}

@@ -2,7 +2,7 @@
 use Rattle.std.specs.Prelude.{◌≡◌, ◌≤◌, ◌<◌, ◌+◌, ℕ, List, [], ◌∷◌, ◌++◌, length, None, Some}
 use Rattle.milter_text.specs.declared.word.Word.{Word}
 use Rattle.milter_schedule.specs.declared.event.Event.{Event}
-use Rattle.milter_schedule.specs.Worked.{rounds}
+use Rattle.milter_schedule.specs.Rounds.{rounds}
 use Rattle.milter_events.specs.declared.event_fault.EventFault.{EventFault}
 use Rattle.milter_events.specs.declared.event_fault.EventFault.TheVariants.{UnknownLine, TooMany, NoMemory}
 use Rattle.milter_events.specs.declared.event_file.TheConstants.{EVENTS_MAX}

@@ -1,8 +1,7 @@
 //! The lines of an event file, each alone.
 
 ghost use Rattle.std.specs.Prelude.{◌≡◌, ◌++◌, IfErr, OnOk, length, option_map};
-ghost use Rattle.milter_schedule.specs.Rounds.{round};
-ghost use Rattle.milter_schedule.specs.Worked.{rounds};
+ghost use Rattle.milter_schedule.specs.Rounds.{round, rounds};
 ghost use Rattle.milter_events.specs.declared.event_fault.EventFault.TheVariants as faults;
 ghost use Rattle.milter_events.specs.EventFile.{count_of, events_of, events_with, lone_event, rounds_of};
 ghost use Rattle.milter_events.specs.EventLines.{line_events};

@@ -1,5 +1,5 @@
 -- Rounds in which all moves that can.
-use Rattle.std.specs.Prelude.{◌≡◌, ◌≤◌, ◌<◌, ℕ, ◌+◌, ◌-◌, min, true, List, [], ◌∷◌, length}
+use Rattle.std.specs.Prelude.{◌≡◌, ◌≤◌, ◌<◌, ℕ, zero, suc, ◌+◌, ◌-◌, min, true, List, [], ◌∷◌, ◌++◌, length}
 use Rattle.milter_walk.specs.Lines.{Line}
 use Rattle.milter_transcript.specs.ByteCounts.{due, owed, to_filter, to_mta}
 use Rattle.milter_schedule.specs.declared.event.Event.{Event}
@@ -33,6 +33,10 @@ after_round lines c n =
 -- all four moves, in order
 abbrev pub round : ℕ → List Event
 round n = Send n ∷ ToFilter n ∷ Answer n ∷ ToMta n ∷ []
+
+abbrev pub rounds : ℕ → ℕ → List Event
+rounds zero n = []
+rounds (suc k) n = round n ++ rounds k n
 
 -- it is over, or lives with fewer bytes to move
 pub record MovesOn (lines : List Line) (settled : ℕ) (c : Counts) (state : State) : Type 0 where

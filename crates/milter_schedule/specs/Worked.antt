@@ -1,5 +1,5 @@
 -- Worked schedules.
-use Rattle.std.specs.Prelude.{ℕ, zero, suc, ◌+◌, ◌*◌, List, [], ◌∷◌, ◌++◌, codes, length, map, replicate, if◌then◌else◌, ◌==◌}
+use Rattle.std.specs.Prelude.{ℕ, ◌+◌, ◌*◌, List, [], ◌∷◌, codes, length, map, replicate, if◌then◌else◌, ◌==◌}
 use Rattle.milter_wire.specs.declared.stage.Stage.{Stage}
 use Rattle.milter_wire.specs.declared.stage.Stage.TheVariants.{Body, Connect, Rcpt}
 use Rattle.milter_wire.specs.declared.verdict.Verdict.{Verdict}
@@ -16,15 +16,10 @@ use Rattle.milter_outcome.specs.declared.outcome.Outcome.{Outcome}
 use Rattle.milter_options.specs.declared.options.TheConstants.Protocol.{SKIP}
 use Rattle.milter_mta.specs.Worked.{greatest, message, session}
 use Rattle.milter_schedule.specs.declared.event.Event.{Event}
-use Rattle.milter_schedule.specs.Rounds.{round}
 use Rattle.milter_schedule.specs.Schedule.{Scenario, run_reports}
 
 abbrev pub scenario : Behavior → OnLoss → List MailObject → Scenario
 scenario b on_loss messages = record { filter = b; config = greatest on_loss; session = session messages }
-
-abbrev pub rounds : ℕ → ℕ → List Event
-rounds zero n = []
-rounds (suc k) n = round n ++ rounds k n
 
 -- the first of two recipients is refused
 abbrev decided : Stage → List ℕ → Verdict

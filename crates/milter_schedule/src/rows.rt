@@ -11,7 +11,8 @@ ghost use Rattle.milter_outcome.specs.declared.refusal.Refusal.TheVariants as re
 ghost use Rattle.milter_outcome.specs.Outcomes.{released};
 ghost use Rattle.milter_mta.specs.Worked.{at, message, two_recipients};
 ghost use Rattle.milter_schedule.specs.declared.event.Event.TheVariants.{Dial, Send, ToFilter, Answer, ToMta, Die, Lose, Timeout};
-ghost use Rattle.milter_schedule.specs.Worked.{accepts_client, moves_recipient, refuses_each, refuses_first, rounds, scenario, skips, summaries, three_pieces};
+ghost use Rattle.milter_schedule.specs.Rounds.{rounds};
+ghost use Rattle.milter_schedule.specs.Worked.{accepts_client, moves_recipient, refuses_each, refuses_first, scenario, skips, summaries, three_pieces};
 
 /// A session whose bytes are moved in rounds.
 pub(crate) fn undisturbed()

@@ -1,5 +1,5 @@
 use Rattle.std.proofs.Common.{◌≡◌, ◌++◌}
-use Rattle.milter_schedule.specs.Worked.{rounds}
+use Rattle.milter_schedule.specs.Rounds.{rounds}
 use Rattle.milter_events.proofs.event_line.append_rounds.Given as goal
 
 abbrev pub invariant-loop : goal.invariant-loop

@@ -1,6 +1,6 @@
 use Rattle.std.proofs.Common.{[], ◌∷◌, codes, refl, arith}
 use Rattle.milter_schedule.specs.declared.event.Event.TheVariants.{Dial, Lose}
-use Rattle.milter_schedule.specs.Worked.{rounds}
+use Rattle.milter_schedule.specs.Rounds.{rounds}
 use Rattle.milter_events.specs.EventFile.{LineHasEvents}
 use Rattle.milter_events.specs.Worked.{plain}
 use Rattle.milter_events.proofs.WorkedLines.{no_blanks, one_blank, plain_word}

@@ -1,0 +1,5 @@
+mod Connections
+mod EndsByParts
+mod Feeding
+mod Leading
+mod PlayedRounds

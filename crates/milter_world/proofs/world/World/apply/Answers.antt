@@ -1,0 +1,13 @@
+use Rattle.std.proofs.Common.{refl, sym, subst}
+use Rattle.milter_schedule.specs.declared.event.Event.{Event}
+use Rattle.milter_schedule.specs.declared.event.Event.TheVariants.{Lose, Timeout}
+use Rattle.milter_ends.specs.Ends.{Steps}
+use Rattle.milter_world.proofs.world.World.apply.Goals as goal
+
+pub returns-in-Lose : goal.returns-in-Lose
+returns-in-Lose g c = λ p b is.
+    subst (λ (e : Event). Steps p c.args.self.now e c.lose.new.self) (sym c.in-Lose.is) (c.lose.ensures p Lose b is refl)
+
+pub returns-in-Timeout : goal.returns-in-Timeout
+returns-in-Timeout g c = λ p b is.
+    subst (λ (e : Event). Steps p c.args.self.now e c.lose-in-Timeout.new.self) (sym c.in-Timeout.is) (c.lose-in-Timeout.ensures p Timeout b is refl)

@@ -1,0 +1,68 @@
+//! A session that is played while any events happen.
+
+ghost use Rattle.std.specs.Prelude.{◌≡◌, ◌≤◌, ◌+◌, All, IfOk, length, min, true};
+ghost use Rattle.milter_schedule.specs.Schedule.{run_reports};
+ghost use Rattle.milter_schedule.specs.TalkReports.{AreAgreedOn, AreReported, agreed_of, by_reset, by_timeout, count_events, count_reports, is_known, is_lose, is_timeout, walk_about};
+ghost use Rattle.milter_world.specs.Outcomes.{ConnectionIsGiven, WereGiven};
+ghost use Rattle.milter_world.specs.Reached.{scenario_of};
+
+use crate::world::World;
+use milter_filter::Policy;
+use milter_mail::Session;
+use milter_mta::{Config, Reports};
+use milter_schedule::{
+    Event, defaults_are_counted, losses_settle_messages, schedules_report_talks,
+    verdicts_were_given,
+};
+use milter_wire::NoMemory;
+use std::alloc::Global;
+
+/// Plays a session to the filter with this policy while the events happen, one after the other, and answers with a
+/// report for each message that they settle.
+///
+/// Whatever the events, the outcome of each of these messages is what asking the policy directly, stage by stage, and
+/// applying its permitted edits in order to the original gives; or, at most once for each loss or timeout, the
+/// configured default after a beginning of that same talk. After `NoMemory` nothing is left of the session.
+pub fn run<P: Policy>(
+    alloc: Global,
+    config: Config,
+    session: Session,
+    policy: &P,
+    events: &[Event],
+) -> Result<Reports, NoMemory>
+    // The reports are exactly those of the schedule that the events make.
+    ensures reports { IfOk result (λ s.
+        s.messages ≡ run_reports (scenario_of (P.behavior policy.now) config session) events.now) }
+    // The first messages are reported, in order, each as its own talk rules, or by default after a beginning of it.
+    ensures talks { IfOk result (λ s.
+        AreReported (scenario_of (P.behavior policy.now) config session) session.messages s.messages) }
+    // At most one report is by default for each loss,
+    ensures resets { IfOk result (λ s. count_reports by_reset s.messages ≤ count_events is_lose events.now) }
+    // and at most one for each timeout;
+    ensures timeouts { IfOk result (λ s. count_reports by_timeout s.messages ≤ count_events is_timeout events.now) }
+    // and no report has another cause than these, and the filter's verdicts on the message or on its client.
+    ensures causes { IfOk result (λ s. All (λ r. is_known r.settled_by ≡ true) s.messages) }
+    // At least as many messages are settled as there are losses and timeouts, or all.
+    ensures settles { IfOk result (λ s.
+        min (count_events is_lose events.now + count_events is_timeout events.now) (length session.messages)
+        ≤ length s.messages) }
+    // Each verdict that was acted on was given by the filter at this step of this message,
+    ensures given { IfOk result (λ s.
+        WereGiven (scenario_of (P.behavior policy.now) config session) session.messages s.messages) }
+    // and each edit of a talk was agreed on.
+    ensures edits { All (λ message. All
+        (AreAgreedOn (agreed_of (scenario_of (P.behavior policy.now) config session)))
+        (walk_about (scenario_of (P.behavior policy.now) config session) message)) session.messages }
+    // The verdict on the connection is there exactly where it settled messages.
+    ensures connection { IfOk result ConnectionIsGiven }
+{
+    defaults_are_counted();
+    losses_settle_messages();
+    schedules_report_talks();
+    verdicts_were_given();
+    let mut world = World::new(alloc, config, session, policy)?;
+    for event in events {
+        world = world.step(*event)?;
+    }
+    Ok(world.finish())
+}
