@@ -24,6 +24,7 @@ bench:
 	bash bench/filter.sh
 	bash bench/core.sh
 	bash bench/mta.sh
+	bash bench/world.sh
 
 install: all
 	install -d $(DESTDIR)$(PREFIX)/bin

@@ -57,8 +57,8 @@ pub fn losses_settle_messages()
     walks_of_messages();
 }
 
-/// Without a loss or a timeout, a session that is over has a report for each message, in order, as its own talk with the
-/// filter rules: by a verdict of the filter on the message or on its client, with all verdicts of the talk.
+/// Without a loss or a timeout, a session that is over has a report for each message, in order, as its own talk with
+/// the filter rules: by a verdict of the filter on the message or on its client, with all verdicts of the talk.
 pub fn undisturbed_schedules_are_ruled()
     ensures ruled { (p : Scenario) (events : List Event) → IsUndisturbed p events →
         AllZip (IsRuledBy p) p.session.messages (run_reports p events) }

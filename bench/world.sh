@@ -1,0 +1,62 @@
+#!/usr/bin/env bash
+# Measures a world (`milter_world`), with a filter that lets all mail go on: crates/milter_world_runs plays a session
+# file by `play`, and by `run` in rounds of 1 byte and of 100, and crates/milter_pair drives the same two ends by a loop
+# of its own. A message has ten header fields, and so sixteen commands where its body has 4 KiB. A line for each session
+# has the user instructions of a message: callgrind's, without those of a run that only reads the session file; callgrind
+# counts a copy by `rep movsb` and a clearing by `rep stosb` a byte at a time, so that both are turned off in the C
+# library. Status 1 where `play` takes more than 1.5 times what the loop takes, or where rounds take more than 1.1 times
+# as much for each message of a session ten times as long. It takes valgrind, Python and some minutes. The programs are
+# built first where they have to be.
+#
+#     bash bench/world.sh
+set -eu
+cd "$(dirname "${BASH_SOURCE[0]}")/.."
+BODY=4096
+# More rounds than a message takes, of 100 bytes and of 1.
+ROUNDS_OF_100=150
+ROUNDS_OF_1=6000
+# More bytes than are copied or cleared at once.
+NEVER=1000000000
+work=$(mktemp -d)
+trap 'rm -rf "$work"' EXIT
+
+# program NAME WORD..: builds a program where it has to be; so it reads its standard input
+program() {
+    local made=crates/$1/out/$1
+    [ -x "$made" ] && [ -z "$(find crates/*/src crates/*/specs -newer "$made" -print -quit)" ] && return
+    (cd "crates/$1" && rt run -- "${@:2}") >"$work/log" 2>&1 || { cat "$work/log"; exit 1; }
+}
+
+# instructions NAME WORD..: what callgrind counts of a run on the session
+instructions() {
+    GLIBC_TUNABLES=glibc.cpu.x86_rep_movsb_threshold=$NEVER:glibc.cpu.x86_rep_stosb_threshold=$NEVER \
+        valgrind --tool=callgrind --callgrind-out-file=/dev/null "crates/$1/out/$1" "${@:2}" 2>&1 <"$work/session" |
+        sed -n 's/.*Collected : //p'
+}
+
+# a_message COUNT READ NAME WORD..: the instructions of one of so many messages, without those of reading them
+a_message() { echo $((($(instructions "${@:3}") - $2) / $1)); }
+
+# measure COUNT: prints the line of a session of so many messages, and leaves each number
+measure() {
+    local read
+    python3 bench/session.py "$1" "$BODY" >"$work/session"
+    read=$(instructions milter_world_runs read)
+    loop=$(a_message "$1" "$(instructions milter_pair read)" milter_pair play)
+    played=$(a_message "$1" "$read" milter_world_runs play)
+    of_100=$(a_message "$1" "$read" milter_world_runs run dial "rounds $((ROUNDS_OF_100 * $1)) 100")
+    of_1=$(a_message "$1" "$read" milter_world_runs run dial "rounds $((ROUNDS_OF_1 * $1)) 1")
+    printf '%5d messages: the loop %8d, play %8d, rounds of 100 bytes %8d, of 1 byte %8d\n' \
+        "$1" "$loop" "$played" "$of_100" "$of_1"
+}
+
+python3 bench/session.py 1 "$BODY" >"$work/session"
+program milter_pair read <"$work/session"
+program milter_world_runs read <"$work/session"
+echo "user instructions of a message of $BODY bytes:"
+measure 10
+before_100=$of_100
+before_1=$of_1
+measure 100
+[ $((played * 2)) -le $((loop * 3)) ] && [ $((of_100 * 10)) -le $((before_100 * 11)) ] &&
+    [ $((of_1 * 10)) -le $((before_1 * 11)) ]

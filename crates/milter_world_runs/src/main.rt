@@ -1,0 +1,91 @@
+//! `milter_world_runs WHAT EVENT.. <SESSION`: plays the session file on standard input, in memory, to a filter that
+//! lets all mail go on, while events happen; each further word is a line of a file of events. It serves tests and
+//! `bench/world.sh`.
+//!
+//! `asked` prints for each event how often the filter was asked up to it, which shows that a world asks no sooner than
+//! the bytes come. The others print a number of messages: `read` of the session, `run` of those that the events settle,
+//! and `play` of those that are settled over one connection on which everything arrives.
+#![tactic(auto)]
+
+mod counting;
+
+use crate::counting::Counting;
+use anyhow::{Context, bail};
+use milter_events::read_events;
+use milter_filter::Pass;
+use milter_mta::{Config, OnLoss};
+use milter_schedule::Event;
+use milter_session::read_session;
+use milter_wire::{Actions, Protocol};
+use milter_world::{play, run};
+use std::alloc::Global;
+use std::env;
+use std::io::Read;
+
+/// An offer of no action and no protocol bit, so that the filter is asked about each command.
+fn config() -> anyhow::Result<Config> {
+    Config::new(Actions(0), Protocol(0), OnLoss::Tempfail).context("no configuration")
+}
+
+/// The events of these lines.
+fn events_in(alloc: Global, lines: &[String]) -> anyhow::Result<Vec<Event>> {
+    let mut file = Vec::new(alloc);
+    for line in lines {
+        file.extend_from_slice(line.as_bytes())?;
+        file.push(b'\n')?;
+    }
+    Ok(read_events(alloc, &file)?)
+}
+
+/// How often the filter is asked while the events happen.
+fn count_asked(alloc: Global, file: &[u8], events: &[Event]) -> anyhow::Result<u64> {
+    let filter = Counting::new();
+    run(alloc, config()?, read_session(alloc, file)?, &filter, events)?;
+    Ok(filter.asked())
+}
+
+/// Plays the session file while the first of the events happen, one more each time, and prints how often the filter was
+/// asked.
+fn print_asked(rt: &HostRuntime, file: &[u8], events: &[Event]) -> anyhow::Result<()> {
+    for count in 1..=events.len() {
+        println!(rt; "{}", count_asked(rt.alloc(), file, &events[..count])?)?;
+    }
+    Ok(())
+}
+
+/// How many messages the session file has.
+fn count_read(alloc: Global, file: &[u8]) -> anyhow::Result<usize> {
+    let session = read_session(alloc, file)?;
+    Ok(session.messages().len())
+}
+
+/// How many messages the events settle.
+fn count_run(alloc: Global, file: &[u8], events: &[Event]) -> anyhow::Result<usize> {
+    let reports = run(alloc, config()?, read_session(alloc, file)?, &Pass, events)?;
+    Ok(reports.messages().len())
+}
+
+/// How many messages are settled over one connection on which everything arrives.
+fn count_played(alloc: Global, file: &[u8]) -> anyhow::Result<usize> {
+    let reports = play(alloc, config()?, read_session(alloc, file)?, &Pass)?;
+    Ok(reports.messages().len())
+}
+
+fn main(rt: HostRuntime) -> anyhow::Result<()> {
+    let words: Vec<String> = env::args(&rt)?.collect(rt.alloc())?;
+    let [_, what, lines @ ..] = words.as_slice() else {
+        bail!("usage: milter_world_runs asked|read|run|play EVENT.. <SESSION");
+    };
+    let mut file = Vec::new(rt.alloc());
+    rt.reader().read_to_end(&mut file)?;
+    let events = events_in(rt.alloc(), lines)?;
+    let count = match what.as_str() {
+        "asked" => return print_asked(&rt, &file, &events),
+        "read" => count_read(rt.alloc(), &file)?,
+        "run" => count_run(rt.alloc(), &file, &events)?,
+        "play" => count_played(rt.alloc(), &file)?,
+        _ => bail!("{what} is none of asked, read, run and play"),
+    };
+    println!(rt; "{count}")?;
+    Ok(())
+}
