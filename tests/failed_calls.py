@@ -23,21 +23,22 @@ import tables
 
 CUT_TABLES = ['trace_streams', 'trace_lines']
 FAILED_TABLES = [
-    'trace_failed_calls', 'session_failed_calls', 'rules_failed_calls', 'answer_failed_calls', 'edits_failed_calls']
+    'trace_failed_calls', 'session_failed_calls', 'rules_failed_calls', 'answer_failed_calls', 'edits_failed_calls',
+    'play_failed_calls']
 # A file is read by a call that repeats a read that is interrupted.
 READ_ERRORS = {
     'trace': [errno.EIO, errno.EINTR], 'answer': [errno.EIO, errno.EINTR], 'session': [errno.EIO],
-    'rules': [errno.EIO]}
+    'rules': [errno.EIO], 'play': [errno.EIO]}
 # An error of 0 is a write that takes nothing.
 WRITE_ERRORS = [0, errno.EIO, errno.EINTR, errno.ENOSPC, errno.EPIPE]
 # Help is written by calls that repeat a write that is interrupted.
 HELP_ERRORS = [0, errno.ENOSPC, errno.EPIPE]
 READ_FAULTS = {
     'trace': b'read fault\n', 'answer': b'read fault\n', 'session': b'cannot read session\n',
-    'rules': b'cannot read rules\n'}
+    'rules': b'cannot read rules\n', 'play': b'cannot read session\n'}
 WRITE_FAULTS = {
     'trace': b'write fault\n', 'session': b'write fault\n', 'rules': b'write fault\n', 'answer': b'write fault\n',
-    'edits': b'Error: write fault\n'}
+    'edits': b'Error: write fault\n', 'play': b'write fault\n'}
 ANY = 1 << 30
 EACH = re.compile(r'(\d+) (reads|writes) of (\d+)')
 ONE = re.compile(r'read (\d+) of (\d+)')
@@ -89,7 +90,7 @@ class Row:
     def with_failed_reads(self, count, piece):
         """Each of so many reads fails in turn, and then none."""
         for number in range(1, count + 1):
-            printed = b'' if self.kind in ('session', 'rules') else self.printed_of((number - 1) * piece)
+            printed = b'' if self.kind in ('session', 'rules', 'play') else self.printed_of((number - 1) * piece)
             ended = 1, printed, READ_FAULTS[self.kind]
             for error in READ_ERRORS[self.kind]:
                 what = 'read %d of %d bytes fails by %d' % (number, piece, error)

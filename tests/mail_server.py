@@ -1,9 +1,9 @@
 #!/usr/bin/env python3
 """Plays sessions by `milter_tool mta`, as both compilers built it, to filters over TCP and over Unix sockets: to
-`milter_tool filter` with the rules of the rows in played.py, with each of its allocations refused in turn; and to filters
-of this file's own that close, reset or keep silent after each of their replies, or that send what is no reply. Besides,
-addresses where nothing listens, and a standard output that is full. What is run is what `rt ci` built; nothing is
-proved here.
+`milter_tool filter` with the rules of the rows in played.py and in the tables of `play`, which are played in memory too,
+and with each of its allocations refused in turn; and to filters of this file's own that close, reset or keep silent
+after each of their replies, or that send what is no reply. Besides, addresses where nothing listens, and a standard
+output that is full. What is run is what `rt ci` built; nothing is proved here.
 
 The last line is 'N passed, M failed', counting the runs. The status is 1 where one failed, or where what is run is
 missing.
@@ -28,6 +28,8 @@ KINDS = ['inet', 'unix']
 MESSAGES = 2
 DEFAULTS = {'tempfail': 'refused "451 4.3.2 Please try again later"\n', 'reject': 'refused "550 5.7.1 Command rejected"\n',
             'accept': 'released\n'}
+# The tables of rows that are played in memory, and over sockets with the same result.
+PLAYED = ['play_verdicts', 'play_edits', 'play_agreements']
 # An option by which the end of a socket resets its connection.
 RESET = struct.pack('ii', 1, 0)
 # The codes of the packets that no filter replies to.
@@ -128,11 +130,16 @@ def reply(replies, then, by_bytes=False):
     return function
 
 
+def written(folder, text):
+    """The path of a new file with this text."""
+    with tempfile.NamedTemporaryFile(dir=folder, delete=False) as file:
+        file.write(text.encode() if isinstance(text, str) else text)
+    return file.name
+
+
 def ran(program, address, folder, text, words=(), stdout=subprocess.PIPE):
     """How `milter_tool mta` ended with this session: its status, and what it printed."""
-    with tempfile.NamedTemporaryFile('w', dir=folder, delete=False) as file:
-        file.write(text)
-    done = subprocess.run([program, 'mta', address, file.name, *words], stdin=subprocess.DEVNULL, stdout=stdout,
+    done = subprocess.run([program, 'mta', address, written(folder, text), *words], stdin=subprocess.DEVNULL, stdout=stdout,
                           stderr=subprocess.PIPE, timeout=4 * serving.SECONDS, check=False)
     printed = None if done.stdout is None else done.stdout.decode()
     return done.returncode, printed, done.stderr.decode()
@@ -176,6 +183,40 @@ def rows(program, kind, folder):
 
     for row in played.rows():
         yield checked(row.name, run, row)
+
+
+def in_memory(program, kind, folder):
+    """The rows, each played in memory by its rules: the same is printed."""
+
+    def run(row):
+        words = ['--rules', written(folder, row.rules), *row.options]
+        done = subprocess.run([program, 'play', written(folder, row.session), *words], stdin=subprocess.DEVNULL,
+                              capture_output=True, timeout=serving.SECONDS, check=False)
+        serving.expect('the run', (done.returncode, done.stdout.decode(), done.stderr.decode()), (0, row.expected, ''))
+
+    for row in played.rows():
+        yield checked(row.name, run, row)
+
+
+def of_play(program, kind, folder):
+    """The rows of the tables of `play` that have no events and no fault, each played to a filter with its rules: the
+    same is printed."""
+
+    def run(contents, options):
+        rules = written(folder, contents['rules'])
+        with serving.Filter(program, kind, folder, ['--rules', rules]) as served:
+            serving.listening(served)
+            words = options + ['--timeout', LONG]
+            expect_reports(program, served.address, folder, contents['out'].decode(), words, contents['given'])
+            if contents['out']:
+                served.expect_line(b'quit')
+
+    for table in PLAYED:
+        for line, lines, _ in tables.rows_of(tables.path_of(table)):
+            contents = tables.contents_of('play', lines, None)
+            if not contents['err'] and not any(mark == b'~' for mark, _ in lines):
+                options = [text.decode() for mark, text in lines if mark == b'$']
+                yield checked('%s.table:%d' % (table, line), run, contents, options)
 
 
 def documented(program, kind, folder):
@@ -295,7 +336,7 @@ def groups(folder):
     for build in tables.BUILDS:
         program = tables.program_of('milter_tool', build)
         for kind in KINDS:
-            for group in [rows, documented, losses, faults, unheard, refused]:
+            for group in [rows, in_memory, of_play, documented, losses, faults, unheard, refused]:
                 yield build + ' ' + kind, group, (program, kind, tempfile.mkdtemp(dir=folder))
 
 

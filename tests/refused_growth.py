@@ -34,7 +34,7 @@ REFUSED = 'tests::packets::'
 TABLES = {
     'milter_tool': [
         'trace_refused_memory', 'session_refused_memory', 'rules_refused_memory', 'answer_refused_memory',
-        'answer_rules_refused_memory'],
+        'answer_rules_refused_memory', 'play_refused_memory'],
     'milter_rows': ['edits_values', 'filter_faults'],
     'milter_mta_rows': ['mta_refused_memory'],
     'milter_links': ['links_refused_memory']}

@@ -19,7 +19,8 @@ TABLES = [
     'answer_sizes', 'answer_refused_memory', 'answer_rules', 'rules_canonical', 'rules_faults',
     'rules_sizes', 'rules_refused_memory', 'answer_rules_refused_memory', 'guard_replies', 'edits_values',
     'edits_faults', 'filter_faults', 'packets_totals', 'mta_conversations', 'mta_agreements', 'mta_edits',
-    'mta_faults', 'mta_losses', 'mta_refused_memory', 'links_losses', 'links_sockets', 'links_refused_memory']
+    'mta_faults', 'mta_losses', 'mta_refused_memory', 'links_losses', 'links_sockets', 'links_refused_memory',
+    'play_verdicts', 'play_edits', 'play_agreements', 'play_events', 'play_faults', 'play_refused_memory']
 # What plays the tables of each kind: a program and its words, of which FILE stands for a file of the input.
 FILE = object()
 PLAYERS = {
@@ -33,12 +34,15 @@ PLAYERS = {
     'packets': ('milter_rows', ['packets']),
     'mta': ('milter_mta_rows', []),
     'links': ('milter_links', []),
+    'play': ('milter_tool', ['play', FILE]),
 }
 # The kinds whose programs write packets: a filter's.
 FILTERS = ['answer', 'guard']
 # The kinds whose programs print the same again of what they printed.
 CANONICAL = ['rules']
-MARKS = b'|^<>&=!*#$%@'
+# The marks of lines of further files, and of each what it has: an option of this name names it.
+FILES = {b'@': 'rules', b'~': 'events'}
+MARKS = b'|^<>&=!*#$%@~'
 SPECIAL = re.compile(rb'\{([0-9a-f]{2}|[^{}]+\*[0-9]+|code)\}')
 NO_LF = b'{no LF}'
 
@@ -103,14 +107,14 @@ def program_of(name, build):
 
 
 def command_of(kind, lines, build, path):
-    """The command that plays a row of these lines, whose input is this file; the row's rules are written beside it."""
+    """The command that plays a row of these lines, whose input is this file; the row's further files are written beside
+    it."""
     name, words = PLAYERS[kind]
     more = [text.decode() for mark, text in lines if mark == b'$']
-    if any(mark == b'@' for mark, _ in lines):
-        rules = path + '.rules'
-        with open(rules, 'wb') as file:
-            file.write(contents_of(kind, lines, None)['rules'])
-        more += ['--rules', rules]
+    for what in sorted({FILES[mark] for mark, _ in lines if mark in FILES}):
+        with open('%s.%s' % (path, what), 'wb') as file:
+            file.write(contents_of(kind, lines, None)[what])
+        more += ['--' + what, file.name]
     return [program_of(name, build)] + [path if word is FILE else word for word in words] + more
 
 
@@ -126,16 +130,16 @@ def part_of(kind, mark, text, code):
         if kind == 'mta':
             return ('given', b'feed %s\n' % digits) if mark == b'<' else ('out', digits + b'\n')
         return ('out' if kind in FILTERS and mark == b'<' else 'given'), packet
-    if mark == b'@':
-        return 'rules', ended(text, code, False)
+    if mark in FILES:
+        return FILES[mark], ended(text, code, False)
     if mark in b'=!':
         return ('out' if mark == b'=' else 'err'), ended(text, code, True)
     return None
 
 
 def contents_of(kind, lines, code):
-    """The bytes of the input, the rules, the output and the errors of the row of these lines."""
-    streams = {'given': b'', 'rules': b'', 'out': b'', 'err': b''}
+    """The bytes of the input, the further files, the output and the errors of the row of these lines."""
+    streams = {'given': b'', 'rules': b'', 'events': b'', 'out': b'', 'err': b''}
     last = None
     for mark, text in lines:
         part, times = part_of(kind, mark, text, code), 1

@@ -1,5 +1,6 @@
 pub mod AnswerRun
 pub mod FileRun
 pub mod Filtering
+pub mod InMemory
 pub mod Playing
 pub mod ToolError

@@ -54,7 +54,7 @@ abbrev pub listen_error : IoKind → ToolError
 listen_error io.OutOfMemory = NoMemory
 listen_error _ = Listen
 
--- the lines of connections that were not all written
+-- the lines of connections, or the reports of a session, that were not all written
 abbrev pub output_error : TextFault → ToolError
 output_error texts.Write = Write
 output_error texts.NoMemory = NoMemory

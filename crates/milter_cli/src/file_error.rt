@@ -15,6 +15,8 @@ pub enum InputFile {
     Session,
     /// A rule file.
     Rules,
+    /// An event file.
+    Events,
 }
 
 impl fmt::Display for InputFile {
@@ -24,6 +26,7 @@ impl fmt::Display for InputFile {
         f.write_str(match self {
             InputFile::Session => "session",
             InputFile::Rules => "rules",
+            InputFile::Events => "events",
         })
     }
 }

@@ -1,15 +1,17 @@
 //! What `milter_tool` does: the printing of session files and of rule files, the answering to mail servers over any
-//! reader and writer and over sockets, the playing of sessions to filters over sockets, and how the program ends. What
-//! it is asked for is read by `milter_request`.
+//! reader and writer and over sockets, the playing of sessions to filters over sockets and in memory, and how the
+//! program ends. What it is asked for is read by `milter_request`.
 #![tactic(auto)]
 
 mod answer_error;
 mod answering;
+mod by_events;
 mod connection_report;
 mod dialling;
 mod file_error;
 mod file_reading;
 mod filtering;
+mod in_memory;
 mod playing;
 mod rules_run;
 mod session_run;
@@ -17,11 +19,13 @@ mod tool_error;
 
 pub use answer_error::{AnswerError, ended_as};
 pub use answering::answer_run;
+pub use by_events::{load_events, schedule_run};
 pub use connection_report::ConnectionReport;
 pub use dialling::{TcpDial, UnixDial};
 pub use file_error::{FileError, InputFile, read_error};
 pub use file_reading::file_limit;
 pub use filtering::{Connections, filter_run};
+pub use in_memory::play_run;
 pub use playing::mta_run;
 pub use rules_run::{load_rules, print_rules};
 pub use session_run::{load_session, print_session};

@@ -29,9 +29,9 @@ pub enum ToolError {
     Answer(AnswerError),
     /// A socket that was not bound.
     Listen,
-    /// Help, the version or the line of a connection was not written.
+    /// Help, the version, the line of a connection or the reports of a session were not written.
     Write,
-    /// Memory was refused before there was a subcommand, or for the line of a connection.
+    /// Memory was refused before there was a subcommand, for the line of a connection, or in the playing of a session.
     NoMemory,
 }
 
@@ -91,7 +91,7 @@ pub fn listen_error(kind: io::ErrorKind) -> ToolError
     }
 }
 
-/// The error of the lines of connections that were not all written.
+/// The error of the lines of connections, or of the reports of a session, that were not all written.
 pub fn output_error(fault: TextFault) -> ToolError
     ensures { result ≡ output_error fault }
 {

@@ -17,7 +17,7 @@ use Rattle.clap.specs.declared.error.kind.ErrorKind.{ErrorKind}
 use Rattle.clap.specs.declared.parser.matches.Found.{Found}
 use Rattle.clap.specs.declared.parser.matches.ArgMatches.{ArgMatches}
 use Rattle.milter_request.specs.declared.command_line.Request.{Request}
-use Rattle.milter_request.specs.CommandLine.{HasMatches, IsNumberOr, IsRequestOf, IsUnasked, LossWords, answer_app, filter_app, mta_app, rules_app, session_app, text_of, tool_app, trace_app}
+use Rattle.milter_request.specs.CommandLine.{HasMatches, IsNumberOr, IsRequestOf, IsUnasked, LossWords, answer_app, filter_app, mta_app, play_app, rules_app, session_app, text_of, tool_app, trace_app}
 use Rattle.milter_request.proofs.FaultlessRows.{AreFilled, Each, Fills, IsFilled, find_each, no_faults, settled_filled, some_fault}
 use Rattle.milter_request.proofs.FaultlessWalk.{StopsBeforeHelp, defaults_filled, walk_rows, walk_stops}
 
@@ -53,7 +53,8 @@ no_session f none = (
   (λ e. no_value f (codes "file") none),
   (λ e. (let other : 115 ≡ 114 = head (codes "session") (codes "rules") e in absurd (omega (arith, other)))),
   (λ e. (let other : 115 ≡ 102 = head (codes "session") (codes "filter") e in absurd (omega (arith, other)))),
-  λ e. (let other : 115 ≡ 109 = head (codes "session") (codes "mta") e in absurd (omega (arith, other))),
+  (λ e. (let other : 115 ≡ 109 = head (codes "session") (codes "mta") e in absurd (omega (arith, other)))),
+  λ e. (let other : 115 ≡ 112 = head (codes "session") (codes "play") e in absurd (omega (arith, other))),
 )
 
 pub no_rules : (f : Found) → None ≡ first_value f (codes "file") → IsUnasked (codes "rules", rows_of f)
@@ -63,7 +64,8 @@ no_rules f none = (
   (λ e. (let other : 114 ≡ 115 = head (codes "rules") (codes "session") e in absurd (omega (arith, other)))),
   (λ e. no_value f (codes "file") none),
   (λ e. (let other : 114 ≡ 102 = head (codes "rules") (codes "filter") e in absurd (omega (arith, other)))),
-  λ e. (let other : 114 ≡ 109 = head (codes "rules") (codes "mta") e in absurd (omega (arith, other))),
+  (λ e. (let other : 114 ≡ 109 = head (codes "rules") (codes "mta") e in absurd (omega (arith, other)))),
+  λ e. (let other : 114 ≡ 112 = head (codes "rules") (codes "play") e in absurd (omega (arith, other))),
 )
 
 pub no_filter : (f : Found) → None ≡ first_value f (codes "address") → IsUnasked (codes "filter", rows_of f)
@@ -73,7 +75,8 @@ no_filter f none = (
   (λ e. (let other : 102 ≡ 115 = head (codes "filter") (codes "session") e in absurd (omega (arith, other)))),
   (λ e. (let other : 102 ≡ 114 = head (codes "filter") (codes "rules") e in absurd (omega (arith, other)))),
   (λ e. no_value f (codes "address") none),
-  λ e. (let other : 102 ≡ 109 = head (codes "filter") (codes "mta") e in absurd (omega (arith, other))),
+  (λ e. (let other : 102 ≡ 109 = head (codes "filter") (codes "mta") e in absurd (omega (arith, other)))),
+  λ e. (let other : 102 ≡ 112 = head (codes "filter") (codes "play") e in absurd (omega (arith, other))),
 )
 
 no_mta : (values : List Row) → (first_of (codes "address") values ≡ None) ⊎ (first_of (codes "session") values ≡ None) → IsUnasked (codes "mta", values)
@@ -83,7 +86,8 @@ no_mta values none = (
   (λ e. (let other : 109 ≡ 115 = head (codes "mta") (codes "session") e in absurd (omega (arith, other)))),
   (λ e. (let other : 109 ≡ 114 = head (codes "mta") (codes "rules") e in absurd (omega (arith, other)))),
   (λ e. (let other : 109 ≡ 102 = head (codes "mta") (codes "filter") e in absurd (omega (arith, other)))),
-  λ e. none,
+  (λ e. none),
+  λ e. (let other : 109 ≡ 112 = head (codes "mta") (codes "play") e in absurd (omega (arith, other))),
 )
 
 pub no_mta_address : (f : Found) → None ≡ first_value f (codes "address") → IsUnasked (codes "mta", rows_of f)
@@ -91,6 +95,17 @@ no_mta_address f none = no_mta (rows_of f) (inl (no_value f (codes "address") no
 
 pub no_mta_session : (f : Found) → None ≡ first_value f (codes "session") → IsUnasked (codes "mta", rows_of f)
 no_mta_session f none = no_mta (rows_of f) (inr (no_value f (codes "session") none))
+
+pub no_play : (f : Found) → None ≡ first_value f (codes "session") → IsUnasked (codes "play", rows_of f)
+no_play f none = (
+  (λ e. (let other : 112 ≡ 116 = head (codes "play") (codes "trace") e in absurd (omega (arith, other)))),
+  (λ e. (let other : 112 ≡ 97 = head (codes "play") (codes "answer") e in absurd (omega (arith, other)))),
+  (λ e. (let other : 112 ≡ 115 = head (codes "play") (codes "session") e in absurd (omega (arith, other)))),
+  (λ e. (let other : 112 ≡ 114 = head (codes "play") (codes "rules") e in absurd (omega (arith, other)))),
+  (λ e. (let other : 112 ≡ 102 = head (codes "play") (codes "filter") e in absurd (omega (arith, other)))),
+  (λ e. (let other : 112 ≡ 109 = head (codes "play") (codes "mta") e in absurd (omega (arith, other)))),
+  λ e. no_value f (codes "session") none,
+)
 
 first_given : (o : Option Row) → option_map_or (λ r. explicit_source r.source) o false ≡ true → IfSome o IsFilled → option_and_then (λ r. slice_get r.values 0) o ≡ None → ⊥
 first_given None given f none = true≢false (sym given)
@@ -155,17 +170,24 @@ module _ (losses : LossWords) where
   abbrev mta_shape : Shape
   mta_shape = built_leaf (inherited (with_leaf_noted (marked_built (tool_app losses).top)) (mta_app losses).top)
 
+  abbrev play_shape : Shape
+  play_shape = built_leaf (inherited (with_leaf_noted (marked_built (tool_app losses).top)) (play_app losses).top)
+
   mta_fills : Each Fills mta_shape.rules
   mta_fills = (inr refl, (inr refl, (inr refl, (inr refl, (inr refl, (inr refl, (inl refl, tt)))))))
+
+  play_fills : Each Fills play_shape.rules
+  play_fills = (inr refl, (inr refl, (inr refl, (inr refl, (inr refl, (inr refl, (inl refl, tt)))))))
 
   -- the shape of the subcommand whose test is the first to hold
   abbrev pick : List (Bool × Shape) → Option Shape
   pick [] = None
   pick (t ∷ tests) = cond t.0 (Some t.1) (pick tests)
 
-  abbrev shapes : (trace session rules answer filter mta help : Bool) → List (Bool × Shape)
-  shapes trace session rules answer filter mta help =
-      (trace, trace_shape) ∷ (session, session_shape) ∷ (rules, rules_shape) ∷ (answer, answer_shape) ∷ (filter, filter_shape) ∷ (mta, mta_shape) ∷ (help, built_leaf help_shape) ∷ []
+  abbrev shapes : (trace session rules answer filter mta play help : Bool) → List (Bool × Shape)
+  shapes trace session rules answer filter mta play help =
+      (trace, trace_shape) ∷ (session, session_shape) ∷ (rules, rules_shape) ∷ (answer, answer_shape) ∷ (filter, filter_shape) ∷ (mta, mta_shape) ∷ (play, play_shape)
+      ∷ (help, built_leaf help_shape) ∷ []
 
   abbrev asked_below : Option Shape → List Text → Kinds
   asked_below o words = option_map_or (λ s. level_fault s [] nothing_held words false []) o []
@@ -179,26 +201,28 @@ module _ (losses : LossWords) where
   mta_asks words below (inr none) = is_there (codes "session") mta_shape words mta_fills (λ rows e. second_here _ _ _ e) below none
 
   -- a subcommand that is entered without a fault asks for something
-  picked_asks : (words : List Text) (rows : List Row) (trace session rules answer filter mta help : Bool) → (help ≡ true → ⊥) → asked_below (pick (shapes trace session rules answer filter mta help)) words ≡ []
-      → check_fault (built (tool_app losses)).top rows (is_some (entered_by (pick (shapes trace session rules answer filter mta help)) words)) ≡ [] → IsRequestOf (entered_by (pick (shapes trace session rules answer filter mta help)) words) None → ⊥
-  picked_asks words rows true session rules answer filter mta help none below check unasked = unasked.0 refl
-  picked_asks words rows false true rules answer filter mta help none below check unasked =
+  picked_asks : (words : List Text) (rows : List Row) (trace session rules answer filter mta play help : Bool) → (help ≡ true → ⊥) → asked_below (pick (shapes trace session rules answer filter mta play help)) words ≡ []
+      → check_fault (built (tool_app losses)).top rows (is_some (entered_by (pick (shapes trace session rules answer filter mta play help)) words)) ≡ [] → IsRequestOf (entered_by (pick (shapes trace session rules answer filter mta play help)) words) None → ⊥
+  picked_asks words rows true session rules answer filter mta play help none below check unasked = unasked.0 refl
+  picked_asks words rows false true rules answer filter mta play help none below check unasked =
       is_there (codes "file") session_shape words (inr refl, (inl refl, tt)) (λ rows e. required_here _ _ e) below (unasked.2 refl)
-  picked_asks words rows false false true answer filter mta help none below check unasked =
+  picked_asks words rows false false true answer filter mta play help none below check unasked =
       is_there (codes "file") rules_shape words (inr refl, (inl refl, tt)) (λ rows e. required_here _ _ e) below (unasked.3 refl)
-  picked_asks words rows false false false true filter mta help none below check unasked = unasked.1 refl
-  picked_asks words rows false false false false true mta help none below check unasked =
+  picked_asks words rows false false false true filter mta play help none below check unasked = unasked.1 refl
+  picked_asks words rows false false false false true mta play help none below check unasked =
       is_there (codes "address") filter_shape words (inr refl, (inr refl, (inr refl, (inl refl, tt)))) (λ rows e. required_here _ _ e) below (unasked.4 refl)
-  picked_asks words rows false false false false false true help none below check unasked = mta_asks words below (unasked.5 refl)
-  picked_asks words rows false false false false false false true none below check unasked = none refl
-  picked_asks words rows false false false false false false false none below check unasked = some_fault _ _ check
+  picked_asks words rows false false false false false true play help none below check unasked = mta_asks words below (unasked.5 refl)
+  picked_asks words rows false false false false false false true help none below check unasked =
+      is_there (codes "session") play_shape words play_fills (λ rows e. required_here _ _ e) below (unasked.6 refl)
+  picked_asks words rows false false false false false false false true none below check unasked = none refl
+  picked_asks words rows false false false false false false false false none below check unasked = some_fault _ _ check
 
   entered_asks : (stop : Option (Text × List Text)) (rows : List Row) → StopsBeforeHelp stop → entered_fault (built (tool_app losses)) stop ≡ []
       → check_fault (built (tool_app losses)).top rows (is_some (entered (built (tool_app losses)) stop)) ≡ [] → IsRequestOf (entered (built (tool_app losses)) stop) None → ⊥
   entered_asks None rows other below check unasked = some_fault _ _ check
   entered_asks (Some p) rows other below check unasked =
       picked_asks p.1 rows (answers_to p.0 (label_of trace_shape)) (answers_to p.0 (label_of session_shape)) (answers_to p.0 (label_of rules_shape)) (answers_to p.0 (label_of answer_shape))
-      (answers_to p.0 (label_of filter_shape)) (answers_to p.0 (label_of mta_shape)) (answers_to p.0 (label_of (built_leaf help_shape)))
+      (answers_to p.0 (label_of filter_shape)) (answers_to p.0 (label_of mta_shape)) (answers_to p.0 (label_of play_shape)) (answers_to p.0 (label_of (built_leaf help_shape)))
       (never_help p.0 other) below check unasked
 
   -- words without a fault ask for something

@@ -14,7 +14,7 @@ use Rattle.clap.specs.declared.builder.value_parser.ValueParser.TheVariants.{Nam
 use Rattle.milter_request.specs.declared.command_line.TheConstants.{COUNT_DEFAULT, COUNT_MAX}
 use Rattle.milter_request.specs.declared.command_line.TheConstants.{TIMEOUT_DEFAULT, TIMEOUT_MAX}
 use Rattle.milter_request.specs.declared.command_line.Request.{Request}
-use Rattle.milter_request.specs.declared.command_line.Request.TheVariants.{Trace, Session, Rules, Answer, Filter, Mta}
+use Rattle.milter_request.specs.declared.command_line.Request.TheVariants.{Trace, Session, Rules, Answer, Filter, Mta, Play}
 use Rattle.milter_outcome.specs.declared.fallback.OnLoss.{OnLoss}
 use Rattle.milter_outcome.specs.declared.fallback.OnLoss.TheVariants.{Accept, Tempfail, Reject}
 use Rattle.clap.specs.declared.error.Error.{Error}
@@ -81,14 +81,28 @@ mta_app losses =
     let limited = with_rule (with_rule mta_base (loss_rule losses)) timeout_rule in
     with_rule (with_rule limited (option_rule (codes "actions"))) (option_rule (codes "protocol"))
 
+-- the files of both ends
+abbrev pub play_base : App
+play_base = with_rule (with_rule (new_app (codes "play")) (place_rule (codes "session"))) (option_rule (codes "rules"))
+
+-- with what one of them offers to the other
+abbrev pub play_offer_app : App
+play_offer_app = with_rule (with_rule play_base (option_rule (codes "actions"))) (option_rule (codes "protocol"))
+
+abbrev pub play_app : LossWords → App
+play_app losses = with_rule (with_rule play_offer_app (option_rule (codes "events"))) (loss_rule losses)
+
 -- the subcommands that only read files
 abbrev pub reading_app : App
 reading_app = with_subcommand (with_subcommand (with_subcommand top_app trace_app.top) session_app.top) rules_app.top
 
+-- with those that are a filter's end
+abbrev pub filtering_app : App
+filtering_app = with_subcommand (with_subcommand reading_app answer_app.top) filter_app.top
+
 -- the whole command line
 abbrev pub tool_app : LossWords → App
-tool_app losses =
-    with_subcommand (with_subcommand (with_subcommand reading_app answer_app.top) filter_app.top) (mta_app losses).top
+tool_app losses = with_subcommand (with_subcommand filtering_app (mta_app losses).top) (play_app losses).top
 
 -- no argument is global
 abbrev pub IsLocal : Command → Type 0
@@ -139,6 +153,13 @@ IsAsked (name, values) (Mta asked) =
     × IsTimeout (first_of (codes "timeout") values) asked.timeout
     × (first_of (codes "actions") values ≡ text_of asked.actions)
     × (first_of (codes "protocol") values ≡ text_of asked.protocol)
+IsAsked (name, values) (Play asked) =
+    (name ≡ codes "play") × (first_of (codes "session") values ≡ Some asked.session.now)
+    × (first_of (codes "rules") values ≡ text_of asked.rules)
+    × (first_of (codes "actions") values ≡ text_of asked.actions)
+    × (first_of (codes "protocol") values ≡ text_of asked.protocol)
+    × (first_of (codes "events") values ≡ text_of asked.events)
+    × IsLoss (first_of (codes "loss") values) asked.loss
 
 -- the subcommand of this name, with these values, asks for nothing
 abbrev pub IsUnasked : Text × List Row → Type 0
@@ -148,6 +169,7 @@ IsUnasked (name, values) =
     × (name ≡ codes "rules" → first_of (codes "file") values ≡ None)
     × (name ≡ codes "filter" → first_of (codes "address") values ≡ None)
     × (name ≡ codes "mta" → (first_of (codes "address") values ≡ None) ⊎ (first_of (codes "session") values ≡ None))
+    × (name ≡ codes "play" → first_of (codes "session") values ≡ None)
 
 -- the request of the subcommand, or that it has none
 abbrev pub IsRequestOf : Option (Text × List Row) → Option Request → Type 0

@@ -271,3 +271,77 @@ A fault of what was asked for is printed on standard error:
 
 Status: 0 after the messages were settled, also by a lost filter, 1 after a fault, 2
 after a wrong use of the command line.";
+
+/// What is played, the form of an event file with an example, and the fault lines.
+pub(crate) const PLAY: &str = "\
+SESSION is a session file, and the filter answers by the rules of a rule file:
+milter_tool help session and milter_tool help rules have their forms. The mail
+server's end is that of milter_tool mta, with the same NAMES and the same --loss,
+the filter's end that of milter_tool filter, and the bytes between them stay in
+memory. Without an event file there is one connection, on which everything arrives,
+and every message is settled by it.
+
+An event file says what happens instead. It has a line for each event, in order:
+
+  dial                           a connection is made, where one is wanted
+  send N                         the mail server's end sends N bytes of a packet
+  to-filter N                    the filter's end takes N of the bytes sent
+  answer N                       the filter's end answers N bytes
+  to-mta N                       N of the bytes answered reach the mail server's end
+  die                            the filter dies; what it answered is still on its way
+  lose                           the connection is lost, or couldn't be made
+  timeout                        the filter took too long
+  round N                        send N, to-filter N, answer N and to-mta N
+  rounds COUNT N                 so many rounds
+
+N and COUNT are numbers up to 4294967295. Where fewer than N bytes are there, all of
+them are moved, and an event that can't be at its place changes nothing. Blank lines,
+and lines that begin with #, are skipped. A file has at most 134,217,728 bytes and
+10,000,000 events, four for each round.
+
+What is printed has the form that milter_tool help mta explains, for the messages
+that are settled; the events need not settle all. With the rules
+
+  at eob do add-header \"X-One\" \"1\"
+  at eob do add-header \"X-Two\" \"2\"
+
+the answer to the end of a message's body is two edits, of 13 bytes each, and a
+verdict. So the filter dies between the two edits by these events:
+
+  dial
+  rounds 7 100
+  send 100
+  to-filter 100
+  answer 13
+  die
+  to-mta 100
+  lose
+
+Seven rounds play the options, connect, helo, sender, recipient, data and the end of
+the header of a message with one recipient, no header and no body. That message is
+printed as
+
+  message 1 default reset refused \"451 4.3.2 Please try again later\"
+  acted connect 1 continue
+  acted helo 1 continue
+  acted mail 1 continue
+  acted rcpt 1 continue
+  acted data 1 continue
+  acted eoh 1 continue
+
+A fault of what was asked for is printed on standard error:
+
+  bad value for --actions        NAMES isn't of its form (status 2)
+  bad value for --protocol       NAMES isn't of its form (status 2)
+  cannot read rules              the rule file was not read, or is too large
+  rules line N: fault K          the rule file has a fault
+  cannot read session            the session file was not read, or is too large
+  session line N: fault K        the session file has a fault
+  cannot read events             the event file was not read, or is too large
+  events line N: fault 1         an unknown line, or one in another form
+  events line N: fault 2         with this line there are too many events
+  write fault                    standard output was not written
+  out of memory                  memory was refused
+
+Status: 0 after the messages were printed, also those of a lost filter, 1 after a
+fault, 2 after a wrong use of the command line.";

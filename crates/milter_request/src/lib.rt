@@ -5,10 +5,11 @@
 mod address;
 mod command_line;
 mod help_text;
+mod subcommands;
 mod target;
 mod usage_error;
 
 pub use address::Address;
-pub use command_line::{MtaRequest, Request, command_line_limits, parse};
+pub use command_line::{MtaRequest, PlayRequest, Request, command_line_limits, parse};
 pub use target::{Offer, Target};
 pub use usage_error::UsageError;

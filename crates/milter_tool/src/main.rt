@@ -7,14 +7,16 @@
 
 use milter_cli::{
     Connections, InputFile, TcpDial, ToolError, UnixDial, answer_run, argument_error, end_usage,
-    ended_as, filter_run, listen_error, load_rules, mta_run, output_error, print_rules,
-    print_session, read_error, report,
+    ended_as, filter_run, listen_error, load_events, load_rules, load_session, mta_run,
+    output_error, play_run, print_rules, print_session, read_error, report, schedule_run,
 };
 use milter_converse::Dial;
+use milter_mail::Session;
 use milter_mta::Config;
-use milter_request::{Address, MtaRequest, Request, Target, UsageError, parse};
+use milter_request::{Address, MtaRequest, Offer, PlayRequest, Request, Target, UsageError, parse};
 use milter_rules::Rules;
 use milter_trace::trace_run;
+use milter_world::Event;
 use std::env::{self, Env};
 use std::net::{Net, TcpListener, TcpStream};
 use std::os::unix::net::UnixListener;
@@ -154,6 +156,73 @@ fn play_session_over<R: Files + Print + AllocGlobal, D: Dial + Drop>(
     mta_run(rt.alloc(), config, file, &mut dial, &mut io::writer(rt)).map_err(ToolError::File)
 }
 
+/// The session of the file at this path.
+fn session_at<R: Files + AllocGlobal>(rt: &R, path: &str) -> Result<Session, ToolError> {
+    let file = open(rt, InputFile::Session, path)?;
+    load_session(rt.alloc(), file).map_err(ToolError::File)
+}
+
+/// The events of the file at this path.
+fn events_at<R: Files + AllocGlobal>(rt: &R, path: &str) -> Result<Vec<Event>, ToolError> {
+    let file = open(rt, InputFile::Events, path)?;
+    load_events(rt.alloc(), file).map_err(ToolError::File)
+}
+
+/// Plays the session of a file to a filter in memory, and prints what becomes of its messages.
+fn play_in_memory<R: Files + Print + AllocGlobal>(
+    rt: &R,
+    asked: PlayRequest<'_>,
+) -> Result<(), ToolError> {
+    let offer = match Offer::parse(asked.actions, asked.protocol) {
+        Ok(offer) => offer,
+        Err(error) => return Err(ToolError::Usage(error)),
+    };
+    let config = Config::new(offer.actions, offer.protocol, asked.loss).unwrap();
+    let rules = rules_at(rt, asked.rules)?;
+    let session = session_at(rt, asked.session)?;
+    match asked.events {
+        Some(path) => {
+            let events = events_at(rt, path)?;
+            play_by_events(rt, config, session, &rules, events.as_slice())
+        }
+        None => play_undisturbed(rt, config, session, &rules),
+    }
+}
+
+/// Plays a session over one connection to a filter with these rules on which everything arrives.
+fn play_undisturbed<R: Print + AllocGlobal>(
+    rt: &R,
+    config: Config,
+    session: Session,
+    rules: &Rules,
+) -> Result<(), ToolError> {
+    match play_run(rt.alloc(), config, session, rules, &mut io::writer(rt)) {
+        Ok(()) => Ok(()),
+        Err(fault) => Err(output_error(fault)),
+    }
+}
+
+/// Plays a session to a filter with these rules while the events happen.
+fn play_by_events<R: Print + AllocGlobal>(
+    rt: &R,
+    config: Config,
+    session: Session,
+    rules: &Rules,
+    events: &[Event],
+) -> Result<(), ToolError> {
+    match schedule_run(
+        rt.alloc(),
+        config,
+        session,
+        rules,
+        events,
+        &mut io::writer(rt),
+    ) {
+        Ok(()) => Ok(()),
+        Err(fault) => Err(output_error(fault)),
+    }
+}
+
 /// The words of the command line, the program's name first.
 fn words<R: Env + AllocGlobal>(rt: &R) -> Result<Vec<String>, ToolError> {
     match env::args(rt) {
@@ -179,6 +248,7 @@ fn run<
             },
         ) => serve_address(rt, address, rules, count),
         Ok(Request::Mta(asked)) => play_session(rt, asked),
+        Ok(Request::Play(asked)) => play_in_memory(rt, asked),
         Err(error) => end_usage(error, &mut io::writer(rt)),
     }
 }
