@@ -179,13 +179,20 @@ fn play_in_memory<R: Files + Print + AllocGlobal>(
     };
     let config = Config::new(offer.actions, offer.protocol, asked.loss).unwrap();
     let rules = rules_at(rt, asked.rules)?;
+    play_by_rules(rt, config, asked, &rules)
+}
+
+/// Plays the session of a file to a filter with these rules.
+fn play_by_rules<R: Files + Print + AllocGlobal>(
+    rt: &R,
+    config: Config,
+    asked: PlayRequest<'_>,
+    rules: &Rules,
+) -> Result<(), ToolError> {
     let session = session_at(rt, asked.session)?;
     match asked.events {
-        Some(path) => {
-            let events = events_at(rt, path)?;
-            play_by_events(rt, config, session, &rules, events.as_slice())
-        }
-        None => play_undisturbed(rt, config, session, &rules),
+        Some(path) => play_by_events(rt, config, session, rules, path),
+        None => play_undisturbed(rt, config, session, rules),
     }
 }
 
@@ -202,8 +209,26 @@ fn play_undisturbed<R: Print + AllocGlobal>(
     }
 }
 
+/// Plays a session to a filter with these rules while the events of the file at this path happen.
+fn play_by_events<R: Files + Print + AllocGlobal>(
+    rt: &R,
+    config: Config,
+    session: Session,
+    rules: &Rules,
+    path: &str,
+) -> Result<(), ToolError> {
+    let events = match events_at(rt, path) {
+        Ok(events) => events,
+        Err(error) => {
+            drop(session);
+            return Err(error);
+        }
+    };
+    play_events(rt, config, session, rules, events.as_slice())
+}
+
 /// Plays a session to a filter with these rules while the events happen.
-fn play_by_events<R: Print + AllocGlobal>(
+fn play_events<R: Print + AllocGlobal>(
     rt: &R,
     config: Config,
     session: Session,
