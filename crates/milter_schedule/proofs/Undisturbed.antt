@@ -48,10 +48,10 @@ each-ruled p [] [] each known reset timeout = tt
 each-ruled p [] (r ∷ rs) each known reset timeout = absurd each
 each-ruled p (message ∷ messages) [] each known reset timeout = absurd each
 each-ruled p (message ∷ messages) (r ∷ rs) each known reset timeout = (
-    is-ruled p message r each.0 (All-head (λ (r : Report). is_known r.settled_by ≡ true) r rs known)
-        (All-head (λ (r : Report). by_reset r.settled_by ≡ false) r rs reset) (All-head (λ (r : Report). by_timeout r.settled_by ≡ false) r rs timeout),
-    each-ruled p messages rs each.1 (All-tail (λ (r : Report). is_known r.settled_by ≡ true) r rs known)
-        (All-tail (λ (r : Report). by_reset r.settled_by ≡ false) r rs reset) (All-tail (λ (r : Report). by_timeout r.settled_by ≡ false) r rs timeout),
+  is-ruled p message r each.0 (All-head (λ (r : Report). is_known r.settled_by ≡ true) r rs known)
+      (All-head (λ (r : Report). by_reset r.settled_by ≡ false) r rs reset) (All-head (λ (r : Report). by_timeout r.settled_by ≡ false) r rs timeout),
+  each-ruled p messages rs each.1 (All-tail (λ (r : Report). is_known r.settled_by ≡ true) r rs known)
+      (All-tail (λ (r : Report). by_reset r.settled_by ≡ false) r rs reset) (All-tail (λ (r : Report). by_timeout r.settled_by ≡ false) r rs timeout),
 )
 
 no-rest : (rest : List MailObject) → length rest ≡ 0 → rest ≡ []

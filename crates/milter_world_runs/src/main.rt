@@ -40,7 +40,13 @@ fn events_in(alloc: Global, lines: &[String]) -> anyhow::Result<Vec<Event>> {
 /// How often the filter is asked while the events happen.
 fn count_asked(alloc: Global, file: &[u8], events: &[Event]) -> anyhow::Result<u64> {
     let filter = Counting::new();
-    run(alloc, config()?, read_session(alloc, file)?, &filter, events)?;
+    run(
+        alloc,
+        config()?,
+        read_session(alloc, file)?,
+        &filter,
+        events,
+    )?;
     Ok(filter.asked())
 }
 
