@@ -80,7 +80,7 @@ hears-nothing : (m : Mta) (lines : List Line) (s h k : ℕ) → k ≡ 0
 hears-nothing m lines s h k none = rw none (ap (after_at m lines s) (let e : h ≡ h + 0 = omega arith in e))
 
 module _ (line : Line) (lines : List Line) (rest : Hears lines) (m : Mta) (s h k : ℕ) (f : SendsLines m (line ∷ lines))
-    (early : s ≤ due (line ∷ lines) h) (told : h + k ≤ owed (line ∷ lines) s) (whole : length line.out ≤ s) where
+    (early : s ≤ due (line ∷ lines) h) (answers_owed : h + k ≤ owed (line ∷ lines) s) (whole : length line.out ≤ s) where
   bytes-are : to_mta (line ∷ lines) ≡ line.back ++ to_mta lines
   bytes-are = flat_map-cons (λ l. l.back) line lines
 
@@ -134,14 +134,14 @@ module _ (line : Line) (lines : List Line) (rest : Hears lines) (m : Mta) (s h k
 
 pub hears : (lines : List Line) → Hears lines
 hears [] m s h k f early each = hears-nothing m [] s h k (omega arith)
-hears (line ∷ lines) m s h k f early told =
+hears (line ∷ lines) m s h k f early answers_owed =
     by_lt s (length line.out)
     (λ less. hears-nothing m (line ∷ lines) s h k (let o = owed-part line lines s less in omega arith))
     (λ whole. by_lt h (length line.back)
     (λ less. by_lt (h + k) (length line.back)
-    (hears-part line lines (hears lines) m s h k f early told whole less)
-    (hears-last line lines (hears lines) m s h k f early told whole less))
-    (hears-later line lines (hears lines) m s h k f early told whole))
+    (hears-part line lines (hears lines) m s h k f early answers_owed whole less)
+    (hears-last line lines (hears lines) m s h k f early answers_owed whole less))
+    (hears-later line lines (hears lines) m s h k f early answers_owed whole))
 
 -- ---- bytes sent
 
@@ -167,7 +167,7 @@ module _ (adds : AddsUp) where
       → goes_on (sent k (advanced (after_at m lines s h).mta)) ≡ after_at m lines (s + k) h
 
   module _ (line : Line) (lines : List Line) (rest : Sends lines) (m : Mta) (s h k : ℕ) (f : SendsLines m (line ∷ lines))
-      (early : s < due (line ∷ lines) h) (told : h ≤ owed (line ∷ lines) s) (some : 0 < k) (within : s + k ≤ packet_end (line ∷ lines) s) where
+      (early : s < due (line ∷ lines) h) (answers_owed : h ≤ owed (line ∷ lines) s) (some : 0 < k) (within : s + k ≤ packet_end (line ∷ lines) s) where
     sends-now : s < length line.out → sent k (advanced (after_at m (line ∷ lines) s h).mta) ≡ sent (s + k) (advanced m)
     sends-now less =
         ap (λ (a : After). sent k (advanced a.mta)) (at-part m line lines s h less)
@@ -218,15 +218,15 @@ module _ (adds : AddsUp) where
         (rest (after_line line.back m).mta (s - length line.out) (h - length line.back) k f.1 (omega arith) (omega arith) some (omega arith)))
 
   pub sends : (lines : List Line) → Sends lines
-  sends [] m s h k f early told some within = absurd (let c : s < 0 = early in omega arith)
-  sends (line ∷ lines) m s h k f early told some within =
+  sends [] m s h k f early answers_owed some within = absurd (let c : s < 0 = early in omega arith)
+  sends (line ∷ lines) m s h k f early answers_owed some within =
       by_lt s (length line.out)
       (λ less.
-      ap goes_on (sends-now line lines (sends lines) m s h k f early told some within less)
+      ap goes_on (sends-now line lines (sends lines) m s h k f early answers_owed some within less)
       ∙ by_lt (s + k) (length line.out)
-      (sends-part line lines (sends lines) m s h k f early told some within)
-      (sends-last line lines (sends lines) m s h k f early told some within less))
-      (sends-later line lines (sends lines) m s h k f early told some within)
+      (sends-part line lines (sends lines) m s h k f early answers_owed some within)
+      (sends-last line lines (sends lines) m s h k f early answers_owed some within less))
+      (sends-later line lines (sends lines) m s h k f early answers_owed some within)
 
   -- ---- what is pending
 
@@ -236,7 +236,7 @@ module _ (adds : AddsUp) where
 
   pub pends : (lines : List Line) → Pends lines
   pends [] m s h f early each = absurd (let c : s < 0 = early in omega arith)
-  pends (line ∷ lines) m s h f early told =
+  pends (line ∷ lines) m s h f early answers_owed =
       let bytes = flat_map-cons (λ l. l.out) line lines in
       by_lt s (length line.out)
       (λ less.
@@ -268,7 +268,7 @@ module _ (adds : AddsUp) where
 pub wants-send : (lines : List Line) (m : Mta) (s h : ℕ) → SendsLines m lines → s < due lines h → h ≤ owed lines s
     → want (after_at m lines s h).mta ≡ wants.Send
 wants-send [] m s h f early each = absurd (let c : s < 0 = early in omega arith)
-wants-send (line ∷ lines) m s h f early told =
+wants-send (line ∷ lines) m s h f early answers_owed =
     by_lt s (length line.out)
     (λ less. ap (λ (a : After). want a.mta) (at-part m line lines s h less) ∙ by_begun s less)
     (λ past. by_lt h (length line.back)
