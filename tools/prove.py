@@ -32,6 +32,7 @@ class Crate:
 
     def __init__(self, name, uses, known):
         self.name = name
+        self.line = f"{name}: {' '.join(uses)}\n"
         self.folder = os.path.join(TOP, "crates", name)
         self.below = [known[it] for it in uses if it in known]
         self.is_program = os.path.isfile(os.path.join(self.folder, "src", "main.rt"))
@@ -96,8 +97,10 @@ def all_below(crate):
 def folder_of_its_own(crate):
     """A copy of the repository with this crate and those below it alone, in which `rt` waits for no other."""
     with tempfile.TemporaryDirectory(prefix="deiruska-") as place:
-        shutil.copy(os.path.join(TOP, "crates.txt"), place)
-        for library in all_below(crate).values():
+        libraries = all_below(crate).values()
+        with open(os.path.join(place, "crates.txt"), "w", encoding="utf-8") as listed:
+            listed.writelines(it.line for it in libraries)
+        for library in libraries:
             kinds = SOURCES if library is crate else (*SOURCES, os.path.join("out", "rlib"))
             for kind in kinds:
                 given = os.path.join(library.folder, kind)
