@@ -1,17 +1,18 @@
-# The one entry: `make` builds the proved program, `make check` proves what changed and what is above a changed contract,
-# `make test` is the whole test command, `make bench` measures, and `make install PREFIX=/usr/local` puts the proved
-# program in place.
+# `make` proves and builds the program, `make check` proves what changed, `make test` is the whole test command,
+# `make bench` measures, `make install PREFIX=/usr/local` puts the program in place, with its manual page, units and
+# documents, and `make dist` and `make deb` pack the same for machines without the toolchain.
 
 PREFIX ?= /usr/local
 PROGRAM := crates/milter_tool/out/milter_tool
 
-.PHONY: all check test bench install clean
+.PHONY: all check test bench install dist deb clean
 
 all:
-	@./milter_tool --version
+	@python3 tools/prove.py --build milter_tool
+	@echo "the proved program is $(PROGRAM)"
 
 check:
-	bash tests/check.sh
+	@python3 tools/prove.py
 
 test:
 	bash .ci/run
@@ -27,8 +28,13 @@ bench:
 	bash bench/world.sh
 
 install: all
-	install -d $(DESTDIR)$(PREFIX)/bin
-	install -m 755 $(PROGRAM) $(DESTDIR)$(PREFIX)/bin/milter_tool
+	bash tools/package.sh install "$(DESTDIR)" "$(PREFIX)"
+
+dist: all
+	bash tools/package.sh dist
+
+deb: all
+	bash tools/package.sh deb
 
 clean:
-	rm -rf crates/*/out
+	rm -rf crates/*/out dist

@@ -12,7 +12,7 @@ set -eu
 cd "$(dirname "${BASH_SOURCE[0]}")/.."
 program=${1:-}
 if [ -z "$program" ]; then
-    ./milter_tool --version >/dev/null
+    make -s all >/dev/null
     program=crates/milter_tool/out/milter_tool
 fi
 work=$(mktemp -d)

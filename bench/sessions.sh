@@ -7,7 +7,7 @@
 # fault at most a second. Status 1 where one is missed. The program is built first where it has to be.
 set -eu
 cd "$(dirname "${BASH_SOURCE[0]}")/.."
-./milter_tool --version >/dev/null
+make -s all >/dev/null
 work=$(mktemp -d)
 trap 'rm -rf "$work"' EXIT
 python3 - "$work" crates/milter_tool/out/milter_tool <<'PYTHON'

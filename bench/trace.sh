@@ -7,7 +7,7 @@
 # missed. The program is built first where it has to be. It takes about 150 MB of a temporary folder.
 set -eu
 cd "$(dirname "${BASH_SOURCE[0]}")/.."
-./milter_tool --version >/dev/null
+make -s all >/dev/null
 program=crates/milter_tool/out/milter_tool
 work=$(mktemp -d)
 trap 'rm -rf "$work"' EXIT

@@ -25,7 +25,7 @@ if [ "$(id -u)" != 0 ]; then
 fi
 program=${1:-}
 if [ -z "$program" ]; then
-    ./milter_tool --version >/dev/null || exit 1
+    make -s all >/dev/null || exit 1
     program=crates/milter_tool/out/milter_tool
 fi
 exec python3 tests/interop/run.py "$program"

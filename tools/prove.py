@@ -1,12 +1,13 @@
 #!/usr/bin/env python3
 """Proves crates, side by side where neither stands on the other.
 
-    tools/prove.py [--test] [CRATE ..]
+    tools/prove.py [--build] [--test] [CRATE ..]
 
 It proves the crates that are named and those below them, and all of crates.txt where none is named: each by `rt lib`,
-or by `rt check` where it is a program; with --test the tests of each crate too. A crate that did not change since it
-was proved, nor any below it, is passed over, so a run that was interrupted is taken up again where it was. Each crate
-keeps its work in its out/. This is for work at hand: `rt ci` alone proves all of it from nothing.
+or by `rt check` where it is a program; with --test the tests of each crate too, and with --build it builds the
+programs. A crate that did not change since it was proved, nor any below it, is passed over, so a run that was
+interrupted is taken up again where it was. Each crate keeps its work in its out/. This is for work at hand: `rt ci`
+alone proves all of it from nothing.
 
 Two `rt` wait for one another where they share a library, so each crate is proved in a folder of its own, in which the
 libraries below it are links, and its out/ is moved there and back. Half as many crates as there are processors are
@@ -86,10 +87,14 @@ def crates_listed():
     return known
 
 
-def all_below(crate):
-    found = {crate.name: crate}
-    for library in crate.below:
-        found.update(all_below(library))
+def all_below(crates):
+    """These crates and all that stand below them, by name."""
+    found, waiting = {}, list(crates)
+    while waiting:
+        crate = waiting.pop()
+        if crate.name not in found:
+            found[crate.name] = crate
+            waiting += crate.below
     return found
 
 
@@ -97,7 +102,7 @@ def all_below(crate):
 def folder_of_its_own(crate):
     """A copy of the repository with this crate and those below it alone, in which `rt` waits for no other."""
     with tempfile.TemporaryDirectory(prefix="deiruska-") as place:
-        libraries = all_below(crate).values()
+        libraries = all_below([crate]).values()
         with open(os.path.join(place, "crates.txt"), "w", encoding="utf-8") as listed:
             listed.writelines(it.line for it in libraries)
         for library in libraries:
@@ -137,59 +142,84 @@ def prove(crate, mark, command):
     return None
 
 
-def prove_with_tests(crate, with_tests):
-    """Proves the crate, and its tests where they are wanted, as far as it changed; what rt printed where one fails."""
-    said = None
-    if not crate.is_proved("proved"):
-        said = prove(crate, "proved", ["check"] if crate.is_program else ["lib"])
-    if said is None and with_tests and crate.has_tests() and not crate.is_proved("tested"):
-        said = prove(crate, "tested", ["test"])
-    return said
+def steps(crate, wanted):
+    """What is to be done of a crate: of each step its mark in out/, and the words of rt."""
+    if not crate.is_program:
+        yield "proved", ["lib"]
+    elif "--build" in wanted:
+        yield "built", ["run", "--", "--version"]
+    else:
+        yield "proved", ["check"]
+    if "--test" in wanted and crate.has_tests():
+        yield "tested", ["test"]
+
+
+def prove_changed(crate, wanted):
+    """Takes the steps whose outcome is no more that of the crate as it stands; what rt printed where one fails."""
+    for mark, command in steps(crate, wanted):
+        said = None if crate.is_proved(mark) else prove(crate, mark, command)
+        if said is not None:
+            return said
+    return None
 
 
 def minutes(seconds):
     return f"{int(seconds) // 60}:{int(seconds) % 60:02}"
 
 
-def work(crates, with_tests):
-    """Proves these crates, lowest first, and prints one line for each; whether all of them are proved."""
-    begun, done, running, failed = time.monotonic(), [], {}, []
+def report(crate, done, count, begun):
+    """Prints that a crate is proved, where that took a run of rt, and how far the whole is."""
+    if crate.time > 0:
+        whole = minutes(time.monotonic() - begun)
+        print(f"{crate.name} is proved in {minutes(crate.time)}: {done} of {count} crates, {whole}", flush=True)
+
+
+def work(crates, wanted):
+    """Proves these crates, and prints a line for each; what rt printed of the first that is not proved, and its name."""
+    begun, done, running = time.monotonic(), 0, {}
     waiting = sorted(crates, key=lambda it: -it.way_up)
     workers = max(len(os.sched_getaffinity(0)) // 2, 1)
     with concurrent.futures.ThreadPoolExecutor(workers) as pool:
         while waiting or running:
-            for crate in [it for it in waiting if not failed and not set(it.below) & {*waiting, *running.values()}]:
-                if len(running) < workers:
-                    waiting.remove(crate)
-                    running[pool.submit(prove_with_tests, crate, with_tests)] = crate
-            if not running:
-                break
+            ready = [it for it in waiting if not set(it.below) & {*waiting, *running.values()}]
+            for crate in ready[: workers - len(running)]:
+                waiting.remove(crate)
+                running[pool.submit(prove_changed, crate, wanted)] = crate
             for ended in concurrent.futures.wait(running, return_when=concurrent.futures.FIRST_COMPLETED).done:
                 crate, said = running.pop(ended), ended.result()
-                (done if said is None else failed).append(crate)
                 if said is not None:
-                    print(f"{said}{crate.name} is not proved", flush=True)
-                elif crate.time > 0:
-                    print(
-                        f"{crate.name} is proved in {minutes(crate.time)}: {len(done)} of {len(crates)} crates, "
-                        f"{minutes(time.monotonic() - begun)}",
-                        flush=True,
-                    )
-    return not failed
+                    return f"{said}{crate.name} is not proved"
+                done += 1
+                report(crate, done, len(crates), begun)
+    return None
+
+
+def note_build(program, crates, begun):
+    """Leaves in the program's out/ from which crates it was built, at the time at which the run began."""
+    noted = os.path.join(program.folder, "out", f"{program.name}.built")
+    with open(noted, "w", encoding="utf-8") as made:
+        made.writelines(f"{it}\n" for it in crates)
+    os.utime(noted, (begun, begun))
 
 
 def main():
-    words = [it for it in sys.argv[1:] if it != "--test"]
+    begun = time.time()
+    wanted = {it for it in sys.argv[1:] if it.startswith("--")}
+    names = [it for it in sys.argv[1:] if it not in wanted]
     known = crates_listed()
-    unknown = [it for it in words if it not in known]
-    if unknown:
-        sys.exit(f"crates.txt has no crate {unknown[0]}")
-    wanted = {}
-    for name in words or known:
-        wanted.update(all_below(known[name]))
-    crates = [it for it in known.values() if it.name in wanted]
-    if not work(crates, "--test" in sys.argv[1:]):
-        sys.exit(1)
+    if not wanted <= {"--build", "--test"} or not known.keys() >= set(names):
+        sys.exit(__doc__)
+    named = [known[it] for it in names or known]
+    crates = all_below(named)
+    try:
+        failed = work(crates.values(), wanted)
+    except KeyboardInterrupt:
+        failed = "interrupted; another run goes on from here"
+    if failed:
+        sys.exit(failed)
+    for crate in named:
+        if "--build" in wanted and crate.is_program:
+            note_build(crate, all_below([crate]), begun)
 
 
 if __name__ == "__main__":

@@ -83,18 +83,28 @@ fn serve_address<R: Net<Listener = TcpListener, Stream = TcpStream> + Files + Pr
         return Err(ToolError::Usage(UsageError::BadAddress));
     };
     let rules = rules_at(rt, path)?;
+    serve_rules(rt, &rules, address, count)
+}
+
+/// Serves so many connections of mail servers to this address, as a filter with these rules.
+fn serve_rules<R: Net<Listener = TcpListener, Stream = TcpStream> + Files + Print + AllocGlobal>(
+    rt: &R,
+    rules: &Rules,
+    address: Address<'_>,
+    count: u32,
+) -> Result<(), ToolError> {
     match address {
         Address::Inet { port, host } => {
             let listener = TcpListener::bind(rt, (host, port)).map_err(|error| listen_error(
                 error.kind(),
             ))?;
-            serve_connections(rt, &rules, listener, count)
+            serve_connections(rt, rules, listener, count)
         }
         Address::Unix { path } => {
             let listener = UnixListener::bind(rt, path).map_err(|error| listen_error(
                 error.kind(),
             ))?;
-            serve_connections(rt, &rules, listener, count)
+            serve_connections(rt, rules, listener, count)
         }
     }
 }

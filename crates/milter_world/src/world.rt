@@ -113,7 +113,10 @@ impl<'p, P: Policy> World<'p, P> {
         let mut world = self;
         match world.apply(event) {
             Ok(()) => Ok(world),
-            Err(error) => Err(error),
+            Err(error) => {
+                drop(world);
+                Err(error)
+            }
         }
     }
 
