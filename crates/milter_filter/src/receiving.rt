@@ -73,7 +73,10 @@ fn receive_options<P: Policy>(
         ++ encoding (options_reply (agree offer (P.behavior policy.now).wants (P.behavior policy.now).lists))) }
 {
     let Agreed { options, lists } = agreed_with(alloc, policy, offer)?;
-    Reply::Options { options, lists }.encode(alloc, out)?;
+    let reply = Reply::Options { options, lists };
+    let encoded = reply.encode(alloc, out);
+    drop(reply);
+    encoded?;
     connection.set_agreed(agreed_with(alloc, policy, offer)?);
     Ok(())
 }

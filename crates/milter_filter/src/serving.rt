@@ -39,11 +39,11 @@ pub fn serve<P: Policy, R: Read, W: Write>(
     ensures { Serves (P.behavior policy.now) (R.remaining reader.old) (R.remaining reader.new)
         (W.contents writer.old) (W.contents writer.new) result }
 {
-    let Ok(mut core) = FilterCore::new(alloc, policy) else {
+    let Ok(mut buffer) = take_buffer(alloc) else {
         return Served::Failed(FilterFault::NoMemory);
     };
-    match take_buffer(alloc) {
-        Ok(mut buffer) => serve_reads(&mut core, buffer.as_mut_slice(), reader, writer),
+    match FilterCore::new(alloc, policy) {
+        Ok(mut core) => serve_reads(&mut core, buffer.as_mut_slice(), reader, writer),
         Err(_) => Served::Failed(FilterFault::NoMemory),
     }
 }

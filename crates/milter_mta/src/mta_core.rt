@@ -103,7 +103,7 @@ impl MtaCore {
         }
         self.splitter.clear();
         self.pending.clear();
-        self.link = Some(Link::at(Next::Offer));
+        drop(self.link.replace(Link::at(Next::Offer)));
     }
 
     /// The bytes that wait to be sent. No memory is taken.

@@ -58,7 +58,10 @@ fn play_round<P: Policy>(world: World<'_, P>) -> Result<World<'_, P>, NoMemory>
     let mut world = world;
     match move_all(&mut world) {
         Ok(()) => Ok(world),
-        Err(error) => Err(error),
+        Err(error) => {
+            drop(world);
+            Err(error)
+        }
     }
 }
 

@@ -4,8 +4,8 @@ use Rattle.milter_exchange.specs.Replies.{options_reply}
 use Rattle.milter_filter.proofs.Agreeing.{agreed_fits}
 use Rattle.milter_filter.proofs.receiving.receive_options.Goals as goal
 
-pub encode-requires : goal.encode-requires
-encode-requires g c =
+pub encode-encoded-requires : goal.encode-encoded-requires
+encode-encoded-requires g c =
     let b = g.P.Policy.behavior c.args.policy.now in
     let law = (g.met.P.Policy.lawful c.args.policy.now).wants.reply in
     let fits = agreed_fits c.args.offer b.wants b.lists c.requires law in
