@@ -1,4 +1,4 @@
-"""Captured conversations (cases/capture_*/stdin) as a mail server's end plays them: the session file, the packets to
+"""Captured conversations (cases/captures/*/stdin) as a mail server's end plays them: the session file, the packets to
 the filter, and the reports. All of it is worked out here from the packets and the protocol.
 """
 # The stages of macros, by the codes of their commands, and those of verdicts.

@@ -1,6 +1,6 @@
 #!/usr/bin/env python3
-"""Plays the captured conversations (cases/capture_*) on both ends, as both compilers build them. The programs are those
-that `rt ci` leaves. The last line is 'N passed, M failed'; the status is 1 where something failed.
+"""Plays the captured conversations (cases/captures/*) on both ends, as both compilers build them. The programs are
+those that `rt ci` leaves. The last line is 'N passed, M failed'; the status is 1 where something failed.
 
 The mail server's half is fed to `milter_tool answer`. What is replied is written out here from the protocol: the
 options with what both ends have, which is nothing but the version, and `Continue` to each command that has a reply.
@@ -19,7 +19,7 @@ end. A mail server's end differs from those that were captured in this:
   nothing is sent for it; Postfix and Sendmail send macros without any.
 - It sends the macros that the filter asked for by a symbol list, and no others; miltertest sends all.
 - It aborts no message that came to its end; Postfix does, and once more before it quits.
-- It quits where the script of `capture_raw_quitnc` begins another connection on the same stream. What comes after that
+- It quits where the script of `raw_quitnc` begins another connection on the same stream. What comes after that
   is played as a connection of its own, which begins with the same options.
 """
 import glob
@@ -104,7 +104,7 @@ def fault_of_commands(path, build):
 def main():
     """Plays all captures."""
     passed = failed = 0
-    for path in sorted(glob.glob(os.path.join(tables.TOP, 'cases', 'capture_*', 'stdin'))):
+    for path in sorted(glob.glob(os.path.join(tables.TOP, 'cases', 'captures', '*', 'stdin'))):
         for build in tables.BUILDS:
             for fault_of in fault_of_answers, fault_of_commands:
                 fault = fault_of(path, build)

@@ -1,5 +1,5 @@
 #!/usr/bin/env bash
-# Plays each case of cases/ on milter_tool as both compilers build it, and then the rows of the tables there. A case is a
+# Plays each case cases/GROUP/NAME on milter_tool as both compilers build it, and then the rows of tables. A case is a
 # folder with `args` (one word a line), `stdin`, `stdout`, `stderr` and `status`; a file that isn't there is empty, and a
 # status that isn't there is 0. A word of `args` may name a file of the repository. In place of `args` a case may have
 # `run`: a command of bash, which runs "$program" with words or streams that `args` can't name. The programs are those
@@ -11,8 +11,8 @@ trap 'rm -rf "$work"' EXIT
 passed=0
 failed=0
 for compiler in '' .by-rattle; do
-    for case in cases/*/; do
-        name=$(basename "$case")
+    for case in cases/*/*/; do
+        name=${case#cases/}
         program=crates/milter_tool/out/milter_tool$compiler
         words=()
         [ -f "$case/args" ] && mapfile -t words <"$case/args"

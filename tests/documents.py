@@ -16,7 +16,7 @@ TOP = os.path.dirname(os.path.dirname(os.path.abspath(__file__)))
 EXAMPLES = {
     'README.md': 'milter_example', 'docs/FILTERS.md': 'milter_loop_guard', 'docs/MAIL_SERVERS.md': 'milter_pair'}
 COLUMNS = 120
-DOCUMENTS = ['README.md', 'CHANGELOG.md', 'SECURITY.md', 'cases/README.md'] + sorted(
+DOCUMENTS = ['README.md', 'CHANGELOG.md', 'SECURITY.md', 'cases/README.md', 'cases/tables/README.md'] + sorted(
     os.path.relpath(path, TOP) for path in glob.glob(os.path.join(TOP, 'docs', '*.md')))
 
 

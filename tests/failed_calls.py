@@ -1,6 +1,6 @@
 #!/usr/bin/env python3
 """Runs the programs, as both compilers built them, with reads and writes of a few bytes and with each failing in turn:
-the rows of the tables cases/*_failed_calls.table, and the printing of help and of the version; and the rows of
+the rows of the tables cases/tables/*_failed_calls.table, and the printing of help and of the version; and the rows of
 trace_streams.table and trace_lines.table with a byte a read. Where a mail server is answered, the input is also cut
 after each of its bytes, and read in any two pieces. What is run is what `rt ci` built; nothing is proved here.
 
@@ -195,8 +195,8 @@ def is_cut(text, piece, writes, fault):
 def plays_of_help(build):
     """Help and the version, where a write of at most four bytes fails."""
     program = tables.program_of('milter_tool', build)
-    for case in ['help', 'version']:
-        with open(os.path.join(tables.TOP, 'cases', case, 'stdout'), 'rb') as file:
+    for case, folder in [('help', 'of_program'), ('version', 'version')]:
+        with open(os.path.join(tables.TOP, 'cases', 'help', folder, 'stdout'), 'rb') as file:
             text = file.read()
         for number in range(1, 4):
             for error in HELP_ERRORS:

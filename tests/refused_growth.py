@@ -2,8 +2,8 @@
 """Runs tests of milter_tests and the cases of milter_tool with one allocation refused: the first one, then the
 second one, and so on, until a run makes fewer allocations than that; and the same for milter_rows, milter_mta_rows and
 milter_links. The programs are run as both compilers built them, milter_tool on each case of cases/ that has `args`
-and, as milter_mta_rows and milter_links, on the rows of the tables cases/*_refused_memory.table, and milter_rows on the
-rows of cases/edits_values.table and cases/filter_faults.table; the tests are those below `tests::packets`. What is run
+and, as milter_mta_rows and milter_links, on the rows of the tables cases/tables/*_refused_memory.table, and milter_rows
+on the rows of edits_values.table and filter_faults.table there; the tests are those below `tests::packets`. What is run
 is what `rt ci` built; nothing is proved here. refuse.c says what counts as an allocation.
 
 A test passes, or ends with the result `NoMemory`. A run of a program ends as it does with ample memory, or as one
@@ -199,12 +199,13 @@ def content(folder, name):
 
 
 def cases(program):
-    """Each folder of cases/ that has `args`: its name, command and standard input, and how its run ends."""
-    for folder in sorted(glob.glob(os.path.join(TOP, 'cases', '*', ''))):
+    """Each folder cases/GROUP/NAME that has `args`: its name, command and standard input, and how its run ends."""
+    for folder in sorted(glob.glob(os.path.join(TOP, 'cases', '*', '*', ''))):
         if os.path.isfile(os.path.join(folder, 'args')):
             words = content(folder, 'args').decode().splitlines()
             expected = int(content(folder, 'status') or 0), content(folder, 'stdout'), content(folder, 'stderr')
-            yield os.path.basename(os.path.dirname(folder)), [program] + words, content(folder, 'stdin'), expected
+            name = os.path.relpath(folder, os.path.join(TOP, 'cases'))
+            yield name, [program] + words, content(folder, 'stdin'), expected
 
 
 def rows(table, build, folder):

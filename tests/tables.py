@@ -1,8 +1,8 @@
 #!/usr/bin/env python3
-"""Plays the rows of the tables cases/*.table on their programs as both compilers build them; the tables of failed calls
-are played by failed_calls.py alone.
+"""Plays the rows of the tables cases/tables/*.table on their programs as both compilers build them; the tables of
+failed calls are played by failed_calls.py alone.
 
-cases/README.md has the format of the tables. The programs are those that `rt ci` leaves. The last line is
+cases/tables/README.md has the format of the tables. The programs are those that `rt ci` leaves. The last line is
 'N passed, M failed'; the status is 1 where a row failed or a table can't be read.
 """
 import os
@@ -93,7 +93,7 @@ def packet_of(text, code):
 
 def path_of(table):
     """The file of a table."""
-    return os.path.join(TOP, 'cases', table + '.table')
+    return os.path.join(TOP, 'cases', 'tables', table + '.table')
 
 
 def kind_of(table):
