@@ -1,5 +1,5 @@
-"""Plays sessions by `milter_tool mta` to filters on libmilter: scripted.c with the words of each row of tests/played.py,
-and OpenDKIM, which signs."""
+"""Plays sessions by `milter_tool mta` to filters on libmilter: scripted.c with the words of each row of
+tests/lib/reports.py, and OpenDKIM, which signs."""
 import os
 import re
 import signal
@@ -10,7 +10,7 @@ import tempfile
 import peers
 
 sys.path.insert(0, os.path.join(peers.TOP, 'tests'))
-import played  # noqa: E402
+from lib import reports  # noqa: E402
 
 OPENDKIM = '''Mode s
 Domain example.org
@@ -98,7 +98,7 @@ def play(checks, program):
     with tempfile.TemporaryDirectory() as work:
         filter_program = compiled(work)
         for address, other in peers.addresses(work):
-            for row in played.rows():
+            for row in reports.rows():
                 if row.words is not None:
                     checks.part('mta: ' + row.name, scripted, program, filter_program, work, address, row)
             checks.part('mta: OpenDKIM', opendkim, program, work, other)

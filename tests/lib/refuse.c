@@ -1,5 +1,6 @@
 /*
- * Refuses one allocation of a program: refused_growth.py has this compiled as a shared object, and preloaded.
+ * Refuses one allocation of a program: the tests of refused memory have this compiled as a shared object, and
+ * preloaded.
  *
  * REFUSED_ALLOCATION is the number of the allocation that is refused, from 1; the numbers count calls of malloc,
  * calloc, realloc, aligned_alloc and posix_memalign. When it is refused, one byte is written to the file descriptor

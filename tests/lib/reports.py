@@ -1,14 +1,14 @@
-"""What `milter_tool mta` prints of a session that it plays to a filter that was set to do something: rows of what a filter
-does, with its rules for `milter_tool filter` and its words for tests/interop/scripted.c, and the reports that are
-expected. These are worked out here from the row alone: which stages are sent and answered, and the one verdict at each.
+"""What `milter_tool mta` prints of sessions: the text of reports, and rows of what a filter does, each with its rules
+for `milter_tool filter`, its words for tests/interop/scripted.c, a session, and the reports that are expected. These
+are worked out here from the row alone: which stages are sent and answered, and the one verdict at each.
 """
 import collections
 
 STAGES = ['connect', 'helo', 'mail', 'rcpt', 'data', 'header', 'eoh', 'body', 'eob']
-# The words of each verdict in reports, and in rules.
+# The verdict with a code, in reports and in rules; and the replies by which the verdicts refuse.
 CODE = 'code "550 5.7.1 No"'
-REFUSED = {'reject': '"550 5.7.1 Command rejected"', 'tempfail': '"451 4.3.2 Please try again later"',
-           CODE: '"550 5.7.1 No"'}
+REPLIES = {
+    'reject': '550 5.7.1 Command rejected', 'tempfail': '451 4.3.2 Please try again later', CODE: '550 5.7.1 No'}
 # The bits by which a stage is not sent, and not answered.
 WITHOUT = dict(zip(STAGES, ['NOCONNECT', 'NOHELO', 'NOMAIL', 'NORCPT', 'NODATA', 'NOHDRS', 'NOEOH', 'NOBODY']))
 SILENT = dict(zip(STAGES, ['NR_CONN', 'NR_HELO', 'NR_MAIL', 'NR_RCPT', 'NR_DATA', 'NR_HDR', 'NR_EOH', 'NR_BODY']))
@@ -73,6 +73,18 @@ def commands(body):
     return [(stage, nth + 1) for stage in STAGES for nth in range(counts.get(stage, 1))]
 
 
+def acted(stage, nth=1, verdict='continue'):
+    """The line of a verdict that is acted on, for the command of a stage with this number."""
+    return 'acted %s %d %s\n' % (stage, nth, verdict)
+
+
+def by_default(number, cause, lines=(), on_loss='tempfail'):
+    """The report of a message that is settled by default for this cause, after verdicts with these lines. Where it is
+    released, these end with the text of the message."""
+    outcome = 'refused "%s"' % REPLIES[on_loss] if on_loss in REPLIES else 'released'
+    return 'message %d default %s %s\n' % (number, cause, outcome) + ''.join(lines)
+
+
 def walk(verdict, at, unsent, unasked, body):
     """The lines of the verdicts that are acted on, where this one is given at a stage, and the stage that ended it."""
     lines, skips = [], False
@@ -80,29 +92,29 @@ def walk(verdict, at, unsent, unasked, body):
         if stage in (unsent, unasked) or skips and stage == 'body':
             continue
         given = verdict if stage == at else 'continue'
-        lines.append('acted %s %d %s\n' % (stage, nth, given))
+        lines.append(acted(stage, nth, given))
         skips |= given == 'skip'
-        refuses_one = stage == 'rcpt' and given in REFUSED
+        refuses_one = stage == 'rcpt' and given in REPLIES
         if given not in ('continue', 'skip') and not refuses_one or refuses_one and nth == len(RECIPIENTS):
             return ''.join(lines), stage
     return ''.join(lines), 'eob'
 
 
-def reports(count=1, verdict='continue', at='eob', unsent=None, unasked=None, body=BODY, text=None):
+def expected(count=1, verdict='continue', at='eob', unsent=None, unasked=None, body=BODY, text=None):
     """The reports of so many messages of which each gets this verdict at this stage."""
-    acted, ended = walk(verdict, at, unsent, unasked, body)
+    lines, ended = walk(verdict, at, unsent, unasked, body)
     client = ended in ('connect', 'helo')
     text = text or released(body=body)
     if verdict in ('continue', 'accept', 'skip') or at in (unsent, unasked):
-        end = 'released\n' + acted + text
+        end = 'released\n' + lines + text
     elif verdict == 'discard':
-        end = 'discarded\n' + acted
+        end = 'discarded\n' + lines
     elif client:
-        end = 'refused-at-connection\n' + acted
+        end = 'refused-at-connection\n' + lines
     elif ended == 'rcpt':
-        end = 'no-recipients\n' + acted
+        end = 'no-recipients\n' + lines
     else:
-        end = 'refused %s\n' % REFUSED[verdict] + acted
+        end = 'refused "%s"\n' % REPLIES[verdict] + lines
     by = 'connection' if client else 'filter'
     first = 'connection %s\n' % verdict if client else ''
     return first + ''.join('message %d %s %s' % (number + 1, by, end) for number in range(count))
@@ -116,42 +128,42 @@ def verdict_rows():
                 continue
             words = ['%s=%s' % (at, verdict.split()[0])]
             yield Row('%s at %s' % (verdict, at), words, 'at %s do %s\n' % (at, verdict), session(2),
-                      reports(2, verdict, at), [])
+                      expected(2, verdict, at), [])
 
 
 def bit_rows():
     """Each stage that isn't sent, and each that isn't answered."""
     for stage in STAGES[:-1]:
         yield Row('without ' + stage, ['without=' + stage], 'protocol %s\n' % WITHOUT[stage], session(2),
-                  reports(2, unsent=stage), [])
+                  expected(2, unsent=stage), [])
         yield Row('silent at ' + stage, ['silent=' + stage], 'protocol %s\n' % SILENT[stage], session(2),
-                  reports(2, unasked=stage), [])
+                  expected(2, unasked=stage), [])
 
 
 def other_rows():
     """Skip, edits, symbol lists, and offers without some of them."""
-    yield Row('no rules', [], '', session(3), reports(3), [])
+    yield Row('no rules', [], '', session(3), expected(3), [])
     yield Row('no messages', None, '', OPENING, '', [])
     yield Row('skip', ['skip', 'body=skip'], 'at body do skip\n', session(body=LONG_BODY),
-              reports(verdict='skip', at='body', body=LONG_BODY), [])
-    yield Row('a long body', [], '', session(body=LONG_BODY), reports(body=LONG_BODY), [])
-    yield Row('edits', ['edits'], EDIT_RULES, session(2), reports(2, text=EDITED.replace('{space}', ' ')), [])
+              expected(verdict='skip', at='body', body=LONG_BODY), [])
+    yield Row('a long body', [], '', session(body=LONG_BODY), expected(body=LONG_BODY), [])
+    yield Row('edits', ['edits'], EDIT_RULES, session(2), expected(2, text=EDITED.replace('{space}', ' ')), [])
     yield Row('edits, with the leading space', ['edits', 'leading'], 'protocol HDR_LEADSPC\n' + EDIT_RULES, session(),
-              reports(text=EDITED.replace('{space}', '')), [])
+              expected(text=EDITED.replace('{space}', '')), [])
     yield Row('edits of a message that is refused', ['edits', 'eob=reject'], EDIT_RULES + 'at eob do reject\n',
-              session(), reports(verdict='reject'), [])
+              session(), expected(verdict='reject'), [])
     yield Row('macros', ['values'], MACRO_RULES, session(),
-              reports(text=released('header "X-Macro" " %s"\n' % value
+              expected(text=released('header "X-Macro" " %s"\n' % value
                                     for value in ['mx.example.org', 'TLSv1.3', '4BxYz12345'])), [])
     lists = 'symbols connect "{tls_version} {not_given}"\nsymbols mail "{not_given}"\n'
     yield Row('symbol lists', ['values', 'symbols=connect:{tls_version} {not_given}', 'symbols=mail:{not_given}'],
-              lists + MACRO_RULES, session(), reports(text=released(['header "X-Macro" " TLSv1.3"\n'])), [])
-    yield Row('no actions are offered', None, EDIT_RULES, session(), reports(), ['--actions', 'none'])
+              lists + MACRO_RULES, session(), expected(text=released(['header "X-Macro" " TLSv1.3"\n'])), [])
+    yield Row('no actions are offered', None, EDIT_RULES, session(), expected(), ['--actions', 'none'])
     yield Row('one action is offered', None, EDIT_RULES, session(),
-              reports(text=released(['header "X-Added" " added"\n']).replace(
+              expected(text=released(['header "X-Added" " added"\n']).replace(
                   HEADERS[0], 'header "X-Top" " inserted at the top"\n' + HEADERS[0])), ['--actions=ADDHDRS'])
     yield Row('no protocol bits are offered', None, 'protocol NOHELO|NR_MAIL|SKIP\nat body do skip\n',
-              session(body=LONG_BODY), reports(body=LONG_BODY), ['--protocol', 'none'])
+              session(body=LONG_BODY), expected(body=LONG_BODY), ['--protocol', 'none'])
 
 
 def rows():

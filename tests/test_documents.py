@@ -3,15 +3,15 @@
 docs/MAIL_SERVERS.md is lines of its example's program, each link between documents leads to a file, and each clause of
 docs/PROOFS.md and each definition of docs/DEFINITIONS.md is in the crate under which it is listed. And no line of the
 code or of the definitions is too long, but imports.
-
-The last line is 'N passed, M failed'; the status is 1 where something failed.
 """
 import glob
 import os
 import re
 import sys
 
-TOP = os.path.dirname(os.path.dirname(os.path.abspath(__file__)))
+from lib import runner
+from lib.programs import TOP
+
 # The documents with code of a crate.
 EXAMPLES = {
     'README.md': 'milter_example', 'docs/FILTERS.md': 'milter_loop_guard', 'docs/MAIL_SERVERS.md': 'milter_pair'}
@@ -90,16 +90,10 @@ def lines():
         yield '%s: too long: lines %s' % (os.path.relpath(path, TOP), long), not long
 
 
-def main():
-    passed = failed = 0
-    for check in (blocks, links, clauses, definitions, lines):
-        for what, is_well in check():
-            passed, failed = passed + is_well, failed + (not is_well)
-            if not is_well:
-                print('FAILED: ' + what)
-    print('%d passed, %d failed' % (passed, failed))
-    return 1 if failed or not passed else 0
+def play_of(check):
+    """A play of a check: what it names is wrong where it isn't well."""
+    return lambda: (None if is_well else what for what, is_well in check())
 
 
 if __name__ == '__main__':
-    sys.exit(main())
+    sys.exit(runner.run_all(play_of(check) for check in (blocks, links, clauses, definitions, lines)))

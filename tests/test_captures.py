@@ -1,15 +1,14 @@
 #!/usr/bin/env python3
-"""Plays the captured conversations (cases/captures/*) on both ends, as both compilers build them. The programs are
-those that `rt ci` leaves. The last line is 'N passed, M failed'; the status is 1 where something failed.
+"""Plays the captured conversations cases/captures/* on both ends, as both compilers built them.
 
 The mail server's half is fed to `milter_tool answer`. What is replied is written out here from the protocol: the
 options with what both ends have, which is nothing but the version, and `Continue` to each command that has a reply.
 Where the captured filter let a command go on too, its reply is the same.
 
-The filter's half is fed to a mail server's end by `milter_mta_rows`, each reply after its command, packet by packet and
-then byte by byte. The session file has what the captured mail server sent. Compared are the packets that are sent,
-when a reply is wanted, and the reports with the messages after the filter's edits. All captures are played to their
-end. A mail server's end differs from those that were captured in this:
+The filter's half is fed to a mail server's end by the program of the tables `mta_*`, each reply after its command,
+packet by packet and then byte by byte. The session file has what the captured mail server sent. Compared are the
+packets that are sent, when a reply is wanted, and the reports with the messages after the filter's edits. All captures
+are played to their end. A mail server's end differs from those that were captured in this:
 
 - It offers no RCPT_REJ (0x800), which all of them offered, and nothing else is left out of their offers. Some filters
   answered with it; it is taken out of their answers, since what isn't offered can't be agreed on.
@@ -22,13 +21,10 @@ end. A mail server's end differs from those that were captured in this:
 - It quits where the script of `raw_quitnc` begins another connection on the same stream. What comes after that
   is played as a connection of its own, which begins with the same options.
 """
-import glob
 import os
-import subprocess
 import sys
 
-import captured
-import tables
+from lib import captures, programs, runner
 
 REPLIED = b'CHMRTLNBEU'
 NOT_REPLIED = b'DAKQ'
@@ -46,18 +42,17 @@ def expected(command):
 
 
 def fault_of_answers(path, build):
-    """What is wrong of the replies to a capture's mail server, or nothing."""
-    talk = captured.halves(path)
+    """What is wrong of the replies to a capture's mail server, or None."""
+    talk = captures.halves(path)
     wanted = [expected(command) for command, _ in talk]
-    run = subprocess.run(
-        [tables.program_of('milter_tool', build), 'answer'], input=b''.join(command for command, _ in talk),
-        capture_output=True)
-    if (run.returncode, run.stdout, run.stderr) != (0, b''.join(wanted), b''):
-        return f'status {run.returncode}, output {run.stdout.hex()}, errors {run.stderr!r}'
+    end = programs.ended([programs.tool(build), 'answer'], b''.join(command for command, _ in talk))
+    wrong = programs.compared('answer', end, (0, b''.join(wanted), b''))
+    if wrong is not None:
+        return wrong
     for (command, replies), reply in zip(talk, wanted):
         if replies[-1:] == [CONTINUE] and reply != CONTINUE:
             return f'the captured filter let {command.hex()} go on'
-    return ''
+    return None
 
 
 def script_of(conversation, feeds):
@@ -83,39 +78,35 @@ def by_bytes(replies):
 
 
 def fault_of_commands(path, build):
-    """What is wrong of the commands to a capture's filter and of the reports, or nothing."""
-    for conversation in captured.conversations(path):
+    """What is wrong of the commands to a capture's filter and of the reports, or None."""
+    for conversation in captures.conversations(path):
         for feeds in by_packets, by_bytes:
             script, printed = script_of(conversation, feeds)
-            run = subprocess.run(
-                [tables.program_of('milter_mta_rows', build)], input='\n'.join(script + ['']).encode(),
-                capture_output=True)
-            lines = run.stdout.decode().splitlines()
-            if run.returncode or run.stderr:
-                return f'status {run.returncode}, errors {run.stderr!r}'
+            command = programs.command_of('mail server', build)
+            status, out, errors = programs.ended(command, '\n'.join(script + ['']).encode())
+            lines = out.decode().splitlines()
+            if status or errors:
+                return f'status {status}, errors {errors!r}'
             for number, (line, wanted) in enumerate(zip(lines + [''] * len(printed), printed), 1):
                 if line != wanted:
                     return f'line {number} of what is printed is {line}, and not {wanted}'
             if len(lines) > len(printed):
                 return f'more is printed: {lines[len(printed)]}'
-    return ''
+    return None
 
 
-def main():
-    """Plays all captures."""
-    passed = failed = 0
-    for path in sorted(glob.glob(os.path.join(tables.TOP, 'cases', 'captures', '*', 'stdin'))):
-        for build in tables.BUILDS:
-            for fault_of in fault_of_answers, fault_of_commands:
-                fault = fault_of(path, build)
-                if fault:
-                    failed += 1
-                    print(f'FAILED: {os.path.basename(os.path.dirname(path))}{build}: {fault}')
-                else:
-                    passed += 1
-    print(f'{passed} passed, {failed} failed')
-    return 1 if failed or not passed else 0
+def play_of(path, build, fault_of):
+    """A play of a capture on one end, by a function that answers what is wrong of it."""
+
+    def play():
+        fault = fault_of(path, build)
+        yield fault and f'{os.path.basename(os.path.dirname(path))}{build}: {fault}'
+
+    return play
 
 
 if __name__ == '__main__':
-    sys.exit(main())
+    programs.need('tool', 'mail server')
+    sys.exit(runner.run_all(
+        play_of(path, build, fault_of) for path in captures.paths() for build in programs.BUILDS
+        for fault_of in (fault_of_answers, fault_of_commands)))

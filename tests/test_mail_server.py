@@ -1,14 +1,12 @@
 #!/usr/bin/env python3
 """Plays sessions by `milter_tool mta`, as both compilers built it, to filters over TCP and over Unix sockets: to
-`milter_tool filter` with the rules of the rows in played.py and in the tables of `play`, which are played in memory too,
-and with each of its allocations refused in turn; and to filters of this file's own that close, reset or keep silent
-after each of their replies, or that send what is no reply. Besides, addresses where nothing listens, and a standard
-output that is full. What is run is what `rt ci` built; nothing is proved here.
+`milter_tool filter` with the rules of the rows in lib/reports.py and in the tables of `play`, which are played in
+memory too, and with each of its allocations refused in turn; and to filters of this file's own that close, reset or
+keep silent after each of their replies, or that send what is no reply. Besides, addresses where nothing listens, and a
+standard output that is full. What is run is what `rt ci` built; nothing is proved here.
 
-The last line is 'N passed, M failed', counting the runs. The status is 1 where one failed, or where what is run is
-missing.
+Counted are the runs.
 """
-import concurrent.futures
 import os
 import re
 import socket
@@ -19,48 +17,39 @@ import tempfile
 import textwrap
 import threading
 
-import played
-import preloaded
-import serving
-import tables
+from lib import checks, preloaded, programs, reports, serving, tables
+from lib.checks import checked, expect
+from lib.packets import packet_of
 
-KINDS = ['inet', 'unix']
 MESSAGES = 2
-DEFAULTS = {'tempfail': 'refused "451 4.3.2 Please try again later"\n', 'reject': 'refused "550 5.7.1 Command rejected"\n',
-            'accept': 'released\n'}
+# What may become of a message whose filter is lost.
+ON_LOSS = ['tempfail', 'reject', 'accept']
 # The tables of rows that are played in memory, and over sockets with the same result.
 PLAYED = ['play_verdicts', 'play_edits', 'play_agreements']
-# An option by which the end of a socket resets its connection.
-RESET = struct.pack('ii', 1, 0)
 # The codes of the packets that no filter replies to.
 UNANSWERED = b'DAQ'
 # So long a filter may keep silent, in seconds; and the time that a filter may take, where none keeps silent.
 SHORT, LONG = '1', '30'
 
 
-def packet(code, payload=b''):
-    """A packet."""
-    return struct.pack('>I', 1 + len(payload)) + code + payload
-
-
 def options(version, actions, protocol, more=b''):
     """The reply to an offer."""
-    return packet(b'O', struct.pack('>III', version, actions, protocol) + more)
+    return packet_of(b'O' + struct.pack('>III', version, actions, protocol) + more)
 
 
 AGREED = options(6, 0, 0)
-CONTINUE = packet(b'c')
-# Each fault by its number, with the replies that a filter sends up to it, the last one at once with the one before where
-# that is early.
+CONTINUE = packet_of(b'c')
+# Each fault by its number, with the replies that a filter sends up to it, the last one at once with the one before
+# where that is early.
 FAULTS = [
     (1, 'a length of 0', [b'\0\0\0\0']), (1, 'a length that is too great', [b'\0\x01\0\x01']),
-    (1, 'an unknown code', [AGREED, packet(b'4')]), (1, 'a payload after continue', [AGREED, packet(b'c', b'x')]),
-    (1, 'options that are too short', [packet(b'O', b'\0\0\0\6')]), (2, 'version 7', [options(7, 0, 0)]),
+    (1, 'an unknown code', [AGREED, packet_of(b'4')]), (1, 'a payload after continue', [AGREED, packet_of(b'cx')]),
+    (1, 'options that are too short', [packet_of(b'O\0\0\0\6')]), (2, 'version 7', [options(7, 0, 0)]),
     (2, 'version 1', [options(1, 0, 0)]), (3, 'an action that was not offered', [options(6, 0x200, 0)]),
     (4, 'a protocol bit that was not offered', [options(6, 0, 0x800)]), (5, 'a verdict on the offer', [CONTINUE]),
-    (5, 'options again', [AGREED, AGREED]), (5, 'an edit of the client', [options(6, 1, 0), packet(b'h', b'X\0y\0')]),
-    (5, 'discard of the client', [AGREED, packet(b'd')]),
-    (6, 'an edit that was not agreed on', [AGREED] + [CONTINUE] * 10 + [packet(b'h', b'X\0y\0')]),
+    (5, 'options again', [AGREED, AGREED]), (5, 'an edit of the client', [options(6, 1, 0), packet_of(b'hX\0y\0')]),
+    (5, 'discard of the client', [AGREED, packet_of(b'd')]),
+    (6, 'an edit that was not agreed on', [AGREED] + [CONTINUE] * 10 + [packet_of(b'hX\0y\0')]),
     (8, 'two replies', [AGREED, CONTINUE + CONTINUE])]
 
 
@@ -91,17 +80,14 @@ class Stub:
     def end(self):
         """Waits until all connections were taken."""
         self.thread.join(serving.SECONDS)
-        serving.expect('the connections were taken', self.thread.is_alive(), False)
+        expect('the connections were taken', self.thread.is_alive(), False)
 
 
 def take(connection, size):
     """So many bytes."""
-    found = b''
-    while len(found) < size:
-        piece = connection.recv(size - len(found))
-        if not piece:
-            raise EOFError
-        found += piece
+    found = serving.received(connection, size)
+    if len(found) < size:
+        raise EOFError
     return found
 
 
@@ -125,7 +111,7 @@ def reply(replies, then, by_bytes=False):
             while connection.recv(1 << 16):
                 pass
         elif then == 'reset':
-            connection.setsockopt(socket.SOL_SOCKET, socket.SO_LINGER, RESET)
+            serving.reset_at_end(connection)
 
     return function
 
@@ -137,51 +123,38 @@ def written(folder, text):
     return file.name
 
 
-def ran(program, address, folder, text, words=(), stdout=subprocess.PIPE):
+def ended(program, address, folder, text, words=(), stdout=subprocess.PIPE):
     """How `milter_tool mta` ended with this session: its status, and what it printed."""
-    done = subprocess.run([program, 'mta', address, written(folder, text), *words], stdin=subprocess.DEVNULL, stdout=stdout,
-                          stderr=subprocess.PIPE, timeout=4 * serving.SECONDS, check=False)
-    printed = None if done.stdout is None else done.stdout.decode()
-    return done.returncode, printed, done.stderr.decode()
+    command = [program, 'mta', address, written(folder, text), *words]
+    status, out, err = programs.ended(command, stdout=stdout, timeout=4 * serving.SECONDS)
+    return status, None if out is None else out.decode(), err.decode()
 
 
 def expect_reports(program, address, folder, expected, words=(), text=None):
     """Plays a session, and compares what is printed of it."""
-    serving.expect('the run', ran(program, address, folder, text or played.session(MESSAGES), words), (0, expected, ''))
+    end = ended(program, address, folder, text or reports.session(MESSAGES), words)
+    expect('the run', end, (0, expected, ''))
 
 
 def defaults(cause, acted=0, on_loss='tempfail', first=1, count=MESSAGES):
     """The reports of messages whose filter was lost after so many verdicts."""
-    lines = ''.join('acted %s %d continue\n' % command for command in played.commands(played.BODY)[:acted])
-    text = played.released() if on_loss == 'accept' else ''
-    return ''.join('message %d default %s %s%s%s' % (number, cause, DEFAULTS[on_loss], lines, text)
-                   for number in range(first, first + count))
-
-
-def checked(name, check, *given):
-    """A check of this name, and what was wrong with it, or None."""
-    try:
-        check(*given)
-        return name, None
-    except (serving.Wrong, OSError, subprocess.TimeoutExpired) as wrong:
-        return name, '%s: %s' % (type(wrong).__name__, wrong)
+    lines = [reports.acted(*command) for command in reports.commands(reports.BODY)[:acted]]
+    lines += [reports.released()] if on_loss == 'accept' else []
+    return ''.join(reports.by_default(number, cause, lines, on_loss) for number in range(first, first + count))
 
 
 def rows(program, kind, folder):
     """The rows, each played to a filter with its rules."""
 
     def run(row):
-        rules = os.path.join(folder, 'rules')
-        with open(rules, 'w') as file:
-            file.write(row.rules)
-        with serving.Filter(program, kind, folder, ['--rules', rules]) as served:
+        with serving.Filter(program, kind, folder, ['--rules', written(folder, row.rules)]) as served:
             serving.listening(served)
             words = row.options + ['--timeout', LONG]
             expect_reports(program, served.address, folder, row.expected, words, row.session)
             if row.expected:
                 served.expect_line(b'quit')
 
-    for row in played.rows():
+    for row in reports.rows():
         yield checked(row.name, run, row)
 
 
@@ -190,11 +163,10 @@ def in_memory(program, kind, folder):
 
     def run(row):
         words = ['--rules', written(folder, row.rules), *row.options]
-        done = subprocess.run([program, 'play', written(folder, row.session), *words], stdin=subprocess.DEVNULL,
-                              capture_output=True, timeout=serving.SECONDS, check=False)
-        serving.expect('the run', (done.returncode, done.stdout.decode(), done.stderr.decode()), (0, row.expected, ''))
+        end = programs.ended([program, 'play', written(folder, row.session), *words], timeout=serving.SECONDS)
+        expect('the run', end, (0, row.expected.encode(), b''))
 
-    for row in played.rows():
+    for row in reports.rows():
         yield checked(row.name, run, row)
 
 
@@ -203,8 +175,7 @@ def of_play(program, kind, folder):
     same is printed."""
 
     def run(contents, options):
-        rules = written(folder, contents['rules'])
-        with serving.Filter(program, kind, folder, ['--rules', rules]) as served:
+        with serving.Filter(program, kind, folder, ['--rules', written(folder, contents['rules'])]) as served:
             serving.listening(served)
             words = options + ['--timeout', LONG]
             expect_reports(program, served.address, folder, contents['out'].decode(), words, contents['given'])
@@ -212,18 +183,18 @@ def of_play(program, kind, folder):
                 served.expect_line(b'quit')
 
     for table in PLAYED:
-        for line, lines, _ in tables.rows_of(tables.path_of(table)):
-            contents = tables.contents_of('play', lines, None)
-            if not contents['err'] and not any(mark == b'~' for mark, _ in lines):
-                options = [text.decode() for mark, text in lines if mark == b'$']
-                yield checked('%s.table:%d' % (table, line), run, contents, options)
+        for row in tables.rows_of(table):
+            contents = tables.contents_of('play', row.lines, None)
+            if not contents['err'] and not any(mark == b'~' for mark, _ in row.lines):
+                options = [text.decode() for mark, text in row.lines if mark == b'$']
+                yield checked(tables.row_name(row), run, contents, options)
 
 
 def documented(program, kind, folder):
     """The example of docs/TESTING.md, which has what is printed."""
-    with open(os.path.join(tables.TOP, 'docs', 'TESTING.md'), encoding='utf-8') as file:
+    with open(os.path.join(programs.TOP, 'docs', 'TESTING.md'), encoding='utf-8') as file:
         block = re.search(r'(?:^    (?:message|acted|sender|recipient|header|body|end).*\n)+', file.read(), re.M)[0]
-    examples = os.path.join(tables.TOP, 'examples')
+    examples = os.path.join(programs.TOP, 'examples')
 
     def run():
         with open(os.path.join(examples, 'policy.session'), encoding='utf-8') as file:
@@ -244,7 +215,7 @@ def losses(program, kind, folder):
         expect_reports(program, stub.address, folder, expected, words)
         stub.end()
 
-    every = len(played.commands(played.BODY)) + 1
+    every = len(reports.commands(reports.BODY)) + 1
     for count in range(every):
         replies = [AGREED] + [CONTINUE] * (count - 1) if count else []
         for then in ['close', 'reset']:
@@ -254,13 +225,13 @@ def losses(program, kind, folder):
         replies = [AGREED] + [CONTINUE] * (count - 1) if count else []
         lost = defaults('timeout', max(count - 1, 0))
         yield checked('silent after %d' % count, run, [reply(replies, 'silent')] * MESSAGES, lost, ['--timeout', SHORT])
-    for on_loss in DEFAULTS:
+    for on_loss in ON_LOSS:
         lost = defaults('reset', 2, on_loss)
         yield checked('loss ' + on_loss, run, [reply([AGREED] + [CONTINUE] * 2, 'close')] * MESSAGES, lost,
                       ['--loss', on_loss])
-    whole = [AGREED] + [CONTINUE] * len(played.commands(played.BODY))
+    whole = [AGREED] + [CONTINUE] * len(reports.commands(reports.BODY))
     for by_bytes in [False, True]:
-        again = defaults('reset', 0, count=1) + played.reports(1).replace('message 1', 'message 2')
+        again = defaults('reset', 0, count=1) + reports.expected(1).replace('message 1', 'message 2')
         yield checked('the second connection stays, %s' % ('by bytes' if by_bytes else 'by replies'), run,
                       [reply([], 'close'), reply(whole, 'silent', by_bytes)], again, [])
 
@@ -281,14 +252,14 @@ def faults(program, kind, folder):
 def unheard(program, kind, folder):
     """Addresses where nothing listens, and a standard output that is full."""
     _, address = serving.place_of(kind, folder)
-    for on_loss in DEFAULTS:
+    for on_loss in ON_LOSS:
         yield checked('nothing listens, ' + on_loss, expect_reports, program, address, folder,
                       defaults('reset', on_loss=on_loss), ['--loss', on_loss])
 
     def full():
         with open('/dev/full', 'wb') as file:
-            found = ran(program, address, folder, played.session(), stdout=file)
-        serving.expect('the run', found, (1, None, 'write fault\n'))
+            found = ended(program, address, folder, reports.session(), stdout=file)
+        expect('the run', found, (1, None, 'write fault\n'))
 
     yield checked('standard output is full', full)
 
@@ -296,67 +267,44 @@ def unheard(program, kind, folder):
 def refused(program, kind, folder):
     """Runs with an allocation refused, the first one, then the second one, until a run makes fewer allocations."""
     refuser = preloaded.compiled('refuse.c', folder)
-    whole = played.reports(MESSAGES)
-    with tempfile.NamedTemporaryFile('w', dir=folder, delete=False) as file:
-        file.write(played.session(MESSAGES))
+    whole = reports.expected(MESSAGES)
+    session = written(folder, reports.session(MESSAGES))
 
     def is_default(out):
         """Each message is reported as in the run without refusals, or by default for refused memory, after a beginning
         of the verdicts; and one is by default."""
-        found = re.split(r'(?=^message )', out, flags=re.M)[1:]
-        expected = re.split(r'(?=^message )', whole, flags=re.M)[1:]
-        by_default = [report for report, other in zip(found, expected) if report != other]
+        found, expected = (re.split(r'(?=^message )', text, flags=re.M)[1:] for text in (out, whole))
         acted = ''.join(re.findall(r'^acted .*\n', expected[0], flags=re.M))
-        first = r'message \d default memory ' + re.escape(DEFAULTS['tempfail'])
+        firsts = [reports.by_default(number, 'memory') for number in range(1, MESSAGES + 1)]
+        by_default = [pair for pair, other in zip(zip(firsts, found), expected) if pair[1] != other]
         return len(found) == len(expected) and by_default and all(
-            re.match(first, report) and acted.startswith(re.sub(first, '', report)) for report in by_default)
+            report.startswith(first) and acted.startswith(report.removeprefix(first)) for first, report in by_default)
 
     def run(number):
         with serving.Filter(program, kind, folder, ['--count=9']) as served:
             serving.listening(served)
-            command = [program, 'mta', served.address, file.name]
-            ended, was_refused = preloaded.ran(command, b'', refuser, {'REFUSED_ALLOCATION': number})
-        status, out, err = ended
-        rows = [(0, whole.encode(), b''), (1, b'', b'out of memory\n')]
-        if ended not in rows and not (status == 0 and not err and is_default(out.decode())):
+            command = [program, 'mta', served.address, session]
+            (status, out, err), was_refused = preloaded.refused(command, b'', refuser, number)
+        ends = [(0, whole.encode(), b''), (1, b'', b'out of memory\n')]
+        if (status, out, err) not in ends and not (status == 0 and not err and is_default(out.decode())):
             # (a text may have been printed in part where memory was refused for it)
-            serving.expect('the run', (status, whole.encode().startswith(out), err), (1, True, b'out of memory\n'))
-        return bool(was_refused)
+            expect('the run', (status, whole.encode().startswith(out), err), (1, True, b'out of memory\n'))
+        return was_refused
 
-    number, was_refused = 0, True
-    while was_refused:
-        number, seen = number + 1, []
-        yield checked('allocation %d is refused' % number, lambda: seen.append(run(number)))
-        was_refused = any(seen)
-    yield checked('allocations are refused', serving.expect, 'their number', number > 10, True)
+    yield from checks.with_each_refused(run)
 
 
 def groups(folder):
-    """Groups of checks, each a function that answers the checks with what was wrong."""
-    for build in tables.BUILDS:
-        program = tables.program_of('milter_tool', build)
-        for kind in KINDS:
+    """Groups of checks: of each its name, its function, and what that is called with."""
+    for build in programs.BUILDS:
+        program = programs.tool(build)
+        for kind in serving.KINDS:
+            name = '%s at %s' % (os.path.basename(program), kind)
             for group in [rows, in_memory, of_play, documented, losses, faults, unheard, refused]:
-                yield build + ' ' + kind, group, (program, kind, tempfile.mkdtemp(dir=folder))
-
-
-def run(name, group, given):
-    """The checks of a group, by its name, with what was wrong."""
-    return name, list(group(*given))
-
-
-def main():
-    preloaded.need(tables.program_of('milter_tool', build) for build in tables.BUILDS)
-    passed = failed = 0
-    with tempfile.TemporaryDirectory() as folder, concurrent.futures.ProcessPoolExecutor(preloaded.jobs()) as pool:
-        for name, found in pool.map(run, *zip(*groups(folder))):
-            for what, wrong in found:
-                passed, failed = passed + (wrong is None), failed + (wrong is not None)
-                if wrong is not None:
-                    print('FAILED: %s, %s: %s' % (name, what, wrong))
-    print('%d passed, %d failed' % (passed, failed))
-    return 1 if failed or not passed else 0
+                yield name, group, (program, kind, tempfile.mkdtemp(dir=folder))
 
 
 if __name__ == '__main__':
-    sys.exit(main())
+    programs.need('tool')
+    with tempfile.TemporaryDirectory() as work:
+        sys.exit(checks.run_all(groups(work)))

@@ -8,25 +8,19 @@ nothing is proved here.
 The line of each connection is read before the next one is made. What a row expects on standard error is the same
 ending as a line of `filter`: a fault, or bytes of a packet that is not whole.
 
-The last line is 'N passed, M failed', counting the connections and the runs. The status is 1 where one failed, or where
-what is run is missing.
+Counted are the connections and the runs.
 """
-import concurrent.futures
 import errno
 import os
 import re
 import socket
-import struct
-import subprocess
 import sys
 import tempfile
 import threading
 
-import preloaded
-import serving
-import tables
+from lib import checks, preloaded, programs, serving, tables
+from lib.checks import checked, expect
 
-KINDS = ['inet', 'unix']
 TABLES = ['answer_replies', 'answer_faults']
 RULE_TABLES = ['answer_rules']
 ENDINGS = [(rb'filter fault (\d+)\n', b'failed %s'), (rb'input truncated (\d+) bytes\n', b'ended %s')]
@@ -38,8 +32,6 @@ CONVERSATION = [
     (b'H mail{00}', b'c'), (b'M a@x{00}SIZE=1{00}', b'c'), (b'R b@y{00}', b'c'), (b'T', b'c'),
     (b'L Subject{00} hi{00}', b'c'), (b'N', b'c'), (b'B {body*9}', b'c'), (b'E', b'c'), (b'M c@x{00}', b'c'),
     (b'A', None), (b'U XYZ{00}', b'c'), (b'K', None), (b'C {00}U', b'c'), (b'H again{00}', b'c')]
-# An option by which the end of a socket resets its connection.
-RESET = struct.pack('ii', 1, 0)
 BAD_ADDRESSES = [
     '', 'inet', 'unix', 'inet:', 'unix:', 'inet:8890', 'inet:8890@', 'inet:@127.0.0.1', 'inet:0@127.0.0.1',
     'inet:000@127.0.0.1', 'inet:65536@127.0.0.1', 'inet:4294967297@127.0.0.1', 'inet:18446744073709551617@127.0.0.1',
@@ -49,12 +41,12 @@ BAD_ADDRESSES = [
 BAD_COUNTS = ['0', '1000001', '4294967297', '18446744073709551616', 'one', '', '1.5', ' 1', '1 ', '0x1', '1_000']
 
 
-def pieces_of(row, code):
-    """What the mail server sends in this row of a table, each piece with the replies to it."""
+def pieces_of(lines, code):
+    """What the mail server sends in the row of these lines, each piece with the replies to it."""
     pieces = []
-    for number, (mark, text) in enumerate(row):
+    for number, (mark, text) in enumerate(lines):
         times = int(text) if mark == b'&' else 1
-        mark, text = row[number - 1] if mark == b'&' else (mark, text)
+        mark, text = lines[number - 1] if mark == b'&' else (mark, text)
         part = tables.part_of('answer', mark, text, code)
         if part is not None and part[0] == 'given':
             pieces += [[part[1], b'']] * times
@@ -63,17 +55,18 @@ def pieces_of(row, code):
     return pieces
 
 
-def ending_of(row, code):
-    """How the line of a connection ends that has what this row has, or None where its rules have a fault."""
-    err = tables.contents_of('answer', row, code)['err']
+def ending_of(lines, code):
+    """How the line of a connection ends that has what the row of these lines has, or None where its rules have a
+    fault."""
+    err = tables.contents_of('answer', lines, code)['err']
     for pattern, ending in ENDINGS:
         found = re.fullmatch(pattern, err)
         if found:
             return ending % found[1]
     if err.startswith(b'rules line'):
         return None
-    serving.expect('a row', err, b'')
-    return b'quit' if (b'>', b'Q') in row else b'ended 0'
+    expect('a row', err, b'')
+    return b'quit' if (b'>', b'Q') in lines else b'ended 0'
 
 
 def send(connection, given):
@@ -99,22 +92,13 @@ def play(served, pieces, ending):
 
 
 def rows_of(table):
-    """Each row of a table, by its name: the pieces, all in one piece, and the ending."""
-    for line, row, codes in tables.rows_of(tables.path_of(table)):
-        for code in codes:
-            name = '%s.table:%d %s' % (table, line, '' if code is None else tables.name_of(code))
-            pieces = pieces_of(row, code)
+    """Of each row of a table its name, its lines, the pieces, all in one piece, and the ending."""
+    for row in tables.rows_of(table):
+        for code in row.codes:
+            name = '%s %s' % (tables.row_name(row), '' if code is None else tables.name_of(code))
+            pieces = pieces_of(row.lines, code)
             given, replies = (b''.join(part) for part in zip(*pieces))
-            yield name, row, pieces, [[given, replies]], ending_of(row, code)
-
-
-def checked(name, check, *given):
-    """A check of this name, and what was wrong with it, or None."""
-    try:
-        check(*given)
-        return name, None
-    except (serving.Wrong, OSError, subprocess.TimeoutExpired) as wrong:
-        return name, '%s: %s' % (type(wrong).__name__, wrong)
+            yield name, row.lines, pieces, [[given, replies]], ending_of(row.lines, code)
 
 
 def rows(program, kind, folder):
@@ -130,18 +114,18 @@ def rows(program, kind, folder):
 def rows_with_rules(program, kind, folder):
     """The rows with rules, each as a run of one connection, or of none where the rules have a fault."""
 
-    def run(row, pieces, ending):
-        options = tables.command_of('answer', row, '', os.path.join(folder, 'row'))[2:]
+    def run(lines, pieces, ending):
+        options = tables.further_words('answer', lines, os.path.join(folder, 'row'))
         with serving.Filter(program, kind, folder, options) as served:
             if ending is None:
-                served.expect_end(1, b'', tables.contents_of('answer', row, None)['err'])
+                served.expect_end(1, b'', tables.contents_of('answer', lines, None)['err'])
             else:
                 play(served, pieces, ending)
                 served.expect_end(0, b'', b'')
 
     for table in RULE_TABLES:
-        for name, row, pieces, _, ending in rows_of(table):
-            yield checked(name, run, row, pieces, ending)
+        for name, lines, pieces, _, ending in rows_of(table):
+            yield checked(name, run, lines, pieces, ending)
 
 
 def packets():
@@ -163,7 +147,7 @@ def part_way(served, count, last=b''):
 def close(connection, resets):
     """Closes a connection, or resets it."""
     if resets:
-        connection.setsockopt(socket.SOL_SOCKET, socket.SO_LINGER, RESET)
+        serving.reset_at_end(connection)
     connection.close()
 
 
@@ -228,13 +212,13 @@ def counts(program, kind, folder):
             for _ in range(count):
                 play(served, [[tables.packet_of(b'Q', None), b'']], b'quit')
             served.expect_end(0, b'', b'')
-            serving.expect('the path', kind == 'inet' or os.path.exists(served.at), True)
+            expect('the path', kind == 'inet' or os.path.exists(served.at), True)
 
     def refused(options):
         with serving.Filter(program, kind, folder, options) as served:
             _, err = served.process.communicate(timeout=serving.SECONDS)
-            serving.expect('end', (served.process.returncode, err[:7]), (2, b'error: '))
-            serving.expect('the path', kind == 'unix' and os.path.exists(served.at), False)
+            expect('end', (served.process.returncode, err[:7]), (2, b'error: '))
+            expect('the path', kind == 'unix' and os.path.exists(served.at), False)
 
     for options, count in [([], 1), (['--count', '1'], 1), (['--count=3'], 3), (['--count', '007'], 7)]:
         yield checked(repr(options), run, options, count)
@@ -293,22 +277,22 @@ def talk(place, is_over, count, found):
                 connection.sendall(given)
                 while piece := connection.recv(1 << 16):
                     found[-1] += piece
-        except (serving.Wrong, ConnectionError):
+        except (checks.Wrong, ConnectionError):
             pass
 
 
-def expect_out_of_memory(ended, found):
+def expect_out_of_memory(end, found):
     """A run of two connections, of which an allocation was refused, ended as ever, was given up, or gave up one of
     them; what was replied is right as far as it goes."""
     replies = b''.join(reply for _, reply in packets())
     ends = [(b'quit', b'quit'), (b'failed 7', b'quit'), (b'quit', b'failed 7')]
-    if ended in [(0, b'connection 1 %s\nconnection 2 %s\n' % end, b'') for end in ends]:
-        whole = [not line.endswith(b'quit') or reply == replies for line, reply in zip(ended[1].split(b'\n'), found)]
-        serving.expect('replies', all(whole) and len(found) == 2, True)
+    if end in [(0, b'connection 1 %s\nconnection 2 %s\n' % both, b'') for both in ends]:
+        whole = [not line.endswith(b'quit') or reply == replies for line, reply in zip(end[1].split(b'\n'), found)]
+        expect('replies', all(whole) and len(found) == 2, True)
     else:
         given_up = [(1, lines, b'out of memory\n') for lines in [b'', b'connection 1 quit\n']]
-        serving.expect('end', ended, ended if ended in given_up else given_up)
-    serving.expect('replies', all(replies.startswith(reply) for reply in found), True)
+        expect('end', end, end if end in given_up else given_up)
+    expect('replies', all(replies.startswith(reply) for reply in found), True)
 
 
 def refused(program, kind, folder):
@@ -322,24 +306,19 @@ def refused(program, kind, folder):
         client = threading.Thread(target=talk, args=(place, over.is_set, 2, found))
         client.start()
         command = [program, 'filter', address, '--count=2']
-        ended, was_refused = preloaded.ran(command, b'', refuser, {'REFUSED_ALLOCATION': number})
+        end, was_refused = preloaded.refused(command, b'', refuser, number)
         over.set()
         client.join()
-        expect_out_of_memory(ended, found)
-        return bool(was_refused)
+        expect_out_of_memory(end, found)
+        return was_refused
 
-    number, was_refused = 0, True
-    while was_refused:
-        number, seen = number + 1, []
-        yield checked('allocation %d is refused' % number, lambda: seen.append(run(number)))
-        was_refused = any(seen)
-    yield checked('allocations are refused', serving.expect, 'their number', number > 10, True)
+    yield from checks.with_each_refused(run)
 
 
 def run_to_end(program, words, expected):
     """A run that serves no connection."""
-    ran = subprocess.run([program, 'filter'] + words, capture_output=True, timeout=serving.SECONDS, check=False)
-    serving.expect('end', (ran.returncode, ran.stdout, ran.stderr), expected)
+    end = programs.ended([program, 'filter'] + words, timeout=serving.SECONDS)
+    expect('end', end, expected)
 
 
 def addresses(program, folder):
@@ -355,7 +334,7 @@ def unread_rules(program, folder):
 
     def run(rules):
         run_to_end(program, ['unix:' + path, '--rules', rules], (1, b'', b'cannot read rules\n'))
-        serving.expect('the path', os.path.lexists(path), False)
+        expect('the path', os.path.lexists(path), False)
 
     for rules in [os.path.join(folder, 'no file'), folder, '']:
         yield checked('rules %r' % rules, run, rules)
@@ -371,7 +350,7 @@ def unbound(program, folder):
         run_to_end(program, ['unix:' + path], (1, b'', b'cannot listen\n'))
         after = os.lstat(path)
         for name in ['st_ino', 'st_mode', 'st_size', 'st_mtime_ns']:
-            serving.expect('the path', getattr(after, name), getattr(before, name))
+            expect('the path', getattr(after, name), getattr(before, name))
 
     paths = {name: os.path.join(folder, name) for name in ['a file', 'a folder', 'a socket', 'a link']}
     with open(paths['a file'], 'wb') as file:
@@ -392,34 +371,18 @@ def unbound(program, folder):
 
 
 def groups(folder):
-    """Groups of checks, each a function that answers the checks with what was wrong."""
-    for build in tables.BUILDS:
-        program = tables.program_of('milter_tool', build)
+    """Groups of checks: of each its name, its function, and what that is called with."""
+    for build in programs.BUILDS:
+        program = programs.tool(build)
+        name = os.path.basename(program)
         for group in [addresses, unread_rules, unbound, hosts]:
-            yield build, group, (program, tempfile.mkdtemp(dir=folder))
-        for kind in KINDS:
+            yield name, group, (program, tempfile.mkdtemp(dir=folder))
+        for kind in serving.KINDS:
             for group in [rows, rows_with_rules, far_ends, refused, counts, untaken, unwritten]:
-                yield build + ' ' + kind, group, (program, kind, tempfile.mkdtemp(dir=folder))
-
-
-def run(name, group, given):
-    """The checks of a group, by its name, with what was wrong. Each group is run in a process of its own: a program
-    that another thread starts would have the connections of this one for a moment, and they would end later."""
-    return name, list(group(*given))
-
-
-def main():
-    preloaded.need(tables.program_of('milter_tool', build) for build in tables.BUILDS)
-    passed = failed = 0
-    with tempfile.TemporaryDirectory() as folder, concurrent.futures.ProcessPoolExecutor(preloaded.jobs()) as pool:
-        for name, found in pool.map(run, *zip(*groups(folder))):
-            for what, wrong in found:
-                passed, failed = passed + (wrong is None), failed + (wrong is not None)
-                if wrong is not None:
-                    print('FAILED: %s, %s: %s' % (name, what, wrong))
-    print('%d passed, %d failed' % (passed, failed))
-    return 1 if failed or not passed else 0
+                yield '%s at %s' % (name, kind), group, (program, kind, tempfile.mkdtemp(dir=folder))
 
 
 if __name__ == '__main__':
-    sys.exit(main())
+    programs.need('tool')
+    with tempfile.TemporaryDirectory() as work:
+        sys.exit(checks.run_all(groups(work)))

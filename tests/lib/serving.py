@@ -1,4 +1,4 @@
-"""Runs `milter_tool filter`, and makes connections to it; sockets.py plays them."""
+"""Runs `milter_tool filter`, and makes connections to it and to other filters."""
 import itertools
 import os
 import resource
@@ -9,18 +9,12 @@ import subprocess
 import tempfile
 import time
 
+from lib import checks
+
 SECONDS = 30
 PORTS = itertools.count(10000)
-
-
-class Wrong(Exception):
-    """What was wrong with a connection or a run."""
-
-
-def expect(what, found, expected):
-    """Compares what was found."""
-    if found != expected:
-        raise Wrong('%s: %r, expected %r' % (what, found, expected))
+# The kinds of sockets.
+KINDS = ['inet', 'unix']
 
 
 class Filter:
@@ -51,12 +45,12 @@ class Filter:
         lines = [b'connection %d %s\n' % (self.ended, ending) for ending in endings]
         ready, _, _ = select.select([self.process.stdout], [], [], SECONDS)
         line = self.process.stdout.readline() if ready else b'none in time'
-        expect('line', line, line if line in lines else lines)
+        checks.expect('line', line, line if line in lines else lines)
 
     def expect_end(self, status, out, err):
         """Waits for the end of the run, which is this one."""
         found = self.process.communicate(timeout=SECONDS)
-        expect('end', (self.process.returncode,) + found, (status, out, err))
+        checks.expect('end', (self.process.returncode,) + found, (status, out, err))
 
 
 def place_of(kind, folder, host=None):
@@ -91,7 +85,7 @@ def connected(place, is_over):
             return connection_to(place)
         except OSError:
             if is_over() or time.monotonic() > until:
-                raise Wrong('no connection') from None
+                raise checks.Wrong('no connection') from None
             time.sleep(0.001)
 
 
@@ -110,24 +104,34 @@ def listening(served):
     until = time.monotonic() + SECONDS
     while not listens(served.at):
         if served.process.poll() is not None or time.monotonic() > until:
-            raise Wrong('no listener')
+            raise checks.Wrong('no listener')
         time.sleep(0.001)
+
+
+def received(connection, count):
+    """So many bytes of a connection, or fewer where its far end ends it before."""
+    found = b''
+    while len(found) < count:
+        piece = connection.recv(count - len(found))
+        if not piece:
+            break
+        found += piece
+    return found
 
 
 def expect_replies(connection, replies):
     """Reads as many bytes as these replies have."""
-    found = b''
-    while len(found) < len(replies):
-        piece = connection.recv(len(replies) - len(found))
-        if not piece:
-            break
-        found += piece
-    expect('replies', found, replies)
+    checks.expect('replies', received(connection, len(replies)), replies)
 
 
 def expect_closed(connection):
     """Reads the end of a connection that the filter has closed."""
     try:
-        expect('after the replies', connection.recv(1), b'')
+        checks.expect('after the replies', connection.recv(1), b'')
     except ConnectionResetError:
         pass
+
+
+def reset_at_end(connection):
+    """Has the connection reset when it is closed."""
+    connection.setsockopt(socket.SOL_SOCKET, socket.SO_LINGER, struct.pack('ii', 1, 0))

@@ -2,36 +2,30 @@
 """Runs the programs, as both compilers built them, with reads and writes of a few bytes and with each failing in turn:
 the rows of the tables cases/tables/*_failed_calls.table, and the printing of help and of the version; and the rows of
 trace_streams.table and trace_lines.table with a byte a read. Where a mail server is answered, the input is also cut
-after each of its bytes, and read in any two pieces. What is run is what `rt ci` built; nothing is proved here.
+after each of its bytes, and read in any two pieces. lib/fail_call.c has the calls fail. What is run is what `rt ci`
+built; nothing is proved here.
 
 A run in which a read fails has printed what the lines print that had ended, or the replies to the packets that were
 whole; in which a write fails what the writes before took. Both end with status 1 and their fault alone on standard
 error. A reply to a mail server is written before the next read is made, and no read is made after the last packet: the
 order of the calls is compared.
-
-The last line is 'N passed, M failed', counting the runs. The status is 1 where one failed, or where what is run is
-missing.
 """
 import errno
-import os
 import re
 import sys
 import tempfile
 
-import preloaded
-import tables
+from lib import cases, preloaded, programs, runner, tables
 
 CUT_TABLES = ['trace_streams', 'trace_lines']
-FAILED_TABLES = [
-    'trace_failed_calls', 'session_failed_calls', 'rules_failed_calls', 'answer_failed_calls', 'edits_failed_calls',
-    'play_failed_calls']
 # A file is read by a call that repeats a read that is interrupted.
 READ_ERRORS = {
     'trace': [errno.EIO, errno.EINTR], 'answer': [errno.EIO, errno.EINTR], 'session': [errno.EIO],
     'rules': [errno.EIO], 'play': [errno.EIO]}
 # An error of 0 is a write that takes nothing.
 WRITE_ERRORS = [0, errno.EIO, errno.EINTR, errno.ENOSPC, errno.EPIPE]
-# Help is written by calls that repeat a write that is interrupted.
+# The cases that print help and the version, by calls that repeat a write that is interrupted.
+HELP_CASES = ['help/of_program', 'help/version']
 HELP_ERRORS = [0, errno.ENOSPC, errno.EPIPE]
 READ_FAULTS = {
     'trace': b'read fault\n', 'answer': b'read fault\n', 'session': b'cannot read session\n',
@@ -55,21 +49,17 @@ def named(read_piece=ANY, failed_read=0, write_piece=ANY, failed_write=0, error=
 
 
 class Row:
-    """A row of a table, played by one build of its program."""
+    """A row of a table, played by one build of its program with the object preloaded that has its calls fail."""
 
-    def __init__(self, table, line, lines, build, folder):
-        self.kind, self.lines = tables.kind_of(table), lines
-        self.name = '%s.table:%d%s' % (table, line, build)
-        self.given, self.expected = tables.streams_of(self.kind, lines, None)
-        path = os.path.join(folder, '%s.%d' % (table, line))
-        with open(path, 'wb') as file:
-            file.write(self.given)
-        self.command = tables.command_of(self.kind, lines, build, path)
+    def __init__(self, row, build, folder, failer):
+        self.kind, self.lines, self.failer = tables.kind_of(row.table), row.lines, failer
+        self.name = tables.row_name(row) + build
+        self.command, _, self.given, self.expected = tables.prepared(row, None, build, folder)
 
     def play(self, what, variables, is_right, fails):
-        """A play of the row: a function of the object that answers what was wrong, or None."""
+        """A play of the row, in which a call fails or none does."""
         report = b'f' if fails else b''
-        return play(self.name + ', ' + what, self.command, self.given, variables, is_right, report)
+        return play_of(self.failer, self.name + ', ' + what, self.command, self.given, variables, is_right, report)
 
     def outputs(self):
         """Each output of the row with the bytes of the input, from its beginning, that it is for."""
@@ -129,7 +119,8 @@ class Row:
             start = end
         is_ended = count == len(self.given) and (self.expected[2] or self.lines[-1] == (b'>', b'Q'))
         log += b'' if is_ended else b'r'
-        return play(self.name + ', ' + what, self.command, self.given[:count], variables, expected.__eq__, log)
+        return play_of(
+            self.failer, self.name + ', ' + what, self.command, self.given[:count], variables, expected.__eq__, log)
 
     def with_each_end(self):
         """The input is cut after each number of its bytes."""
@@ -167,71 +158,58 @@ class Row:
                 sys.exit('%s: not known: %s' % (self.name, text.decode()))
 
 
-def play(name, command, given, variables, is_right, report):
-    """A function of the object that runs this, and answers what was wrong, or None: how it ended, or that the object
+def play_of(failer, name, command, given, variables, is_right, report):
+    """A play of this command, with this object preloaded. It fails where the run did not end right, or where the object
     had another report: `f` where a call failed, and the log of the calls."""
 
-    def run(failer):
-        ended, reported = preloaded.ran(command, given, failer, variables)
-        if is_right(ended) and reported == report:
-            return None
-        return '%s: status %d, printed %r and %r, reported %r' % (
-            name, ended[0], ended[1][-200:], ended[2][-200:], reported[-200:])
+    def play():
+        end, reported = preloaded.ended(command, given, failer, variables)
+        is_passed = is_right(end) and reported == report
+        yield None if is_passed else '%s: %s, reported %r' % (name, programs.described(end), reported[-200:])
 
-    return run
+    return play
 
 
 def is_cut(text, piece, writes, fault):
     """Whether so many writes of at most so many bytes came before a write that failed; for a run's end."""
 
-    def is_right(ended):
-        status, out, err = ended
+    def is_right(end):
+        status, out, err = end
         is_prefix = out != text and text.startswith(out) and len(out) <= piece * writes
         return (status, err) == (1, fault) and is_prefix and (piece > 1 or len(out) == writes)
 
     return is_right
 
 
-def plays_of_help(build):
+def plays_of_help(build, failer):
     """Help and the version, where a write of at most four bytes fails."""
-    program = tables.program_of('milter_tool', build)
-    for case, folder in [('help', 'of_program'), ('version', 'version')]:
-        with open(os.path.join(tables.TOP, 'cases', 'help', folder, 'stdout'), 'rb') as file:
-            text = file.read()
-        for number in range(1, 4):
-            for error in HELP_ERRORS:
-                name = '%s%s, write %d fails by %d' % (case, build, number, error)
-                variables = named(write_piece=4, failed_write=number, error=error)
-                is_right = is_cut(text, 4, number - 1, b'write fault\n')
-                yield play(name, [program, '--' + case], b'', variables, is_right, b'f')
+    for case in cases.cases():
+        if case.name in HELP_CASES:
+            _, text, _ = case.expected
+            for number in range(1, 4):
+                for error in HELP_ERRORS:
+                    name = '%s%s, write %d fails by %d' % (case.name, build, number, error)
+                    variables = named(write_piece=4, failed_write=number, error=error)
+                    is_right = is_cut(text, 4, number - 1, b'write fault\n')
+                    yield play_of(failer, name, cases.command_of(case, build), b'', variables, is_right, b'f')
 
 
 def plays(folder):
     """All that is run."""
-    for build in tables.BUILDS:
-        yield from plays_of_help(build)
+    failer = preloaded.compiled('fail_call.c', folder)
+    for build in programs.BUILDS:
+        yield from plays_of_help(build, failer)
         for table in CUT_TABLES:
-            for line, lines, codes in tables.rows_of(tables.path_of(table)):
-                if codes == [None]:
-                    row = Row(table, line, lines, build, folder)
-                    yield row.play('a byte a read', named(read_piece=1), row.expected.__eq__, False)
-        for table in FAILED_TABLES:
-            for line, lines, _ in tables.rows_of(tables.path_of(table)):
-                yield from Row(table, line, lines, build, folder).plays()
-
-
-def main():
-    names = ['milter_tool', 'milter_rows']
-    preloaded.need(tables.program_of(name, build) for name in names for build in tables.BUILDS)
-    with tempfile.TemporaryDirectory() as folder:
-        failer = preloaded.compiled('fail_call.c', folder)
-        results = preloaded.played([lambda run=run: run(failer) for run in plays(folder)])
-    wrong = [what for what in results if what is not None]
-    for what in wrong:
-        print('FAILED: ' + what)
-    print('%d passed, %d failed' % (len(results) - len(wrong), len(wrong)))
-    return 1 if wrong or not results else 0
+            for row in tables.rows_of(table):
+                if row.codes == [None]:
+                    cut = Row(row, build, folder, failer)
+                    yield cut.play('a byte a read', named(read_piece=1), cut.expected.__eq__, False)
+        for table in tables.names('_failed_calls'):
+            for row in tables.rows_of(table):
+                yield from Row(row, build, folder, failer).plays()
 
 
 if __name__ == '__main__':
-    sys.exit(main())
+    programs.need('tool', 'edits')
+    with tempfile.TemporaryDirectory() as work:
+        sys.exit(runner.run_all(plays(work)))

@@ -1,6 +1,6 @@
 /*
- * Has the reads and writes of a program move a few bytes at a time, and one of them fail: failed_calls.py has this
- * compiled as a shared object, and preloaded.
+ * Has the reads and writes of a program move a few bytes at a time, and one of them fail: test_failed_calls.py has
+ * this compiled as a shared object, and preloaded.
  *
  * READ_PIECE and WRITE_PIECE are the most bytes that a read, or a write to standard output, moves, and FIRST_READ those
  * that the first read moves. FAILED_READ and FAILED_WRITE are the number of the call that fails, from 1, or 0 for none;

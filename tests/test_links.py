@@ -1,23 +1,17 @@
 #!/usr/bin/env python3
-"""Plays sessions on `milter_links`, as both compilers built it, over links of which the first read fails, then the
-second one, and so on until none fails; the same for writes, and the first dials fail, none of them up to all. A read or
-a write moves a whole packet, or one byte. It fails in each way that a script has; an interrupted one 100 times in a row,
-and then is made, or 101 times, by which the connection is lost.
+"""Plays sessions over links in memory, by the program of the tables `links_*` as both compilers built it: links of
+which the first read fails, then the second one, and so on until none fails; the same for writes, and the first dials
+fail, none of them up to all. A read or a write moves a whole packet, or one byte. It fails in each way that a script
+has; an interrupted one 100 times in a row, and then is made, or 101 times, by which the connection is lost.
 
 What is reported is worked out from the packets. A read or a write has bytes of one packet, so the number of the call
 that fails gives the command at which the filter is lost. The message has the verdicts on the commands before it, and
 the messages after it are played over a new link. With the last packet, by which the mail server quits, nothing is lost.
-
-The last line is 'N passed, M failed', counting the runs. The status is 1 where one failed, or where what is run is
-missing.
 """
-import subprocess
 import sys
 
-import preloaded
-import tables
+from lib import programs, reports, runner
 
-PROGRAM = 'milter_links'
 CLIENT = 'client U "h.example"\nhelo "mail"\n'
 PATHS = 'sender "a@x"\nrecipient "b@y"\n'
 MESSAGE = 'message\n' + PATHS + 'end\n'
@@ -38,13 +32,7 @@ DIALS_MAX = 3
 
 def acted(stages):
     """The lines of verdicts by which each of these stages went on."""
-    return ['acted %s 1 continue\n' % stage for stage in stages]
-
-
-def by_default(number, loss, lines):
-    """The report of a message that is refused for now since the filter was lost, after verdicts with these lines."""
-    first = 'message %d default %s refused "451 4.3.2 Please try again later"\n' % (number, loss)
-    return first + ''.join(lines)
+    return [reports.acted(stage) for stage in stages]
 
 
 def released(number):
@@ -53,7 +41,7 @@ def released(number):
     return 'message %d filter released\n' % number + ''.join(lines) + RELEASED
 
 
-def reports(messages, lost, text):
+def reported(messages, lost, text):
     """What is reported of so many messages, of which the one with this number has this report."""
     return ''.join(text if number == lost else released(number) for number in range(1, messages + 1))
 
@@ -62,12 +50,12 @@ def lost_at(messages, at, loss):
     """What is printed where the filter is lost at the packet of this place, from 0 on, before its reply is there."""
     stages = [stage for stage, _ in OPENING + OF_MESSAGE * messages]
     if loss is None or at > len(stages):
-        return reports(messages, None, None) + 'dials 1\n'
+        return reported(messages, None, None) + 'dials 1\n'
     before = stages[:max(at - 1, 0)]
     number = before.count('eob') + 1
     of_message = before[len(OPENING) + len(OF_MESSAGE) * (number - 1):]
-    lost = by_default(number, loss, acted(before[:len(OPENING)] + of_message))
-    return reports(messages, number, lost) + 'dials %d\n' % (1 if number == messages else 2)
+    lost = reports.by_default(number, loss, acted(before[:len(OPENING)] + of_message))
+    return reported(messages, number, lost) + 'dials %d\n' % (1 if number == messages else 2)
 
 
 def places(lengths, piece):
@@ -92,43 +80,30 @@ def failed_calls(messages):
 def failed_dials(messages):
     """Scripts in which the first dials fail, from none of them to all, and what is printed of each."""
     for count in range(messages + 1):
-        texts = [by_default(number, 'reset', []) for number in range(1, count + 1)]
+        texts = [reports.by_default(number, 'reset') for number in range(1, count + 1)]
         texts += [released(number) for number in range(count + 1, messages + 1)]
         yield 'dial 1 %d\n' % count, ''.join(texts) + 'dials %d\n' % min(count + 1, messages)
 
 
+def play_of(build, given, words, printed):
+    """A play of this input, which ends with these words, on a build of the program."""
+
+    def play():
+        end = programs.ended(programs.command_of('links', build), given.encode())
+        yield programs.compared('links%s, %r' % (build, words), end, (0, printed.encode(), b''))
+
+    return play
+
+
 def plays():
-    """All that is run: a function that answers what was wrong, or None."""
+    """All that is run."""
     scripts = [(messages, script) for messages in (1, 2) for script in failed_calls(messages)]
     scripts += [(messages, script) for messages in range(1, DIALS_MAX + 1) for script in failed_dials(messages)]
-    for build in tables.BUILDS:
+    for build in programs.BUILDS:
         for messages, (words, printed) in scripts:
-            given = CLIENT + MESSAGE * messages + '%%\n' + words
-            yield play(tables.program_of(PROGRAM, build), given, printed)
-
-
-def play(program, given, printed):
-    """A function that runs the program with this input, and answers what was wrong, or None."""
-
-    def run():
-        ran = subprocess.run([program], input=given.encode(), capture_output=True, check=False)
-        if (ran.returncode, ran.stdout, ran.stderr) == (0, printed.encode(), b''):
-            return None
-        return '%s, %r: status %d, printed %r and %r' % (
-            program, given.partition('%%\n')[2], ran.returncode, ran.stdout, ran.stderr)
-
-    return run
-
-
-def main():
-    preloaded.need(tables.program_of(PROGRAM, build) for build in tables.BUILDS)
-    results = preloaded.played(list(plays()))
-    wrong = [what for what in results if what is not None]
-    for what in wrong:
-        print('FAILED: ' + what)
-    print('%d passed, %d failed' % (len(results) - len(wrong), len(wrong)))
-    return 1 if wrong or not results else 0
+            yield play_of(build, CLIENT + MESSAGE * messages + '%%\n' + words, words, printed)
 
 
 if __name__ == '__main__':
-    sys.exit(main())
+    programs.need('links')
+    sys.exit(runner.run_all(plays()))

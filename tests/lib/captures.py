@@ -1,6 +1,12 @@
 """Captured conversations (cases/captures/*/stdin) as a mail server's end plays them: the session file, the packets to
 the filter, and the reports. All of it is worked out here from the packets and the protocol.
 """
+import glob
+import os
+
+from lib import programs
+from lib.packets import code_of, number_of, packet_of, packets_of, texts_of
+
 # The stages of macros, by the codes of their commands, and those of verdicts.
 STAGES = {'C': 'connect', 'H': 'helo', 'M': 'mail', 'R': 'rcpt', 'T': 'data', 'N': 'eoh', 'E': 'eom'}
 ACTED = STAGES | {'L': 'header', 'B': 'body', 'E': 'eob'}
@@ -12,45 +18,23 @@ GREATEST = 0x1ff, 0x1ff7ff
 LEADING_SPACE = 0x100000
 
 
-def packets(stream):
-    """The packets of a stream."""
-    while stream:
-        end = 4 + int.from_bytes(stream[:4], 'big')
-        yield stream[:end]
-        stream = stream[end:]
+def paths():
+    """The files of all captures."""
+    return sorted(glob.glob(os.path.join(programs.TOP, 'cases', 'captures', '*', 'stdin')))
 
 
 def halves(path):
     """Each packet of the mail server in a capture, with the packets that the filter sent after it."""
     talk = []
-    for line in open(path):
-        mark, digits = line.split()
-        for packet in packets(bytes.fromhex(digits)):
-            if mark == '>':
-                talk.append((packet, []))
-            else:
-                talk[-1][1].append(packet)
+    with open(path, encoding='ascii') as file:
+        for line in file:
+            mark, digits = line.split()
+            for packet in packets_of(bytes.fromhex(digits)):
+                if mark == '>':
+                    talk.append((packet, []))
+                else:
+                    talk[-1][1].append(packet)
     return talk
-
-
-def code(packet):
-    """The code of a packet."""
-    return chr(packet[4])
-
-
-def packet_of(payload):
-    """The packet of a code and a payload."""
-    return len(payload).to_bytes(4, 'big') + payload
-
-
-def texts(payload):
-    """The texts of a payload, each of which ends in a NUL."""
-    return payload.split(b'\0')[:-1]
-
-
-def number(payload):
-    """The number that a payload begins with."""
-    return int.from_bytes(payload[:4], 'big')
 
 
 def quoted(text):
@@ -74,11 +58,11 @@ class Message:
 
     def add(self, command, blank):
         """Adds a command's part; a blank that was left out before a header field's value is put back."""
-        what, payload = code(command), command[5:]
+        what, payload = code_of(command), command[5:]
         if what == 'R':
-            self.recipients.append(texts(payload))
+            self.recipients.append(texts_of(payload))
         elif what == 'L':
-            name, value = texts(payload)
+            name, value = texts_of(payload)
             self.headers.append((name, blank + value))
         elif what in 'BE':
             self.body += payload
@@ -86,7 +70,7 @@ class Message:
     def act(self, what, reply):
         """Adds the verdict that a command is answered with."""
         self.counts[what] = self.counts.get(what, 0) + 1
-        self.acted.append('%s %d %s' % (ACTED[what], self.counts[what], VERDICTS[code(reply)]))
+        self.acted.append('%s %d %s' % (ACTED[what], self.counts[what], VERDICTS[code_of(reply)]))
 
     def lines(self):
         """The lines of the message, from its sender to its end."""
@@ -107,27 +91,27 @@ class Message:
 
     def edit(self, reply, blank):
         """Does what a reply asks for at the end of the message."""
-        what, payload = code(reply), reply[5:]
+        what, payload = code_of(reply), reply[5:]
         if what == 'h':
-            name, value = texts(payload)
+            name, value = texts_of(payload)
             self.headers.append((name, blank + value))
         elif what == 'i':
-            name, value = texts(payload[4:])
-            self.headers.insert(number(payload), (name, blank + value))
+            name, value = texts_of(payload[4:])
+            self.headers.insert(number_of(payload), (name, blank + value))
         elif what == 'm':
-            self.change_header(max(number(payload), 1), *texts(payload[4:]), blank)
+            self.change_header(max(number_of(payload), 1), *texts_of(payload[4:]), blank)
         elif what in '+2':
-            self.recipients.append(texts(payload))
+            self.recipients.append(texts_of(payload))
         elif what == '-':
-            self.recipients = [recipient for recipient in self.recipients if recipient[0] != texts(payload)[0]]
+            self.recipients = [recipient for recipient in self.recipients if recipient[0] != texts_of(payload)[0]]
         elif what == 'e':
-            self.sender = texts(payload)
+            self.sender = texts_of(payload)
         elif what == 'b':
             self.body = self.body + payload if self.is_body_replaced else payload
             self.is_body_replaced = True
         else:
             assert what == 'q', reply
-            self.reason = texts(payload)[0]
+            self.reason = texts_of(payload)[0]
 
 
 class Conversation:
@@ -135,10 +119,10 @@ class Conversation:
 
     def __init__(self, talk):
         options, (answer,) = talk[0]
-        version, actions, protocol = (number(options[5 + at:]) for at in (0, 4, 8))
+        version, actions, protocol = (number_of(options[5 + at:]) for at in (0, 4, 8))
         assert version == 6, options
         self.offer = actions & GREATEST[0], protocol & GREATEST[1]
-        agreed = number(answer[13:]) & self.offer[1]
+        agreed = number_of(answer[13:]) & self.offer[1]
         self.answer = packet_of(answer[4:13] + agreed.to_bytes(4, 'big') + answer[17:])
         self.blank = b'' if agreed & LEADING_SPACE else b' '
         self.client, self.greeting, self.macros = None, b'', {}
@@ -152,10 +136,10 @@ class Conversation:
         """Reads the packets after the options, in which the first macros of a stage come before its first command."""
         is_at_end = False
         for command, replies in talk:
-            what = code(command)
+            what = code_of(command)
             if what == 'D':
                 if len(command) > 6 and chr(command[5]) in STAGES:
-                    self.macros.setdefault(chr(command[5]), texts(command[6:]))
+                    self.macros.setdefault(chr(command[5]), texts_of(command[6:]))
             elif what == 'A':
                 assert is_at_end, 'a message is aborted'
             else:
@@ -165,16 +149,16 @@ class Conversation:
 
     def add_command(self, command, replies):
         """Adds a command and its replies."""
-        what = code(command)
+        what = code_of(command)
         self.talk.append((command, replies))
         if what == 'C':
             self.client = command[5:]
         elif what == 'H':
-            self.greeting, = texts(command[5:])
+            self.greeting, = texts_of(command[5:])
         elif what == 'M':
-            self.messages.append(Message(texts(command[5:])))
+            self.messages.append(Message(texts_of(command[5:])))
         if what in 'CH':
-            self.acted += ['%s 1 %s' % (ACTED[what], VERDICTS[code(reply)]) for reply in replies]
+            self.acted += ['%s 1 %s' % (ACTED[what], VERDICTS[code_of(reply)]) for reply in replies]
         elif what != 'Q':
             self.messages[-1].add(command, self.blank)
             for reply in replies[-1:]:
@@ -182,7 +166,7 @@ class Conversation:
 
     def with_macros(self, command, replies):
         """A command and its replies, after the macros that go before it."""
-        what = code(command)
+        what = code_of(command)
         chosen = self.chosen(what)
         if chosen:
             yield packet_of(b'D' + what.encode() + b''.join(text + b'\0' for text in chosen)), []
@@ -193,7 +177,7 @@ class Conversation:
         macros, lists = self.macros.get(what, []), self.answer[17:]
         pairs = dict(zip(macros[::2], macros[1::2]))
         while lists:
-            stage, names = number(lists), lists[4:].split(b'\0')[0]
+            stage, names = number_of(lists), lists[4:].split(b'\0')[0]
             lists = lists[4 + len(names) + 1:]
             if LISTED[stage] == what:
                 return [text for name in names.split() if name in pairs for text in (name, pairs[name])]
@@ -202,7 +186,7 @@ class Conversation:
     def session_lines(self):
         """The lines of the session file."""
         host, rest = self.client.split(b'\0', 1)
-        family, port, address = chr(rest[0]), int.from_bytes(rest[1:3], 'big'), texts(rest[3:])[0]
+        family, port, address = chr(rest[0]), int.from_bytes(rest[1:3], 'big'), texts_of(rest[3:])[0]
         lines = ['client %s %s %d %s' % (family, quoted(host), port, quoted(address)), line('helo', self.greeting)]
         for what, pairs in self.macros.items():
             lines += [line('macro ' + STAGES[what], *pair) for pair in zip(pairs[::2], pairs[1::2])]
@@ -212,7 +196,7 @@ class Conversation:
 
     def report_lines(self):
         """The lines of the reports, with the messages, which are edited here."""
-        ends = [replies for command, replies in self.talk if code(command) == 'E']
+        ends = [replies for command, replies in self.talk if code_of(command) == 'E']
         lines = []
         for message, replies in zip(self.messages, ends):
             for reply in replies[:-1]:
@@ -228,7 +212,7 @@ def conversations(path):
     """The connections of a capture. Where one goes on as another after `K`, both begin with the same options."""
     talk, parts = halves(path), [[]]
     for command, replies in talk:
-        if code(command) == 'K':
+        if code_of(command) == 'K':
             parts[-1].append((packet_of(b'Q'), []))
             parts.append(talk[:1])
         else:

@@ -1,0 +1,82 @@
+"""The programs that the tests run, as `rt ci` leaves them in crates/NAME/out: each as both compilers built it. Here are
+their names, the function that runs one of them, and the functions that compare how a run ended with what is expected.
+"""
+import os
+import subprocess
+import sys
+import tempfile
+
+TOP = os.path.dirname(os.path.dirname(os.path.dirname(os.path.abspath(__file__))))
+# What the file name of a program ends in, by the compiler that built it.
+BUILDS = ['', '.by-rattle']
+# What the tests call each program: its crate, and its first words.
+PROGRAMS = {
+    'tool': ('milter_tool', []),
+    'loop guard': ('milter_loop_guard', []),
+    'edits': ('milter_rows', ['edits', 'text']),
+    'filter faults': ('milter_rows', ['faults']),
+    'payloads': ('milter_rows', ['packets']),
+    'mail server': ('milter_mta_rows', []),
+    'links': ('milter_links', []),
+}
+
+
+def path_of(crate, ending):
+    """The path of a program of a crate, whose file name ends so."""
+    return os.path.join(TOP, 'crates', crate, 'out', crate + ending)
+
+
+# The tests of packets, which are a program of their own.
+PACKET_TESTS = path_of('milter_tests', '_tests')
+
+
+def command_of(name, build):
+    """The first words of the command that runs a program."""
+    crate, words = PROGRAMS[name]
+    return [path_of(crate, build)] + words
+
+
+def tool(build):
+    """The path of milter_tool."""
+    return command_of('tool', build)[0]
+
+
+def need(*names):
+    """Ends the test where one of these programs isn't built."""
+    need_files(command_of(name, build)[0] for name in names for build in BUILDS)
+
+
+def need_files(paths):
+    """Ends the test where one of these files is not there."""
+    for path in paths:
+        if not os.path.isfile(path):
+            sys.exit('%s is missing: run `rt ci`, which builds it' % os.path.relpath(path, TOP))
+
+
+def ended(command, given=b'', stdout=subprocess.PIPE, **options):
+    """Runs a command at the top of the repository, with a file that has these bytes as its standard input. Answers its
+    status, output and errors. The options are those of subprocess.run."""
+    with tempfile.TemporaryFile() as file:
+        file.write(given)
+        file.seek(0)
+        done = subprocess.run(
+            command, stdin=file, stdout=stdout, stderr=subprocess.PIPE, cwd=TOP, check=False, **options)
+    return done.returncode, done.stdout, done.stderr
+
+
+def described(end):
+    """How a run ended, in words."""
+    return 'status %d, printed %r and %r' % (end[0], end[1][-200:], end[2][-200:])
+
+
+def compared(name, end, expected):
+    """Says what was wrong with the run of this name, where its status, output or errors are not as expected; None where
+    they are. Of long texts it has the part with the first difference."""
+    differences = []
+    for what, one, other in zip(['status', 'output', 'errors'], end, expected):
+        if one != other and isinstance(one, bytes) and isinstance(other, bytes):
+            start = max(len(os.path.commonprefix([one, other])) - 40, 0)
+            one, other = one[start:start + 200], other[start:start + 200]
+        if one != other:
+            differences.append('%s %r, expected %r' % (what, one, other))
+    return '%s: %s' % (name, '; '.join(differences)) if differences else None
