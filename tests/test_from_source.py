@@ -14,13 +14,13 @@ from lib import runner
 from lib.programs import BUILDS, TOP, compared, ended, need, tool
 
 NEWS = b'milter_tool: this is the source, run with checks and not proved yet; '
-WANTED = b"milter_tool: %s takes the proved program, which isn't built yet; "
+WANTED = b"milter_tool: %s takes the proved program, which isn't built yet: "
 CUT_OFF = b'milter_tool: the run was cut off, '
 # What rt prints of the program that it runs.
 OF_RT = (b'rt: ', b'checked: ', b'interpreter: ', b'races: ', b'run=')
-# A packet of a body of 65,535 bytes, of which each is printed as four; 16 of them are more than the 1 MiB that is
-# kept of an output.
-BODY = b'> %s42%s\n' % (b'00010000', b'01' * 65535)
+# A packet of a header field whose value has 65,532 bytes, of which each is printed as four; 16 of them are more than
+# the 1 MiB that is kept of an output.
+HEADER = b'> 00010000' + b'4c5800%s00\n' % (b'01' * 65532)
 
 
 def read(path):
@@ -51,7 +51,8 @@ def asks_for_the_proved_program(top, words):
 
     def play():
         status, output, errors = ended([os.path.join(top, 'milter_tool'), *words])
-        is_well = (status, output) == (1, b'') and errors.startswith(WANTED % words[0].encode()) and errors.count(b'\n') == 1
+        is_said = errors.startswith(WANTED % words[0].encode()) and errors.count(b'\n') == 1
+        is_well = (status, output) == (1, b'') and is_said
         yield None if is_well else '%s: status %d, printed %r' % (words[0], status, output + errors)
 
     return play
@@ -61,7 +62,7 @@ def says_that_it_was_cut_off(top):
     """A play: of an output of more than 1 MiB nothing is printed, but that it was cut off, with status 1."""
 
     def play():
-        status, output, errors = ended([os.path.join(top, 'milter_tool'), 'trace'], BODY * 16)
+        status, output, errors = ended([os.path.join(top, 'milter_tool'), 'trace'], HEADER * 16)
         is_well = (status, output) == (1, b'') and errors.splitlines()[-1].startswith(CUT_OFF)
         yield None if is_well else 'cut off: status %d, printed %d bytes and %r' % (status, len(output), errors[-200:])
 
