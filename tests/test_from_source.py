@@ -16,8 +16,6 @@ from lib.programs import BUILDS, TOP, compared, ended, need, tool
 NEWS = b'milter_tool: this is the source, run with checks and not proved yet; '
 WANTED = b"milter_tool: %s takes the proved program, which isn't built yet: "
 CUT_OFF = b'milter_tool: the run was cut off, '
-# What rt prints of the program that it runs.
-OF_RT = (b'rt: ', b'checked: ', b'interpreter: ', b'races: ', b'run=')
 # A packet of a header field whose value has 65,532 bytes, of which each is printed as four; 16 of them are more than
 # the 1 MiB that is kept of an output.
 HEADER = b'> 00010000' + b'4c5800%s00\n' % (b'01' * 65532)
@@ -70,14 +68,12 @@ def says_that_it_was_cut_off(top):
 
 
 def plays(top):
-    """All that is run: on a trace, files in both ways, faults, and wrong uses of the command line."""
+    """All that is run: a trace, files by relative and absolute paths, faults, and a wrong use of the command line."""
     yield as_the_program(top, ['trace'], read('examples/conversation.trace'))
     yield as_the_program(top, ['trace'], read('examples/conversation.trace') + b'> zz\n')
     yield as_the_program(top, ['play', 'examples/policy.session', '--rules=examples/mail.rules'])
     yield as_the_program(top, ['session', os.path.join(TOP, 'examples', 'mail.rules')])
-    yield as_the_program(top, ['rules', 'examples/no_such_file'])
     yield as_the_program(top, ['trace', 'examples/conversation.trace'])
-    yield as_the_program(top, ['mta', '--help'])
     yield says_that_it_was_cut_off(top)
     yield asks_for_the_proved_program(top, ['filter', 'inet:8891@127.0.0.1'])
     yield asks_for_the_proved_program(top, ['mta', 'inet:8891@127.0.0.1', 'examples/policy.session'])

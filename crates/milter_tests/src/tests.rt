@@ -1,5 +1,5 @@
 //! Tests of the libraries by values that were written out by hand. What programs can show stands in the tables of
-//! cases/ instead.
+//! cases/tables/ instead.
 
 mod faults;
 mod packets;

@@ -1,5 +1,5 @@
 //! Commands and replies: decoded, copied and encoded. A test that is out of memory ends with that, and nothing is left
-//! of what a call appended: `tests/refused_growth.py` runs these tests with each allocation refused in turn.
+//! of what a call appended: `tests/test_refused_growth.py` runs these tests with each allocation refused in turn.
 
 mod command_packets;
 mod reply_packets;

@@ -1,0 +1,89 @@
+#!/usr/bin/env python3
+"""Makes the tar file and the Debian package of the proved program, in a copy of what they are made of, and looks at
+what is in them: the program runs, its manual page has each subcommand, the units start the program where the package
+puts it, and the documents are there. And the units of systemd/ are those that docs/DEPLOY.md shows.
+
+The last line is 'N passed, M failed'; the status is 1 where one failed.
+"""
+import glob
+import gzip
+import os
+import re
+import shutil
+import subprocess
+import sys
+import tempfile
+
+from lib import runner
+from lib.programs import BUILDS, TOP, need, tool
+
+PACKED = ['README.md', 'CHANGELOG.md', 'SECURITY.md', 'docs', 'examples', 'systemd', 'tools']
+UNITS = sorted(os.listdir(os.path.join(TOP, 'systemd')))
+
+
+def read(*path):
+    """The text of a file."""
+    with open(os.path.join(*path), encoding='utf-8') as file:
+        return file.read()
+
+
+def copied(folder):
+    """Copies what packages are made of to a folder, with the program."""
+    for name in PACKED:
+        given, made = os.path.join(TOP, name), os.path.join(folder, name)
+        (shutil.copytree if os.path.isdir(given) else shutil.copy)(given, made)
+    program = os.path.join(folder, os.path.relpath(tool(BUILDS[0]), TOP))
+    os.makedirs(os.path.dirname(program))
+    shutil.copy(tool(BUILDS[0]), program)
+
+
+def unpacked(folder, kind, command):
+    """Makes the package of this kind in a copy of the repository, and unpacks it by a command whose last words are the
+    package and a folder. Answers that folder."""
+    made = subprocess.run(
+        ['bash', os.path.join(folder, 'tools', 'package.sh'), kind], stdout=subprocess.PIPE, check=True, text=True)
+    place = os.path.join(folder, 'unpacked', kind)
+    os.makedirs(place)
+    package = os.path.join(folder, made.stdout.strip())
+    subprocess.run([part.format(package=package, place=place) for part in command], check=True)
+    return place
+
+
+def looked_at(root, folder_of_program):
+    """Looks at what is unpacked below a root. The units name the program in this folder."""
+    program = os.path.join(root, 'bin', 'milter_tool')
+    helped = subprocess.run([program, '--help'], stdout=subprocess.PIPE, check=False, text=True)
+    yield None if helped.returncode == 0 else '%s does not run' % program
+    with gzip.open(os.path.join(root, 'share', 'man', 'man1', 'milter_tool.1.gz'), 'rt') as page:
+        sections = re.findall(r'(?m)^\.SH MILTER_TOOL (\w+)', page.read())
+    commands = re.findall(r'(?m)^  (\w+)  ', helped.stdout)
+    yield None if sections + ['HELP'] == [it.upper() for it in commands] else 'the manual page has %s' % sections
+    for unit in UNITS:
+        started = re.findall(r'(?m)^ExecStart=(\S+)', read(root, 'lib', 'systemd', 'system', unit))
+        is_well = all(it == folder_of_program + '/milter_tool' for it in started)
+        yield None if is_well else '%s starts %s' % (unit, started)
+    for name in ['README.md', 'docs/HEADLINE.md', 'examples/conversation.trace']:
+        yield None if read(TOP, name) == read(root, 'share', 'doc', 'milter_tool', name) else '%s differs' % name
+
+
+def packages():
+    """Looks at both packages."""
+    with tempfile.TemporaryDirectory() as folder:
+        copied(folder)
+        [root] = glob.glob(unpacked(folder, 'dist', ['tar', '-xzf', '{package}', '-C', '{place}']) + '/*')
+        yield from looked_at(root, '/usr/local/bin')
+        root = unpacked(folder, 'deb', ['dpkg-deb', '-x', '{package}', '{place}'])
+        yield from looked_at(os.path.join(root, 'usr'), '/usr/bin')
+
+
+def units():
+    """Whether the document shows each unit as it is."""
+    shown = read(TOP, 'docs', 'DEPLOY.md')
+    for unit in UNITS:
+        lines = ''.join('    ' + line if line.strip() else line for line in read(TOP, 'systemd', unit).splitlines(True))
+        yield None if lines in shown else 'docs/DEPLOY.md does not show %s as it is' % unit
+
+
+if __name__ == '__main__':
+    need('tool')
+    sys.exit(runner.run_all([packages, units]))
