@@ -175,7 +175,7 @@ def report(crate, done, count, begun):
 
 
 def work(crates, wanted):
-    """Proves these crates, and prints a line for each; what rt printed of the first that is not proved, and its name."""
+    """Proves these crates, with a line for each; what rt printed of the first that is not proved, and its name."""
     begun, done, running = time.monotonic(), 0, {}
     waiting = sorted(crates, key=lambda it: -it.way_up)
     workers = max(len(os.sched_getaffinity(0)) // 2, 1)
