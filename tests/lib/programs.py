@@ -13,11 +13,11 @@ BUILDS = ['', '.by-rattle']
 PROGRAMS = {
     'tool': ('milter_tool', []),
     'loop guard': ('milter_loop_guard', []),
-    'edits': ('milter_rows', ['edits', 'text']),
-    'filter faults': ('milter_rows', ['faults']),
-    'payloads': ('milter_rows', ['packets']),
-    'mail server': ('milter_mta_rows', []),
-    'links': ('milter_links', []),
+    'edits': ('milter_test_driver', ['edits', 'text']),
+    'filter faults': ('milter_test_driver', ['faults']),
+    'payloads': ('milter_test_driver', ['packets']),
+    'mail server': ('milter_test_driver', ['mta']),
+    'links': ('milter_test_driver', ['links']),
 }
 
 
