@@ -1,6 +1,6 @@
 #!/usr/bin/env bash
 # Measures a mail server's end (`MtaCore`) in memory, alone and beside a filter's end that lets all mail go on
-# (`FilterCore` with `Pass`): crates/milter_pair plays a session file to such a filter, and crates/milter_mta_rows
+# (`FilterCore` with `Pass`): crates/milter_pair plays a session file to such a filter, and `milter_test_driver mta`
 # answers each command by itself. A message has ten header fields, and so sixteen commands where its body has 4 KiB, and
 # 176 where it has 10 MiB. A line for each session has the user instructions of a message at both ends, and those at the
 # mail server's end alone. They are callgrind's, without those of a run that reads the session file and sends none of
@@ -39,7 +39,7 @@ instructions() {
 # pass PACKETS: what the mail server's end takes for the first packets of the session, and their replies
 pass() {
     { cat "$work/session"; printf '%%%%\nconfig 0 0 tempfail\ndialled\npass %s\n' "$1"; } >"$work/script"
-    instructions milter_mta_rows <"$work/script"
+    instructions milter_test_driver mta <"$work/script"
 }
 
 # measure COUNT BODY COMMANDS: prints the line of a session, and leaves `both`, the instructions of both ends
@@ -55,7 +55,7 @@ measure() {
 python3 bench/session.py 1 "$SMALL" >"$work/session"
 program milter_pair read <"$work/session"
 { cat "$work/session"; printf '%%%%\nconfig 0 0 tempfail\n'; } >"$work/script"
-program milter_mta_rows <"$work/script"
+program milter_test_driver mta <"$work/script"
 echo "user instructions of a message:"
 measure 1 "$SMALL" "$SMALL_COMMANDS"
 measure 100 "$SMALL" "$SMALL_COMMANDS"

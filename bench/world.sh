@@ -1,5 +1,5 @@
 #!/usr/bin/env bash
-# Measures a world (`milter_world`), with a filter that lets all mail go on: crates/milter_world_runs plays a session
+# Measures a world (`milter_world`), with a filter that lets all mail go on: `milter_test_driver world` plays a session
 # file by `play`, and by `run` in rounds of 1 byte and of 100, and crates/milter_pair drives the same two ends by a loop
 # of its own. A message has ten header fields, and so sixteen commands where its body has 4 KiB. A line for each session
 # has the user instructions of a message: callgrind's, without those of a run that only reads the session file; callgrind
@@ -41,18 +41,18 @@ a_message() { echo $((($(instructions "${@:3}") - $2) / $1)); }
 measure() {
     local read
     python3 bench/session.py "$1" "$BODY" >"$work/session"
-    read=$(instructions milter_world_runs read)
+    read=$(instructions milter_test_driver world read)
     loop=$(a_message "$1" "$(instructions milter_pair read)" milter_pair play)
-    played=$(a_message "$1" "$read" milter_world_runs play)
-    of_100=$(a_message "$1" "$read" milter_world_runs run dial "rounds $((ROUNDS_OF_100 * $1)) 100")
-    of_1=$(a_message "$1" "$read" milter_world_runs run dial "rounds $((ROUNDS_OF_1 * $1)) 1")
+    played=$(a_message "$1" "$read" milter_test_driver world play)
+    of_100=$(a_message "$1" "$read" milter_test_driver world run dial "rounds $((ROUNDS_OF_100 * $1)) 100")
+    of_1=$(a_message "$1" "$read" milter_test_driver world run dial "rounds $((ROUNDS_OF_1 * $1)) 1")
     printf '%5d messages: the loop %8d, play %8d, rounds of 100 bytes %8d, of 1 byte %8d\n' \
         "$1" "$loop" "$played" "$of_100" "$of_1"
 }
 
 python3 bench/session.py 1 "$BODY" >"$work/session"
 program milter_pair read <"$work/session"
-program milter_world_runs read <"$work/session"
+program milter_test_driver world read <"$work/session"
 echo "user instructions of a message of $BODY bytes:"
 measure 10
 before_100=$of_100

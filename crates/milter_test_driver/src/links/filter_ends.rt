@@ -1,6 +1,6 @@
 //! A filter's end in memory that lets all mail go on.
 
-use crate::links::Network;
+use crate::links::failing_links::Network;
 use milter_converse::{Dial, DialFault};
 use milter_filter::{FilterCore, FilterFault, Pass};
 use std::alloc::Global;

@@ -26,13 +26,34 @@ fn fault_in(
     Ok(())
 }
 
-/// Prints what a call answered, and how many bytes are unread then.
-fn print_fault<R: Print>(
-    rt: &R,
+/// What came of a stream, and how many bytes were unread then.
+#[derive(Clone, Copy, Debug)]
+struct Fed {
     answer: Result<(), FilterFault>,
     unread: usize,
-) -> anyhow::Result<()> {
-    match answer {
+}
+
+/// Gives a filter's end the stream in pieces of this size, and answers what came of it.
+fn feed(core: &mut FilterCore<'_, Pass>, stream: &[u8], size: usize) -> Fed {
+    let answer = fault_in(core, stream, size);
+    Fed {
+        answer,
+        unread: core.unread(),
+    }
+}
+
+/// Gives a filter's end the stream in pieces of this size, and then whole.
+fn feed_twice(core: FilterCore<'_, Pass>, stream: &[u8], size: usize) -> (Fed, Fed) {
+    let mut core = core;
+    let first = feed(&mut core, stream, size);
+    let second = feed(&mut core, stream, stream.len());
+    (first, second)
+}
+
+/// Prints what came of a stream, and how many bytes were unread then.
+fn print_fault<R: Print>(rt: &R, fed: Fed) -> anyhow::Result<()> {
+    let unread = fed.unread;
+    match fed.answer {
         Ok(()) => println!(rt; "no fault, {unread} unread")?,
         Err(fault) => println!(rt; "fault {}, {unread} unread", fault.number())?,
     }
@@ -46,18 +67,16 @@ pub fn print_faults<R: Print + AllocGlobal>(
     input: &[u8],
 ) -> anyhow::Result<()> {
     let [size] = words else {
-        bail!("usage: milter_rows faults SIZE");
+        bail!("usage: milter_test_driver faults SIZE");
     };
     let size = size.parse::<usize>().ok().context("SIZE is no number")?;
-    let Ok(mut core) = FilterCore::new(rt.alloc(), &Pass) else {
+    let Ok(core) = FilterCore::new(rt.alloc(), &Pass) else {
         bail!("out of memory");
     };
-    let first = fault_in(&mut core, input, size);
-    let unread = core.unread();
-    let second = fault_in(&mut core, input, input.len());
-    if first == Err(FilterFault::NoMemory) && second == first {
+    let (first, second) = feed_twice(core, input, size);
+    if first.answer == Err(FilterFault::NoMemory) && second.answer == first.answer {
         bail!("out of memory");
     }
-    print_fault(rt, first, unread)?;
-    print_fault(rt, second, core.unread())
+    print_fault(rt, first)?;
+    print_fault(rt, second)
 }

@@ -1,6 +1,6 @@
 //! Links that fail by a script.
 
-use crate::script::{Failed, Failure, Script};
+use crate::links::script::{Failed, Failure, Script};
 use milter_converse::{Dial, DialFault};
 use std::cell::Cell;
 use std::io;

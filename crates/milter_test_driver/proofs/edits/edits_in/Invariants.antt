@@ -1,7 +1,7 @@
 use Rattle.std.proofs.Common.{All, length}
 use Rattle.milter_wire.specs.Reply.{Fits}
 use Rattle.milter_message.specs.EditReplies.{reply_of}
-use Rattle.milter_rows.proofs.edits.edits_in.Given as goal
+use Rattle.milter_test_driver.proofs.edits.edits_in.Given as goal
 
 abbrev pub decreases-loop-rest : goal.decreases-loop-rest
 decreases-loop-rest l = length l.rest

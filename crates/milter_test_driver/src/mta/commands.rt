@@ -1,6 +1,6 @@
 //! The commands of a script between its first and its last.
 
-use crate::exchanges::{converse, feed_bytes, feed_times, pass, send_some};
+use crate::mta::exchanges::{converse, feed_bytes, feed_times, pass, send_some};
 use anyhow::{Context, bail};
 use milter_mta::{MtaCore, Want};
 use milter_outcome::Loss;

@@ -1,7 +1,6 @@
-//! `milter_links`: plays a session file to a filter that lets all mail go on, over links that fail, for the tables
-//! `cases/links_*.table` and for `tests/links.py`. Standard input is the session file, a line `%%`, and lines for what
-//! the links are and for each thing that fails. What is offered has no action and no protocol bit, so that each command
-//! is sent and answered, and a message whose filter is lost is refused for now.
+//! A session, played over links that fail to a filter that lets all mail go on. The input is a session file, a line
+//! `%%`, and lines for what the links are and for each thing that fails. What is offered has no action and no protocol
+//! bit, so that each command is sent and answered, and a message whose filter is lost is refused for now.
 //!
 //! - `tcp`, `unix`: each link is a connection over TCP or over a Unix socket, of which this process holds both ends;
 //!   else links are in memory.
@@ -15,42 +14,26 @@
 //!
 //! The reports are printed, and then how often it was dialled. Where a filter's end is refused memory, the program is
 //! out of memory, and prints no reports.
-#![tactic(auto)]
 
+mod failing_links;
 mod filter_ends;
-mod links;
 mod script;
 mod socket_links;
 
-use anyhow::{Context, bail};
+use crate::input::{config_without_bits, mta_core, session_and_script};
+use anyhow::bail;
+use failing_links::{FailingDial, Network};
 use filter_ends::FilterDial;
-use links::{FailingDial, Network};
-use milter_converse::{Config, Dial, MtaCore, Reports, converse};
+use milter_converse::{Dial, converse};
 use milter_filter::Pass;
-use milter_outcome::OnLoss;
+use milter_mta::{MtaCore, Reports};
 use milter_reports::write_reports;
-use milter_session::read_session;
-use milter_wire::{Actions, Protocol};
 use script::{Script, Way, script_in};
 use socket_links::{TcpLinks, UnixLinks};
 use std::alloc::Global;
-use std::io::Read;
+use std::io;
 use std::net::{Net, TcpListener, TcpStream};
 use std::rt::Files;
-use std::str::from_utf8;
-use std::{io, process};
-
-/// The mail server's end of a session file before its first connection.
-fn started(alloc: Global, file: &str) -> anyhow::Result<MtaCore> {
-    let config = Config::new(Actions(0), Protocol(0), OnLoss::Tempfail).context(
-        "no configuration",
-    )?;
-    let session = read_session(alloc, file.as_bytes())?;
-    match MtaCore::new(alloc, config, session) {
-        Ok(core) => Ok(core),
-        Err(_) => bail!("out of memory"),
-    }
-}
 
 /// Plays a session over links of the script. It answers the reports, and how often it was dialled. A link over a Unix
 /// socket has this path.
@@ -87,18 +70,36 @@ fn play_over<D: Dial + Drop>(
     converse(alloc, core, &mut FailingDial::new(network, dial))
 }
 
-fn main(rt: HostRuntime) -> anyhow::Result<()> {
-    let mut input = Vec::new(rt.alloc());
-    rt.reader().read_to_end(&mut input)?;
-    let text = from_utf8(&input).ok().context("the input is no text")?;
-    let (file, lines) = text
-        .split_once("%%\n")
-        .context("a line %% is to follow the session file")?;
-    let script = script_in(rt.alloc(), lines)?;
-    let core = started(rt.alloc(), file)?;
-    let path = format!(in rt.alloc(); "/tmp/milter_links.{}", process::id(rt.process()))?;
-    let (reports, dials) = play(&rt, &script, &path, core)?;
-    write_reports(rt.alloc(), &mut io::writer(&rt), &reports)?;
+/// Prints the reports of a session, and how often it was dialled.
+fn print_reports<R: Print + AllocGlobal>(
+    rt: &R,
+    reports: &Reports,
+    dials: u64,
+) -> anyhow::Result<()> {
+    write_reports(rt.alloc(), &mut io::writer(rt), reports)?;
     println!(rt; "dials {dials}")?;
     Ok(())
+}
+
+/// Plays a session file over links of the script, and prints what comes of it. A link over a Unix socket has this path.
+fn print_session<R: Net<Listener = TcpListener, Stream = TcpStream> + Files + Print + AllocGlobal>(
+    rt: &R,
+    script: &Script,
+    path: &str,
+    file: &str,
+) -> anyhow::Result<()> {
+    let core = mta_core(rt.alloc(), config_without_bits()?, file)?;
+    let (reports, dials) = play(rt, script, path, core)?;
+    print_reports(rt, &reports, dials)
+}
+
+/// Plays the session of the input, and prints its reports and how often it was dialled. The path of a link over a Unix
+/// socket has the id of this process, so that programs that run at once have paths of their own.
+pub fn print_played<
+    R: Net<Listener = TcpListener, Stream = TcpStream> + Files + Print + AllocGlobal,
+>(rt: &R, process_id: u32, input: &[u8]) -> anyhow::Result<()> {
+    let (file, lines) = session_and_script(input)?;
+    let script = script_in(rt.alloc(), lines)?;
+    let path = format!(in rt.alloc(); "/tmp/milter_test_driver.{process_id}")?;
+    print_session(rt, &script, &path, file)
 }

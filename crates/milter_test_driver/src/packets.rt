@@ -127,7 +127,7 @@ pub fn print_total<R: Print + AllocGlobal>(
 ) -> anyhow::Result<()> {
     let alloc = rt.alloc();
     let [work, count] = words else {
-        bail!("usage: milter_rows packets split|lent|owned|encode|copy COUNT");
+        bail!("usage: milter_test_driver packets split|lent|owned|encode|copy COUNT");
     };
     let count = count.parse::<u64>().ok().context("COUNT is no number")?;
     let total = match work.as_str() {

@@ -1,31 +1,21 @@
-//! `milter_world_runs WHAT EVENT.. <SESSION`: plays the session file on standard input, in memory, to a filter that
-//! lets all mail go on, while events happen; each further word is a line of a file of events. It serves tests and
-//! `bench/world.sh`.
+//! A session, played in memory to a filter that lets all mail go on while events happen. The input is a session file.
+//! The first word is what is printed, and each further word is a line of a file of events.
 //!
 //! `asked` prints for each event how often the filter was asked up to it, which shows that a world asks no sooner than
 //! the bytes come. The others print a number of messages: `read` of the session, `run` of those that the events settle,
 //! and `play` of those that are settled over one connection on which everything arrives.
-#![tactic(auto)]
 
 mod counting;
 
-use crate::counting::Counting;
-use anyhow::{Context, bail};
+use crate::input::config_without_bits;
+use anyhow::bail;
+use counting::Counting;
 use milter_events::read_events;
 use milter_filter::Pass;
-use milter_mta::{Config, OnLoss};
 use milter_schedule::Event;
 use milter_session::read_session;
-use milter_wire::{Actions, Protocol};
 use milter_world::{play, run};
 use std::alloc::Global;
-use std::env;
-use std::io::Read;
-
-/// An offer of no action and no protocol bit, so that the filter is asked about each command.
-fn config() -> anyhow::Result<Config> {
-    Config::new(Actions(0), Protocol(0), OnLoss::Tempfail).context("no configuration")
-}
 
 /// The events of these lines.
 fn events_in(alloc: Global, lines: &[String]) -> anyhow::Result<Vec<Event>> {
@@ -42,7 +32,7 @@ fn count_asked(alloc: Global, file: &[u8], events: &[Event]) -> anyhow::Result<u
     let filter = Counting::new();
     run(
         alloc,
-        config()?,
+        config_without_bits()?,
         read_session(alloc, file)?,
         &filter,
         events,
@@ -52,7 +42,11 @@ fn count_asked(alloc: Global, file: &[u8], events: &[Event]) -> anyhow::Result<u
 
 /// Plays the session file while the first of the events happen, one more each time, and prints how often the filter was
 /// asked.
-fn print_asked(rt: &HostRuntime, file: &[u8], events: &[Event]) -> anyhow::Result<()> {
+fn print_asked<R: Print + AllocGlobal>(
+    rt: &R,
+    file: &[u8],
+    events: &[Event],
+) -> anyhow::Result<()> {
     for count in 1..=events.len() {
         println!(rt; "{}", count_asked(rt.alloc(), file, &events[..count])?)?;
     }
@@ -67,29 +61,42 @@ fn count_read(alloc: Global, file: &[u8]) -> anyhow::Result<usize> {
 
 /// How many messages the events settle.
 fn count_run(alloc: Global, file: &[u8], events: &[Event]) -> anyhow::Result<usize> {
-    let reports = run(alloc, config()?, read_session(alloc, file)?, &Pass, events)?;
+    let reports = run(
+        alloc,
+        config_without_bits()?,
+        read_session(alloc, file)?,
+        &Pass,
+        events,
+    )?;
     Ok(reports.messages().len())
 }
 
 /// How many messages are settled over one connection on which everything arrives.
 fn count_played(alloc: Global, file: &[u8]) -> anyhow::Result<usize> {
-    let reports = play(alloc, config()?, read_session(alloc, file)?, &Pass)?;
+    let reports = play(
+        alloc,
+        config_without_bits()?,
+        read_session(alloc, file)?,
+        &Pass,
+    )?;
     Ok(reports.messages().len())
 }
 
-fn main(rt: HostRuntime) -> anyhow::Result<()> {
-    let words: Vec<String> = env::args(&rt)?.collect(rt.alloc())?;
-    let [_, what, lines @ ..] = words.as_slice() else {
-        bail!("usage: milter_world_runs asked|read|run|play EVENT.. <SESSION");
+/// Plays the session file while the events of the words happen, and prints the number that the first word asks for.
+pub fn print_counts<R: Print + AllocGlobal>(
+    rt: &R,
+    words: &[String],
+    file: &[u8],
+) -> anyhow::Result<()> {
+    let [what, lines @ ..] = words else {
+        bail!("usage: milter_test_driver world asked|read|run|play EVENT.. <SESSION");
     };
-    let mut file = Vec::new(rt.alloc());
-    rt.reader().read_to_end(&mut file)?;
     let events = events_in(rt.alloc(), lines)?;
     let count = match what.as_str() {
-        "asked" => return print_asked(&rt, &file, &events),
-        "read" => count_read(rt.alloc(), &file)?,
-        "run" => count_run(rt.alloc(), &file, &events)?,
-        "play" => count_played(rt.alloc(), &file)?,
+        "asked" => return print_asked(rt, file, &events),
+        "read" => count_read(rt.alloc(), file)?,
+        "run" => count_run(rt.alloc(), file, &events)?,
+        "play" => count_played(rt.alloc(), file)?,
         _ => bail!("{what} is none of asked, read, run and play"),
     };
     println!(rt; "{count}")?;

@@ -1,6 +1,6 @@
 //! Links over sockets of which this process holds both ends.
 
-use crate::filter_ends::{FilterDial, FilterEnd};
+use crate::links::filter_ends::{FilterDial, FilterEnd};
 use milter_cli::{TcpDial, UnixDial};
 use milter_converse::{Dial, DialFault};
 use std::io::{Read, Write};

@@ -9,7 +9,7 @@ ghost use Rattle.milter_wire.specs.Reply.{Fits};
 ghost use Rattle.milter_message.specs.EditReplies.{reply_of};
 
 use anyhow::bail;
-use milter_mail::{Edit, Held, Message, apply, edits_of_replies, write_message};
+use milter_mail::{Edit, Held, Session, apply, edits_of_replies, write_message};
 use milter_session::read_session;
 use milter_wire::{PAYLOAD_MAX, Packet, Reply, Splitter};
 use std::alloc::Global;
@@ -50,13 +50,16 @@ fn edits_in(alloc: Global, stream: &[u8]) -> anyhow::Result<Vec<Edit>>
     Ok(edits)
 }
 
-/// The message after the edits of a stream.
+/// The one message of a session after the edits of a stream.
 fn held_after(
     alloc: Global,
-    message: &Message,
+    session: &Session,
     stream: &[u8],
     leading_space: bool,
 ) -> anyhow::Result<Held> {
+    let [message] = session.messages() else {
+        bail!("the session is to have one message");
+    };
     let edits = edits_in(alloc, stream)?;
     Ok(apply(alloc, message, &edits, leading_space)?)
 }
@@ -67,16 +70,13 @@ fn parts_of(input: &[u8]) -> Option<(&[u8], &[u8])> {
     Some((&input[..end], &input[end + 1..]))
 }
 
-/// The same for the one message of a session file, and the stream after it.
+/// The same for a session file and the stream after it.
 fn held_in(alloc: Global, input: &[u8], leading_space: bool) -> anyhow::Result<Held> {
     let Some((file, stream)) = parts_of(input) else {
         bail!("a NUL is to follow the session file");
     };
     let session = read_session(alloc, file)?;
-    let [message] = session.messages() else {
-        bail!("the session is to have one message");
-    };
-    held_after(alloc, message, stream, leading_space)
+    held_after(alloc, &session, stream, leading_space)
 }
 
 /// Prints the text of the message, or how much it has.
@@ -100,7 +100,7 @@ pub fn print_edited<R: Print + AllocGlobal>(
     let (printed, leading_space) = match words {
         [printed] => (printed, false),
         [printed, _] => (printed, true),
-        _ => bail!("usage: milter_rows edits text|count [leading_space]"),
+        _ => bail!("usage: milter_test_driver edits text|count [leading_space]"),
     };
     let held = held_in(rt.alloc(), input, leading_space)?;
     print_held(rt, &held, printed)
