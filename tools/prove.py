@@ -19,6 +19,7 @@ import contextlib
 import hashlib
 import os
 import shutil
+import signal
 import subprocess
 import sys
 import tempfile
@@ -26,6 +27,10 @@ import time
 
 TOP = os.path.dirname(os.path.dirname(os.path.realpath(__file__)))
 SOURCES = ("src", "specs", "proofs")
+# How many crates are proved at a time.
+WORKERS = max(len(os.sched_getaffinity(0)) // 2, 1)
+# The commands that run.
+RUNNING = set()
 
 
 class Crate:
@@ -129,14 +134,31 @@ def link(given, made):
         shutil.copy2(given, made)
 
 
+def run(command, folder):
+    """Runs a command in a folder, until it or this run ends; its status, and what it printed."""
+    pipes = {"stdout": subprocess.PIPE, "stderr": subprocess.STDOUT, "stdin": subprocess.DEVNULL}
+    with subprocess.Popen(command, cwd=folder, start_new_session=True, **pipes) as started:
+        RUNNING.add(started)
+        said, _ = started.communicate()
+        RUNNING.discard(started)
+    return started.returncode, said.decode(errors="replace")
+
+
+def end_commands():
+    """Ends what runs, with all that it started."""
+    for started in list(RUNNING):
+        with contextlib.suppress(ProcessLookupError):
+            os.killpg(started.pid, signal.SIGTERM)
+
+
 def prove(crate, mark, command):
     """Runs rt in a folder of its own, and marks the crate where it passes; what it printed where it does not."""
     key, begun = crate.key(), time.monotonic()
     with folder_of_its_own(crate) as work:
-        ran = subprocess.run(["rt", *command], cwd=work, stdout=subprocess.PIPE, stderr=subprocess.STDOUT, check=False)
+        status, said = run(["rt", *command], work)
     crate.time += time.monotonic() - begun
-    if ran.returncode != 0:
-        return ran.stdout.decode(errors="replace")
+    if status != 0:
+        return said
     with open(os.path.join(crate.folder, "out", mark), "w", encoding="utf-8") as made:
         made.write(key)
     return None
@@ -174,24 +196,32 @@ def report(crate, done, count, begun):
         print(f"{crate.name} is proved in {minutes(crate.time)}: {done} of {count} crates, {whole}", flush=True)
 
 
-def work(crates, wanted):
+def work(pool, crates, wanted):
     """Proves these crates, with a line for each; what rt printed of the first that is not proved, and its name."""
     begun, done, running = time.monotonic(), 0, {}
     waiting = sorted(crates, key=lambda it: -it.way_up)
-    workers = max(len(os.sched_getaffinity(0)) // 2, 1)
-    with concurrent.futures.ThreadPoolExecutor(workers) as pool:
-        while waiting or running:
-            ready = [it for it in waiting if not set(it.below) & {*waiting, *running.values()}]
-            for crate in ready[: workers - len(running)]:
-                waiting.remove(crate)
-                running[pool.submit(prove_changed, crate, wanted)] = crate
-            for ended in concurrent.futures.wait(running, return_when=concurrent.futures.FIRST_COMPLETED).done:
-                crate, said = running.pop(ended), ended.result()
-                if said is not None:
-                    return f"{said}{crate.name} is not proved"
-                done += 1
-                report(crate, done, len(crates), begun)
+    while waiting or running:
+        ready = [it for it in waiting if not set(it.below) & {*waiting, *running.values()}]
+        for crate in ready[: WORKERS - len(running)]:
+            waiting.remove(crate)
+            running[pool.submit(prove_changed, crate, wanted)] = crate
+        for ended in concurrent.futures.wait(running, return_when=concurrent.futures.FIRST_COMPLETED).done:
+            crate, said = running.pop(ended), ended.result()
+            if said is not None:
+                return f"{said}{crate.name} is not proved"
+            done += 1
+            report(crate, done, len(crates), begun)
     return None
+
+
+def work_until_interrupted(crates, wanted):
+    """The same. Where it is interrupted it ends what runs, and the work that was done is kept."""
+    with concurrent.futures.ThreadPoolExecutor(WORKERS) as pool:
+        try:
+            return work(pool, crates, wanted)
+        except KeyboardInterrupt:
+            end_commands()
+            return "interrupted; another run goes on from here"
 
 
 def note_build(program, crates, begun):
@@ -211,10 +241,8 @@ def main():
         sys.exit(__doc__)
     named = [known[it] for it in names or known]
     crates = all_below(named)
-    try:
-        failed = work(crates.values(), wanted)
-    except KeyboardInterrupt:
-        failed = "interrupted; another run goes on from here"
+    signal.signal(signal.SIGTERM, signal.default_int_handler)
+    failed = work_until_interrupted(crates.values(), wanted)
     if failed:
         sys.exit(failed)
     for crate in named:
