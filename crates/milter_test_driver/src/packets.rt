@@ -12,6 +12,7 @@ use std::alloc::Global;
 
 /// What is done with each packet.
 trait Work {
+    /// Does it with one packet.
     fn read(&mut self, packet: Packet<'_>) -> anyhow::Result<()>
         requires { length packet.payload.now ≤ PAYLOAD_MAX };
 }
