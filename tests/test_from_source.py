@@ -76,6 +76,7 @@ def plays(top):
     yield as_the_program(top, ['trace', 'examples/conversation.trace'])
     yield says_that_it_was_cut_off(top)
     yield asks_for_the_proved_program(top, ['filter', 'inet:8891@127.0.0.1'])
+    yield asks_for_the_proved_program(top, ['serve', 'inet:8891@127.0.0.1'])
     yield asks_for_the_proved_program(top, ['mta', 'inet:8891@127.0.0.1', 'examples/policy.session'])
 
 

@@ -15,6 +15,8 @@ use Rattle.milter_cli.specs.declared.tool_error.ToolError.{ToolError}
 use Rattle.milter_cli.specs.declared.tool_error.ToolError.TheVariants.{Usage, Trace, File, Answer}
 use Rattle.milter_cli.specs.declared.tool_error.ToolError.TheVariants.{Listen, Write, NoMemory}
 use Rattle.milter_request.specs.UsageError.{usage_lines}
+use Rattle.milter_service.specs.declared.service_error.ServiceError.{ServiceError}
+use Rattle.milter_service.specs.declared.service_error.ServiceError.TheVariants as services
 use Rattle.milter_request.specs.declared.usage_error.UsageError.TheVariants.{CommandLine, NotUtf8}
 
 -- a wrong use of the program, or a fault
@@ -53,6 +55,12 @@ argument_error _ = Usage NotUtf8
 abbrev pub listen_error : IoKind → ToolError
 listen_error io.OutOfMemory = NoMemory
 listen_error _ = Listen
+
+-- a service ends where the system doesn't wait for sockets, where a line is not written, or where memory is refused
+abbrev pub service_error : ServiceError → ToolError
+service_error services.Wait = Listen
+service_error services.Write = Write
+service_error services.NoMemory = NoMemory
 
 -- the lines of connections, or the reports of a session, that were not all written
 abbrev pub output_error : TextFault → ToolError

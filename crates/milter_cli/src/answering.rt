@@ -1,5 +1,6 @@
 //! The subcommand `answer`: from what a mail server sends to what a filter replies.
 
+ghost use Rattle.milter_exchange.specs.declared.command_order.CommandOrder.TheVariants.{Strict};
 ghost use Rattle.milter_filter.specs.Serving.{Serves};
 
 use milter_filter::{Policy, Served, serve};
@@ -15,7 +16,7 @@ pub fn answer_run<P: Policy, R: Read, W: Write>(
     reader: &mut R,
     writer: &mut W,
 ) -> Served
-    ensures { Serves (P.behavior policy.now) (R.remaining reader.old) (R.remaining reader.new)
+    ensures { Serves Strict (P.behavior policy.now) (R.remaining reader.old) (R.remaining reader.new)
         (W.contents writer.old) (W.contents writer.new) result }
 {
     serve(alloc, policy, reader, writer)

@@ -14,6 +14,7 @@ mod filtering;
 mod in_memory;
 mod playing;
 mod rules_run;
+mod serving;
 mod session_run;
 mod tool_error;
 
@@ -28,5 +29,8 @@ pub use filtering::{Connections, filter_run};
 pub use in_memory::play_run;
 pub use playing::mta_run;
 pub use rules_run::{load_rules, print_rules};
+pub use serving::ConnectionLines;
 pub use session_run::{load_session, print_session};
-pub use tool_error::{ToolError, argument_error, end_usage, listen_error, output_error, report};
+pub use tool_error::{
+    ToolError, argument_error, end_usage, listen_error, output_error, report, service_error,
+};

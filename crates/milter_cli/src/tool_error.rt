@@ -3,12 +3,13 @@
 ghost use Rattle.std.specs.Prelude.{◌≡◌, OnOk};
 ghost use Rattle.std.specs.Process.{exit_status};
 ghost use Rattle.clap.specs.Words.{kind_of};
-ghost use Rattle.milter_cli.specs.ToolError.{EndsBy, IsShown, argument_error, error_lines, listen_error, output_error, status_of};
+ghost use Rattle.milter_cli.specs.ToolError.{EndsBy, IsShown, argument_error, error_lines, listen_error, output_error, service_error, status_of};
 
 use crate::answer_error::AnswerError;
 use crate::file_error::FileError;
 use clap::error::ErrorKind;
 use milter_request::UsageError;
+use milter_service::ServiceError;
 use milter_text::TextFault;
 use milter_trace::TraceFault;
 use std::error::Error;
@@ -27,7 +28,7 @@ pub enum ToolError {
     File(FileError),
     /// A mail server that was not answered to its end.
     Answer(AnswerError),
-    /// A socket that was not bound.
+    /// A socket that was not bound, or that the system doesn't wait for.
     Listen,
     /// Help, the version, the line of a connection or the reports of a session were not written.
     Write,
@@ -98,6 +99,17 @@ pub fn output_error(fault: TextFault) -> ToolError
     match fault {
         TextFault::Write => ToolError::Write,
         TextFault::NoMemory => ToolError::NoMemory,
+    }
+}
+
+/// The error of a service that has ended.
+pub fn service_error(error: ServiceError) -> ToolError
+    ensures { result ≡ service_error error }
+{
+    match error {
+        ServiceError::Wait => ToolError::Listen,
+        ServiceError::Write => ToolError::Write,
+        ServiceError::NoMemory => ToolError::NoMemory,
     }
 }
 

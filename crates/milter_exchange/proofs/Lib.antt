@@ -8,3 +8,4 @@ pub mod WholeTalks
 pub mod Going
 pub mod HistoryParts
 pub mod Standings
+pub mod Lenient

@@ -7,6 +7,7 @@ use Rattle.milter_wire.specs.declared.command.Command.{Command}
 use Rattle.milter_wire.specs.Agreement.{is_asked}
 use Rattle.milter_wire.specs.Command.{bytes_of, encoding}
 use Rattle.milter_wire.specs.Stages.{stage_of}
+use Rattle.milter_exchange.specs.declared.command_order.CommandOrder.TheVariants.{Strict}
 use Rattle.milter_exchange.specs.Behavior.{Behavior, answer_to}
 use Rattle.milter_exchange.specs.Exchanges.{Exchange}
 use Rattle.milter_exchange.proofs.Seeing.{seen-with}
@@ -85,6 +86,7 @@ module _ (b : Behavior) where
       let shown_is = part-agreed found (agreed_in b before) (shown (e ∷ before)) ∙ ap (with_agreed found) (shown-part ls e before) in
       let connection_is = part-agreed found (agreed_in b before) (of_connection (e ∷ before)) ∙ ap (with_agreed found) (connection-part ls e before) in
       ap (λ g. record {
+        order = Strict;
         agreed = g;
         last_rank = last_rank (e ∷ before);
         shown = part_of (has_leading_space_in g) (shown (e ∷ before));
@@ -92,6 +94,7 @@ module _ (b : Behavior) where
         state = state_after e.command;
       }) agreed
       ∙ (λ i. record {
+        order = Strict;
         agreed = option_or found (agreed_in b before);
         last_rank = rank i;
         shown = shown_is i;
@@ -124,7 +127,7 @@ module _ (b : Behavior) where
   replies-by history (Ok c) None =
       ap (λ answer. replies_to b (agreed_in b history) c answer) (answer-is (agreed_in b history) (shown history) c)
 
-  next-in : (history : List Exchange) (state : FilterState) (received : Received)
+  pub next-in : (history : List Exchange) (state : FilterState) (received : Received)
       → standing_of b (next_in b history received state)
       ≡ standing_next b (standing_of b (record { history = history; state = state })) received
   next-in history Serving received =
@@ -133,7 +136,7 @@ module _ (b : Behavior) where
   next-in history Quit received = refl
   next-in history (Failed fault) received = refl
 
-  replies-in : (history : List Exchange) (state : FilterState) (received : Received)
+  pub replies-in : (history : List Exchange) (state : FilterState) (received : Received)
       → replies_in b history received state
       ≡ standing_replies_at b (standing_of b (record { history = history; state = state })) received
   replies-in history Serving received =

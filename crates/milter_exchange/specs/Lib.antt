@@ -12,6 +12,7 @@ pub mod Histories
 pub mod Faults
 pub mod Replies
 pub mod Conversations
+pub mod Aborts
 pub mod Standings
 pub mod Pass
 pub mod Worked

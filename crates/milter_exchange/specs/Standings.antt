@@ -8,7 +8,11 @@ use Rattle.milter_wire.specs.declared.stage.Stage.{Stage}
 use Rattle.milter_wire.specs.Agreement.{has_leading_space, is_asked}
 use Rattle.milter_wire.specs.Command.{bytes_of, encoding}
 use Rattle.milter_wire.specs.Stages.{stage_of}
+use Rattle.milter_wire.specs.declared.command.Command.TheVariants.{Abort}
 use Rattle.milter_exchange.specs.declared.answer.Answer.{Answer}
+use Rattle.milter_exchange.specs.declared.command_order.CommandOrder.{CommandOrder}
+use Rattle.milter_exchange.specs.declared.command_order.CommandOrder.TheVariants.{Strict}
+use Rattle.milter_exchange.specs.Aborts.{needs_abort}
 use Rattle.milter_exchange.specs.Behavior.{Behavior, answer_to}
 use Rattle.milter_exchange.specs.Exchanges.{Exchange}
 use Rattle.milter_exchange.specs.Seen.{Seen, seen, seen_with}
@@ -28,9 +32,10 @@ pub record Part : Type 0 where
   pub seen : Seen
   pub bytes : ℕ
 
--- what was agreed on, the rank of the last stage, what is shown at this place, and the part of it that stays for the
--- whole connection
+-- the order in which commands are taken, what was agreed on, the rank of the last stage, what is shown at this place,
+-- and the part of it that stays for the whole connection
 pub record Standing : Type 0 where
+  pub order : CommandOrder
   pub agreed : Option Agreed
   pub last_rank : ℕ
   pub shown : Part
@@ -46,6 +51,7 @@ part_of leading_space commands = record { seen = seen leading_space commands; by
 abbrev pub nothing_kept : FilterState → Standing
 nothing_kept state =
     record {
+      order = Strict;
       agreed = None;
       last_rank = 0;
       shown = part_of false [];
@@ -56,10 +62,15 @@ nothing_kept state =
 abbrev pub fresh : Standing
 fresh = nothing_kept Serving
 
+-- nothing has come, and commands are taken in this order
+abbrev pub fresh_in : CommandOrder → Standing
+fresh_in order = record fresh { order = order }
+
 abbrev pub kept_of : Behavior → List Exchange → FilterState → Standing
 kept_of b history state =
     let leading_space = has_leading_space_in (agreed_in b history) in
     record {
+      order = Strict;
       agreed = agreed_in b history;
       last_rank = last_rank history;
       shown = part_of leading_space (shown history);
@@ -146,6 +157,7 @@ abbrev pub standing_with : Behavior → Standing → Command → Option Answer �
 standing_with b s command answer =
     let connection = connection_after (is_quit_new command) s.connection command in
     record {
+      order = s.order;
       agreed = option_or (agreed_by b command) s.agreed;
       last_rank =
           if is_quit_new command then 0
@@ -177,15 +189,22 @@ abbrev pub standing_in : Behavior → Standing → Received → FilterState → 
 standing_in b s received Serving = standing_by b s received (standing_fault s received)
 standing_in b s received ended = s
 
+-- before the command: with an abort where one is due
+abbrev pub standing_before : Behavior → Standing → Received → Standing
+standing_before b s received =
+    if needs_abort s.order s.agreed s.last_rank received then standing_in b s (Ok Abort) s.state else s
+
 abbrev pub standing_next : Behavior → Standing → Received → Standing
-standing_next b s received = standing_in b s received s.state
+standing_next b s received =
+    let ready = standing_before b s received in standing_in b ready received ready.state
 
 abbrev pub standing_replies_in : Behavior → Standing → Received → FilterState → List Reply
 standing_replies_in b s received Serving = standing_replies_by b s received (standing_fault s received)
 standing_replies_in b s received ended = []
 
 abbrev pub standing_replies_at : Behavior → Standing → Received → List Reply
-standing_replies_at b s received = standing_replies_in b s received s.state
+standing_replies_at b s received =
+    let ready = standing_before b s received in standing_replies_in b ready received ready.state
 
 -- ---- all commands
 

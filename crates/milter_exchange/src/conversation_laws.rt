@@ -8,7 +8,9 @@ ghost use Rattle.milter_exchange.specs.Exchanges.{Exchange};
 ghost use Rattle.milter_exchange.specs.Commands.{is_of_connection, is_shown};
 ghost use Rattle.milter_exchange.specs.Conversations.{Conversation, Received, after, replies, start};
 ghost use Rattle.milter_exchange.specs.Histories.{agreed_by, agreed_in, begins_anew, ends_message, last_rank, of_connection, rank_from, shown};
-ghost use Rattle.milter_exchange.specs.Standings.{Standing, fresh, rank_by, standing_after, standing_of, standing_replies};
+ghost use Rattle.milter_exchange.specs.declared.command_order.CommandOrder.{CommandOrder as Order};
+ghost use Rattle.milter_exchange.specs.Aborts.{taken_by};
+ghost use Rattle.milter_exchange.specs.Standings.{Standing, fresh, fresh_in, rank_by, standing_after, standing_of, standing_replies};
 
 /// Going on by some commands and then by others is going on by all of them in a row.
 pub fn conversations_go_on()
@@ -54,4 +56,14 @@ pub fn standings_go_on()
     ensures replies { (b : Behavior) (s : Standing) (first second : List Received) →
         standing_replies b s (first ++ second)
         ≡ standing_replies b s first ++ standing_replies b (standing_after b s first) second }
+{}
+
+/// What is kept by an end that takes commands in either order, and its replies: those of a conversation of the commands
+/// that it takes them for, which in the lenient order have an abort before each greeting and each sender that come
+/// within a message.
+pub fn lenient_orders()
+    ensures state { (b : Behavior) (order : Order) (received : List Received) →
+        (standing_after b (fresh_in order) received).state ≡ (after b start (taken_by order b received)).state }
+    ensures replies { (b : Behavior) (order : Order) (received : List Received) →
+        standing_replies b (fresh_in order) received ≡ replies b start (taken_by order b received) }
 {}

@@ -6,6 +6,7 @@
 #![tactic(auto)]
 
 mod answer;
+mod command_order;
 mod conversation_laws;
 mod edits;
 mod filter_fault;
@@ -18,8 +19,10 @@ mod stage_order;
 mod verdicts;
 
 pub use answer::Answer;
+pub use command_order::CommandOrder;
 pub use conversation_laws::{
-    conversations_go_on, parts_of_histories, standings_go_on, standings_of_conversations,
+    conversations_go_on, lenient_orders, parts_of_histories, standings_go_on,
+    standings_of_conversations,
 };
 pub use edits::Edits;
 pub use filter_fault::FilterFault;

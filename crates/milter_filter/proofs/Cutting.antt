@@ -7,14 +7,16 @@ use Rattle.milter_stream.proofs.StreamLaws.{divide-append, divide-fault, divide-
 use Rattle.milter_wire.specs.Frames.{frame_command}
 use Rattle.milter_wire.specs.Reply.{encoding}
 use Rattle.milter_exchange.specs.Behavior.{Behavior}
+use Rattle.milter_exchange.specs.declared.command_order.CommandOrder.{CommandOrder}
 use Rattle.milter_exchange.specs.declared.filter_fault.FilterFault.{FilterFault}
 use Rattle.milter_exchange.specs.declared.filter_state.FilterState.{FilterState}
 use Rattle.milter_exchange.specs.declared.filter_state.FilterState.TheVariants.{Failed, Quit, Serving}
 use Rattle.milter_exchange.specs.Conversations.{Received}
-use Rattle.milter_exchange.specs.Standings.{Standing, standing_after, standing_replies}
+use Rattle.milter_exchange.specs.Standings.{Standing, fresh_in, standing_after, standing_replies}
+use Rattle.milter_exchange.proofs.Lenient.{orders-replies, orders-state}
 use Rattle.milter_exchange.proofs.Going.{standing_after-append, standing_replies-append}
-use Rattle.milter_filter.specs.Cores.{Core, GivesUp, GoesOn, Takes, fresh_core, given_up, unread_after}
-use Rattle.milter_filter.specs.Streams.{fault_after, read_in, received_in}
+use Rattle.milter_filter.specs.Cores.{Core, GivesUp, GoesOn, Takes, fresh_core_in, given_up, unread_after}
+use Rattle.milter_filter.specs.Streams.{conversation_of, fault_after, read_in, received_in, reply_bytes}
 use Rattle.milter_filter.proofs.Progress.{ended-stays, read-append}
 
 -- ---- the packets of a stream that goes on
@@ -65,6 +67,18 @@ bytes-append b s first second =
     ap (flat_map encoding) (standing_replies-append b s first second)
     ∙ flat_map-append encoding (standing_replies b s first) (standing_replies b (standing_after b s first) second)
 
+pub replies-add : (b : Behavior) (order : CommandOrder) (input more : List ℕ) → (others : List ℕ) × (reply_bytes order b (input ++ more) ≡ reply_bytes order b input ++ others)
+replies-add b order input more =
+    let begin = received-begin input more in
+    let s = fresh_in order in
+    let of = λ (received : List Received). ap (flat_map encoding) (orders-replies b order received) in (
+      bytes_of b (standing_after b s (received_in input)) begin.0,
+      sym (of (received_in (input ++ more)))
+          ∙ ap (bytes_of b s) begin.1
+          ∙ bytes-append b s (received_in input) begin.0
+          ∙ ap (λ xs. xs ++ bytes_of b (standing_after b s (received_in input)) begin.0) (of (received_in input)),
+    )
+
 -- a fault in the length field comes only after the end
 settled : (b : Behavior) (s : Standing) (f : Option WireFault) → (s.state ≡ Serving → f ≡ None) → (standing_after b s (fault_after f) ≡ s) × (bytes_of b s (fault_after f) ≡ [])
 settled b s None quiet = (refl, refl)
@@ -105,8 +119,40 @@ module _ {P : Type 0} (b : Behavior) where
         at_fault = λ fault failed. absurd (failed_serving fault (sym failed ∙ serving));
       }
 
-  pub fresh-begins : (policy : P) → GoesOn b (fresh_core policy) [] [] (fresh_core policy)
-  fresh-begins policy = stays (fresh_core policy) tt refl
+  pub fresh-begins : (order : CommandOrder) (policy : P) → GoesOn b (fresh_core_in order policy) [] [] (fresh_core_in order policy)
+  fresh-begins order policy = stays (fresh_core_in order policy) tt refl
+
+  ended-step : (core : Core P) (more : List ℕ) → core.standing.state ≢ Serving → (core.standing.state ≡ Quit → core.unread ≡ [])
+      → ((fault : FilterFault) → core.standing.state ≡ Failed fault → core.unread ≡ unread_after fault) → GoesOn b core more [] core
+  ended-step core more ended nothing at_fault =
+      let rs = received_in (core.unread ++ more) in
+      let still = ended-stays b core.standing rs ended in
+      record {
+        policy = refl;
+        standing = sym still.0;
+        replied = sym (append-nil core.pending) ∙ ap (λ xs. core.pending ++ flat_map encoding xs) (sym still.1);
+        unread = λ serving. absurd (ended serving);
+        unfinished = λ serving. absurd (ended serving);
+        nothing_unread = nothing;
+        at_fault = at_fault;
+      }
+
+  -- whatever it came by, it goes on to itself by nothing
+  pub goes_on-stays : (old core : Core P) (input sent : List ℕ) → GoesOn b old input sent core → GoesOn b core [] [] core
+  goes_on-stays old core input sent p = by_state core.standing.state refl
+    where
+      by_state : (state : FilterState) → core.standing.state ≡ state → GoesOn b core [] [] core
+      by_state Serving serving = stays core (p.unfinished serving) serving
+      by_state Quit quit = ended-step core [] (λ serving. quit_serving (sym quit ∙ serving)) p.nothing_unread p.at_fault
+      by_state (Failed fault) failed = ended-step core [] (λ serving. failed_serving fault (sym failed ∙ serving)) p.nothing_unread p.at_fault
+
+  -- ---- from the beginning
+
+  pub replies-from : (order : CommandOrder) (policy : P) (core : Core P) (input sent : List ℕ) → GoesOn b (fresh_core_in order policy) input sent core → sent ++ core.pending ≡ reply_bytes order b input
+  replies-from order policy core input sent p = p.replied ∙ ap (flat_map encoding) (orders-replies b order (received_in input))
+
+  pub state-from : (order : CommandOrder) (policy : P) (core : Core P) (input sent : List ℕ) → GoesOn b (fresh_core_in order policy) input sent core → (conversation_of order b input).state ≡ core.standing.state
+  state-from order policy core input sent p = sym (orders-state b order (received_in input)) ∙ ap (λ (s : Standing). s.state) (sym p.standing)
 
   takes-step : (old new : Core P) (piece : List ℕ) (n : ℕ) → old.pending ≡ [] → Takes b old piece n new → GoesOn b old (take n piece) [] new
   takes-step old new piece n none t =
@@ -143,21 +189,6 @@ module _ {P : Type 0} (b : Behavior) where
     nothing_unread = λ quit. absurd (failed_quit fault quit);
     at_fault = λ other is. ap unread_after (same_fault fault other is);
   }
-
-  ended-step : (core : Core P) (more : List ℕ) → core.standing.state ≢ Serving → (core.standing.state ≡ Quit → core.unread ≡ [])
-      → ((fault : FilterFault) → core.standing.state ≡ Failed fault → core.unread ≡ unread_after fault) → GoesOn b core more [] core
-  ended-step core more ended nothing at_fault =
-      let rs = received_in (core.unread ++ more) in
-      let still = ended-stays b core.standing rs ended in
-      record {
-        policy = refl;
-        standing = sym still.0;
-        replied = sym (append-nil core.pending) ∙ ap (λ xs. core.pending ++ flat_map encoding xs) (sym still.1);
-        unread = λ serving. absurd (ended serving);
-        unfinished = λ serving. absurd (ended serving);
-        nothing_unread = nothing;
-        at_fault = at_fault;
-      }
 
   -- ---- one step after the other
 

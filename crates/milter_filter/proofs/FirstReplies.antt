@@ -17,7 +17,7 @@ use Rattle.milter_exchange.specs.declared.filter_state.FilterState.TheVariants.{
 use Rattle.milter_exchange.specs.Conversations.{Received, state_after}
 use Rattle.milter_filter.specs.Cores.{EndsAtReplies}
 use Rattle.milter_exchange.specs.Replies.{replies_to}
-use Rattle.milter_exchange.specs.Standings.{Part, Standing, standing_after, standing_answer, standing_by, standing_fault, standing_in, standing_next, standing_replies, standing_replies_at, standing_replies_by, standing_replies_in}
+use Rattle.milter_exchange.specs.Standings.{Part, Standing, standing_after, standing_answer, standing_before, standing_by, standing_fault, standing_in, standing_next, standing_replies, standing_replies_at, standing_replies_by, standing_replies_in}
 use Rattle.milter_filter.specs.Streams.{IsOnePacketAtMost, read_in}
 use Rattle.milter_filter.proofs.Progress.{Progress, read-append}
 
@@ -79,10 +79,18 @@ silent-by b s received (Some fault) ended = refl
 silent-by b s (Err fault) None ended = refl
 silent-by b s (Ok command) None ended = command-silent b s.agreed s.shown command ended
 
-end-silent : (b : Behavior) (s : Standing) (received : Received) → s.state ≡ Serving → (standing_next b s received).state ≢ Serving → standing_replies_at b s received ≡ []
-end-silent b s received serving ended =
-    ap (standing_replies_in b s received) serving
-    ∙ silent-by b s received (standing_fault s received) (λ still. ended (ap (λ state. (standing_in b s received state).state) serving ∙ still))
+in-silent : (b : Behavior) (s : Standing) (received : Received) → (standing_in b s received s.state).state ≢ Serving → standing_replies_in b s received s.state ≡ []
+in-silent b s received ended = by_state s.state refl
+  where
+    by_state : (state : FilterState) → s.state ≡ state → standing_replies_in b s received s.state ≡ []
+    by_state Serving is =
+        ap (standing_replies_in b s received) is
+        ∙ silent-by b s received (standing_fault s received) (λ still. ended (ap (λ state. (standing_in b s received state).state) is ∙ still))
+    by_state Quit is = ap (standing_replies_in b s received) is
+    by_state (Failed fault) is = ap (standing_replies_in b s received) is
+
+end-silent : (b : Behavior) (s : Standing) (received : Received) → (standing_next b s received).state ≢ Serving → standing_replies_at b s received ≡ []
+end-silent b s received ended = in-silent b (standing_before b s received) received ended
 
 -- ---- what was taken so far has no replies, or ends with the first packet that has some
 
@@ -110,7 +118,7 @@ module _ (b : Behavior) (s new after : Standing) (bytes more unread out written 
       loud : after.state ≢ Serving → ⊥
       loud ended =
           let next : after ≡ standing_next b new received = standing ∙ ap (standing_after b new) one in
-          let silent = end-silent b new received serving (λ still. ended (ap (λ (t : Standing). t.state) next ∙ still)) in
+          let silent = end-silent b new received (λ still. ended (ap (λ (t : Standing). t.state) next ∙ still)) in
           let nothing : written ≡ [] = written-by (received ∷ []) one ∙ ap (λ rs. flat_map encoding (rs ++ [])) silent in
           let n : suc (length xs) ≡ 0 = ap length (sym is ∙ nothing) in
           omega (arith, n)

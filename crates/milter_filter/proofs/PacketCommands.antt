@@ -12,13 +12,19 @@ use Rattle.milter_wire.specs.Tables.{map_ok}
 use Rattle.milter_wire.specs.LentCommand.{command_of}
 use Rattle.milter_wire.specs.Frames.{frame_command, value_or_fault}
 use Rattle.milter_wire.proofs.CommandGrammar.{commands_read}
+use Rattle.milter_wire.specs.declared.agreement.Agreed.{Agreed}
+use Rattle.milter_wire.specs.declared.command.Command.TheVariants.{Abort}
+use Rattle.milter_wire.specs.declared.reply.Reply.{Reply}
+use Rattle.milter_exchange.specs.declared.command_order.CommandOrder.{CommandOrder}
+use Rattle.milter_exchange.specs.declared.command_order.CommandOrder.TheVariants.{Lenient, Strict}
+use Rattle.milter_exchange.specs.Aborts.{needs_abort}
 use Rattle.milter_exchange.specs.Behavior.{Behavior}
 use Rattle.milter_exchange.specs.declared.filter_fault.FilterFault.{FilterFault}
 use Rattle.milter_exchange.specs.declared.filter_state.FilterState.TheVariants.{Failed, Quit, Serving}
 use Rattle.milter_exchange.specs.Commands.{is_quit}
 use Rattle.milter_exchange.specs.Conversations.{Received}
 use Rattle.milter_exchange.specs.Faults.{fault_of}
-use Rattle.milter_exchange.specs.Standings.{Standing, nothing_kept, standing_by, standing_fault, standing_next, standing_replies_at, standing_replies_by}
+use Rattle.milter_exchange.specs.Standings.{Standing, after_message, nothing_kept, standing_before, standing_by, standing_fault, standing_in, standing_next, standing_replies_at, standing_replies_by, standing_replies_in}
 
 value-found : (code : ℕ) (known : Bool) (read : Option Command) (c : Command) → value_or_fault code known read ≡ Ok c → read ≡ Some c
 value-found code false read c e = absurd cc
@@ -44,23 +50,64 @@ found-encoded f (Err fault) bytes fits is = tt
 pub encoded-len : (f : Frame) (c : Command) → IsEncodedAs c (packet f.code f.payload) → length f.payload + 5 ≡ length (encoding c)
 encoded-len f c e = sym (packet-len f.code f.payload) ∙ ap length e.bytes_are
 
+-- ---- the abort that is due before it
+
+abort-ends : (b : Behavior) (s : Standing) (agreed : Agreed) → let t = record s { agreed = Some agreed; state = Serving } in after_message t ≡ standing_in b t (Ok Abort) Serving
+abort-ends b s agreed = refl
+
+pub ready-is : (b : Behavior) (s : Standing) (received : Received) → s.state ≡ Serving
+    → (if needs_abort s.order s.agreed s.last_rank received then after_message s else s) ≡ standing_before b s received
+ready-is b s received serving = by_need (needs_abort s.order s.agreed s.last_rank received) refl
+  where
+    none : (order : CommandOrder) → needs_abort order None s.last_rank received ≡ false
+    none Strict = refl
+    none Lenient = refl
+
+    by_agreed : (agreed : Option Agreed) → s.agreed ≡ agreed → needs_abort s.order s.agreed s.last_rank received ≡ true → after_message s ≡ standing_in b s (Ok Abort) s.state
+    by_agreed None is due =
+        let no : false ≡ true = sym (none s.order) ∙ ap (λ (agreed : Option Agreed). needs_abort s.order agreed s.last_rank received) (sym is) ∙ due in absurd cc
+    by_agreed (Some agreed) is due =
+        let same : s ≡ record s { agreed = Some agreed; state = Serving } = λ i. record s { agreed = is i; state = serving i } in
+        ap after_message same ∙ abort-ends b s agreed ∙ ap (λ (t : Standing). standing_in b t (Ok Abort) t.state) (sym same)
+
+    by_need : (need : Bool) → needs_abort s.order s.agreed s.last_rank received ≡ need → (if need then after_message s else s) ≡ (if need then standing_in b s (Ok Abort) s.state else s)
+    by_need true due = by_agreed s.agreed refl due
+    by_need false due = refl
+
 -- ---- what it comes to
 
-pub next-in_order : (b : Behavior) (s : Standing) (received : Received) (c : Command) → Ok c ≡ received → s.state ≡ Serving → standing_fault s (Ok c) ≡ None
-    → standing_by b s (Ok c) None ≡ standing_next b s received
-next-in_order b s received c read serving none = rw (← read, serving, none) refl
+abbrev next_from : Behavior → Received → Standing → Standing
+next_from b received ready = standing_in b ready received ready.state
 
-pub replies-in_order : (b : Behavior) (s : Standing) (received : Received) (c : Command) → Ok c ≡ received → s.state ≡ Serving → standing_fault s (Ok c) ≡ None
-    → standing_replies_by b s (Ok c) None ≡ standing_replies_at b s received
-replies-in_order b s received c read serving none = rw (← read, serving, none) refl
+abbrev replies_from : Behavior → Received → Standing → List Reply
+replies_from b received ready = standing_replies_in b ready received ready.state
 
-pub next-fault : (b : Behavior) (s : Standing) (received : Received) (c : Command) (fault : FilterFault) → Ok c ≡ received → s.state ≡ Serving
-    → standing_fault s (Ok c) ≡ Some fault → standing_next b s received ≡ nothing_kept (Failed fault)
-next-fault b s received c fault read serving some = rw (← read, serving, some) refl
+module _ (b : Behavior) (s ready : Standing) (received : Received) (c : Command) (is : ready ≡ standing_before b s received) (read : Ok c ≡ received) (serving : ready.state ≡ Serving) where
+  next-by : (fault : Option FilterFault) → standing_fault ready (Ok c) ≡ fault → standing_by b ready (Ok c) fault ≡ standing_next b s received
+  next-by fault found =
+      ap (standing_by b ready (Ok c)) (sym found)
+      ∙ ap (standing_in b ready (Ok c)) (sym serving)
+      ∙ ap (λ r. next_from b r ready) read
+      ∙ ap (next_from b received) is
 
-pub silent-fault : (b : Behavior) (s : Standing) (received : Received) (c : Command) (fault : FilterFault) → Ok c ≡ received → s.state ≡ Serving
-    → standing_fault s (Ok c) ≡ Some fault → standing_replies_at b s received ≡ []
-silent-fault b s received c fault read serving some = rw (← read, serving, some) refl
+  replies-by : (fault : Option FilterFault) → standing_fault ready (Ok c) ≡ fault → standing_replies_by b ready (Ok c) fault ≡ standing_replies_at b s received
+  replies-by fault found =
+      ap (standing_replies_by b ready (Ok c)) (sym found)
+      ∙ ap (standing_replies_in b ready (Ok c)) (sym serving)
+      ∙ ap (λ r. replies_from b r ready) read
+      ∙ ap (replies_from b received) is
+
+  pub next-in_order : standing_fault ready (Ok c) ≡ None → standing_by b ready (Ok c) None ≡ standing_next b s received
+  next-in_order none = next-by None none
+
+  pub replies-in_order : standing_fault ready (Ok c) ≡ None → standing_replies_by b ready (Ok c) None ≡ standing_replies_at b s received
+  replies-in_order none = replies-by None none
+
+  pub next-fault : (fault : FilterFault) → standing_fault ready (Ok c) ≡ Some fault → standing_next b s received ≡ nothing_kept (Failed fault)
+  next-fault fault some = sym (next-by (Some fault) some)
+
+  pub silent-fault : (fault : FilterFault) → standing_fault ready (Ok c) ≡ Some fault → standing_replies_at b s received ≡ []
+  silent-fault fault some = sym (replies-by (Some fault) some)
 
 still-going : (quits : Bool) (fault : FilterFault) → (if quits then Quit else Serving) ≢ Failed fault
 still-going true fault e = absurd cc

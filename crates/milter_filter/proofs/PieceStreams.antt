@@ -1,5 +1,5 @@
 -- A stream of one packet, and one that begins with a packet or a fault.
-use Rattle.std.proofs.Common.{◌≡◌, ℕ, List, [], ◌∷◌, ◌++◌, take, drop, map, Some, refl, sym, ◌∙◌, ap, append-nil, flat_map, inl, inr}
+use Rattle.std.proofs.Common.{◌≡◌, ℕ, false, if◌then◌else◌, List, [], ◌∷◌, ◌++◌, take, drop, map, Option, None, Some, Ok, Err, refl, sym, ◌∙◌, ap, append-nil, flat_map, inl, inr}
 use Rattle.milter_stream.specs.declared.fault.WireFault.{WireFault}
 use Rattle.milter_stream.specs.Stream.{Division, Frame, IsFrame, IsUnfinished, divide, first_frame, frame_bytes, length_fault, with_frame}
 use Rattle.milter_stream.proofs.Division.{divide-first}
@@ -7,12 +7,17 @@ use Rattle.milter_stream.proofs.Frames.{first_frame-packet}
 use Rattle.milter_stream.proofs.StreamLaws.{divide-fault, divide-handed, divide-nil, divide-unfinished, length_fault-fed}
 use Rattle.milter_wire.specs.Frames.{frame_command}
 use Rattle.milter_wire.specs.Reply.{encoding}
+use Rattle.milter_wire.specs.declared.agreement.Agreed.{Agreed}
+use Rattle.milter_wire.specs.declared.command.Command.TheVariants.{Abort}
+use Rattle.milter_exchange.specs.declared.command_order.CommandOrder.{CommandOrder}
+use Rattle.milter_exchange.specs.declared.command_order.CommandOrder.TheVariants.{Lenient, Strict}
+use Rattle.milter_exchange.specs.Aborts.{needs_abort}
 use Rattle.milter_exchange.specs.Behavior.{Behavior}
 use Rattle.milter_exchange.specs.declared.filter_fault.FilterFault.{FilterFault}
 use Rattle.milter_exchange.specs.declared.filter_fault.FilterFault.TheVariants.{Wire}
 use Rattle.milter_exchange.specs.declared.filter_state.FilterState.TheVariants.{Failed, Serving}
 use Rattle.milter_exchange.specs.Conversations.{Received}
-use Rattle.milter_exchange.specs.Standings.{Standing, nothing_kept, standing_after, standing_next, standing_replies, standing_replies_at}
+use Rattle.milter_exchange.specs.Standings.{Standing, nothing_kept, standing_after, standing_before, standing_in, standing_next, standing_replies, standing_replies_at, standing_replies_in}
 use Rattle.milter_filter.specs.Cores.{GivesUp}
 use Rattle.milter_filter.specs.Streams.{IsOnePacketAtMost, fault_after, read_in, received_in}
 
@@ -81,8 +86,25 @@ module _ (b : Behavior) (s : Standing) (unread piece new : List ℕ) (n : ℕ) (
             ∙ failed-silent b fault others;
       }
 
+  -- a fault is no greeting
+  no-abort : (order : CommandOrder) (agreed : Option Agreed) (last : ℕ) (fault : WireFault) → needs_abort order agreed last (Err fault) ≡ false
+  no-abort Strict agreed last fault = refl
+  no-abort Lenient None last fault = refl
+  no-abort Lenient (Some agreed) last fault = refl
+
+  ready-fault : (fault : WireFault) → standing_before b s (Err fault) ≡ s
+  ready-fault fault = ap (λ aborts. if aborts then standing_in b s (Ok Abort) s.state else s) (no-abort s.order s.agreed s.last_rank fault)
+
   pub length-gives_up : (fault : WireFault) → s.state ≡ Serving → length_fault new ≡ Some fault → GivesUp b s (received_in (unread ++ piece)) (Wire fault)
-  length-gives_up fault serving is = record {
-    failed = rw (divide-fault unread piece new n fault fed is, length_fault-fed unread piece new n fault fed is, serving) refl;
-    silent = rw (divide-fault unread piece new n fault fed is, length_fault-fed unread piece new n fault fed is, serving) refl;
-  }
+  length-gives_up fault serving is =
+      let received : received_in (unread ++ piece) ≡ Err fault ∷ [] = rw (divide-fault unread piece new n fault fed is, length_fault-fed unread piece new n fault fed is) refl in
+      record {
+        failed =
+            ap (standing_after b s) received
+            ∙ ap (λ (ready : Standing). standing_in b ready (Err fault) ready.state) (ready-fault fault)
+            ∙ ap (standing_in b s (Err fault)) serving;
+        silent =
+            ap (standing_replies b s) received
+            ∙ ap (λ (ready : Standing). standing_replies_in b ready (Err fault) ready.state ++ []) (ready-fault fault)
+            ∙ ap (λ state. standing_replies_in b s (Err fault) state ++ []) serving;
+      }

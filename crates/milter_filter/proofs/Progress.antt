@@ -1,11 +1,13 @@
 -- A piece of a stream, packet by packet.
-use Rattle.std.proofs.Common.{◌≡◌, ◌≢◌, ℕ, ◌+◌, ◌<◌, List, [], ◌∷◌, ◌++◌, length, take, take-add, drop, map, refl, sym, ◌∙◌, ap, subst, append_assoc, append-nil, flat_map, take_all, arith}
+use Rattle.std.proofs.Common.{◌≡◌, ◌≢◌, ℕ, ◌+◌, ◌<◌, Bool, true, false, Ok, if◌then◌else◌, List, [], ◌∷◌, ◌++◌, length, take, take-add, drop, map, refl, sym, ◌∙◌, ap, subst, append_assoc, append-nil, flat_map, take_all, arith}
 use Rattle.std.proofs.lemmas.Grind.{flat_map-append}
 use Rattle.std.proofs.lemmas.List.{map-append, take-append-drop}
 use Rattle.milter_stream.specs.Stream.{Division, IsUnfinished, divide, length_fault}
 use Rattle.milter_stream.proofs.StreamLaws.{divide-append, divide-unfinished}
 use Rattle.milter_wire.specs.Frames.{frame_command}
 use Rattle.milter_wire.specs.Reply.{encoding}
+use Rattle.milter_wire.specs.declared.command.Command.TheVariants.{Abort}
+use Rattle.milter_exchange.specs.Aborts.{needs_abort}
 use Rattle.milter_exchange.specs.Behavior.{Behavior}
 use Rattle.milter_exchange.specs.declared.filter_fault.FilterFault.{FilterFault}
 use Rattle.milter_exchange.specs.declared.filter_state.FilterState.{FilterState}
@@ -94,12 +96,23 @@ bytes-all unread piece i = append_assoc unread (take i piece) (drop i piece) ∙
 -- ---- after the end nothing changes
 
 ended-step : (b : Behavior) (s : Standing) (first : Received) → s.state ≢ Serving → (standing_next b s first ≡ s) × (standing_replies_at b s first ≡ [])
-ended-step b s first ended = by_state s.state refl
+ended-step b s first ended =
+    let ready = no-change (needs_abort s.order s.agreed s.last_rank first) in (
+      ap (λ (r : Standing). standing_in b r first r.state) ready ∙ (stays first).0,
+      ap (λ (r : Standing). standing_replies_in b r first r.state) ready ∙ (stays first).1,
+    )
   where
-    by_state : (state : FilterState) → s.state ≡ state → (standing_next b s first ≡ s) × (standing_replies_at b s first ≡ [])
-    by_state Serving e = absurd (ended e)
-    by_state Quit e = (ap (standing_in b s first) e, ap (standing_replies_in b s first) e)
-    by_state (Failed fault) e = (ap (standing_in b s first) e, ap (standing_replies_in b s first) e)
+    stays : (received : Received) → (standing_in b s received s.state ≡ s) × (standing_replies_in b s received s.state ≡ [])
+    stays received = by_state s.state refl
+      where
+        by_state : (state : FilterState) → s.state ≡ state → (standing_in b s received s.state ≡ s) × (standing_replies_in b s received s.state ≡ [])
+        by_state Serving e = absurd (ended e)
+        by_state Quit e = (ap (standing_in b s received) e, ap (standing_replies_in b s received) e)
+        by_state (Failed fault) e = (ap (standing_in b s received) e, ap (standing_replies_in b s received) e)
+
+    no-change : (aborts : Bool) → (if aborts then standing_in b s (Ok Abort) s.state else s) ≡ s
+    no-change true = (stays (Ok Abort)).0
+    no-change false = refl
 
 pub ended-stays : (b : Behavior) (s : Standing) (received : List Received) → s.state ≢ Serving → (standing_after b s received ≡ s) × (standing_replies b s received ≡ [])
 ended-stays b s [] ended = (refl, refl)
@@ -146,6 +159,7 @@ all-taken b old new piece unread i policy p ended nothing silent going =
       unread = λ serving. absurd (ended serving);
       nothing_unread = λ other. nothing;
       quit = λ other. refl;
+      silent = λ other. silent;
       first = λ some. absurd (some silent);
       all = λ none. refl;
     }

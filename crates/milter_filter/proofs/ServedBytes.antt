@@ -1,25 +1,21 @@
 -- What serving a connection does, piece by piece.
-use Rattle.std.proofs.Common.{◌≡◌, ◌≢◌, ℕ, List, [], ◌++◌, length, take, drop, Bool, true, false, Option, refl, sym, ◌∙◌, ap, subst, append_assoc, append-nil, take-append-drop, flat_map}
-use Rattle.std.proofs.lemmas.Grind.{flat_map-append}
+use Rattle.std.proofs.Common.{◌≡◌, ◌≢◌, ℕ, List, [], ◌++◌, length, take, drop, Bool, true, false, Option, refl, sym, ◌∙◌, ap, subst, append_assoc, append-nil, take-append-drop}
 use Rattle.std.specs.Io.KnownBytes.{Appends, Consumes, IsAtEnd, Keeps}
 use Rattle.std.proofs.KnownBytes.{Appends-kept, Appends-nil, Appends-trans, Consumes-kept, Consumes-nil, Consumes-trans}
 use Rattle.milter_stream.specs.Stream.{IsUnfinished, divide}
-use Rattle.milter_wire.specs.Reply.{encoding}
 use Rattle.milter_exchange.specs.Behavior.{Behavior}
+use Rattle.milter_exchange.specs.declared.command_order.CommandOrder.{CommandOrder}
 use Rattle.milter_exchange.specs.declared.filter_fault.FilterFault.{FilterFault}
 use Rattle.milter_exchange.specs.declared.filter_state.FilterState.{FilterState}
 use Rattle.milter_exchange.specs.declared.filter_state.FilterState.TheVariants.{Failed, Quit, Serving}
-use Rattle.milter_exchange.specs.Conversations.{Conversation, replies, start}
-use Rattle.milter_exchange.specs.Standings.{Standing, standing_of}
-use Rattle.milter_exchange.proofs.Standings.{standing-after, standing-replies}
-use Rattle.milter_exchange.proofs.Going.{replies-append}
+use Rattle.milter_exchange.specs.Standings.{Standing}
 use Rattle.milter_filter.specs.declared.served.Served.{Served}
 use Rattle.milter_filter.specs.declared.served.Served.TheVariants as ends
-use Rattle.milter_filter.specs.Cores.{Core, GivesUp, GoesOn, Takes, fresh_core, given_up}
+use Rattle.milter_filter.specs.Cores.{Core, GivesUp, GoesOn, Takes, fresh_core_in, given_up}
 use Rattle.milter_filter.specs.PieceServing.{CutOff, Goes, PieceCut, PieceServed, Sends}
 use Rattle.milter_filter.specs.Serving.{RepliedAs, RepliedInPart, RepliedToPart, Serves}
 use Rattle.milter_filter.specs.Streams.{conversation_of, received_in, reply_bytes}
-use Rattle.milter_filter.proofs.Cutting.{goes_on-gives_up, goes_on-joins, goes_on-takes, received-begin, stays}
+use Rattle.milter_filter.proofs.Cutting.{goes_on-gives_up, goes_on-joins, goes_on-takes, replies-add, replies-from, state-from, stays}
 
 -- ---- the states of a connection
 
@@ -30,14 +26,6 @@ serving-or-quit s going on = by_state s.state refl
     by_state Serving is = is
     by_state Quit is = absurd (on is)
     by_state (Failed fault) is = absurd (going fault is)
-
-state-kept : (b : Behavior) (c : Conversation) → (standing_of b c).state ≡ c.state
-state-kept b c = by_state c.state refl
-  where
-    by_state : (state : FilterState) → c.state ≡ state → (standing_of b c).state ≡ c.state
-    by_state Serving is = rw is refl
-    by_state Quit is = rw is refl
-    by_state (Failed fault) is = rw is refl
 
 module _ {P : Type 0} where
   -- ---- one write after the other
@@ -77,7 +65,7 @@ module _ {P : Type 0} where
   -- ---- a part of a piece after the other
 
   -- what was written is off what waits
-  goes_on-written : (b : Behavior) (old core new : Core P) (input sent part : List ℕ) → GoesOn b old input sent core → new ≡ record core { pending = new.pending }
+  pub goes_on-written : (b : Behavior) (old core new : Core P) (input sent part : List ℕ) → GoesOn b old input sent core → new ≡ record core { pending = new.pending }
       → part ++ new.pending ≡ core.pending → GoesOn b old input (sent ++ part) new
   goes_on-written b old core new input sent part p is whole = subst (GoesOn b old input (sent ++ part)) (sym is) (record {
     policy = p.policy;
@@ -137,81 +125,74 @@ module _ {P : Type 0} where
   -- ---- what was served so far
 
   -- these bytes were read, and all replies to them are written
-  pub record ServedSoFar (b : Behavior) (policy : P) (new : Core P) (unread left written all : Option (List ℕ)) : Type 0 where
+  pub record ServedSoFar (order : CommandOrder) (b : Behavior) (policy : P) (new : Core P) (unread left written all : Option (List ℕ)) : Type 0 where
     pub input : List ℕ
     pub was_read : Consumes unread left input
-    pub goes : Goes b (fresh_core policy) input new written all
+    pub goes : Goes b (fresh_core_in order policy) input new written all
     pub nothing_pending : new.pending ≡ []
     pub serving : new.standing.state ≡ Serving
 
-  pub served-none : (b : Behavior) (policy : P) (a w : Option (List ℕ)) → ServedSoFar b policy (fresh_core policy) a a w w
-  served-none b policy a w = record {
+  pub served-none : (order : CommandOrder) (b : Behavior) (policy : P) (a w : Option (List ℕ)) → ServedSoFar order b policy (fresh_core_in order policy) a a w w
+  served-none order b policy a w = record {
     input = [];
     was_read = Consumes-nil a;
-    goes = goes-none b (fresh_core policy) w tt refl;
+    goes = goes-none b (fresh_core_in order policy) w tt refl;
     nothing_pending = refl;
     serving = refl;
   }
 
-  pub served-more : (b : Behavior) (policy : P) (core new : Core P) (a c d w v u : Option (List ℕ)) (piece : List ℕ) → ServedSoFar b policy core a c w v → Consumes c d piece
-      → PieceServed b core piece new v u → new.standing.state ≢ Quit → ServedSoFar b policy new a d w u
-  served-more b policy core new a c d w v u piece s read p on = record {
+  pub served-more : (order : CommandOrder) (b : Behavior) (policy : P) (core new : Core P) (a c d w v u : Option (List ℕ)) (piece : List ℕ) → ServedSoFar order b policy core a c w v → Consumes c d piece
+      → PieceServed b core piece new v u → new.standing.state ≢ Quit → ServedSoFar order b policy new a d w u
+  served-more order b policy core new a c d w v u piece s read p on = record {
     input = s.input ++ piece;
     was_read = Consumes-trans a c d _ _ s.was_read read;
-    goes = goes-joins b (fresh_core policy) core new s.input piece w v u s.goes p.goes;
+    goes = goes-joins b (fresh_core_in order policy) core new s.input piece w v u s.goes p.goes;
     nothing_pending = p.nothing_pending;
     serving = serving-or-quit new.standing p.going on;
   }
 
   -- ---- what it comes to
 
-  module _ (b : Behavior) (policy : P) (input : List ℕ) (core : Core P) (w v : Option (List ℕ)) (p : Goes b (fresh_core policy) input core w v) where
-    pub state-is : (conversation_of b input).state ≡ core.standing.state
-    state-is =
-        sym (state-kept b (conversation_of b input))
-        ∙ ap (λ (s : Standing). s.state) (standing-after b start (received_in input) ∙ sym p.goes_on.standing)
+  module _ (order : CommandOrder) (b : Behavior) (policy : P) (input : List ℕ) (core : Core P) (w v : Option (List ℕ)) (p : Goes b (fresh_core_in order policy) input core w v) where
+    pub state-is : (conversation_of order b input).state ≡ core.standing.state
+    state-is = state-from b order policy core input p.sent p.goes_on
 
-    pub replies-are : p.sent ++ core.pending ≡ reply_bytes b input
-    replies-are = p.goes_on.replied ∙ ap (flat_map encoding) (sym (standing-replies b start (received_in input)))
+    pub replies-are : p.sent ++ core.pending ≡ reply_bytes order b input
+    replies-are = replies-from b order policy core input p.sent p.goes_on
 
-    pub all-written : core.pending ≡ [] → Appends w v (reply_bytes b input)
+    pub all-written : core.pending ≡ [] → Appends w v (reply_bytes order b input)
     all-written none = subst (Appends w v) (sym (append-nil p.sent) ∙ ap (λ xs. p.sent ++ xs) (sym none) ∙ replies-are) p.was_written
 
-    pub replied-as : (a c : Option (List ℕ)) (state : FilterState) → Consumes a c input → core.pending ≡ [] → core.standing.state ≡ state → RepliedAs state b a c w v
+    pub replied-as : (a c : Option (List ℕ)) (state : FilterState) → Consumes a c input → core.pending ≡ [] → core.standing.state ≡ state → RepliedAs state order b a c w v
     replied-as a c state read none is = (record { input = input; was_read = read; was_written = all-written none }, state-is ∙ is)
 
-    pub replied-in_part : (a c : Option (List ℕ)) (others : List ℕ) → Consumes a c (input ++ others) → RepliedInPart b a c w v
+    pub replied-in_part : (a c : Option (List ℕ)) (others : List ℕ) → Consumes a c (input ++ others) → RepliedInPart order b a c w v
     replied-in_part a c others read =
-        let begin = received-begin input others in
-        let later = flat_map encoding (replies b (conversation_of b input) begin.0) in
+        let added = replies-add b order input others in
         record {
           input = input ++ others;
           sent = p.sent;
-          unsent = core.pending ++ later;
+          unsent = core.pending ++ added.0;
           was_read = read;
           was_written = p.was_written;
-          prefix =
-              sym (append_assoc p.sent core.pending later)
-              ∙ ap (λ xs. xs ++ later) replies-are
-              ∙ sym (flat_map-append encoding (replies b start (received_in input)) (replies b (conversation_of b input) begin.0))
-              ∙ ap (flat_map encoding) (sym (replies-append b start (received_in input) begin.0) ∙ ap (replies b start) (sym begin.1));
+          prefix = sym (append_assoc p.sent core.pending added.0) ∙ ap (λ xs. xs ++ added.0) replies-are ∙ sym added.1;
         }
 
-    pub replied-to_part : (a c : Option (List ℕ)) (others all : List ℕ) → Consumes a c all → core.pending ≡ [] → input ++ others ≡ all → RepliedToPart b a c w v
+    pub replied-to_part : (a c : Option (List ℕ)) (others all : List ℕ) → Consumes a c all → core.pending ≡ [] → input ++ others ≡ all → RepliedToPart order b a c w v
     replied-to_part a c others all read none is =
         record { input = all; answered = input; others = others; was_read = read; was_written = all-written none; prefix = is }
 
-  module _ (b : Behavior) (policy : P) (core : Core P) (a c w v : Option (List ℕ)) (s : ServedSoFar b policy core a c w v) where
+  module _ (order : CommandOrder) (b : Behavior) (policy : P) (core : Core P) (a c w v : Option (List ℕ)) (s : ServedSoFar order b policy core a c w v) where
     -- no more was read
-    pub served-kept : (d : Option (List ℕ)) → Keeps c d → RepliedAs Serving b a d w v
-    served-kept d kept = replied-as b policy s.input core w v s.goes a d Serving (Consumes-kept a c d _ s.was_read kept) s.nothing_pending s.serving
+    pub served-kept : (d : Option (List ℕ)) → Keeps c d → RepliedAs Serving order b a d w v
+    served-kept d kept = replied-as order b policy s.input core w v s.goes a d Serving (Consumes-kept a c d _ s.was_read kept) s.nothing_pending s.serving
 
     pub served-end : (d : Option (List ℕ)) (count : ℕ) → Consumes c d [] → IsAtEnd d → count ≡ length core.unread
-        → (x : RepliedAs Serving b a d w v) × (length (divide x.0.input).rest ≡ count) × IsAtEnd d
+        → (x : RepliedAs Serving order b a d w v) × (length (divide x.0.input).rest ≡ count) × IsAtEnd d
     unfolding replied-as
     served-end d count none end is =
         let read = subst (Consumes a d) (append-nil s.input) (Consumes-trans a c d _ _ s.was_read none) in (
-          replied-as b policy s.input core w v s.goes a d Serving read s.nothing_pending s.serving,
+          replied-as order b policy s.input core w v s.goes a d Serving read s.nothing_pending s.serving,
           ap length (sym (s.goes.goes_on.unread s.serving)) ∙ sym is,
           end,
         )
@@ -220,29 +201,29 @@ module _ {P : Type 0} where
       all-read : Consumes a d (s.input ++ piece)
       all-read = Consumes-trans a c d _ _ s.was_read read
 
-      pub served-quit : (new : Core P) → PieceServed b core piece new v u → new.standing.state ≡ Quit → RepliedAs Quit b a d w u
+      pub served-quit : (new : Core P) → PieceServed b core piece new v u → new.standing.state ≡ Quit → RepliedAs Quit order b a d w u
       served-quit new p quit =
-          let goes = goes-joins b (fresh_core policy) core new s.input piece w v u s.goes p.goes in
-          replied-as b policy (s.input ++ piece) new w u goes a d Quit all-read p.nothing_pending quit
+          let goes = goes-joins b (fresh_core_in order policy) core new s.input piece w v u s.goes p.goes in
+          replied-as order b policy (s.input ++ piece) new w u goes a d Quit all-read p.nothing_pending quit
 
-      served-failed : (fault : FilterFault) → Goes b core piece (given_up core fault) v u → RepliedAs (Failed fault) b a d w u
+      served-failed : (fault : FilterFault) → Goes b core piece (given_up core fault) v u → RepliedAs (Failed fault) order b a d w u
       served-failed fault p =
-          let goes = goes-joins b (fresh_core policy) core (given_up core fault) s.input piece w v u s.goes p in
-          replied-as b policy (s.input ++ piece) (given_up core fault) w u goes a d (Failed fault) all-read refl refl
+          let goes = goes-joins b (fresh_core_in order policy) core (given_up core fault) s.input piece w v u s.goes p in
+          replied-as order b policy (s.input ++ piece) (given_up core fault) w u goes a d (Failed fault) all-read refl refl
 
-      served-refused : (new : Core P) → PieceCut b core piece new v u → new.pending ≡ [] → RepliedToPart b a d w u
+      served-refused : (new : Core P) → PieceCut b core piece new v u → new.pending ≡ [] → RepliedToPart order b a d w u
       served-refused new p none =
-          let goes = goes-joins b (fresh_core policy) core new s.input p.taken w v u s.goes p.goes in
-          replied-to_part b policy (s.input ++ p.taken) new w u goes a d p.others (s.input ++ piece) all-read none
+          let goes = goes-joins b (fresh_core_in order policy) core new s.input p.taken w v u s.goes p.goes in
+          replied-to_part order b policy (s.input ++ p.taken) new w u goes a d p.others (s.input ++ piece) all-read none
           (append_assoc s.input p.taken p.others ∙ ap (λ xs. s.input ++ xs) p.piece_is)
 
-      served-stuck : (new : Core P) → PieceCut b core piece new v u → RepliedInPart b a d w u
+      served-stuck : (new : Core P) → PieceCut b core piece new v u → RepliedInPart order b a d w u
       served-stuck new p =
-          let goes = goes-joins b (fresh_core policy) core new s.input p.taken w v u s.goes p.goes in
+          let goes = goes-joins b (fresh_core_in order policy) core new s.input p.taken w v u s.goes p.goes in
           let all = append_assoc s.input p.taken p.others ∙ ap (λ xs. s.input ++ xs) p.piece_is in
-          replied-in_part b policy (s.input ++ p.taken) new w u goes a d p.others (subst (Consumes a d) (sym all) all-read)
+          replied-in_part order b policy (s.input ++ p.taken) new w u goes a d p.others (subst (Consumes a d) (sym all) all-read)
 
-      pub served-cut : (end : Served) → CutOff b core piece v u end → Serves b a d w u end
+      pub served-cut : (end : Served) → CutOff b core piece v u end → Serves order b a d w u end
       served-cut (ends.Failed fault) cut = (
         λ other. served-failed fault (cut.0 other),
         λ refused. let x = cut.1 refused in served-refused x.0 x.1 x.2,
@@ -254,9 +235,9 @@ module _ {P : Type 0} where
       served-cut ends.TurnLimit cut = absurd cut
 
   -- memory was refused before anything was read
-  pub refused-first : (b : Behavior) (policy : P) (a w : Option (List ℕ)) → RepliedToPart b a a w w
+  pub refused-first : (order : CommandOrder) (b : Behavior) (policy : P) (a w : Option (List ℕ)) → RepliedToPart order b a a w w
   unfolding goes-none
-  refused-first b policy a w = record {
+  refused-first order b policy a w = record {
     input = [];
     answered = [];
     others = [];
@@ -265,5 +246,5 @@ module _ {P : Type 0} where
     prefix = refl;
   }
     where
-      nothing : reply_bytes b [] ≡ []
-      nothing = sym (replies-are b policy [] (fresh_core policy) w w (goes-none b (fresh_core policy) w tt refl))
+      nothing : reply_bytes order b [] ≡ []
+      nothing = sym (replies-are order b policy [] (fresh_core_in order policy) w w (goes-none b (fresh_core_in order policy) w tt refl))

@@ -7,11 +7,12 @@ use Rattle.milter_stream.specs.Number.{number}
 use Rattle.milter_stream.specs.Stream.{IsUnfinished, divide}
 use Rattle.milter_wire.specs.Reply.{encoding}
 use Rattle.milter_exchange.specs.Behavior.{Behavior}
+use Rattle.milter_exchange.specs.declared.command_order.CommandOrder.{CommandOrder}
 use Rattle.milter_exchange.specs.declared.filter_fault.FilterFault.{FilterFault}
 use Rattle.milter_exchange.specs.declared.filter_fault.FilterFault.TheVariants.{Wire}
 use Rattle.milter_exchange.specs.declared.filter_state.FilterState.TheVariants.{Failed, Quit, Serving}
 use Rattle.milter_exchange.specs.Conversations.{Received}
-use Rattle.milter_exchange.specs.Standings.{Standing, fresh, nothing_kept, standing_after, standing_replies}
+use Rattle.milter_exchange.specs.Standings.{Standing, fresh, fresh_in, nothing_kept, standing_after, standing_replies}
 use Rattle.milter_filter.specs.Streams.{read_in, received_in}
 
 -- its policy, what is kept of the connection, the bytes that were taken and not handed out, and those that wait to be
@@ -24,6 +25,10 @@ pub record Core (P : Type 0) : Type 0 where
 
 abbrev pub fresh_core : {P : Type 0} → P → Core P
 fresh_core policy = record { policy = policy; standing = fresh; unread = []; pending = [] }
+
+-- one that takes commands in this order
+abbrev pub fresh_core_in : {P : Type 0} → CommandOrder → P → Core P
+fresh_core_in order policy = record (fresh_core policy) { standing = fresh_in order }
 
 -- the last packet of these bytes is the first that has replies, and nothing follows it
 pub record EndsAtReplies (b : Behavior) (s : Standing) (bytes : List ℕ) : Type 0 where
@@ -54,6 +59,7 @@ pub record Takes {P : Type 0} (b : Behavior) (old : Core P) (piece : List ℕ) (
   pub unfinished : IsUnfinished new.unread
   pub nothing_unread : new.standing.state ≢ Serving → new.unread ≡ []
   pub quit : new.standing.state ≢ Serving → n ≡ length piece
+  pub silent : new.standing.state ≢ Serving → new.pending ≡ []
   pub first : new.pending ≢ [] → EndsAtReplies b old.standing (old.unread ++ take n piece)
   pub all : new.pending ≡ [] → n ≡ length piece
 

@@ -6,6 +6,8 @@ use Rattle.milter_stream.specs.Stream.{divide, length_fault}
 use Rattle.milter_wire.specs.Frames.{frame_command}
 use Rattle.milter_wire.specs.Reply.{encoding}
 use Rattle.milter_exchange.specs.Behavior.{Behavior}
+use Rattle.milter_exchange.specs.declared.command_order.CommandOrder.{CommandOrder}
+use Rattle.milter_exchange.specs.Aborts.{taken_by}
 use Rattle.milter_exchange.specs.Conversations.{Conversation, Received, after, replies, start}
 
 -- of its whole packets
@@ -28,9 +30,10 @@ received_in bytes = read_in bytes ++ fault_after (length_fault (divide bytes).re
 
 -- ---- what a filter makes of a stream
 
-abbrev pub conversation_of : Behavior → List ℕ → Conversation
-conversation_of b input = after b start (received_in input)
+-- which takes commands in this order
+abbrev pub conversation_of : CommandOrder → Behavior → List ℕ → Conversation
+conversation_of order b input = after b start (taken_by order b (received_in input))
 
 -- the bytes of all its replies
-abbrev pub reply_bytes : Behavior → List ℕ → List ℕ
-reply_bytes b input = flat_map encoding (replies b start (received_in input))
+abbrev pub reply_bytes : CommandOrder → Behavior → List ℕ → List ℕ
+reply_bytes order b input = flat_map encoding (replies b start (taken_by order b (received_in input)))

@@ -2,6 +2,7 @@
 
 ghost use Rattle.std.specs.Prelude.{◌≡◌};
 ghost use Rattle.milter_wire.specs.LentCommand.{command_of};
+ghost use Rattle.milter_exchange.specs.Aborts.{is_greeting_or_sender};
 ghost use Rattle.milter_exchange.specs.Commands.{is_of_connection, is_shown};
 
 use milter_wire::CommandRef;
@@ -26,4 +27,11 @@ pub(crate) fn is_shown(command: &CommandRef<'_>) -> bool
         CommandRef::Macro { .. } => true,
         command => command.stage().is_some(),
     }
+}
+
+/// Whether the command is a greeting or has a sender.
+pub(crate) fn is_greeting_or_sender(command: &CommandRef<'_>) -> bool
+    ensures { result ≡ is_greeting_or_sender (command_of command.now) }
+{
+    matches!(command, CommandRef::Helo(_) | CommandRef::Mail(_))
 }

@@ -1,17 +1,18 @@
 //! What a filter's end keeps of a connection.
 
-ghost use Rattle.std.specs.Prelude.{◌≡◌, ◌≤◌, ◌+◌, ◌↔◌, [], IfSome, IsTrue, OnOk, length, true};
+ghost use Rattle.std.specs.Prelude.{◌≡◌, ◌≤◌, ◌+◌, ◌↔◌, [], IfSome, IsTrue, Ok, OnOk, length, true};
 ghost use Rattle.std.specs.Option.{option_copied};
 ghost use Rattle.milter_wire.specs.Command.{encoding};
 ghost use Rattle.milter_wire.specs.LentCommand.{command_of};
 ghost use Rattle.milter_exchange.specs.Commands.{is_shown};
 ghost use Rattle.milter_exchange.specs.Faults.{fault_in_message, fault_of};
+ghost use Rattle.milter_exchange.specs.Aborts.{needs_abort};
 ghost use Rattle.milter_filter.specs.Cores.{unread_after};
-ghost use Rattle.milter_exchange.specs.Standings.{after_client, after_message, after_options, fresh, nothing_kept, with_shown};
+ghost use Rattle.milter_exchange.specs.Standings.{after_client, after_message, after_options, fresh_in, nothing_kept, with_shown};
 
-use crate::commands::{is_of_connection, is_shown};
+use crate::commands::{is_greeting_or_sender, is_of_connection, is_shown};
 use crate::seen::Seen;
-use milter_exchange::{FilterFault, FilterState, VERSION_MIN, may_follow, rank_of};
+use milter_exchange::{CommandOrder, FilterFault, FilterState, VERSION_MIN, may_follow, rank_of};
 use milter_message::WEIGHT_MAX;
 use milter_wire::{Agreed, CommandRef, NoMemory};
 use std::alloc::Global;
@@ -23,6 +24,7 @@ const RANK_OF_GREETING: u8 = 2;
 /// What a filter's end keeps of a connection, all of it bounded by the packets that came.
 #[derive(Debug, Drop)]
 pub(crate) struct Connection {
+    order: CommandOrder,
     agreed: Option<Agreed>,
     last_rank: u8,
     seen: Seen,
@@ -39,6 +41,7 @@ impl Model for Connection {
     ghost Value = { Standing };
 
     ghost view = { λ c. record {
+      order = c.order;
       agreed = c.agreed;
       last_rank = c.last_rank;
       shown = record { seen = c.seen.shown; bytes = c.shown_bytes };
@@ -51,10 +54,11 @@ impl Model for Connection {
 
 impl Connection {
     /// A connection of which nothing has come. No memory is taken.
-    pub(crate) fn new(alloc: Global) -> Self
-        ensures { result ≡ fresh }
+    pub(crate) fn new(alloc: Global, order: CommandOrder) -> Self
+        ensures { result ≡ fresh_in order }
     {
         Connection {
+            order,
             agreed: None,
             last_rank: 0,
             seen: Seen::new(alloc),
@@ -69,6 +73,7 @@ impl Connection {
         ensures { result ≡ nothing_kept (FilterState.Failed fault) }
     {
         Connection {
+            order: CommandOrder::Strict,
             agreed: None,
             last_rank: 0,
             seen: Seen::new(alloc),
@@ -90,6 +95,20 @@ impl Connection {
         ensures { IsTrue result ↔ (self.now.state ≡ FilterState.Serving) }
     {
         matches!(self.state, FilterState::Serving)
+    }
+
+    /// Whether an abort is due before the command.
+    pub(crate) fn needs_abort(&self, command: &CommandRef<'_>) -> bool
+        ensures { result ≡ needs_abort self.now.order self.now.agreed self.now.last_rank (Ok (command_of command.now)) }
+    {
+        match self.order {
+            CommandOrder::Strict => false,
+            CommandOrder::Lenient => {
+                self.agreed.is_some()
+                    && is_greeting_or_sender(command)
+                    && self.last_rank > RANK_OF_GREETING
+            }
+        }
     }
 
     /// The fault of a command whose packet has `len` bytes, if it is at one.

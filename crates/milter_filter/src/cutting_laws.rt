@@ -1,11 +1,12 @@
-//! The law of cutting, as the contract of a function that does nothing.
+//! Laws of cores, each the contract of a function that does nothing.
 
 ghost use Rattle.std.specs.Prelude.{◌≡◌, ◌≢◌, ◌++◌, [], List, ℕ, drop, take};
 ghost use Rattle.milter_exchange.specs.Behavior.{Behavior};
+ghost use Rattle.milter_exchange.specs.declared.command_order.CommandOrder.{CommandOrder as Order};
 ghost use Rattle.milter_exchange.specs.declared.filter_fault.FilterFault.{FilterFault as Fault};
 ghost use Rattle.milter_exchange.specs.declared.filter_state.FilterState.TheVariants.{Serving};
-ghost use Rattle.milter_filter.specs.Cores.{Core, GivesUp, GoesOn, Takes, fresh_core, given_up};
-ghost use Rattle.milter_filter.specs.Streams.{received_in};
+ghost use Rattle.milter_filter.specs.Cores.{Core, GivesUp, GoesOn, Takes, fresh_core_in, given_up};
+ghost use Rattle.milter_filter.specs.Streams.{conversation_of, received_in, reply_bytes};
 
 use crate::policy::Policy;
 
@@ -13,7 +14,10 @@ use crate::policy::Policy;
 /// it would be after the whole: each call goes on from what came before, and what goes on twice goes on by both in a
 /// row.
 pub fn cores_go_on<P: Policy>()
-    ensures begins { (b : Behavior) (policy : P) → GoesOn b (fresh_core policy) [] [] (fresh_core policy) }
+    ensures begins { (b : Behavior) (order : Order) (policy : P) →
+        GoesOn b (fresh_core_in order policy) [] [] (fresh_core_in order policy) }
+    ensures stays { (b : Behavior) (old core : Core P) (input sent : List ℕ) →
+        GoesOn b old input sent core → GoesOn b core [] [] core }
     ensures joins { (b : Behavior) (old core new : Core P) (input sent more sent_then : List ℕ) →
         GoesOn b old input sent core → GoesOn b core more sent_then new →
         GoesOn b old (input ++ more) (sent ++ sent_then) new }
@@ -30,4 +34,16 @@ pub fn cores_go_on<P: Policy>()
         GoesOn b old input sent core → core.pending ≡ [] →
         GivesUp b core.standing (received_in (core.unread ++ piece)) fault →
         GoesOn b old (input ++ piece) sent (given_up core fault) }
+{}
+
+/// What a core comes to from its beginning: what was sent and what waits are the replies to what has come, and it goes
+/// on where their conversation does. More input adds to the replies.
+pub fn cores_reply<P: Policy>()
+    ensures replies { (b : Behavior) (order : Order) (policy : P) (core : Core P) (input sent : List ℕ) →
+        GoesOn b (fresh_core_in order policy) input sent core → sent ++ core.pending ≡ reply_bytes order b input }
+    ensures state { (b : Behavior) (order : Order) (policy : P) (core : Core P) (input sent : List ℕ) →
+        GoesOn b (fresh_core_in order policy) input sent core →
+        (conversation_of order b input).state ≡ core.standing.state }
+    ensures adds { (b : Behavior) (order : Order) (input more : List ℕ) →
+        (others : List ℕ) × (reply_bytes order b (input ++ more) ≡ reply_bytes order b input ++ others) }
 {}

@@ -9,7 +9,7 @@ ghost use Rattle.milter_filter.specs.Streams.{received_in};
 use crate::connection::Connection;
 use crate::piece_receiving::receive_piece;
 use crate::policy::Policy;
-use milter_exchange::{FilterFault, FilterState};
+use milter_exchange::{CommandOrder, FilterFault, FilterState};
 use milter_wire::{NoMemory, Splitter};
 use std::alloc::Global;
 use std::marker::Model;
@@ -48,18 +48,28 @@ impl<'p, P: Policy> Model for FilterCore<'p, P> {
 }
 
 impl<'p, P: Policy> FilterCore<'p, P> {
-    ghost use Rattle.milter_filter.specs.Cores.{GivesUp, Takes, fresh_core, given_up};
+    ghost use Rattle.milter_filter.specs.Cores.{GivesUp, Takes, fresh_core, fresh_core_in, given_up};
 
-    /// A connection of which nothing has come. It takes room for one packet, 65,540 bytes.
+    /// A connection of which nothing has come, and which takes commands in the strict order. It takes room for one
+    /// packet, 65,540 bytes.
     pub fn new(alloc: Global, policy: &'p P) -> Result<Self, NoMemory>
         ensures { IfOk result (λ core. core ≡ fresh_core policy.now) }
+    {
+        FilterCore::with_order(alloc, policy, CommandOrder::Strict)
+    }
+
+    /// A connection of which nothing has come, and which takes commands in this order: in the lenient one it replies to
+    /// a greeting or a sender that comes within a message as the strict one does with an abort before it. It takes room
+    /// for one packet, 65,540 bytes. Source: libmilter (the states that may follow one another).
+    pub fn with_order(alloc: Global, policy: &'p P, order: CommandOrder) -> Result<Self, NoMemory>
+        ensures { IfOk result (λ core. core ≡ fresh_core_in order policy.now) }
     {
         let splitter = Splitter::new(alloc)?;
         Ok(FilterCore {
             alloc,
             policy,
             splitter,
-            connection: Connection::new(alloc),
+            connection: Connection::new(alloc, order),
             pending: Vec::new(alloc),
             sent: 0,
         })

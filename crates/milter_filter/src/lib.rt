@@ -20,13 +20,13 @@ mod seen;
 mod served;
 mod serving;
 
-pub use cutting_laws::cores_go_on;
+pub use cutting_laws::{cores_go_on, cores_reply};
 pub use filter_core::FilterCore;
 pub use milter_exchange::{
-    ACTIONS_MAX, Answer, Edits, FilterFault, FilterState, PROTOCOL_MAX, VERSION_MAX,
+    ACTIONS_MAX, Answer, CommandOrder, Edits, FilterFault, FilterState, PROTOCOL_MAX, VERSION_MAX,
 };
 pub use pass::Pass;
 pub use policy::Policy;
 pub use seen::Seen;
 pub use served::Served;
-pub use serving::{serve, serving_limits};
+pub use serving::{read_buffer, serve, serve_in_order, serving_limits};

@@ -1,6 +1,6 @@
 //! What a filter's end does with a packet.
 
-ghost use Rattle.std.specs.Prelude.{◌≡◌, ◌≢◌, ◌≤◌, ◌++◌, [], IfErr, IfOk, OnOk, length};
+ghost use Rattle.std.specs.Prelude.{◌≡◌, ◌≢◌, ◌≤◌, ◌++◌, [], IfErr, IfOk, Ok, OnOk, length, if◌then◌else◌};
 ghost use Rattle.std.specs.List.{flat_map};
 ghost use Rattle.milter_stream.specs.Splitter.{frame_of};
 ghost use Rattle.milter_stream.specs.Stream.{IsFrame};
@@ -15,7 +15,8 @@ ghost use Rattle.milter_exchange.specs.declared.filter_fault.FilterFault.{Filter
 ghost use Rattle.milter_exchange.specs.declared.filter_fault.FilterFault.TheVariants.{NoMemory};
 ghost use Rattle.milter_exchange.specs.declared.filter_state.FilterState.TheVariants.{Failed, Serving};
 ghost use Rattle.milter_filter.specs.Cores.{unread_after};
-ghost use Rattle.milter_exchange.specs.Standings.{nothing_kept, standing_next, standing_replies_at};
+ghost use Rattle.milter_exchange.specs.Aborts.{needs_abort};
+ghost use Rattle.milter_exchange.specs.Standings.{after_message, nothing_kept, standing_next, standing_replies_at};
 
 use crate::connection::Connection;
 use crate::policy::Policy;
@@ -52,11 +53,23 @@ pub(crate) fn receive_packet<P: Policy>(
         Err(fault) => return Err(FilterFault::Wire(fault)),
     };
     let len = packet.payload.len() + HEAD_LEN;
+    end_message_before(connection, &command);
     if let Some(fault) = connection.fault_of(&command, len) {
         return Err(fault);
     }
     receive(alloc, policy, connection, &command, len, out)?;
     Ok(())
+}
+
+/// Ends the message that is under way, where an abort is due before the command.
+fn end_message_before(connection: &mut Connection, command: &CommandRef<'_>)
+    ensures serving { connection.new.state ≡ connection.old.state }
+    ensures new { connection.new ≡ (if needs_abort connection.old.order connection.old.agreed connection.old.last_rank
+        (Ok (command_of command.now)) then after_message connection.old else connection.old) }
+{
+    if connection.needs_abort(command) {
+        connection.end_message();
+    }
 }
 
 /// The command of a packet, or the fault for which it can't be read.

@@ -3,14 +3,15 @@
 ghost use Rattle.std.specs.Prelude.{◌≡◌, ◌<◌, ◌↔◌, [], IfErr, IfOk, IsTrue, OnOk, length};
 ghost use Rattle.milter_stream.specs.Stream.{IsUnfinished};
 ghost use Rattle.milter_exchange.specs.declared.filter_state.FilterState.TheVariants.{Quit, Serving};
-ghost use Rattle.milter_filter.specs.Cores.{fresh_core};
+ghost use Rattle.milter_exchange.specs.declared.command_order.CommandOrder.TheVariants.{Strict};
+ghost use Rattle.milter_filter.specs.Cores.{fresh_core_in};
 ghost use Rattle.milter_filter.specs.Serving.{Serves};
 ghost use Rattle.milter_filter.specs.PieceServing.{CutOff, PieceServed, Sends};
 
 use crate::filter_core::FilterCore;
 use crate::policy::Policy;
 use crate::served::Served;
-use milter_exchange::{FilterFault, FilterState};
+use milter_exchange::{CommandOrder, FilterFault, FilterState};
 use std::alloc::{AllocError, Global};
 use std::io::{Read, Write};
 
@@ -36,20 +37,34 @@ pub fn serve<P: Policy, R: Read, W: Write>(
     reader: &mut R,
     writer: &mut W,
 ) -> Served
-    ensures { Serves (P.behavior policy.now) (R.remaining reader.old) (R.remaining reader.new)
+    ensures { Serves Strict (P.behavior policy.now) (R.remaining reader.old) (R.remaining reader.new)
         (W.contents writer.old) (W.contents writer.new) result }
 {
-    let Ok(mut buffer) = take_buffer(alloc) else {
+    serve_in_order(alloc, policy, CommandOrder::Strict, reader, writer)
+}
+
+/// Serves one connection as [`serve`] does, and takes commands in this order.
+pub fn serve_in_order<P: Policy, R: Read, W: Write>(
+    alloc: Global,
+    policy: &P,
+    order: CommandOrder,
+    reader: &mut R,
+    writer: &mut W,
+) -> Served
+    ensures { Serves order (P.behavior policy.now) (R.remaining reader.old) (R.remaining reader.new)
+        (W.contents writer.old) (W.contents writer.new) result }
+{
+    let Ok(mut buffer) = read_buffer(alloc) else {
         return Served::Failed(FilterFault::NoMemory);
     };
-    match FilterCore::new(alloc, policy) {
+    match FilterCore::with_order(alloc, policy, order) {
         Ok(mut core) => serve_reads(&mut core, buffer.as_mut_slice(), reader, writer),
         Err(_) => Served::Failed(FilterFault::NoMemory),
     }
 }
 
-/// The buffer for what is read at once.
-fn take_buffer(alloc: Global) -> Result<Vec<u8>, AllocError>
+/// A buffer for what is read at once, of 65,536 bytes.
+pub fn read_buffer(alloc: Global) -> Result<Vec<u8>, AllocError>
     ensures { IfOk result (λ buffer. length buffer.items ≡ PIECE_MAX) }
 {
     vec![in alloc; 0u8; PIECE_MAX]
@@ -62,10 +77,10 @@ fn serve_reads<P: Policy, R: Read, W: Write>(
     reader: &mut R,
     writer: &mut W,
 ) -> Served
-    requires fresh { core.old ≡ fresh_core core.old.policy }
+    requires fresh { core.old ≡ fresh_core_in core.old.standing.order core.old.policy }
     requires room { 0 < length buffer.old }
-    ensures { Serves (P.behavior core.old.policy) (R.remaining reader.old) (R.remaining reader.new)
-        (W.contents writer.old) (W.contents writer.new) result }
+    ensures { Serves core.old.standing.order (P.behavior core.old.policy) (R.remaining reader.old)
+        (R.remaining reader.new) (W.contents writer.old) (W.contents writer.new) result }
 {
     for _ in 0..READS_MAX {
         let Ok(count) = reader.read(buffer) else {

@@ -53,9 +53,11 @@ IsFilled r = 0 < length r.values
 abbrev pub AreFilled : List Row → Type 0
 AreFilled = Each IsFilled
 
--- a use of the argument has a value, or answers with help
+-- a use of the argument answers with help, or has a value, or one stands for it where it has none
 abbrev pub Fills : Rule → Type 0
-Fills a = (is_request (action_of a) ≡ true) ⊎ (nat_lt 0 (unwrap_or_range a.range).start_inclusive ≡ true)
+Fills a =
+    (is_request (action_of a) ≡ true)
+    ⊎ ((nat_lt 0 (unwrap_or_range a.range).start_inclusive ≡ true) ⊎ (nat_lt 0 (length a.missing) ≡ true))
 
 at_row_filled : (id : Text) (change : Row → List Row) (missing rows : List Row) → ((r : Row) → IsFilled r → AreFilled (change r)) → AreFilled missing → AreFilled rows → AreFilled (at_row id change missing rows)
 at_row_filled id change missing [] f m h = m
@@ -97,10 +99,15 @@ request_filled action.Version id how values rows is h = h
 module _ (c : List Rule) (again : Bool) (fills : Each Fills c) where
   use_filled : (a : Rule) (values : List Text) (rows : List Row) → Fills a → use_fault again a values rows ≡ [] → AreFilled rows → AreFilled (used a values rows)
   use_filled a values rows (inl request) e h = request_filled (action_of a) a.id (reading_by a) (values_or_missing a values) rows request h
-  use_filled a [] rows (inr least) e h =
+  use_filled a [] rows (inr (inr missing)) e h = missing_filled a.missing missing
+    where
+      missing_filled : (values : List Text) → nat_lt 0 (length values) ≡ true → AreFilled (used_as (action_of a) a.id (reading_by a) values rows)
+      missing_filled [] some = absurd (true≢false (sym some))
+      missing_filled (v ∷ vs) some = used_as_filled (action_of a) a.id (reading_by a) v vs rows h
+  use_filled a [] rows (inr (inl least)) e h =
       let first = (no_faults (range_kinds (unwrap_or_range a.range).start_inclusive (most_values a) 0) _ e).0 in
       absurd (no_first _ _ _ (ap (λ b. b && (0 == 0)) least) first)
-  use_filled a (v ∷ vs) rows (inr least) e h = used_as_filled (action_of a) a.id (reading_by a) v vs rows h
+  use_filled a (v ∷ vs) rows (inr some) e h = used_as_filled (action_of a) a.id (reading_by a) v vs rows h
 
   used_by_id_filled : (o : Option Rule) (values : List Text) (rows : List Row) → IfSome o Fills → option_map_or (λ a. use_fault again a values rows) o [] ≡ [] → AreFilled rows
       → AreFilled (used_by_id o values rows)

@@ -17,7 +17,7 @@ use Rattle.clap.specs.declared.error.kind.ErrorKind.{ErrorKind}
 use Rattle.clap.specs.declared.parser.matches.Found.{Found}
 use Rattle.clap.specs.declared.parser.matches.ArgMatches.{ArgMatches}
 use Rattle.milter_request.specs.declared.command_line.Request.{Request}
-use Rattle.milter_request.specs.CommandLine.{HasMatches, IsNumberOr, IsRequestOf, IsUnasked, LossWords, answer_app, filter_app, mta_app, play_app, rules_app, session_app, text_of, tool_app, trace_app}
+use Rattle.milter_request.specs.CommandLine.{HasMatches, IsFlag, IsNumberOr, IsRequestOf, IsUnasked, LossWords, answer_app, filter_app, mta_app, play_app, rules_app, serve_app, session_app, text_of, tool_app, trace_app}
 use Rattle.milter_request.proofs.FaultlessRows.{AreFilled, Each, Fills, IsFilled, find_each, no_faults, settled_filled, some_fault}
 use Rattle.milter_request.proofs.FaultlessWalk.{StopsBeforeHelp, defaults_filled, walk_rows, walk_stops}
 
@@ -40,11 +40,17 @@ pub number_given : (default least most : ℕ) (f : Found) (id : Text) (o : Optio
     → IsNumberOr default least most (first_of id (rows_of f)) n
 number_given default least most f id o n low is h = holds_of (λ t. IsNumberOr default least most t n) f id o is (within default least most (text_of o) n low h)
 
+pub flag_given : (f : Found) (id : Text) (o : Option (Bor Text)) (flag : Bool) → text_of o ≡ first_value f id → IsFlag (text_of o) flag → IsFlag (first_of id (rows_of f)) flag
+flag_given f id o flag is h = holds_of (λ t. IsFlag t flag) f id o is h
+
 no_value : (f : Found) (id : Text) → None ≡ first_value f id → first_of id (rows_of f) ≡ None
 no_value f id none = sym (none ∙ first_value-rows f id)
 
 head : (a b : Text) → a ≡ b → slice_index a 0 ≡ slice_index b 0
 head a b e = ap (λ t. slice_index t 0) e
+
+letter : (i : ℕ) (a b : Text) → a ≡ b → slice_index a i ≡ slice_index b i
+letter i a b e = ap (λ t. slice_index t i) e
 
 pub no_session : (f : Found) → None ≡ first_value f (codes "file") → IsUnasked (codes "session", rows_of f)
 no_session f none = (
@@ -53,6 +59,7 @@ no_session f none = (
   (λ e. no_value f (codes "file") none),
   (λ e. (let other : 115 ≡ 114 = head (codes "session") (codes "rules") e in absurd (omega (arith, other)))),
   (λ e. (let other : 115 ≡ 102 = head (codes "session") (codes "filter") e in absurd (omega (arith, other)))),
+  (λ e. (let other : 115 ≡ 114 = letter 2 (codes "session") (codes "serve") e in absurd (omega (arith, other)))),
   (λ e. (let other : 115 ≡ 109 = head (codes "session") (codes "mta") e in absurd (omega (arith, other)))),
   λ e. (let other : 115 ≡ 112 = head (codes "session") (codes "play") e in absurd (omega (arith, other))),
 )
@@ -64,6 +71,7 @@ no_rules f none = (
   (λ e. (let other : 114 ≡ 115 = head (codes "rules") (codes "session") e in absurd (omega (arith, other)))),
   (λ e. no_value f (codes "file") none),
   (λ e. (let other : 114 ≡ 102 = head (codes "rules") (codes "filter") e in absurd (omega (arith, other)))),
+  (λ e. (let other : 114 ≡ 115 = head (codes "rules") (codes "serve") e in absurd (omega (arith, other)))),
   (λ e. (let other : 114 ≡ 109 = head (codes "rules") (codes "mta") e in absurd (omega (arith, other)))),
   λ e. (let other : 114 ≡ 112 = head (codes "rules") (codes "play") e in absurd (omega (arith, other))),
 )
@@ -75,8 +83,21 @@ no_filter f none = (
   (λ e. (let other : 102 ≡ 115 = head (codes "filter") (codes "session") e in absurd (omega (arith, other)))),
   (λ e. (let other : 102 ≡ 114 = head (codes "filter") (codes "rules") e in absurd (omega (arith, other)))),
   (λ e. no_value f (codes "address") none),
+  (λ e. (let other : 102 ≡ 115 = head (codes "filter") (codes "serve") e in absurd (omega (arith, other)))),
   (λ e. (let other : 102 ≡ 109 = head (codes "filter") (codes "mta") e in absurd (omega (arith, other)))),
   λ e. (let other : 102 ≡ 112 = head (codes "filter") (codes "play") e in absurd (omega (arith, other))),
+)
+
+pub no_serve : (f : Found) → None ≡ first_value f (codes "address") → IsUnasked (codes "serve", rows_of f)
+no_serve f none = (
+  (λ e. (let other : 115 ≡ 116 = head (codes "serve") (codes "trace") e in absurd (omega (arith, other)))),
+  (λ e. (let other : 115 ≡ 97 = head (codes "serve") (codes "answer") e in absurd (omega (arith, other)))),
+  (λ e. (let other : 114 ≡ 115 = letter 2 (codes "serve") (codes "session") e in absurd (omega (arith, other)))),
+  (λ e. (let other : 115 ≡ 114 = head (codes "serve") (codes "rules") e in absurd (omega (arith, other)))),
+  (λ e. (let other : 115 ≡ 102 = head (codes "serve") (codes "filter") e in absurd (omega (arith, other)))),
+  (λ e. no_value f (codes "address") none),
+  (λ e. (let other : 115 ≡ 109 = head (codes "serve") (codes "mta") e in absurd (omega (arith, other)))),
+  λ e. (let other : 115 ≡ 112 = head (codes "serve") (codes "play") e in absurd (omega (arith, other))),
 )
 
 no_mta : (values : List Row) → (first_of (codes "address") values ≡ None) ⊎ (first_of (codes "session") values ≡ None) → IsUnasked (codes "mta", values)
@@ -86,6 +107,7 @@ no_mta values none = (
   (λ e. (let other : 109 ≡ 115 = head (codes "mta") (codes "session") e in absurd (omega (arith, other)))),
   (λ e. (let other : 109 ≡ 114 = head (codes "mta") (codes "rules") e in absurd (omega (arith, other)))),
   (λ e. (let other : 109 ≡ 102 = head (codes "mta") (codes "filter") e in absurd (omega (arith, other)))),
+  (λ e. (let other : 109 ≡ 115 = head (codes "mta") (codes "serve") e in absurd (omega (arith, other)))),
   (λ e. none),
   λ e. (let other : 109 ≡ 112 = head (codes "mta") (codes "play") e in absurd (omega (arith, other))),
 )
@@ -103,6 +125,7 @@ no_play f none = (
   (λ e. (let other : 112 ≡ 115 = head (codes "play") (codes "session") e in absurd (omega (arith, other)))),
   (λ e. (let other : 112 ≡ 114 = head (codes "play") (codes "rules") e in absurd (omega (arith, other)))),
   (λ e. (let other : 112 ≡ 102 = head (codes "play") (codes "filter") e in absurd (omega (arith, other)))),
+  (λ e. (let other : 112 ≡ 115 = head (codes "play") (codes "serve") e in absurd (omega (arith, other)))),
   (λ e. (let other : 112 ≡ 109 = head (codes "play") (codes "mta") e in absurd (omega (arith, other)))),
   λ e. no_value f (codes "session") none,
 )
@@ -164,6 +187,9 @@ module _ (losses : LossWords) where
   abbrev filter_shape : Shape
   filter_shape = built_leaf (inherited (with_leaf_noted (marked_built (tool_app losses).top)) filter_app.top)
 
+  abbrev serve_shape : Shape
+  serve_shape = built_leaf (inherited (with_leaf_noted (marked_built (tool_app losses).top)) serve_app.top)
+
   abbrev answer_shape : Shape
   answer_shape = built_leaf (inherited (with_leaf_noted (marked_built (tool_app losses).top)) answer_app.top)
 
@@ -174,20 +200,20 @@ module _ (losses : LossWords) where
   play_shape = built_leaf (inherited (with_leaf_noted (marked_built (tool_app losses).top)) (play_app losses).top)
 
   mta_fills : Each Fills mta_shape.rules
-  mta_fills = (inr refl, (inr refl, (inr refl, (inr refl, (inr refl, (inr refl, (inl refl, tt)))))))
+  mta_fills = (inr (inl refl), (inr (inl refl), (inr (inl refl), (inr (inl refl), (inr (inl refl), (inr (inl refl), (inl refl, tt)))))))
 
   play_fills : Each Fills play_shape.rules
-  play_fills = (inr refl, (inr refl, (inr refl, (inr refl, (inr refl, (inr refl, (inl refl, tt)))))))
+  play_fills = (inr (inl refl), (inr (inl refl), (inr (inl refl), (inr (inl refl), (inr (inl refl), (inr (inl refl), (inl refl, tt)))))))
 
   -- the shape of the subcommand whose test is the first to hold
   abbrev pick : List (Bool × Shape) → Option Shape
   pick [] = None
   pick (t ∷ tests) = cond t.0 (Some t.1) (pick tests)
 
-  abbrev shapes : (trace session rules answer filter mta play help : Bool) → List (Bool × Shape)
-  shapes trace session rules answer filter mta play help =
-      (trace, trace_shape) ∷ (session, session_shape) ∷ (rules, rules_shape) ∷ (answer, answer_shape) ∷ (filter, filter_shape) ∷ (mta, mta_shape) ∷ (play, play_shape)
-      ∷ (help, built_leaf help_shape) ∷ []
+  abbrev shapes : (trace session rules answer filter serve mta play help : Bool) → List (Bool × Shape)
+  shapes trace session rules answer filter serve mta play help =
+      (trace, trace_shape) ∷ (session, session_shape) ∷ (rules, rules_shape) ∷ (answer, answer_shape) ∷ (filter, filter_shape) ∷ (serve, serve_shape)
+      ∷ (mta, mta_shape) ∷ (play, play_shape) ∷ (help, built_leaf help_shape) ∷ []
 
   abbrev asked_below : Option Shape → List Text → Kinds
   asked_below o words = option_map_or (λ s. level_fault s [] nothing_held words false []) o []
@@ -201,28 +227,30 @@ module _ (losses : LossWords) where
   mta_asks words below (inr none) = is_there (codes "session") mta_shape words mta_fills (λ rows e. second_here _ _ _ e) below none
 
   -- a subcommand that is entered without a fault asks for something
-  picked_asks : (words : List Text) (rows : List Row) (trace session rules answer filter mta play help : Bool) → (help ≡ true → ⊥) → asked_below (pick (shapes trace session rules answer filter mta play help)) words ≡ []
-      → check_fault (built (tool_app losses)).top rows (is_some (entered_by (pick (shapes trace session rules answer filter mta play help)) words)) ≡ [] → IsRequestOf (entered_by (pick (shapes trace session rules answer filter mta play help)) words) None → ⊥
-  picked_asks words rows true session rules answer filter mta play help none below check unasked = unasked.0 refl
-  picked_asks words rows false true rules answer filter mta play help none below check unasked =
-      is_there (codes "file") session_shape words (inr refl, (inl refl, tt)) (λ rows e. required_here _ _ e) below (unasked.2 refl)
-  picked_asks words rows false false true answer filter mta play help none below check unasked =
-      is_there (codes "file") rules_shape words (inr refl, (inl refl, tt)) (λ rows e. required_here _ _ e) below (unasked.3 refl)
-  picked_asks words rows false false false true filter mta play help none below check unasked = unasked.1 refl
-  picked_asks words rows false false false false true mta play help none below check unasked =
-      is_there (codes "address") filter_shape words (inr refl, (inr refl, (inr refl, (inl refl, tt)))) (λ rows e. required_here _ _ e) below (unasked.4 refl)
-  picked_asks words rows false false false false false true play help none below check unasked = mta_asks words below (unasked.5 refl)
-  picked_asks words rows false false false false false false true help none below check unasked =
-      is_there (codes "session") play_shape words play_fills (λ rows e. required_here _ _ e) below (unasked.6 refl)
-  picked_asks words rows false false false false false false false true none below check unasked = none refl
-  picked_asks words rows false false false false false false false false none below check unasked = some_fault _ _ check
+  picked_asks : (words : List Text) (rows : List Row) (trace session rules answer filter serve mta play help : Bool) → (help ≡ true → ⊥) → asked_below (pick (shapes trace session rules answer filter serve mta play help)) words ≡ []
+      → check_fault (built (tool_app losses)).top rows (is_some (entered_by (pick (shapes trace session rules answer filter serve mta play help)) words)) ≡ [] → IsRequestOf (entered_by (pick (shapes trace session rules answer filter serve mta play help)) words) None → ⊥
+  picked_asks words rows true session rules answer filter serve mta play help none below check unasked = unasked.0 refl
+  picked_asks words rows false true rules answer filter serve mta play help none below check unasked =
+      is_there (codes "file") session_shape words (inr (inl refl), (inl refl, tt)) (λ rows e. required_here _ _ e) below (unasked.2 refl)
+  picked_asks words rows false false true answer filter serve mta play help none below check unasked =
+      is_there (codes "file") rules_shape words (inr (inl refl), (inl refl, tt)) (λ rows e. required_here _ _ e) below (unasked.3 refl)
+  picked_asks words rows false false false true filter serve mta play help none below check unasked = unasked.1 refl
+  picked_asks words rows false false false false true serve mta play help none below check unasked =
+      is_there (codes "address") filter_shape words (inr (inl refl), (inr (inl refl), (inr (inl refl), (inr (inr refl), (inl refl, tt))))) (λ rows e. required_here _ _ e) below (unasked.4 refl)
+  picked_asks words rows false false false false false true mta play help none below check unasked =
+      is_there (codes "address") serve_shape words (inr (inl refl), (inr (inl refl), (inr (inl refl), (inr (inl refl), (inr (inl refl), (inl refl, tt)))))) (λ rows e. required_here _ _ e) below (unasked.5 refl)
+  picked_asks words rows false false false false false false true play help none below check unasked = mta_asks words below (unasked.6 refl)
+  picked_asks words rows false false false false false false false true help none below check unasked =
+      is_there (codes "session") play_shape words play_fills (λ rows e. required_here _ _ e) below (unasked.7 refl)
+  picked_asks words rows false false false false false false false false true none below check unasked = none refl
+  picked_asks words rows false false false false false false false false false none below check unasked = some_fault _ _ check
 
   entered_asks : (stop : Option (Text × List Text)) (rows : List Row) → StopsBeforeHelp stop → entered_fault (built (tool_app losses)) stop ≡ []
       → check_fault (built (tool_app losses)).top rows (is_some (entered (built (tool_app losses)) stop)) ≡ [] → IsRequestOf (entered (built (tool_app losses)) stop) None → ⊥
   entered_asks None rows other below check unasked = some_fault _ _ check
   entered_asks (Some p) rows other below check unasked =
       picked_asks p.1 rows (answers_to p.0 (label_of trace_shape)) (answers_to p.0 (label_of session_shape)) (answers_to p.0 (label_of rules_shape)) (answers_to p.0 (label_of answer_shape))
-      (answers_to p.0 (label_of filter_shape)) (answers_to p.0 (label_of mta_shape)) (answers_to p.0 (label_of play_shape)) (answers_to p.0 (label_of (built_leaf help_shape)))
+      (answers_to p.0 (label_of filter_shape)) (answers_to p.0 (label_of serve_shape)) (answers_to p.0 (label_of mta_shape)) (answers_to p.0 (label_of play_shape)) (answers_to p.0 (label_of (built_leaf help_shape)))
       (never_help p.0 other) below check unasked
 
   -- words without a fault ask for something

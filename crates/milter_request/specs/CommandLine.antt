@@ -1,20 +1,24 @@
 -- The command line as `clap` reads it, and what it asks for.
 use Rattle.std.specs.Prelude.{◌≡◌, ◌≢◌, ℕ, List, [], true, false, codes, Option, None, Some, Result, Ok, Err, IfErr, IfOk, IfSome}
-use Rattle.std.specs.Prelude.{◌∷◌, ◌⊎◌, IsSomeAnd, option_map}
+use Rattle.std.specs.Prelude.{◌∷◌, ◌⊎◌, ◌↔◌, Bool, IsSomeAnd, IsTrue, option_map}
 use Rattle.std.specs.Borrow.{Bor}
 use Rattle.std.specs.Str.Parse.{digits_value, without_leading_plus}
 use Rattle.clap.specs.Values.{IsUnsignedIn}
 use Rattle.clap.specs.Words.{App, HasKind, Row, Rule, Text, fault_of, first_of, new_app, new_rule, subcommand_of}
 use Rattle.clap.specs.Words.{subcommand_rows_of, with_rule, with_subcommand}
 use Rattle.clap.specs.Walk.{texts}
-use Rattle.clap.specs.declared.builder.action.ArgAction.TheVariants.{Set}
+use Rattle.clap.specs.declared.builder.action.ArgAction.TheVariants.{Set, SetTrue}
 use Rattle.clap.specs.declared.builder.command.Command.{Command}
 use Rattle.clap.specs.declared.builder.command.Command.TheViews.{out-Command}
 use Rattle.clap.specs.declared.builder.value_parser.ValueParser.TheVariants.{Names, Unsigned}
 use Rattle.milter_request.specs.declared.command_line.TheConstants.{COUNT_DEFAULT, COUNT_MAX}
 use Rattle.milter_request.specs.declared.command_line.TheConstants.{TIMEOUT_DEFAULT, TIMEOUT_MAX}
+use Rattle.milter_request.specs.declared.command_line.TheConstants.{AT_ONCE_DEFAULT, AT_ONCE_MAX, IDLE_DEFAULT}
+use Rattle.milter_request.specs.declared.command_line.TheConstants.{IDLE_MAX}
+use Rattle.milter_request.specs.declared.command_line.TheConstants.{MODE_DEFAULT, MODE_MAX}
 use Rattle.milter_request.specs.declared.command_line.Request.{Request}
-use Rattle.milter_request.specs.declared.command_line.Request.TheVariants.{Trace, Session, Rules, Answer, Filter, Mta, Play}
+use Rattle.milter_request.specs.declared.command_line.Request.TheVariants.{Trace, Session, Rules, Answer, Filter}
+use Rattle.milter_request.specs.declared.command_line.Request.TheVariants.{Serve, Mta, Play}
 use Rattle.milter_outcome.specs.declared.fallback.OnLoss.{OnLoss}
 use Rattle.milter_outcome.specs.declared.fallback.OnLoss.TheVariants.{Accept, Tempfail, Reject}
 use Rattle.clap.specs.declared.error.Error.{Error}
@@ -37,6 +41,10 @@ place_rule name = record (new_rule name) { action = Some Set; value_names = 1; r
 abbrev pub option_rule : Text → Rule
 option_rule name = record (new_rule name) { long = Some name; action = Some Set; value_names = 1 }
 
+-- a word that is given or not
+abbrev pub flag_rule : Text → Rule
+flag_rule name = record (new_rule name) { long = Some name; action = Some SetTrue }
+
 abbrev pub session_app : App
 session_app = with_rule (new_app (codes "session")) (place_rule (codes "file"))
 
@@ -44,7 +52,8 @@ abbrev pub rules_app : App
 rules_app = with_rule (new_app (codes "rules")) (place_rule (codes "file"))
 
 abbrev pub answer_app : App
-answer_app = with_rule (new_app (codes "answer")) (option_rule (codes "rules"))
+answer_app =
+    with_rule (with_rule (new_app (codes "answer")) (option_rule (codes "rules"))) (flag_rule (codes "lenient"))
 
 -- an option with a number from 1 to another
 abbrev pub number_rule : Text → ℕ → Rule
@@ -53,10 +62,22 @@ number_rule name most = record (option_rule name) { parser = Some (Unsigned 1 mo
 abbrev pub count_rule : Rule
 count_rule = number_rule (codes "count") COUNT_MAX
 
+-- where it listens, and by which rules it answers
+abbrev pub filter_base : App
+filter_base =
+    with_rule (with_rule (new_app (codes "filter")) (place_rule (codes "address"))) (option_rule (codes "rules"))
+
 abbrev pub filter_app : App
-filter_app =
-    let addressed = with_rule (new_app (codes "filter")) (place_rule (codes "address")) in
-    with_rule (with_rule addressed (option_rule (codes "rules"))) count_rule
+filter_app = with_rule (with_rule filter_base count_rule) (flag_rule (codes "lenient"))
+
+abbrev pub serve_base : App
+serve_base =
+    with_rule (with_rule (new_app (codes "serve")) (place_rule (codes "address"))) (option_rule (codes "rules"))
+
+abbrev pub serve_app : App
+serve_app =
+    let limited = with_rule serve_base (number_rule (codes "at-once") AT_ONCE_MAX) in
+    with_rule (with_rule limited (number_rule (codes "timeout") IDLE_MAX)) (number_rule (codes "mode") MODE_MAX)
 
 -- the words of `--loss`, wherever they are in memory
 abbrev pub LossWords : Type 0
@@ -98,7 +119,8 @@ reading_app = with_subcommand (with_subcommand (with_subcommand top_app trace_ap
 
 -- with those that are a filter's end
 abbrev pub filtering_app : App
-filtering_app = with_subcommand (with_subcommand reading_app answer_app.top) filter_app.top
+filtering_app =
+    with_subcommand (with_subcommand (with_subcommand reading_app answer_app.top) filter_app.top) serve_app.top
 
 -- the whole command line
 abbrev pub tool_app : LossWords → App
@@ -136,16 +158,29 @@ abbrev pub IsLoss : Option Text → OnLoss → Type 0
 IsLoss None loss = loss ≡ Tempfail
 IsLoss (Some text) loss = (named : OnLoss) → text ≡ loss_word named → loss ≡ named
 
+-- whether a flag is given
+abbrev pub IsFlag : Option Text → Bool → Type 0
+IsFlag text flag = IsTrue flag ↔ (text ≡ Some (codes "true"))
+
 -- the subcommand of this name, with these values, asks for it
 abbrev pub IsAsked : Text × List Row → Request → Type 0
 IsAsked (name, values) Trace = name ≡ codes "trace"
 IsAsked (name, values) (Session file) =
     (name ≡ codes "session") × (first_of (codes "file") values ≡ Some file.now)
 IsAsked (name, values) (Rules file) = (name ≡ codes "rules") × (first_of (codes "file") values ≡ Some file.now)
-IsAsked (name, values) (Answer rules) = (name ≡ codes "answer") × (first_of (codes "rules") values ≡ text_of rules)
-IsAsked (name, values) (Filter address rules count) =
+IsAsked (name, values) (Answer rules lenient) =
+    (name ≡ codes "answer") × (first_of (codes "rules") values ≡ text_of rules)
+    × IsFlag (first_of (codes "lenient") values) lenient
+IsAsked (name, values) (Filter address rules count lenient) =
     (name ≡ codes "filter") × (first_of (codes "address") values ≡ Some address.now)
     × (first_of (codes "rules") values ≡ text_of rules) × IsCount (first_of (codes "count") values) count
+    × IsFlag (first_of (codes "lenient") values) lenient
+IsAsked (name, values) (Serve asked) =
+    (name ≡ codes "serve") × (first_of (codes "address") values ≡ Some asked.address.now)
+    × (first_of (codes "rules") values ≡ text_of asked.rules)
+    × IsNumberOr AT_ONCE_DEFAULT 1 AT_ONCE_MAX (first_of (codes "at-once") values) asked.at_once
+    × IsNumberOr IDLE_DEFAULT 1 IDLE_MAX (first_of (codes "timeout") values) asked.timeout
+    × IsNumberOr MODE_DEFAULT 1 MODE_MAX (first_of (codes "mode") values) asked.mode
 IsAsked (name, values) (Mta asked) =
     (name ≡ codes "mta") × (first_of (codes "address") values ≡ Some asked.address.now)
     × (first_of (codes "session") values ≡ Some asked.session.now)
@@ -168,6 +203,7 @@ IsUnasked (name, values) =
     × (name ≡ codes "session" → first_of (codes "file") values ≡ None)
     × (name ≡ codes "rules" → first_of (codes "file") values ≡ None)
     × (name ≡ codes "filter" → first_of (codes "address") values ≡ None)
+    × (name ≡ codes "serve" → first_of (codes "address") values ≡ None)
     × (name ≡ codes "mta" → (first_of (codes "address") values ≡ None) ⊎ (first_of (codes "session") values ≡ None))
     × (name ≡ codes "play" → first_of (codes "session") values ≡ None)
 

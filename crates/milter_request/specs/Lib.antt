@@ -2,3 +2,4 @@ pub mod Address
 pub mod CommandLine
 pub mod Target
 pub mod UsageError
+pub mod Mode

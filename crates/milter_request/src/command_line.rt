@@ -1,6 +1,6 @@
 //! The command line: what the program is asked to do.
 
-ghost use Rattle.std.specs.Prelude.{◌≡◌, ◌-◌, ◌^◌, Some, codes, map};
+ghost use Rattle.std.specs.Prelude.{◌≡◌, ◌-◌, ◌^◌, ◌↔◌, IsTrue, Some, codes, map};
 ghost use Rattle.clap.specs.Words.{found_of, rows_of, subcommand_rows_of};
 ghost use Rattle.milter_request.specs.CommandLine.{AreLossWords, IsLoss, IsNumberOr, IsRequestOf, IsRequestOfNamed};
 ghost use Rattle.milter_request.specs.CommandLine.{MatchesAs, ParsesAs, text_of};
@@ -26,13 +26,38 @@ const TIMEOUT_DEFAULT: u32 = 30;
 /// The most seconds that a read or a write may be given.
 pub(crate) const TIMEOUT_MAX: u64 = 3600;
 
+/// How many connections are open at once where the command line has no number of them.
+const AT_ONCE_DEFAULT: u32 = 200;
+
+/// The most connections that are open at once.
+pub(crate) const AT_ONCE_MAX: u64 = 10_000;
+
+/// After how many seconds an idle connection is closed where the command line has no number of them: as libmilter.
+const IDLE_DEFAULT: u32 = 7_210;
+
+/// The most seconds that a connection may be idle.
+pub(crate) const IDLE_MAX: u64 = 86_400;
+
+/// The digits of a Unix socket's mode where the command line has none.
+const MODE_DEFAULT: u32 = 660;
+
+/// The greatest digits of a mode.
+pub(crate) const MODE_MAX: u64 = 777;
+
 /// The numbers that the definitions name: how many connections are served, and how many seconds a read or a write may
-/// take, where the command line has no such number and at most.
+/// take, where the command line has no such number and at most; and the same of how many connections are open at once,
+/// of how many seconds they may be idle, and of the digits of a mode.
 pub fn command_line_limits()
     ensures count_default { COUNT_DEFAULT ≡ 1 }
     ensures count_most { COUNT_MAX ≡ 1000000 }
     ensures timeout_default { TIMEOUT_DEFAULT ≡ 30 }
     ensures timeout_most { TIMEOUT_MAX ≡ 3600 }
+    ensures at_once_default { AT_ONCE_DEFAULT ≡ 200 }
+    ensures at_once_most { AT_ONCE_MAX ≡ 10000 }
+    ensures idle_default { IDLE_DEFAULT ≡ 7210 }
+    ensures idle_most { IDLE_MAX ≡ 86400 }
+    ensures mode_default { MODE_DEFAULT ≡ 660 }
+    ensures mode_most { MODE_MAX ≡ 777 }
 {}
 
 /// The words of `--loss`.
@@ -57,6 +82,8 @@ pub enum Request<'a> {
     Answer {
         /// The path of a rule file. Without one all mail goes on.
         rules: Option<&'a str>,
+        /// Whether a greeting or a sender within a message ends that message.
+        lenient: bool,
     },
     /// To serve connections of mail servers one after another, as a filter.
     Filter {
@@ -66,11 +93,30 @@ pub enum Request<'a> {
         rules: Option<&'a str>,
         /// How many connections, from 1 to 1,000,000.
         count: u32,
+        /// Whether a greeting or a sender within a message ends that message.
+        lenient: bool,
     },
+    /// To serve connections of mail servers at once, as a filter, until it is ended.
+    Serve(ServeRequest<'a>),
     /// To play the session of a file to a filter, as a mail server, and to print what becomes of its messages.
     Mta(MtaRequest<'a>),
     /// To play the session of a file to a filter in memory, and to print what becomes of its messages.
     Play(PlayRequest<'a>),
+}
+
+/// A service of many connections.
+#[derive(Clone, Copy, Debug, PartialEq, Eq)]
+pub struct ServeRequest<'a> {
+    /// The text of the address of the socket.
+    pub address: &'a str,
+    /// The path of a rule file. Without one all mail goes on.
+    pub rules: Option<&'a str>,
+    /// How many connections are open at once, from 1 to 10,000.
+    pub at_once: u32,
+    /// After how many seconds an idle connection is closed, from 1 to 86,400.
+    pub timeout: u32,
+    /// The digits of a Unix socket's mode, up to 777.
+    pub mode: u32,
 }
 
 /// A session that is to be played to a filter.
@@ -139,6 +185,7 @@ fn request_of<'a>(matches: &ArgMatches<'a>) -> Option<Request<'a>>
         Some(("rules", given)) => rules_request(given),
         Some(("answer", given)) => Some(answer_request(given)),
         Some(("filter", given)) => filter_request(given),
+        Some(("serve", given)) => serve_request(given),
         Some(("mta", given)) => mta_request(given),
         Some(("play", given)) => play_request(given),
         _ => None,
@@ -171,6 +218,7 @@ fn answer_request<'a>(given: &ArgMatches<'a>) -> Request<'a>
 {
     Request::Answer {
         rules: given.get_str("rules"),
+        lenient: is_set(given.get_str("lenient")),
     }
 }
 
@@ -183,9 +231,24 @@ fn filter_request<'a>(given: &ArgMatches<'a>) -> Option<Request<'a>>
             address,
             rules: given.get_str("rules"),
             count: number_or(COUNT_DEFAULT, given.get_str("count")),
+            lenient: is_set(given.get_str("lenient")),
         }),
         None => None,
     }
+}
+
+/// What the words after `serve` ask for.
+fn serve_request<'a>(given: &ArgMatches<'a>) -> Option<Request<'a>>
+    ensures { IsRequestOfNamed (codes "serve") (rows_of (found_of given.now)) result }
+{
+    let address = given.get_str("address")?;
+    Some(Request::Serve(ServeRequest {
+        address,
+        rules: given.get_str("rules"),
+        at_once: number_or(AT_ONCE_DEFAULT, given.get_str("at-once")),
+        timeout: number_or(IDLE_DEFAULT, given.get_str("timeout")),
+        mode: number_or(MODE_DEFAULT, given.get_str("mode")),
+    }))
 }
 
 /// What the words after `mta` ask for.
@@ -217,6 +280,13 @@ fn play_request<'a>(given: &ArgMatches<'a>) -> Option<Request<'a>>
         events: given.get_str("events"),
         loss: loss_named(given.get_str("loss")),
     }))
+}
+
+/// Whether a flag is set, by its text.
+fn is_set(text: Option<&str>) -> bool
+    ensures { IsTrue result ↔ (text_of text.entry ≡ Some (codes "true")) }
+{
+    matches!(text, Some("true"))
 }
 
 /// The number in the text of an option, which parsing has looked at, or the default where it isn't given.

@@ -215,6 +215,38 @@ A fault is printed on standard error:
 Status: 0 after so many connections as were asked for, 1 after a fault, 2 after a
 wrong use of the command line.";
 
+/// Where connections are taken, how they are served, what is printed of each, and the fault lines.
+pub(crate) const SERVE: &str = "\
+ADDRESS is where mail servers (MTAs) connect:
+
+  inet:PORT@HOST                 a TCP port from 1 to 65535 of a host's name, or of
+                                 an IP address (IPv6 without brackets)
+  unix:PATH                      a Unix socket, which is made with the mode OCTAL; a
+                                 socket there on which nobody listens any more is
+                                 replaced, any other file is refused
+
+as inet:8890@127.0.0.1. The filter asks for what the rule file says, and answers
+by its rules: milter_tool help rules has their form. Without one it lets all mail
+go on. Connections are served at once, up to N of them; others wait. A greeting or
+a sender that comes within a message ends that message, as with --lenient.
+
+A line is printed for each connection as it ends, with its number, as by filter:
+milter_tool help filter has their forms. One that was idle for too long is closed,
+and its line says read fault.
+
+A fault is printed on standard error:
+
+  bad address                    ADDRESS isn't of its form (status 2)
+  bad mode                       OCTAL has a digit above 7 (status 2)
+  cannot read rules              the rule file was not read, or is too large
+  rules line N: fault K          the rule file has a fault
+  cannot listen                  the socket was not bound, or not waited for
+  write fault                    standard output was not written
+  out of memory                  memory was refused
+
+It goes on until it is ended from outside. Status: 1 after a fault, 2 after a wrong
+use of the command line.";
+
 /// Where the filter is, what is offered to it, what is printed of the messages, and the fault lines.
 pub(crate) const MTA: &str = "\
 ADDRESS is where the filter listens:

@@ -5,11 +5,15 @@
 mod address;
 mod command_line;
 mod help_text;
+mod mode;
 mod subcommands;
 mod target;
 mod usage_error;
 
 pub use address::Address;
-pub use command_line::{MtaRequest, PlayRequest, Request, command_line_limits, parse};
+pub use command_line::{
+    MtaRequest, PlayRequest, Request, ServeRequest, command_line_limits, parse,
+};
+pub use mode::parse_mode;
 pub use target::{Offer, Target};
 pub use usage_error::UsageError;

@@ -2,12 +2,12 @@
 
 ghost use Rattle.std.specs.Prelude.{◌≡◌, IfOk, codes, false};
 ghost use Rattle.clap.specs.Words.{app_of, rule_of};
-ghost use Rattle.milter_request.specs.CommandLine.{IsLocal, answer_app, count_rule, filter_app, filtering_app};
+ghost use Rattle.milter_request.specs.CommandLine.{IsLocal, answer_app, count_rule, filter_app, filter_base, filtering_app, flag_rule};
 ghost use Rattle.milter_request.specs.CommandLine.{loss_rule, mta_app, mta_base, number_rule, option_rule, place_rule};
 ghost use Rattle.milter_request.specs.CommandLine.{play_app, play_base, play_offer_app, reading_app, rules_app};
-ghost use Rattle.milter_request.specs.CommandLine.{session_app, timeout_rule, tool_app, top_app, trace_app};
+ghost use Rattle.milter_request.specs.CommandLine.{serve_app, serve_base, session_app, timeout_rule, tool_app, top_app, trace_app};
 
-use crate::command_line::{COUNT_MAX, TIMEOUT_MAX, VERSION};
+use crate::command_line::{AT_ONCE_MAX, COUNT_MAX, IDLE_MAX, MODE_MAX, TIMEOUT_MAX, VERSION};
 use crate::help_text;
 use clap::builder::ValueParser;
 use clap::{Arg, ArgAction, Command};
@@ -28,7 +28,8 @@ fn filtering<'a>(alloc: Global) -> Result<Command<'a>, AllocError>
 {
     reading(alloc)?
         .subcommand(answer(alloc)?)?
-        .subcommand(filter(alloc)?)
+        .subcommand(filter(alloc)?)?
+        .subcommand(serve(alloc)?)
 }
 
 /// The command line with the subcommands that only read files.
@@ -91,11 +92,22 @@ fn answer<'a>(alloc: Global) -> Result<Command<'a>, AllocError>
     Command::new(alloc, "answer")
         .about("Replies to a mail server, on standard input and output, as a filter")
         .after_long_help(help_text::ANSWER)
-        .arg(rules_option(alloc))
+        .arg(rules_option(alloc))?
+        .arg(lenient_flag(alloc))
 }
 
 fn filter<'a>(alloc: Global) -> Result<Command<'a>, AllocError>
     ensures shape { IfOk result (λ c. app_of c ≡ filter_app) }
+    ensures local { IfOk result IsLocal }
+{
+    filter_places(alloc)?
+        .arg(count_option(alloc))?
+        .arg(lenient_flag(alloc))
+}
+
+/// The subcommand `filter` with its address and its rules.
+fn filter_places<'a>(alloc: Global) -> Result<Command<'a>, AllocError>
+    ensures shape { IfOk result (λ c. app_of c ≡ filter_base) }
     ensures local { IfOk result IsLocal }
 {
     Command::new(alloc, "filter")
@@ -107,8 +119,52 @@ fn filter<'a>(alloc: Global) -> Result<Command<'a>, AllocError>
             "ADDRESS",
             "Where to listen: inet:PORT@HOST or unix:PATH",
         ))?
-        .arg(rules_option(alloc))?
-        .arg(count_option(alloc))
+        .arg(rules_option(alloc))
+}
+
+fn serve<'a>(alloc: Global) -> Result<Command<'a>, AllocError>
+    ensures shape { IfOk result (λ c. app_of c ≡ serve_app) }
+    ensures local { IfOk result IsLocal }
+{
+    serve_places(alloc)?
+        .arg(number_option(
+            alloc,
+            "at-once",
+            "N",
+            "How many connections are open at once, from 1 to 10,000; without it 200",
+            AT_ONCE_MAX,
+        ))?
+        .arg(number_option(
+            alloc,
+            "timeout",
+            "SECONDS",
+            "After how long an idle connection is closed, from 1 to 86,400; without it 7,210",
+            IDLE_MAX,
+        ))?
+        .arg(number_option(
+            alloc,
+            "mode",
+            "OCTAL",
+            "The mode of a Unix socket; without it 660",
+            MODE_MAX,
+        ))
+}
+
+/// The subcommand `serve` with its address and its rules.
+fn serve_places<'a>(alloc: Global) -> Result<Command<'a>, AllocError>
+    ensures shape { IfOk result (λ c. app_of c ≡ serve_base) }
+    ensures local { IfOk result IsLocal }
+{
+    Command::new(alloc, "serve")
+        .about("Serves many connections of mail servers at once, as a filter, until it is ended")
+        .after_long_help(help_text::SERVE)
+        .arg(place(
+            alloc,
+            "address",
+            "ADDRESS",
+            "Where to listen: inet:PORT@HOST or unix:PATH",
+        ))?
+        .arg(rules_option(alloc))
 }
 
 fn mta<'a>(alloc: Global, losses: &'a [&'a str]) -> Result<Command<'a>, AllocError>
@@ -191,6 +247,17 @@ fn rules_option<'a>(alloc: Global) -> Arg<'a>
         "FILE",
         "The path of a rule file; without one all mail goes on",
     )
+}
+
+/// Whether a greeting or a sender within a message ends that message.
+fn lenient_flag<'a>(alloc: Global) -> Arg<'a>
+    ensures rule { rule_of result ≡ flag_rule (codes "lenient") }
+    ensures local { result.global ≡ false }
+{
+    Arg::new(alloc, "lenient")
+        .long("lenient")
+        .action(ArgAction::SetTrue)
+        .help("Has a greeting or a sender within a message end that message, as an abort does")
 }
 
 /// Which actions are offered to a filter.

@@ -18,6 +18,8 @@ pub enum UsageError {
     BadProtocol,
     /// A text that names no address.
     BadAddress,
+    /// A value of `--mode` with a digit that isn't octal.
+    BadMode,
 }
 
 impl fmt::Display for UsageError {
@@ -35,6 +37,7 @@ impl fmt::Display for UsageError {
             UsageError::BadActions => writeln!(f, "bad value for --actions"),
             UsageError::BadProtocol => writeln!(f, "bad value for --protocol"),
             UsageError::BadAddress => writeln!(f, "bad address"),
+            UsageError::BadMode => writeln!(f, "bad mode"),
         }
     }
 }

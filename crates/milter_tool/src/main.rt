@@ -6,22 +6,28 @@
 #![tactic(auto)]
 
 use milter_cli::{
-    Connections, InputFile, TcpDial, ToolError, UnixDial, answer_run, argument_error, end_usage,
-    ended_as, filter_run, listen_error, load_events, load_rules, load_session, mta_run,
-    output_error, play_run, print_rules, print_session, read_error, report, schedule_run,
+    ConnectionLines, Connections, InputFile, TcpDial, ToolError, UnixDial, answer_run,
+    argument_error, end_usage, ended_as, filter_run, listen_error, load_events, load_rules,
+    load_session, mta_run, output_error, play_run, print_rules, print_session, read_error, report,
+    schedule_run, service_error,
 };
 use milter_converse::Dial;
+use milter_filter::{CommandOrder, serve_in_order};
 use milter_mail::Session;
 use milter_mta::Config;
-use milter_request::{Address, MtaRequest, Offer, PlayRequest, Request, Target, UsageError, parse};
+use milter_request::{
+    Address, MtaRequest, Offer, PlayRequest, Request, ServeRequest, Target, UsageError, parse,
+    parse_mode,
+};
 use milter_rules::Rules;
+use milter_service::{Limits, Listener, Service};
 use milter_trace::trace_run;
 use milter_world::Event;
 use std::env::{self, Env};
 use std::net::{Net, TcpListener, TcpStream};
 use std::os::unix::net::UnixListener;
 use std::process::ExitCode;
-use std::rt::Files;
+use std::rt::{Clock, Files};
 use std::time::Duration;
 use std::{fs, io};
 
@@ -60,15 +66,28 @@ fn rules_at<R: Files + AllocGlobal>(rt: &R, path: Option<&str>) -> Result<Rules,
     }
 }
 
+/// The order in which a filter takes commands.
+fn order_of(lenient: bool) -> CommandOrder {
+    if lenient {
+        CommandOrder::Lenient
+    } else {
+        CommandOrder::Strict
+    }
+}
+
 /// Replies to the mail server on standard input, as a filter with the rules of the file at this path.
 fn answer_mail_server<R: Input + Files + Print + AllocGlobal>(
     rt: &R,
     path: Option<&str>,
+    lenient: bool,
 ) -> Result<(), ToolError> {
     let rules = rules_at(rt, path)?;
     let mut reader = rt.reader();
     let mut writer = io::writer(rt);
-    let served = answer_run(rt.alloc(), &rules, &mut reader, &mut writer);
+    let served = match order_of(lenient) {
+        CommandOrder::Strict => answer_run(rt.alloc(), &rules, &mut reader, &mut writer),
+        order => serve_in_order(rt.alloc(), &rules, order, &mut reader, &mut writer),
+    };
     ended_as(served).map_err(ToolError::Answer)
 }
 
@@ -78,12 +97,13 @@ fn serve_address<R: Net<Listener = TcpListener, Stream = TcpStream> + Files + Pr
     address: &str,
     path: Option<&str>,
     count: u32,
+    lenient: bool,
 ) -> Result<(), ToolError> {
     let Some(address) = Address::parse(address) else {
         return Err(ToolError::Usage(UsageError::BadAddress));
     };
     let rules = rules_at(rt, path)?;
-    serve_rules(rt, &rules, address, count)
+    serve_rules(rt, &rules, address, count, order_of(lenient))
 }
 
 /// Serves so many connections of mail servers to this address, as a filter with these rules.
@@ -92,19 +112,20 @@ fn serve_rules<R: Net<Listener = TcpListener, Stream = TcpStream> + Files + Prin
     rules: &Rules,
     address: Address<'_>,
     count: u32,
+    order: CommandOrder,
 ) -> Result<(), ToolError> {
     match address {
         Address::Inet { port, host } => {
             let listener = TcpListener::bind(rt, (host, port)).map_err(|error| listen_error(
                 error.kind(),
             ))?;
-            serve_connections(rt, rules, listener, count)
+            serve_connections(rt, rules, listener, count, order)
         }
         Address::Unix { path } => {
             let listener = UnixListener::bind(rt, path).map_err(|error| listen_error(
                 error.kind(),
             ))?;
-            serve_connections(rt, rules, listener, count)
+            serve_connections(rt, rules, listener, count, order)
         }
     }
 }
@@ -115,11 +136,69 @@ fn serve_connections<R: Print + AllocGlobal, C: Connections + Drop>(
     rules: &Rules,
     mut connections: C,
     count: u32,
+    order: CommandOrder,
 ) -> Result<(), ToolError> {
     let mut writer = io::writer(rt);
-    match filter_run(rt.alloc(), rules, &mut connections, count, &mut writer) {
+    match filter_run(
+        rt.alloc(),
+        rules,
+        order,
+        &mut connections,
+        count,
+        &mut writer,
+    ) {
         Ok(()) => Ok(()),
         Err(fault) => Err(output_error(fault)),
+    }
+}
+
+/// Serves connections of mail servers at once, as a filter, until it is ended.
+fn serve_many<
+    R: Net<Listener = TcpListener, Stream = TcpStream> + Files + Clock + Print + AllocGlobal,
+>(rt: &R, asked: ServeRequest<'_>) -> Result<(), ToolError> {
+    let Some(address) = Address::parse(asked.address) else {
+        return Err(ToolError::Usage(UsageError::BadAddress));
+    };
+    let mode = match parse_mode(asked.mode) {
+        Ok(mode) => mode,
+        Err(error) => return Err(ToolError::Usage(error)),
+    };
+    let limits = Limits {
+        at_once: asked.at_once as usize,
+        timeout: u64::from(asked.timeout),
+    };
+    let rules = rules_at(rt, asked.rules)?;
+    let bound = match address {
+        Address::Inet { port, host } => Listener::bind_inet(rt, host, port),
+        Address::Unix { path } => Listener::bind_unix(rt, path, mode),
+    };
+    match bound {
+        Ok(listener) => serve_listener(rt, &rules, limits, listener),
+        Err(error) => Err(listen_error(error.kind())),
+    }
+}
+
+/// Serves the connections of this listener at once, as a filter with these rules.
+fn serve_listener<R: Net + Clock + Print + AllocGlobal>(
+    rt: &R,
+    rules: &Rules,
+    limits: Limits,
+    listener: Listener,
+) -> Result<(), ToolError> {
+    let Ok(listeners) = vec![in rt.alloc(); listener] else {
+        return Err(ToolError::NoMemory);
+    };
+    let mut lines = ConnectionLines {
+        alloc: rt.alloc(),
+        writer: &mut io::writer(rt),
+    };
+    let mut service = match Service::new(rt, rt.alloc(), rules, limits, listeners) {
+        Ok(service) => service,
+        Err(error) => return Err(service_error(error)),
+    };
+    match service.run(&mut lines) {
+        Ok(()) => Ok(()),
+        Err(error) => Err(service_error(error)),
     }
 }
 
@@ -267,21 +346,29 @@ fn words<R: Env + AllocGlobal>(rt: &R) -> Result<Vec<String>, ToolError> {
 }
 
 fn run<
-    R: Net<Listener = TcpListener, Stream = TcpStream> + Input + Files + Print + Env + AllocGlobal,
+    R: Net<Listener = TcpListener, Stream = TcpStream>
+        + Input
+        + Files
+        + Clock
+        + Print
+        + Env
+        + AllocGlobal,
 >(rt: &R) -> Result<(), ToolError> {
     let words = words(rt)?;
     match parse(rt.alloc(), words.as_slice()) {
         Ok(Request::Trace) => print_trace(rt),
         Ok(Request::Session { file }) => print_session_file(rt, file),
         Ok(Request::Rules { file }) => print_rule_file(rt, file),
-        Ok(Request::Answer { rules }) => answer_mail_server(rt, rules),
+        Ok(Request::Answer { rules, lenient }) => answer_mail_server(rt, rules, lenient),
         Ok(
             Request::Filter {
                 address,
                 rules,
                 count,
+                lenient,
             },
-        ) => serve_address(rt, address, rules, count),
+        ) => serve_address(rt, address, rules, count, lenient),
+        Ok(Request::Serve(asked)) => serve_many(rt, asked),
         Ok(Request::Mta(asked)) => play_session(rt, asked),
         Ok(Request::Play(asked)) => play_in_memory(rt, asked),
         Err(error) => end_usage(error, &mut io::writer(rt)),

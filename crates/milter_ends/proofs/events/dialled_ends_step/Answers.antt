@@ -1,3 +1,4 @@
+use Rattle.milter_exchange.specs.declared.command_order.CommandOrder.TheVariants.{Strict}
 use Rattle.milter_schedule.specs.declared.state.State.TheVariants.{Idle}
 use Rattle.milter_ends.proofs.EndSteps.{DialLaws, dials}
 use Rattle.milter_ends.proofs.EventCases.{at-state}
@@ -9,6 +10,6 @@ returns g c =
       both = c.messages_are_settled_by_walks.ensures.goes_on;
       dialled_on = c.messages_are_settled_by_walks.ensures.dialled;
       dialled_reported = c.connections_are_reported.ensures.dialled;
-      begins = c.cores_go_on.ensures.begins;
+      begins = (λ b policy. c.cores_go_on.ensures.begins b Strict policy);
     } in
     λ p ends settled is at. dials p ends is.possible is.by_walks settled at (at-state p ends is (Idle settled) at) laws

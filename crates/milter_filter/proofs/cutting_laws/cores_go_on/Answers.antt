@@ -1,8 +1,11 @@
-use Rattle.milter_filter.proofs.Cutting.{fresh-begins, goes_on-ended, goes_on-gives_up, goes_on-joins, goes_on-sends, goes_on-takes}
+use Rattle.milter_filter.proofs.Cutting.{fresh-begins, goes_on-ended, goes_on-gives_up, goes_on-joins, goes_on-sends, goes_on-stays, goes_on-takes}
 use Rattle.milter_filter.proofs.cutting_laws.cores_go_on.Goals as goal
 
 pub returns-clause-begins : goal.returns-clause-begins
 returns-clause-begins g c = fresh-begins
+
+pub returns-clause-stays : goal.returns-clause-stays
+returns-clause-stays g c = goes_on-stays
 
 pub returns-clause-joins : goal.returns-clause-joins
 returns-clause-joins g c = goes_on-joins

@@ -1,7 +1,12 @@
 use Rattle.std.proofs.Common.{codes, refl}
 use Rattle.clap.specs.Words.{found_of}
-use Rattle.milter_request.proofs.RequestLaws.{text_given}
+use Rattle.milter_request.proofs.RequestLaws.{flag_given, text_given}
 use Rattle.milter_request.proofs.command_line.answer_request.Goals as goal
 
 pub returns : goal.returns
-returns c = (refl, text_given (found_of c.args.given.now) (codes "rules") c.get_str.result c.get_str.ensures)
+returns c =
+    let found = found_of c.args.given.now in (
+      refl,
+      text_given found (codes "rules") c.get_str.result c.get_str.ensures,
+      flag_given found (codes "lenient") c.get_str-2.result c.is_set.result c.get_str-2.ensures c.is_set.ensures,
+    )

@@ -1,0 +1,64 @@
+//! What was read of a connection and is not taken.
+
+ghost use Rattle.std.specs.Prelude.{◌≡◌, ◌≤◌, ◌++◌, [], OnOk, drop, length};
+
+use std::alloc::{AllocError, Global};
+use std::marker::Model;
+
+/// What was read of a connection and is not taken, since replies wait.
+#[derive(Drop)]
+pub(crate) struct Backlog {
+    alloc: Global,
+    bytes: Vec<u8>,
+    // How many of the bytes were taken.
+    taken: usize,
+}
+
+impl Model for Backlog {
+    ghost use Rattle.std.specs.Prelude.{List, ℕ, ◌≤◌, drop, length};
+
+    ghost Value = { List ℕ };
+
+    ghost view = { λ b. drop b.taken b.bytes.items };
+
+    ghost invariant = { λ b. b.taken ≤ length b.bytes.items };
+}
+
+impl Backlog {
+    /// Nothing. It doesn't allocate.
+    pub(crate) fn new(alloc: Global) -> Self
+        ensures { result ≡ [] }
+    {
+        Backlog {
+            alloc,
+            bytes: Vec::new(alloc),
+            taken: 0,
+        }
+    }
+
+    /// The bytes.
+    pub(crate) fn as_slice(&self) -> &[u8]
+        ensures { result.now ≡ self.now }
+    {
+        &self.bytes[self.taken..]
+    }
+
+    /// Notes that the first `count` bytes were taken. It frees the memory where none is left.
+    pub(crate) fn advance(&mut self, count: usize)
+        requires { count ≤ length self.old }
+        ensures { self.new ≡ drop count self.old }
+    {
+        self.taken += count;
+        if self.taken == self.bytes.len() {
+            self.bytes = Vec::new(self.alloc);
+            self.taken = 0;
+        }
+    }
+
+    /// Adds bytes, or none of them.
+    pub(crate) fn add(&mut self, bytes: &[u8]) -> Result<(), AllocError>
+        ensures { OnOk result (self.new ≡ self.old ++ bytes.now) }
+    {
+        self.bytes.extend_from_slice(bytes)
+    }
+}
