@@ -1,4 +1,4 @@
-"""Runs `milter_tool filter`, and makes connections to it and to other filters."""
+"""Runs `milter_tool filter` and `milter_tool serve`, and makes connections to them and to other filters."""
 import itertools
 import os
 import resource
@@ -20,13 +20,15 @@ KINDS = ['inet', 'unix']
 class Filter:
     """A run of `milter_tool filter` on a socket of this kind, with these options."""
 
+    subcommand = 'filter'
+
     def __init__(self, program, kind, folder, options, files=None, stdout=subprocess.PIPE, host=None):
         self.at, self.address = place_of(kind, folder, host)
         self.ended = 0
         limit = None if files is None else lambda: resource.setrlimit(resource.RLIMIT_NOFILE, (files, files))
         self.process = subprocess.Popen(
-            [program, 'filter'] + (options + [self.address] if kind == 'inet' else [self.address] + options), bufsize=0,
-            stdin=subprocess.DEVNULL, stdout=stdout, stderr=subprocess.PIPE, preexec_fn=limit)
+            [program, self.subcommand] + (options + [self.address] if kind == 'inet' else [self.address] + options),
+            bufsize=0, stdin=subprocess.DEVNULL, stdout=stdout, stderr=subprocess.PIPE, preexec_fn=limit)
 
     def __enter__(self):
         return self
@@ -51,6 +53,74 @@ class Filter:
         """Waits for the end of the run, which is this one."""
         found = self.process.communicate(timeout=SECONDS)
         checks.expect('end', (self.process.returncode,) + found, (status, out, err))
+
+
+class Service(Filter):
+    """A run of `milter_tool serve` on a socket of this kind, with these options. Its lines are in a file, since they
+    come as connections end, in any order."""
+
+    subcommand = 'serve'
+
+    def __init__(self, program, kind, folder, options=(), files=None):
+        self.made = 0
+        self.out = os.path.join(tempfile.mkdtemp(dir=folder), 'lines')
+        with open(self.out, 'wb') as lines:
+            super().__init__(program, kind, folder, list(options), files, lines)
+
+    def connected(self):
+        """A connection, which has the next number where the one before is made by now."""
+        connection = super().connected()
+        self.made += 1
+        if connection.family != socket.AF_UNIX:
+            connection.setsockopt(socket.IPPROTO_TCP, socket.TCP_NODELAY, 1)
+        return connection
+
+    def lines(self):
+        """The lines that are printed: of each the number of the connection, and how that ended."""
+        with open(self.out, 'rb') as lines:
+            return [tuple(line.split(b' ', 2)[1:]) for line in lines.read().split(b'\n')[:-1]]
+
+    def expect_line(self, number, *endings):
+        """Waits until the connection of this number has a line, which has one of these endings."""
+        found = waited_for(lambda: [ending for count, ending in self.lines() if count == b'%d' % number])
+        checks.expect('line of %d' % number, found, [found[0]] if found and found[0] in endings else [endings])
+
+    def expect_all(self, *endings):
+        """Waits until each connection that was made has a line; it has one, with one of these endings."""
+        lines = waited_for(lambda: self.lines() if len(self.lines()) >= self.made else None) or self.lines()
+        numbers = sorted(int(number) for number, _ in lines)
+        checks.expect('numbers', numbers == list(range(1, self.made + 1)), True)
+        others = [line for line in lines if line[1] not in endings]
+        checks.expect('lines', others[:5], [])
+
+    def memory(self):
+        """The KiB of memory that it has."""
+        with open('/proc/%d/status' % self.process.pid) as status:
+            return next(int(line.split()[1]) for line in status if line.startswith('VmRSS:'))
+
+    def descriptors(self):
+        """How many descriptors it has open."""
+        return len(os.listdir('/proc/%d/fd' % self.process.pid))
+
+    def seconds(self):
+        """The processor time that it took."""
+        with open('/proc/%d/stat' % self.process.pid) as stat:
+            return sum(map(int, stat.read().rpartition(')')[2].split()[11:13])) / os.sysconf('SC_CLK_TCK')
+
+    def expect_goes_on(self):
+        """It runs, and has printed no fault."""
+        if self.process.poll() is not None:
+            raise checks.Wrong('ended with status %d: %r' % (self.process.returncode, self.process.stderr.read()))
+
+
+def waited_for(look):
+    """What this answers once it is something, or at last."""
+    until = time.monotonic() + SECONDS
+    found = look()
+    while not found and time.monotonic() < until:
+        time.sleep(0.002)
+        found = look()
+    return found
 
 
 def place_of(kind, folder, host=None):

@@ -1,0 +1,336 @@
+#!/usr/bin/env python3
+"""Serves many mail servers at once by `milter_tool serve`, as both compilers built it, over TCP and over Unix sockets:
+the rows of tables of `milter_tool answer`; streams of random packets, beside `answer --lenient`; connections that are
+interleaved, each of which gets its own replies; greetings and senders within a message; and far ends that go, are half
+closed or reset. What is run is what `rt ci` built; nothing is proved here.
+
+The rows of a table that end by a greeting or a sender within a message are left out: `serve` takes them.
+
+Counted are the connections and the runs.
+"""
+import contextlib
+import os
+import random
+import select
+import socket
+import sys
+import tempfile
+
+import test_sockets
+from lib import checks, programs, serving
+from lib.checks import checked, expect
+from lib.talks import (
+    ABORT, AGREED, CONTINUE, GREETED_AGAIN, KEYS, LENIENTLY, OFFER, QUIT, STRICTLY, filled, message, opening, packet,
+    quit_all, rules_file, rules_of_keys, run_to_end, say)
+
+
+def is_lenient(lines):
+    """Whether a row ends by a greeting or a sender within a message."""
+    given = [text[:1] for mark, text in lines if mark == b'>']
+    return (b'!', b'filter fault 3') in lines and given[-1] in (b'H', b'M')
+
+
+def play(served, pieces, ending):
+    """A connection that sends these pieces, and reads the replies to each before it sends the next."""
+    with served.connected() as connection:
+        number = served.made
+        for given, replies in pieces:
+            test_sockets.send(connection, given)
+            serving.expect_replies(connection, replies)
+        if ending.startswith(b'ended'):
+            connection.shutdown(socket.SHUT_WR)
+        serving.expect_closed(connection)
+    served.expect_line(number, ending)
+
+
+def rows(program, kind, folder):
+    """The rows without rules, as connections of one run."""
+    with serving.Service(program, kind, folder) as served:
+        for table in test_sockets.TABLES:
+            for name, lines, pieces, whole, ending in test_sockets.rows_of(table):
+                if not is_lenient(lines):
+                    yield checked(name, play, served, pieces, ending)
+                    yield checked(name + ' at once', play, served, whole, ending)
+        yield checked('rows', served.expect_goes_on)
+
+
+def rows_with_rules(program, kind, folder):
+    """The rows with rules, each as a run of one connection, or of none where the rules have a fault."""
+
+    def run(lines, pieces, ending):
+        words = test_sockets.tables.further_words('answer', lines, os.path.join(folder, 'row'))
+        if ending is None:
+            err = test_sockets.tables.contents_of('answer', lines, None)['err']
+            run_to_end(program, ['unix:' + os.path.join(folder, 'none')] + words, (1, b'', err))
+        else:
+            with serving.Service(program, kind, folder, words) as served:
+                play(served, pieces, ending)
+
+    for table in test_sockets.RULE_TABLES:
+        for name, lines, pieces, _, ending in test_sockets.rows_of(table):
+            if not is_lenient(lines):
+                yield checked(name, run, lines, pieces, ending)
+
+
+def replies_and_ending(program, words, given):
+    """What `answer --lenient` replies to these bytes, and how a line of `serve` ends after them."""
+    status, out, err = programs.ended([program, 'answer', '--lenient'] + words, given, timeout=serving.SECONDS)
+    for pattern, ending in test_sockets.ENDINGS:
+        found = test_sockets.re.fullmatch(pattern, err)
+        if found:
+            return out, ending % found[1]
+    expect('answer', (status, err), (0, b''))
+    return out, b'quit or ended 0'
+
+
+def random_stream(chosen):
+    """Packets in any order, most of which are whole."""
+    talk = [given for given, _ in opening(1) + message(1) + message(2)] + [
+        packet(b'M', b'<s3@x>'), packet(b'H', b'again'), packet(b'H', b'again'), ABORT, packet(b'K'),
+        packet(b'U', b'X'), packet(b'D', b'Mi', b'9') + packet(b'M', b'<s4@x>'),
+        packet(b'D', b'Hi', b'9') + packet(b'H', b'h')]
+    order = opening(1) + message(chosen.randrange(KEYS))
+    given = [sent for sent, _ in order[:chosen.randrange(1, len(order) + 1)]]
+    given += [chosen.choice(talk[1:]) for _ in range(chosen.randrange(8))]
+    if chosen.random() < 0.1:
+        given.append(chosen.choice([b'\0\0\0\0', b'\0\1\0\1', b'\0\0\0\1x', OFFER, packet(b'M')]))
+    stream = b''.join(given)
+    return stream[:chosen.randrange(len(stream))] if chosen.random() < 0.2 else stream
+
+
+def streams(program, kind, folder):
+    """Streams of random packets in pieces of any size: the replies and the ends are those of `answer --lenient`."""
+    words = rules_of_keys(folder)
+
+    def run(served, chosen):
+        given = random_stream(chosen)
+        replies, ending = replies_and_ending(program, words, given)
+        with served.connected() as connection:
+            number, at = served.made, 0
+            while at < len(given):
+                size = chosen.choice([1, 3, 5, 17, 400])
+                test_sockets.send(connection, given[at:at + size])
+                at += size
+            with contextlib.suppress(OSError):
+                connection.shutdown(socket.SHUT_WR)
+            serving.expect_replies(connection, replies)
+            serving.expect_closed(connection)
+        served.expect_line(number, *([b'quit', b'ended 0'] if ending.startswith(b'quit') else [ending]))
+
+    with serving.Service(program, kind, folder, words) as served:
+        for seed in range(60):
+            yield checked('stream %d' % seed, run, served, random.Random(seed))
+
+
+def in_pieces(connections, talks, chosen):
+    """Plays these talks, piece by piece of a packet, in any order of the connections."""
+    rest = [list(talk) for talk in talks]
+    unsent = [b''] * len(talks)
+    while open_ones := [at for at, talk in enumerate(rest) if talk]:
+        at = chosen.choice(open_ones)
+        unsent[at] = unsent[at] or rest[at][0][0]
+        size = chosen.choice([1, 4, 5, 20, 1000])
+        connections[at].sendall(unsent[at][:size])
+        unsent[at] = unsent[at][size:]
+        if not unsent[at]:
+            serving.expect_replies(connections[at], rest[at].pop(0)[1])
+
+
+def side_by_side(connections, talks):
+    """Plays these talks packet by packet: each sends its packet before one of them reads its reply."""
+    for parts in zip(*talks):
+        for connection, (given, _) in zip(connections, parts):
+            connection.sendall(given)
+        for connection, (_, reply) in zip(connections, parts):
+            serving.expect_replies(connection, reply)
+
+
+def interleaved(program, kind, folder):
+    """Connections that are interleaved, each of which gets its own replies."""
+    words = rules_of_keys(folder)
+
+    def run(count, how, *given):
+        talks = [opening(at) + message(at % KEYS) + message((at + 1) % KEYS) for at in range(count)]
+        with serving.Service(program, kind, folder, words) as served:
+            connections = [served.connected() for _ in range(count)]
+            how(connections, talks, *given)
+            expect('lines', served.lines(), [])
+            quit_all(connections)
+            served.expect_all(b'quit')
+
+    for count in [2, 7, 150]:
+        yield checked('%d side by side' % count, run, count, side_by_side)
+    for count, seeds in [(2, 8), (60, 2)]:
+        for seed in range(seeds):
+            yield checked('%d in pieces, %d' % (count, seed), run, count, in_pieces, random.Random(seed))
+
+
+def greeted_again(program, kind, folder):
+    """A greeting within a message is a fault in the strict order alone; a message that a rule refuses is refused after
+    it all the same, and a sender before any message takes nothing away."""
+
+    def answers(words, expected):
+        end = programs.ended([program, 'answer'] + words, GREETED_AGAIN, timeout=serving.SECONDS)
+        expect('end', end, expected)
+
+    def filters(words, replies, line):
+        with serving.Filter(program, kind, folder, words) as served:
+            with served.connected() as connection:
+                connection.sendall(GREETED_AGAIN)
+                serving.expect_replies(connection, replies)
+                connection.shutdown(socket.SHUT_WR)
+                serving.expect_closed(connection)
+            served.expect_line(line)
+
+    def serves(rules, talk, ending=b'quit'):
+        with serving.Service(program, kind, folder, rules_file(folder, rules)) as served:
+            with served.connected() as connection:
+                say(connection, talk + [(QUIT, b'')])
+                serving.expect_closed(connection)
+            served.expect_line(1, ending)
+
+    yield checked('answer', answers, [], (1, STRICTLY, b'filter fault 3\n'))
+    yield checked('answer --lenient', answers, ['--lenient'], (0, LENIENTLY, b''))
+    yield checked('filter', filters, [], STRICTLY, b'failed 3')
+    yield checked('filter --lenient', filters, ['--lenient'], LENIENTLY, b'ended 0')
+    yield checked('serve', serves, '', [(GREETED_AGAIN, LENIENTLY)])
+    reject = packet(b'r')
+    begin = [(OFFER, AGREED), (packet(b'H', b'one'), CONTINUE)]
+    sender, recipient = packet(b'M', b'<a@x>'), packet(b'R', b'<b@y>')
+    again = begin + [(sender, CONTINUE), (packet(b'H', b'two'), CONTINUE)]
+    at_rcpt = 'at rcpt when rcpt is "<b@y>" do reject\n'
+    at_data = 'at data when rcpt is "<b@y>" do reject\n'
+    yield checked('refused at rcpt', serves, at_rcpt, again + [(sender, CONTINUE), (recipient, reject)])
+    yield checked('refused at data', serves, at_data, again + [
+        (sender, CONTINUE), (recipient, CONTINUE), (packet(b'T'), reject)])
+    yield checked('refused at data after a recipient', serves, at_data, begin + [
+        (sender, CONTINUE), (recipient, CONTINUE), (packet(b'H', b'two'), CONTINUE), (sender, CONTINUE),
+        (packet(b'R', b'<c@y>'), CONTINUE), (packet(b'T'), CONTINUE), (packet(b'E'), CONTINUE),
+        (sender, CONTINUE), (recipient, CONTINUE), (packet(b'T'), reject)])
+    # Postfix sends the abort after the greeting.
+    yield checked('an abort after it', serves, at_rcpt, again + [
+        (ABORT, b''), (sender, CONTINUE), (recipient, reject)])
+    # The greeting that is shown to rules is the last one.
+    yield checked('the last greeting', serves, 'at mail when helo is "two" do reject\n', again + [(sender, reject)])
+    yield checked('not the first greeting', serves, 'at mail when helo is "one" do reject\n', begin + [
+        (sender, reject), (packet(b'H', b'two'), CONTINUE), (sender, CONTINUE)])
+    yield checked('a greeting refused', serves, 'at helo when helo is "two" do reject\n', begin + [
+        (sender, CONTINUE), (packet(b'H', b'two'), reject)])
+    # What the message had that it ends is not shown to rules.
+    yield checked('other recipients', serves, 'at eob when rcpt is "<b@y>" do reject\n', begin + [
+        (sender, CONTINUE), (recipient, CONTINUE), (sender, CONTINUE), (packet(b'R', b'<c@y>'), CONTINUE),
+        (packet(b'E'), CONTINUE)])
+    # A sender before any message: what came before it is shown to rules.
+    first = [(OFFER, AGREED), (packet(b'D', b'Hj', b'mx') + packet(b'H', b'one'), CONTINUE)]
+    yield checked('the first sender', serves, 'at mail when helo is "one" and macro "j" is "mx" do reject\n', first + [
+        (packet(b'D', b'Mi', b'1') + sender, reject)])
+    yield checked('macros of the first sender', serves, 'at mail when macro "i" is "1" do reject\n', first + [
+        (packet(b'D', b'Mi', b'1') + sender, reject)])
+    # The macros that are sent before a sender belong to the message that it ends; those before a greeting stay.
+    yield checked('macros of a sender within a message', serves, 'at mail when macro "i" is "2" do reject\n', first + [
+        (packet(b'D', b'Mi', b'1') + sender, CONTINUE), (recipient, CONTINUE),
+        (packet(b'D', b'Mi', b'2') + sender, CONTINUE)])
+    yield checked('macros of a greeting within a message', serves, 'at helo when macro "t" is "2" do reject\n', first
+                  + [(packet(b'D', b'Mi', b'1') + sender, CONTINUE),
+                     (packet(b'D', b'Ht', b'2') + packet(b'H', b'two'), reject)])
+
+
+def far_ends(program, kind, folder):
+    """Connections of one run whose far end goes before, within and after each packet, is reset, or half closed."""
+
+    def goes(served, count, last, resets, *endings):
+        connection = served.connected()
+        number = served.made
+        for given, reply in test_sockets.packets()[:count]:
+            connection.sendall(given)
+            serving.expect_replies(connection, reply)
+        connection.sendall(last)
+        test_sockets.close(connection, resets)
+        served.expect_line(number, *endings)
+
+    def goes_with_a_reply(served, count):
+        given, reply = test_sockets.packets()[count]
+        connection = served.connected()
+        number = served.made
+        for before, replies in test_sockets.packets()[:count]:
+            connection.sendall(before)
+            serving.expect_replies(connection, replies)
+        connection.sendall(given)
+        connection.recv(len(reply), socket.MSG_PEEK | socket.MSG_WAITALL)
+        connection.close()
+        served.expect_line(number, b'read fault')
+
+    def half_closed(served, times):
+        given = b''.join(given for given, _ in opening(1) + times * message(1))
+        replies = b''.join(reply for _, reply in opening(1) + times * message(1))
+        found = b''
+        with served.connected() as connection:
+            number = served.made
+            connection.setblocking(False)
+            while len(found) < len(replies):
+                readable, writable, _ = select.select([connection], [connection] if given else [], [], serving.SECONDS)
+                if writable:
+                    given = given[connection.send(given[:1 << 16]):]
+                    if not given:
+                        connection.shutdown(socket.SHUT_WR)
+                if readable and not (piece := connection.recv(1 << 16)):
+                    break
+                found += piece if readable else b''
+            expect('replies', found == replies, True)
+            connection.settimeout(serving.SECONDS)
+            serving.expect_closed(connection)
+        served.expect_line(number, b'ended 0')
+
+    def reset_in_replies(served):
+        given = b''.join(given for given, _ in opening(1)) + 2000 * b''.join(given for given, _ in message(1))
+        connection = served.connected()
+        number = served.made
+        connection.setblocking(False)
+        filled(connection, given, 0.05)
+        serving.reset_at_end(connection)
+        connection.close()
+        served.expect_line(number, b'read fault', b'write fault')
+
+    with serving.Service(program, kind, folder, rules_of_keys(folder)) as served, served.connected() as other:
+        say(other, opening(3))
+        for count in range(len(test_sockets.packets()) + 1):
+            given, reply = (test_sockets.packets() + [(b'', b'')])[count]
+            for resets in [False, True] if kind == 'inet' else [False]:
+                how = ' is reset' if resets else ' ends'
+                yield checked('before packet %d%s' % (count, how), goes, served, count, b'', resets,
+                              b'read fault' if resets else b'ended 0')
+                for size in sorted({1, 4, len(given) - 1}):
+                    if 0 < size < len(given):
+                        yield checked('byte %d of packet %d%s' % (size, count, how), goes, served, count, given[:size],
+                                      resets, b'read fault' if resets else b'ended %d' % size)
+            if reply:
+                yield checked('reply to packet %d' % count, goes_with_a_reply, served, count)
+        for times in [0, 1, 3000]:
+            yield checked('half closed after %d messages' % times, half_closed, served, times)
+        for _ in range(5):
+            yield checked('reset within replies', reset_in_replies, served)
+        yield checked('the other', say, other, message(3) + message(4))
+        yield checked('the other quits', quit_all, [other])
+        yield checked('the lines', served.expect_line, 1, b'quit')
+
+
+def groups(folder):
+    """The groups of checks, each with the program and the kind of sockets that it is run with."""
+    found = []
+    for build in programs.BUILDS:
+        program = programs.tool(build)
+        for kind in serving.KINDS:
+            for group in [rows_with_rules, rows, far_ends, interleaved, streams, greeted_again]:
+                name = '%s at %s' % (os.path.basename(program), kind)
+                found.append((name, group, (program, kind, tempfile.mkdtemp(dir=folder))))
+    return found
+
+
+def main():
+    programs.need('tool')
+    with tempfile.TemporaryDirectory() as work:
+        return checks.run_all(groups(work))
+
+
+if __name__ == '__main__':
+    sys.exit(main())
