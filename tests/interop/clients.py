@@ -7,7 +7,6 @@ between them, which miltertest can't. What the first client had is gone then, an
 ADDRESS is as milter_tool takes it. There are two connections, in whole packets and byte by byte. It prints nothing, or
 what was replied that should not be, with status 1.
 """
-import socket
 import struct
 import sys
 
@@ -44,18 +43,6 @@ TALK = [
 ]
 
 
-def connected(address):
-    """A connection to the address."""
-    if address.startswith('unix:'):
-        connection = socket.socket(socket.AF_UNIX)
-        connection.connect(peers.plain(address))
-    else:
-        host, port = peers.plain(address).split(':')
-        connection = socket.create_connection((host, int(port)))
-    connection.settimeout(peers.SECONDS)
-    return connection
-
-
 def received(connection, count):
     """The next so many bytes, or fewer where the filter ends before."""
     reply = b''
@@ -69,7 +56,7 @@ def received(connection, count):
 
 def play(address, cut):
     """Plays a connection, each part in pieces of so many bytes."""
-    with connected(address) as connection:
+    with peers.connected(address) as connection:
         for sent, expected in TALK:
             for at in range(0, len(sent), cut):
                 connection.sendall(sent[at:at + cut])

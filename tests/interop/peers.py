@@ -70,6 +70,18 @@ def listening(address):
     raise TimeoutError('no listener at ' + address)
 
 
+def connected(address):
+    """A connection to the address."""
+    if address.startswith('unix:'):
+        connection = socket.socket(socket.AF_UNIX)
+        connection.connect(plain(address))
+    else:
+        host, port = plain(address).split(':')
+        connection = socket.create_connection((host, int(port)))
+    connection.settimeout(SECONDS)
+    return connection
+
+
 def rules_of(name):
     """The rule file of this name."""
     return os.path.join(HERE, name + '.rules')
@@ -96,6 +108,29 @@ class Filter:
     def finished(self):
         """What it printed, and its status."""
         return finished(self.process)
+
+
+class Service:
+    """A run of the program that serves many connections at once at the address, and that anyone may connect to."""
+
+    def __init__(self, program, address, rules):
+        self.address = address
+        mode = ['--mode', '666'] if address.startswith('unix:') else []
+        self.process = subprocess.Popen([program, 'serve', address, '--rules', rules] + mode, stdout=subprocess.PIPE,
+                                        stderr=subprocess.STDOUT)
+
+    def __enter__(self):
+        listening(self.address)
+        return self
+
+    def __exit__(self, *_):
+        self.process.kill()
+        self.process.wait()
+
+    def ended(self):
+        """What it has printed; it is ended."""
+        self.process.terminate()
+        return finished(self.process)[0]
 
 
 def finished(process):

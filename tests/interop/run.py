@@ -3,15 +3,18 @@
 
     python3 tests/interop/run.py PROGRAM
 """
+import concurrent.futures
 import os
 import subprocess
 import sys
 import tempfile
 
+import many
 import mta
 import peers
 import postfix
 
+AT_ONCE = 8
 SCRIPTS = ['stages', 'edits', 'protocol', 'messages']
 
 
@@ -41,6 +44,16 @@ def play(checks, program, name, address, client):
         checks.check('%s at %s' % (name, address), (output, status), ('', 0))
         if status == 0:
             checks.check('%s at %s: the lines of the filter' % (name, address), served.finished(), (lines, 0))
+
+
+def play_at_once(checks, program, address):
+    """Plays several runs of the script of messages at once on a service, beside a connection that says nothing."""
+    with peers.Service(program, address, peers.rules_of('messages')) as served, peers.connected(address):
+        with concurrent.futures.ThreadPoolExecutor(AT_ONCE) as running:
+            ends = list(running.map(lambda _: miltertest('messages', address), range(AT_ONCE)))
+        checks.check('messages at once at ' + address, ends, AT_ONCE * [('', 0)])
+        lines = sorted(line.split(' ', 2)[2] for line in served.ended().splitlines())
+        checks.check('messages at once at %s: the lines' % address, lines, AT_ONCE * ['quit'])
 
 
 def record(checks, program, name, address, recorder):
@@ -73,8 +86,11 @@ def main():
                         lambda: run(sys.executable, clients, address))
             name = 'edits recorded at ' + address
             checks.part(name, record, program, name, address, recorder)
+        for address, _ in peers.addresses(work):
+            checks.part('at once at ' + address, play_at_once, program, address)
     checks.part('mta', mta.play, program)
     checks.part('Postfix', postfix.play, program)
+    checks.part('Postfix, many at once', many.play, program)
     print('%d passed, %d failed' % (checks.passed, checks.failed))
     return 1 if checks.failed else 0
 
