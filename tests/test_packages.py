@@ -1,7 +1,9 @@
 #!/usr/bin/env python3
 """Makes the tar file and the Debian package of the proved program, in a copy of what they are made of, and looks at
 what is in them: the program runs, its manual page has each subcommand, the units start the program where the package
-puts it, and the documents are there. And the units of systemd/ are those that docs/DEPLOY.md shows.
+puts it, and the documents are there. And the units of systemd/ are those that docs/DEPLOY.md shows; those that make a
+Unix socket give it a group and a mode, and the one of `serve` is exposed as little as systemd-analyze says, where that
+is installed.
 
 The last line is 'N passed, M failed'; the status is 1 where one failed.
 """
@@ -18,6 +20,8 @@ from lib import runner
 from lib.programs import BUILDS, TOP, need, tool
 
 PACKED = ['README.md', 'CHANGELOG.md', 'SECURITY.md', 'docs', 'examples', 'systemd', 'tools']
+# The most that systemd-analyze says of the exposure of this unit, in tenths.
+HARDENED, EXPOSURE_MAX = 'milter-serve.service', 15
 UNITS = sorted(os.listdir(os.path.join(TOP, 'systemd')))
 
 
@@ -60,7 +64,8 @@ def looked_at(root, folder_of_program):
     yield None if sections + ['HELP'] == [it.upper() for it in commands] else 'the manual page has %s' % sections
     for unit in UNITS:
         started = re.findall(r'(?m)^ExecStart=(\S+)', read(root, 'lib', 'systemd', 'system', unit))
-        is_well = all(it == folder_of_program + '/milter_tool' for it in started)
+        is_well = started.count(folder_of_program + '/milter_tool') == len(started)
+        is_well &= bool(started) == unit.endswith('.service')
         yield None if is_well else '%s starts %s' % (unit, started)
     for name in ['README.md', 'docs/HEADLINE.md', 'examples/conversation.trace']:
         yield None if read(TOP, name) == read(root, 'share', 'doc', 'milter_tool', name) else '%s differs' % name
@@ -84,6 +89,26 @@ def units():
         yield None if lines in shown else 'docs/DEPLOY.md does not show %s as it is' % unit
 
 
+def hardened():
+    """Whether the units with a Unix socket say who may connect, and how little the one of `serve` is exposed."""
+    for unit in UNITS:
+        text = read(TOP, 'systemd', unit)
+        if 'unix:' in text:
+            wanted = ['Group=postfix', 'UMask=0007', 'RuntimeDirectory=deiruska', 'RuntimeDirectoryMode=0750']
+            missing = [line for line in wanted if line not in text.splitlines()]
+            yield '%s lacks %s' % (unit, missing) if missing else None
+    if shutil.which('systemd-analyze'):
+        for command in [['verify'], ['security', '--offline=true', '--threshold=%d' % EXPOSURE_MAX]]:
+            with tempfile.TemporaryDirectory() as folder:
+                path = os.path.join(folder, HARDENED)
+                with open(path, 'w', encoding='utf-8') as unit:
+                    unit.write(read(TOP, 'systemd', HARDENED).replace('/usr/local/bin/milter_tool', sys.executable))
+                done = subprocess.run(['systemd-analyze', *command, path], stdout=subprocess.PIPE,
+                                      stderr=subprocess.STDOUT, check=False, text=True)
+                is_well = done.returncode == 0 and not re.search(re.escape(HARDENED) + r':\d+:', done.stdout)
+                yield None if is_well else '%s of %s: %s' % (command, HARDENED, done.stdout[-1000:])
+
+
 if __name__ == '__main__':
     need('tool')
-    sys.exit(runner.run_all([packages, units]))
+    sys.exit(runner.run_all([packages, units, hardened]))
