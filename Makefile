@@ -23,6 +23,7 @@ bench:
 	bash bench/wire.sh
 	bash bench/edits.sh
 	bash bench/filter.sh
+	bash bench/serve.sh
 	bash bench/core.sh
 	bash bench/mta.sh
 	bash bench/world.sh

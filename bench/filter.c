@@ -1,7 +1,8 @@
 /*
- * A filter on Sendmail's libmilter, as bench/filter.sh measures it beside milter_tool: it lets each command go on,
- * keeps the body, and accepts at the end of each message. Its word is the path of the Unix socket that it listens at.
- * It serves one connection, and ends with it.
+ * A filter on Sendmail's libmilter, as bench/filter.sh and bench/serve.sh measure it beside milter_tool: it lets each
+ * command go on, keeps the body, and accepts at the end of each message. Its word is the path of the Unix socket that
+ * it listens at. It serves one connection, and ends with it; with a second word, `many`, it serves connections until
+ * it is ended.
  */
 #include <libmilter/mfapi.h>
 #include <stdlib.h>
@@ -12,6 +13,8 @@ struct body {
 	size_t size;
 	size_t room;
 };
+
+static int is_for_many;
 
 static sfsistat on_connect(SMFICTX *context, char *host, _SOCK_ADDR *address)
 {
@@ -63,7 +66,16 @@ static sfsistat on_end(SMFICTX *context)
 
 static sfsistat on_close(SMFICTX *context)
 {
-	exit(0);
+	struct body *body = smfi_getpriv(context);
+
+	if (!is_for_many)
+		exit(0);
+	if (body) {
+		free(body->bytes);
+		free(body);
+		smfi_setpriv(context, NULL);
+	}
+	return SMFIS_CONTINUE;
 }
 
 int main(int count, char **words)
@@ -74,7 +86,8 @@ int main(int count, char **words)
 		.xxfi_eoh = on_stage, .xxfi_body = on_body, .xxfi_eom = on_end, .xxfi_close = on_close,
 	};
 
-	if (count != 2 || smfi_setconn(words[1]) != MI_SUCCESS || smfi_register(filter) != MI_SUCCESS)
+	is_for_many = count == 3 && !strcmp(words[2], "many");
+	if (count != 2 + is_for_many || smfi_setconn(words[1]) != MI_SUCCESS || smfi_register(filter) != MI_SUCCESS)
 		return 2;
 	return smfi_main();
 }

@@ -1,0 +1,64 @@
+#!/usr/bin/env bash
+# Measures `milter_tool serve` beside a filter on Sendmail's libmilter (`filter.c`, which libmilter serves by threads),
+# which also lets all mail go on and keeps the body, and beside `milter_tool answer` under socat (a process for each
+# connection) where socat is installed. One generator (`load.c`) plays mail servers that wait for each reply, over a
+# Unix socket. The filter has processor 1 for itself, the generator processor 0. For 1, 50 and 500 connections at once
+# it prints how many connections of one message each a filter takes a second, and how many messages a second over
+# connections that stay, the best of three runs: by the clock and, but for socat, by the filter's own processor time;
+# and the KiB of memory of the filter before and with 500 idle connections. A message has sixteen commands, with ten
+# header fields and 4 KiB of body. It takes libmilter (libmilter-dev), a C compiler, Python and some minutes. The
+# program is built first where it has to be; another one may be given.
+#
+#     bash bench/serve.sh [PROGRAM]
+set -eu
+cd "$(dirname "${BASH_SOURCE[0]}")/.."
+program=${1:-}
+if [ -z "$program" ]; then
+    make -s all >/dev/null
+    program=crates/milter_tool/out/milter_tool
+fi
+work=$(mktemp -d)
+trap 'rm -rf "$work"' EXIT
+CONNECTIONS=5000
+MESSAGES=10000
+IDLE=500
+FILTERS='serve libmilter'
+if command -v socat >/dev/null; then FILTERS="$FILTERS answer"; fi
+cc -O2 -o "$work/libmilter" bench/filter.c -lmilter -lpthread
+cc -O2 -o "$work/load" bench/load.c
+
+# play FILTER WORD..: plays connections on a filter
+play() {
+    local filter=$1
+    shift
+    rm -f "$work/socket"
+    case $filter in
+    serve) set -- "$@" "$program" serve "unix:$work/socket" --at-once 1000 ;;
+    libmilter) set -- "$@" "$work/libmilter" "$work/socket" many ;;
+    answer) set -- "$@" socat "UNIX-LISTEN:$work/socket,fork,backlog=128" "EXEC:$program answer" ;;
+    esac
+    python3 bench/serve.py "$work/load" "$work/socket" "$@"
+}
+
+# rate WHAT FILTER AT_ONCE CONNECTIONS MESSAGES: how many a second the filter takes, connections or messages
+rate() {
+    play "$2" rate "$3" "$4" "$5" >"$work/times"
+    awk -v what="$1" -v filter="$2" -v at_once="$3" -v count=$(($4 * $5)) '
+        { printf "%-12s %4d %-10s %8.0f %s\n", what, at_once, filter, count * 1e9 / $1,
+            filter == "answer" ? "" : sprintf("%8.0f", count * 1e9 / $2) }' "$work/times"
+}
+
+echo "a second, by the clock and by processor time:"
+for at_once in 1 50 500; do
+    for filter in $FILTERS; do
+        count=$CONNECTIONS
+        if [ "$filter" = answer ]; then count=$((CONNECTIONS / 10)); fi
+        rate connections "$filter" "$at_once" "$count" 1
+        rate messages "$filter" "$at_once" "$at_once" $((MESSAGES / at_once))
+    done
+done
+echo "KiB before and with $IDLE idle connections:"
+for filter in serve libmilter; do
+    printf '%-10s ' "$filter"
+    play "$filter" idle "$IDLE"
+done
