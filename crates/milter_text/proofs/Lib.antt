@@ -7,3 +7,5 @@ pub mod LineLaws
 pub mod Digits
 pub mod FirstLine
 pub mod FirstWord
+pub mod FoundByte
+pub mod Runs

@@ -1,6 +1,6 @@
 //! The bytes between quotes, and their escapes.
 
-ghost use Rattle.std.specs.Prelude.{◌≡◌, ◌<◌, IfSome, option_map};
+ghost use Rattle.std.specs.Prelude.{◌≡◌, ◌<◌, ◌≤◌, All, IfSome, IsTrue, length, option_map, take};
 ghost use Rattle.milter_text.specs.Words.{digit_value, escape_of, is_bare};
 ghost use Rattle.milter_text.specs.Unquoting.{byte_at};
 
@@ -17,6 +17,17 @@ pub(crate) fn take_byte(bytes: &[u8]) -> Option<(u8, &[u8])>
         [byte, rest @ ..] if is_bare(*byte) => Some((*byte, rest)),
         _ => None,
     }
+}
+
+/// How many of the first bytes are written as themselves between quotes.
+pub(crate) fn bare_len(bytes: &[u8]) -> usize
+    ensures within { result ≤ length bytes.now }
+    ensures bare { All (λ byte. IsTrue (is_bare byte)) (take result bytes.now) }
+{
+    bytes
+        .iter()
+        .position(|byte| !is_bare(*byte))
+        .unwrap_or(bytes.len())
 }
 
 /// The byte that a backslash and this character encode.

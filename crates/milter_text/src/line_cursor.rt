@@ -15,6 +15,7 @@ use crate::line_fault::LineFault;
 use crate::line_words::{after_blanks, is_after_word, words};
 use crate::lines::{is_skipped, line_content};
 use crate::word::{Word, WordFault};
+use memchr::memchr;
 use std::alloc::Global;
 use std::marker::Model;
 
@@ -158,7 +159,7 @@ fn first_line(bytes: &[u8]) -> Option<(&[u8], &[u8])>
 fn first_end(bytes: &[u8]) -> Option<usize>
     ensures { result ≡ position (λ byte. byte == 10) bytes.now }
 {
-    bytes.iter().position(|byte| *byte == b'\n')
+    memchr(b'\n', bytes)
 }
 
 /// The words of the line with this number.

@@ -6,7 +6,7 @@ ghost use Rattle.milter_text.specs.declared.word.Word.{Word};
 ghost use Rattle.milter_text.specs.Unquoting.{behind_quote, past_blanks};
 ghost use Rattle.milter_text.specs.Words.{BeginsWith, HasWords, IsAfterWord, is_plain};
 
-use crate::escapes::take_byte;
+use crate::escapes::{bare_len, take_byte};
 use crate::word::{Word, WordFault};
 use milter_fields::Text;
 use std::alloc::Global;
@@ -117,7 +117,9 @@ fn take_quoted(alloc: Global, body: &[u8]) -> Result<(Word, &[u8]), WordFault>
     let mut rest = body;
     while let Some((byte, after)) = take_byte(rest) {
         text.push(byte)?;
-        rest = after;
+        let count = bare_len(after);
+        text.extend_from_slice(&after[..count])?;
+        rest = &after[count..];
     }
     let Some(after) = after_quote(rest) else {
         return Err(WordFault::BadWord);

@@ -1,6 +1,6 @@
 //! Texts in quotes.
 
-ghost use Rattle.std.specs.Prelude.{◌≡◌, ◌<◌, ◌++◌, OnOk, OnErr};
+ghost use Rattle.std.specs.Prelude.{◌≡◌, ◌≤◌, ◌++◌, ◌∷◌, [], OnOk, OnErr, IsTrue, length, take};
 ghost use Rattle.std.specs.List.{flat_map};
 ghost use Rattle.milter_stream.specs.Appending.{PutsBytes};
 ghost use Rattle.milter_text.specs.Quoting.{quoted, quoted_byte};
@@ -34,13 +34,41 @@ fn put_quoted(out: &mut Vec<u8>, text: &[u8]) -> Result<(), NoMemory>
 }
 
 /// Appends the bytes as they are written between quotes. After `NoMemory` a prefix of that may have been appended.
+#[tactic(auto, using(crate::proofs::Runs::run_put))]
 pub fn put_escaped(out: &mut Vec<u8>, bytes: &[u8]) -> Result<(), NoMemory>
     ensures { PutsBytes (flat_map quoted_byte bytes.now) out.old.items out.new.items result }
 {
-    for byte in bytes {
-        put_byte(out, *byte)?;
+    let mut rest = bytes;
+    while !rest.is_empty() {
+        let count = literal_len(rest);
+        if count == 0 {
+            put_byte(out, rest[0])?;
+            rest = &rest[1..];
+        } else {
+            out.extend_from_slice(&rest[..count])?;
+            rest = &rest[count..];
+        }
     }
     Ok(())
+}
+
+/// How many of the first bytes are written as themselves.
+fn literal_len(bytes: &[u8]) -> usize
+    ensures within { result ≤ length bytes.now }
+    ensures own { flat_map quoted_byte (take result bytes.now) ≡ take result bytes.now }
+{
+    let mut count = 0;
+    while count < bytes.len() && is_literal(bytes[count]) {
+        count += 1;
+    }
+    count
+}
+
+/// Whether the byte is written as itself.
+fn is_literal(byte: u8) -> bool
+    ensures { IsTrue result → quoted_byte byte ≡ byte ∷ [] }
+{
+    byte >= b' ' && byte <= b'~' && byte != b'"' && byte != b'\\'
 }
 
 /// Appends a byte as it is written between quotes.

@@ -1,12 +1,14 @@
 use Rattle.std.proofs.Common.{sym, ◌∙◌}
 use Rattle.std.proofs.lemmas.Bool.{false≢true}
+use Rattle.std.proofs.lemmas.List.{take_rest}
+use Rattle.milter_text.proofs.Runs.{consumed_first}
 use Rattle.milter_text.proofs.WordLaws.{consumed_more, consumed_word, no_end_after_quote, no_quote_at_end, quote_found}
 use Rattle.milter_text.proofs.line_words.take_quoted.Goals as goal
 
 pub loop-byte-preserved : goal.loop-byte-preserved
 loop-byte-preserved c =
-    rw c.in_ok-push.ensures.items
-    (consumed_more c.loop-byte.text.items c.loop-byte.rest.now c.args.body.now c.in-Some.after.now c.in-Some.byte c.loop-byte.invariant (sym c.in-Some.ensures))
+    rw (c.in_ok-extend_from_slice.ensures.items, c.in_ok-push.ensures.items, take_rest c.in-Some.after.now c.bare_len-count.result)
+    (consumed_first c.loop-byte.text.items c.loop-byte.rest.now c.args.body.now c.in-Some.after.now c.in-Some.byte c.bare_len-count.result c.loop-byte.invariant (sym c.in-Some.ensures) c.bare_len-count.ensures.bare)
 
 pub returns-in_default-after_quote-clause-only : goal.returns-in_default-after_quote-clause-only
 returns-in_default-after_quote-clause-only c = λ word rest b _.

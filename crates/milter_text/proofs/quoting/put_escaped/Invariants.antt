@@ -1,7 +1,11 @@
-use Rattle.std.proofs.Common.{◌≡◌, ◌++◌, take}
+use Rattle.std.proofs.Common.{◌≡◌, ◌++◌, length}
 use Rattle.std.specs.List.{flat_map}
+use Rattle.milter_stream.specs.Appending.{Extends}
 use Rattle.milter_text.specs.Quoting.{quoted_byte}
 use Rattle.milter_text.proofs.quoting.put_escaped.Given as goal
 
-abbrev pub invariant-loop-byte : goal.invariant-loop-byte
-invariant-loop-byte l = l.out.items ≡ l.fn.out.items ++ flat_map quoted_byte (take l.byte-index l.bytes)
+abbrev pub invariant-loop-rest : goal.invariant-loop-rest
+invariant-loop-rest l = Extends l.fn.out.items l.out.items × (l.out.items ++ flat_map quoted_byte l.rest ≡ l.fn.out.items ++ flat_map quoted_byte l.bytes)
+
+abbrev pub decreases-loop-rest : goal.decreases-loop-rest
+decreases-loop-rest l = length l.rest
