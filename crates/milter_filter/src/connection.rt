@@ -11,10 +11,11 @@ ghost use Rattle.milter_filter.specs.Cores.{unread_after};
 ghost use Rattle.milter_exchange.specs.Standings.{after_client, after_message, after_options, fresh_in, nothing_kept, with_shown};
 
 use crate::commands::{is_greeting_or_sender, is_of_connection, is_shown};
+use crate::policy::Policy;
 use crate::seen::Seen;
 use milter_exchange::{CommandOrder, FilterFault, FilterState, VERSION_MIN, may_follow, rank_of};
 use milter_message::WEIGHT_MAX;
-use milter_wire::{Agreed, CommandRef, NoMemory};
+use milter_wire::{Agreed, CommandRef, NoMemory, Stage};
 use std::alloc::Global;
 use std::marker::Model;
 
@@ -158,6 +159,13 @@ impl Connection {
         ensures shown { result.now.shown ≡ self.now.shown.seen }
     {
         &self.seen
+    }
+
+    /// Has the policy search what is shown for what it is going to look for at the stage.
+    pub(crate) fn prepare<P: Policy>(&mut self, alloc: Global, policy: &P, stage: Stage)
+        ensures { self.new ≡ self.old }
+    {
+        policy.prepare(alloc, stage, &mut self.seen);
     }
 
     /// Takes a command that is shown, or none of it; its packet has `len` bytes.

@@ -8,7 +8,6 @@ mod commands;
 mod connection;
 mod cutting_laws;
 mod filter_core;
-mod headers;
 mod macro_list;
 mod packet_receiving;
 mod pass;
@@ -25,6 +24,7 @@ pub use filter_core::FilterCore;
 pub use milter_exchange::{
     ACTIONS_MAX, Answer, CommandOrder, Edits, FilterFault, FilterState, PROTOCOL_MAX, VERSION_MAX,
 };
+pub use milter_search::{Pattern, Test, TextCase};
 pub use pass::Pass;
 pub use policy::Policy;
 pub use seen::Seen;

@@ -31,6 +31,12 @@ pub trait Policy {
     fn lists(&self) -> &[SymList]
         ensures { result.now ≡ (behavior self.now).lists };
 
+    /// Has what the filter is shown at a stage searched for what [`Policy::decide`] is going to look for there, so that
+    /// this goes over nothing twice. Without it nothing is searched before.
+    fn prepare(&self, alloc: Global, at: Stage, seen: &mut Seen)
+        ensures { seen.new ≡ seen.old }
+    {}
+
     /// The answer at a stage to what the filter is shown there.
     fn decide(&self, alloc: Global, at: Stage, seen: &Seen) -> Result<Answer, NoMemory>
         ensures { IfOk result (λ answer. answer ≡ (behavior self.now).decide at seen.now.shown) };

@@ -143,6 +143,7 @@ fn receive_shown<P: Policy>(
     let Some(stage) = command.stage() else {
         return Ok(());
     };
+    connection.prepare(alloc, policy, stage);
     if ask(alloc, policy, connection, stage, out)? {
         connection.end_message();
     }

@@ -5,9 +5,10 @@ ghost use Rattle.std.specs.Option.{option_copied};
 ghost use Rattle.milter_wire.specs.LentCommand.{command_of};
 ghost use Rattle.milter_exchange.specs.Seen.{seen, value_in};
 ghost use Rattle.milter_filter.specs.SeenParts.{nothing_seen, parts_with};
+ghost use Rattle.milter_search.specs.Texts.{finds, finds_named};
 
-use crate::headers::Headers;
 use crate::macro_list::MacroList;
+use milter_search::{Body, Headers, Pattern};
 use milter_wire::codes::{SMFIC_CONNECT, SMFIC_HELO};
 use milter_wire::{Client, CommandRef, Header, NoMemory, Path, Text};
 use std::alloc::Global;
@@ -23,7 +24,7 @@ pub struct Seen {
     sender: Option<Path>,
     recipients: Vec<Path>,
     headers: Headers,
-    body: Vec<u8>,
+    body: Body,
     macros: MacroList,
 }
 
@@ -42,7 +43,7 @@ impl Model for Seen {
         sender = s.sender;
         recipients = s.recipients.items;
         headers = s.headers;
-        body = s.body.items;
+        body = s.body;
         macros = s.macros.shown;
       };
       connection = record {
@@ -102,7 +103,48 @@ impl Seen {
     pub fn body(&self) -> &[u8]
         ensures { result.now ≡ self.now.shown.body }
     {
-        &self.body
+        self.body.as_slice()
+    }
+
+    /// Whether the pattern is found in the value of a header field of this name, in which ASCII case doesn't count.
+    /// What [`Seen::search_headers`] found for the same in this place isn't looked for again. Doesn't allocate.
+    pub fn finds_in_headers(&self, place: usize, name: &[u8], pattern: &Pattern<'_>) -> bool
+        ensures { result ≡ finds_named pattern.now.case pattern.now.test pattern.now.text.now name.now
+            self.now.shown.headers }
+    {
+        self.headers.finds(place, name, pattern)
+    }
+
+    /// Whether the pattern is found in the body, as far as it has come. What [`Seen::search_body`] found for the same
+    /// in this place isn't looked for again. Doesn't allocate.
+    pub fn finds_in_body(&self, place: usize, pattern: &Pattern<'_>) -> bool
+        ensures { result ≡ finds pattern.now.case pattern.now.test pattern.now.text.now self.now.shown.body }
+    {
+        self.body.finds(place, pattern)
+    }
+
+    /// Searches the header fields for what [`Seen::finds_in_headers`] is going to be asked for in this place: those
+    /// alone that came since they were searched for the same in this place. Places are numbered from 0, and the first
+    /// search of each comes after that of the one before. It keeps copies of both texts. Where memory is refused
+    /// nothing is kept.
+    pub fn search_headers(
+        &mut self,
+        alloc: Global,
+        place: usize,
+        name: &[u8],
+        pattern: &Pattern<'_>,
+    )
+        ensures { self.new ≡ self.old }
+    {
+        self.headers.search(alloc, place, name, pattern);
+    }
+
+    /// Searches the body for what [`Seen::finds_in_body`] is going to be asked for in this place, as
+    /// [`Seen::search_headers`] does.
+    pub fn search_body(&mut self, alloc: Global, place: usize, pattern: &Pattern<'_>)
+        ensures { self.new ≡ self.old }
+    {
+        self.body.search(alloc, place, pattern);
     }
 
     /// The value that was last given to a macro of this name. No memory is taken. Source: smfi_getsymval.
@@ -131,7 +173,7 @@ impl Seen {
             sender: None,
             recipients: Vec::new(alloc),
             headers: Headers::new(alloc),
-            body: Vec::new(alloc),
+            body: Body::new(alloc),
             macros: MacroList::new(alloc),
         }
     }
@@ -148,7 +190,7 @@ impl Seen {
             CommandRef::Rcpt(recipient) => self.recipients.push(recipient.to_path(alloc)?)?,
             CommandRef::Header(header) => self.headers.push(alloc, header)?,
             CommandRef::Body(bytes) | CommandRef::Eob(bytes) => {
-                self.body.extend_from_slice(bytes)?;
+                self.body.extend(bytes)?;
             }
             CommandRef::Macro { command, pairs } => {
                 let of_connection = *command == SMFIC_CONNECT || *command == SMFIC_HELO;

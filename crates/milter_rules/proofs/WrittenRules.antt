@@ -32,15 +32,16 @@ use Rattle.milter_ruleset.specs.declared.rule.Condition.{Condition}
 use Rattle.milter_ruleset.specs.declared.rule.Field.{Field}
 use Rattle.milter_ruleset.specs.declared.rule.Field.TheVariants as fields
 use Rattle.milter_ruleset.specs.declared.rule.Rule.{Rule}
-use Rattle.milter_ruleset.specs.declared.rule.Test.{Test}
-use Rattle.milter_ruleset.specs.declared.rule.Test.TheVariants as tests
+use Rattle.milter_search.specs.declared.pattern.Test.{Test}
+use Rattle.milter_search.specs.declared.pattern.Test.TheVariants as tests
 use Rattle.milter_ruleset.specs.declared.rule_list.StageRules.{StageRules}
 use Rattle.milter_ruleset.specs.ActionFits.{allowed_at, are_lawful_at, edit_fits, fields_fit, has_room, header_fits}
 use Rattle.milter_ruleset.specs.ActionFits.{is_index, may_act}
 use Rattle.milter_rules.specs.ActionText.{action_words, edit_words, verdict_words}
 use Rattle.milter_rules.specs.ConditionWords.{condition_words, conditions_words, joined, name_words}
 use Rattle.milter_rules.specs.ConditionWords.{quoted_word}
-use Rattle.milter_ruleset.specs.RuleNames.{field_name, test_name}
+use Rattle.milter_ruleset.specs.RuleNames.{field_name}
+use Rattle.milter_search.specs.Texts.{test_name}
 use Rattle.milter_ruleset.specs.RuleSet.{RuleSet, is_lawful, options_known, rules_lawful, wants_within}
 use Rattle.milter_ruleset.specs.RulesLaw.{EachFits, each_fits}
 use Rattle.milter_rules.specs.RulesText.{actions_words, macro_stage_numbered, protocol_words, rule_words, rules_lines}

@@ -7,9 +7,10 @@ use Rattle.milter_text.specs.WordValues.{is_keyword, keyword, text_of}
 use Rattle.milter_ruleset.specs.declared.rule.Condition.{Condition}
 use Rattle.milter_ruleset.specs.declared.rule.Field.{Field}
 use Rattle.milter_ruleset.specs.declared.rule.Field.TheVariants.{Host, Address, Helo, Sender, Rcpt, Header, Body, Macro}
-use Rattle.milter_ruleset.specs.declared.rule.Test.{Test}
-use Rattle.milter_ruleset.specs.declared.rule.Test.TheVariants.{Is, Has, Lacks}
-use Rattle.milter_ruleset.specs.RuleNames.{field_name, test_name}
+use Rattle.milter_search.specs.declared.pattern.Test.{Test}
+use Rattle.milter_search.specs.declared.pattern.Test.TheVariants.{Is, Has, Lacks}
+use Rattle.milter_ruleset.specs.RuleNames.{field_name}
+use Rattle.milter_search.specs.Texts.{test_name}
 
 -- ---- how conditions are written
 

@@ -8,7 +8,8 @@ ghost use Rattle.milter_rules.specs.RuleDraft.{edits_weight_at, LineFits, LineFo
 ghost use Rattle.milter_rules.specs.RuleFault.{IsAt};
 ghost use Rattle.milter_rules.specs.RuleFile.{needed_actions, needed_for, needed_protocol, is_skip, parts_of, rules_of, wanted};
 ghost use Rattle.milter_ruleset.specs.RuleSet.{is_lawful, list_fits};
-ghost use Rattle.milter_ruleset.specs.RulesValue.{rule_set};
+ghost use Rattle.milter_ruleset.specs.RulesValue.{case_of, rule_set};
+ghost use Rattle.milter_search.specs.declared.text_case.TextCase.TheVariants.{Exact};
 
 use crate::rule_fault::RuleFault;
 use crate::rule_line::{RuleLine, Wish};
@@ -152,7 +153,8 @@ impl Draft {
 
     /// The rules, with the options that the lines ask for; else those that the rules need.
     pub(crate) fn into_rules(self) -> Rules
-        ensures { rule_set result ≡ rules_of self }
+        ensures set { rule_set result ≡ rules_of self }
+        ensures case { case_of result ≡ Exact }
     {
         let options = self.wanted();
         Rules::from_parts(options, self.lists, self.rules)

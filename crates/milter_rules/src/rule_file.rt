@@ -7,7 +7,8 @@ ghost use Rattle.milter_rules.specs.declared.rule_line.RuleLine.{RuleLine};
 ghost use Rattle.milter_rules.specs.RuleFault.{IsBefore, IsWithin};
 ghost use Rattle.milter_rules.specs.RuleFile.{AllGive, CanBeFile, FoundAll, IsRuleFile, parts_of};
 ghost use Rattle.milter_ruleset.specs.RuleSet.{RuleSet};
-ghost use Rattle.milter_ruleset.specs.RulesValue.{rule_set};
+ghost use Rattle.milter_ruleset.specs.RulesValue.{case_of, rule_set};
+ghost use Rattle.milter_search.specs.declared.text_case.TextCase.TheVariants.{Exact};
 
 use crate::rule_draft::Draft;
 use crate::rule_fault::RuleFault;
@@ -37,6 +38,8 @@ use std::alloc::Global;
 pub fn read_rules(alloc: Global, bytes: &[u8]) -> Result<Rules, RuleFault>
     // What is read is what the file gives.
     ensures found { IfOk result (λ rules. IsRuleFile bytes.now (rule_set rules)) }
+    // The case of letters counts in their texts.
+    ensures case { IfOk result (λ rules. case_of rules ≡ Exact) }
     // What the file gives is read, unless memory is refused.
     ensures only { (set : RuleSet) → IsRuleFile bytes.now set →
         MatchResult result (λ rules. rule_set rules ≡ set) (λ e. e ≡ RuleFault.NoMemory) }

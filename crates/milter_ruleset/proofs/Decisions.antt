@@ -7,6 +7,7 @@ use Rattle.milter_message.specs.declared.edit.Edit.{Edit}
 use Rattle.milter_exchange.specs.Seen.{Seen}
 use Rattle.milter_ruleset.specs.declared.rule.Action.TheVariants as actions
 use Rattle.milter_ruleset.specs.declared.rule.Rule.{Rule}
+use Rattle.milter_search.specs.declared.text_case.TextCase.{TextCase}
 use Rattle.milter_ruleset.specs.Conditions.{applies}
 use Rattle.milter_ruleset.specs.Reading.{actions_of, answer_by, decided, with_edits}
 
@@ -22,19 +23,19 @@ no_action : (does : Bool) (rule : Rule) (others : List Rule) → does ≡ false
 no_action true rule others e = absurd cc
 no_action false rule others e = refl
 
-pub decided_skip : (rule : Rule) (rules : List Rule) (seen : Seen) → applies seen rule ≡ false
-    → decided (rule ∷ rules) seen ≡ decided rules seen
-decided_skip rule rules seen e = ap answer_by (no_action (applies seen rule) rule (filter (applies seen) rules) e)
+pub decided_skip : (case : TextCase) (rule : Rule) (rules : List Rule) (seen : Seen) → applies case seen rule ≡ false
+    → decided case (rule ∷ rules) seen ≡ decided case rules seen
+decided_skip case rule rules seen e = ap answer_by (no_action (applies case seen rule) rule (filter (applies case seen) rules) e)
 
-pub decided_edit : (rule : Rule) (rules : List Rule) (seen : Seen) (edit : Edit) → applies seen rule ≡ true
-    → rule.action ≡ actions.Edit edit → decided (rule ∷ rules) seen ≡ with_edits (edit ∷ []) (decided rules seen)
-decided_edit rule rules seen edit e is =
-    ap answer_by (first_action (applies seen rule) rule (filter (applies seen) rules) e)
-    ∙ ap (λ action. answer_by (action ∷ actions_of seen rules)) is
+pub decided_edit : (case : TextCase) (rule : Rule) (rules : List Rule) (seen : Seen) (edit : Edit) → applies case seen rule ≡ true
+    → rule.action ≡ actions.Edit edit → decided case (rule ∷ rules) seen ≡ with_edits (edit ∷ []) (decided case rules seen)
+decided_edit case rule rules seen edit e is =
+    ap answer_by (first_action (applies case seen rule) rule (filter (applies case seen) rules) e)
+    ∙ ap (λ action. answer_by (action ∷ actions_of case seen rules)) is
 
-pub decided_verdict : (rule : Rule) (rules : List Rule) (seen : Seen) (verdict : Verdict) → applies seen rule ≡ true
+pub decided_verdict : (case : TextCase) (rule : Rule) (rules : List Rule) (seen : Seen) (verdict : Verdict) → applies case seen rule ≡ true
     → rule.action ≡ actions.Verdict verdict
-    → decided (rule ∷ rules) seen ≡ record { edits = []; verdict = verdict }
-decided_verdict rule rules seen verdict e is =
-    ap answer_by (first_action (applies seen rule) rule (filter (applies seen) rules) e)
-    ∙ ap (λ action. answer_by (action ∷ actions_of seen rules)) is
+    → decided case (rule ∷ rules) seen ≡ record { edits = []; verdict = verdict }
+decided_verdict case rule rules seen verdict e is =
+    ap answer_by (first_action (applies case seen rule) rule (filter (applies case seen) rules) e)
+    ∙ ap (λ action. answer_by (action ∷ actions_of case seen rules)) is

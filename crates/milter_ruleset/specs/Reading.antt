@@ -10,6 +10,7 @@ use Rattle.milter_exchange.specs.declared.answer.Answer.{Answer}
 use Rattle.milter_ruleset.specs.declared.rule.Action.{Action}
 use Rattle.milter_ruleset.specs.declared.rule.Action.TheVariants as actions
 use Rattle.milter_ruleset.specs.declared.rule.Rule.{Rule}
+use Rattle.milter_search.specs.declared.text_case.TextCase.{TextCase}
 use Rattle.milter_ruleset.specs.Conditions.{applies}
 
 -- an answer that asks for these edits first
@@ -22,8 +23,8 @@ answer_by [] = record { edits = []; verdict = Continue }
 answer_by (actions.Edit edit ∷ more) = with_edits (edit ∷ []) (answer_by more)
 answer_by (actions.Verdict verdict ∷ more) = record { edits = []; verdict = verdict }
 
-abbrev pub actions_of : Seen → List Rule → List Action
-actions_of seen rules = map (λ rule. rule.action) (filter (applies seen) rules)
+abbrev pub actions_of : TextCase → Seen → List Rule → List Action
+actions_of case seen rules = map (λ rule. rule.action) (filter (applies case seen) rules)
 
-abbrev pub decided : List Rule → Seen → Answer
-decided rules seen = answer_by (actions_of seen rules)
+abbrev pub decided : TextCase → List Rule → Seen → Answer
+decided case rules seen = answer_by (actions_of case seen rules)

@@ -1,9 +1,7 @@
--- The words of fields and of tests in rule files.
+-- The words of fields in rule files.
 use Rattle.std.specs.Prelude.{ℕ, List, codes}
 use Rattle.milter_ruleset.specs.declared.rule.Field.{Field}
 use Rattle.milter_ruleset.specs.declared.rule.Field.TheVariants.{Host, Address, Helo, Sender, Rcpt, Header, Body, Macro}
-use Rattle.milter_ruleset.specs.declared.rule.Test.{Test}
-use Rattle.milter_ruleset.specs.declared.rule.Test.TheVariants.{Is, Has, Lacks}
 
 abbrev pub field_name : Field → List ℕ
 field_name Host = codes "host"
@@ -14,8 +12,3 @@ field_name Rcpt = codes "rcpt"
 field_name (Header name) = codes "header"
 field_name Body = codes "body"
 field_name (Macro name) = codes "macro"
-
-abbrev pub test_name : Test → List ℕ
-test_name Is = codes "is"
-test_name Has = codes "has"
-test_name Lacks = codes "lacks"

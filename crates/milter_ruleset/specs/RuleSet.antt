@@ -13,6 +13,7 @@ use Rattle.milter_message.specs.declared.message.TheConstants.{WEIGHT_MAX}
 use Rattle.milter_exchange.specs.declared.limits.TheConstants.{ACTIONS_MAX, PROTOCOL_MAX, VERSION_MAX, VERSION_MIN}
 use Rattle.milter_exchange.specs.Behavior.{Behavior}
 use Rattle.milter_ruleset.specs.declared.rule_list.StageRules.{StageRules}
+use Rattle.milter_search.specs.declared.text_case.TextCase.{TextCase}
 use Rattle.milter_ruleset.specs.ActionFits.{are_lawful_at, edits_weight, is_string}
 use Rattle.milter_ruleset.specs.Reading.{decided}
 use Rattle.milter_ruleset.specs.StageRules.{no_rules, rules_at}
@@ -32,12 +33,12 @@ no_rule_set =
     }
 
 -- what rules do as a filter
-abbrev pub behavior_of : RuleSet → Behavior
-behavior_of set =
+abbrev pub behavior_of : TextCase → RuleSet → Behavior
+behavior_of case set =
     record {
       wants = set.options;
       lists = set.lists;
-      decide = λ stage seen. decided (rules_at set.rules stage) seen;
+      decide = λ stage seen. decided case (rules_at set.rules stage) seen;
     }
 
 -- ---- which rules a filter may have, as tests

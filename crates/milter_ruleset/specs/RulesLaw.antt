@@ -33,6 +33,7 @@ use Rattle.milter_ruleset.specs.declared.rule.Action.TheVariants as actions
 use Rattle.milter_ruleset.specs.declared.rule.Condition.{Condition}
 use Rattle.milter_ruleset.specs.declared.rule.Rule.{Rule}
 use Rattle.milter_ruleset.specs.declared.rule_list.StageRules.{StageRules}
+use Rattle.milter_search.specs.declared.text_case.TextCase.{TextCase}
 use Rattle.milter_ruleset.specs.ActionFits.{allowed_at, are_lawful_at, edit_fits, edit_in, edits_weight, fields_fit, has_room, is_string, is_string_or_none, may_act, reply_of, verdict_fits}
 use Rattle.milter_ruleset.specs.Conditions.{applies}
 use Rattle.milter_ruleset.specs.Reading.{answer_by, decided}
@@ -206,13 +207,13 @@ either_fits stage true rule rules others may fits =
 either_fits stage false rule rules others may fits =
     passed_over stage rule rules (answer_by (map (λ other. other.action) others)) fits
 
-decided_fits : (stage : Stage) (rules : List Rule) (seen : Seen) → are_lawful_at stage rules ≡ true
-    → FitsAmong stage rules (decided rules seen)
-decided_fits stage [] seen lawful = no_answer_fits stage
-decided_fits stage (rule ∷ rules) seen lawful =
+decided_fits : (case : TextCase) (stage : Stage) (rules : List Rule) (seen : Seen) → are_lawful_at stage rules ≡ true
+    → FitsAmong stage rules (decided case rules seen)
+decided_fits case stage [] seen lawful = no_answer_fits stage
+decided_fits case stage (rule ∷ rules) seen lawful =
     let both = and_parts (may_act stage rule.action) (are_lawful_at stage rules) lawful in
-    either_fits stage (applies seen rule) rule rules (filter (applies seen) rules) both.0
-    (decided_fits stage rules seen both.1)
+    either_fits stage (applies case seen rule) rule rules (filter (applies case seen) rules) both.0
+    (decided_fits case stage rules seen both.1)
 
 -- ---- the rules of each stage
 
@@ -276,25 +277,25 @@ at_end rules answer within fits =
       weight = omega (arith, within, fits.weight);
     }
 
-answers_fit : (r : StageRules) (stage : Stage) (seen : Seen) → EachFits r
-    → AnswerFits stage (decided (rules_at r stage) seen)
-answers_fit r stages.Connect seen each =
-    before_end stages.Connect r.connect _ (λ e. cc) (decided_fits stages.Connect r.connect seen each.connect)
-answers_fit r stages.Helo seen each =
-    before_end stages.Helo r.helo _ (λ e. cc) (decided_fits stages.Helo r.helo seen each.helo)
-answers_fit r stages.Mail seen each =
-    before_end stages.Mail r.mail _ (λ e. cc) (decided_fits stages.Mail r.mail seen each.mail)
-answers_fit r stages.Rcpt seen each =
-    before_end stages.Rcpt r.rcpt _ (λ e. cc) (decided_fits stages.Rcpt r.rcpt seen each.rcpt)
-answers_fit r stages.DataCmd seen each =
-    before_end stages.DataCmd r.data_cmd _ (λ e. cc) (decided_fits stages.DataCmd r.data_cmd seen each.data_cmd)
-answers_fit r stages.Header seen each =
-    before_end stages.Header r.header _ (λ e. cc) (decided_fits stages.Header r.header seen each.header)
-answers_fit r stages.Eoh seen each =
-    before_end stages.Eoh r.eoh _ (λ e. cc) (decided_fits stages.Eoh r.eoh seen each.eoh)
-answers_fit r stages.Body seen each =
-    before_end stages.Body r.body _ (λ e. cc) (decided_fits stages.Body r.body seen each.body)
-answers_fit r stages.Eob seen each = at_end r.eob _ each.weight (decided_fits stages.Eob r.eob seen each.eob)
+answers_fit : (case : TextCase) (r : StageRules) (stage : Stage) (seen : Seen) → EachFits r
+    → AnswerFits stage (decided case (rules_at r stage) seen)
+answers_fit case r stages.Connect seen each =
+    before_end stages.Connect r.connect _ (λ e. cc) (decided_fits case stages.Connect r.connect seen each.connect)
+answers_fit case r stages.Helo seen each =
+    before_end stages.Helo r.helo _ (λ e. cc) (decided_fits case stages.Helo r.helo seen each.helo)
+answers_fit case r stages.Mail seen each =
+    before_end stages.Mail r.mail _ (λ e. cc) (decided_fits case stages.Mail r.mail seen each.mail)
+answers_fit case r stages.Rcpt seen each =
+    before_end stages.Rcpt r.rcpt _ (λ e. cc) (decided_fits case stages.Rcpt r.rcpt seen each.rcpt)
+answers_fit case r stages.DataCmd seen each =
+    before_end stages.DataCmd r.data_cmd _ (λ e. cc) (decided_fits case stages.DataCmd r.data_cmd seen each.data_cmd)
+answers_fit case r stages.Header seen each =
+    before_end stages.Header r.header _ (λ e. cc) (decided_fits case stages.Header r.header seen each.header)
+answers_fit case r stages.Eoh seen each =
+    before_end stages.Eoh r.eoh _ (λ e. cc) (decided_fits case stages.Eoh r.eoh seen each.eoh)
+answers_fit case r stages.Body seen each =
+    before_end stages.Body r.body _ (λ e. cc) (decided_fits case stages.Body r.body seen each.body)
+answers_fit case r stages.Eob seen each = at_end r.eob _ each.weight (decided_fits case stages.Eob r.eob seen each.eob)
 
 -- ---- what is wanted
 
@@ -311,8 +312,9 @@ some_lists : (actions : ℕ) (lists : List SymList) → lists_wanted actions lis
 some_lists actions [] test some = absurd (some refl)
 some_lists actions (list ∷ lists) test some = test
 
-wants_fit : (set : RuleSet) → wants_within set.options set.lists ≡ true → WantsWithin (behavior_of set)
-wants_fit set test =
+wants_fit : (case : TextCase) (set : RuleSet) → wants_within set.options set.lists ≡ true
+    → WantsWithin (behavior_of case set)
+wants_fit case set test =
     let p1 = and_parts (options_known set.options) _ test in
     let known = and_parts _ _ p1.0 in
     let below = and_parts _ _ known.1 in
@@ -346,10 +348,10 @@ pub no_rules_lawful : is_lawful no_rule_set ≡ true
 unfolding number
 no_rules_lawful = refl
 
-pub lawful_rules : (set : RuleSet) → is_lawful set ≡ true → IsLawful (behavior_of set)
-lawful_rules set test =
+pub lawful_rules : (case : TextCase) (set : RuleSet) → is_lawful set ≡ true → IsLawful (behavior_of case set)
+lawful_rules case set test =
     let both = and_parts (wants_within set.options set.lists) (rules_lawful set.rules) test in
     record {
-      wants = wants_fit set both.0;
-      answers = λ stage seen. answers_fit set.rules stage seen (each_fits set.rules both.1);
+      wants = wants_fit case set both.0;
+      answers = λ stage seen. answers_fit case set.rules stage seen (each_fits set.rules both.1);
     }

@@ -1,19 +1,12 @@
 //! Laws of what rules decide, each the contract of a function that does nothing.
 
-ghost use Rattle.std.specs.Prelude.{◌≡◌, ◌++◌, ◌∷◌, List, map, true, ℕ};
+ghost use Rattle.std.specs.Prelude.{◌≡◌, ◌++◌, ◌∷◌, List, map};
 ghost use Rattle.milter_wire.specs.declared.verdict.Verdict.{Verdict};
 ghost use Rattle.milter_wire.specs.declared.verdict.Verdict.TheVariants as verdicts;
 ghost use Rattle.milter_message.specs.declared.edit.Edit.{Edit};
 ghost use Rattle.milter_ruleset.specs.declared.rule.Action.{Action};
 ghost use Rattle.milter_ruleset.specs.declared.rule.Action.TheVariants as actions;
-ghost use Rattle.milter_ruleset.specs.Conditions.{Around, contains};
 ghost use Rattle.milter_ruleset.specs.Reading.{answer_by};
-
-/// A text occurs in bytes exactly where they are this text, with any bytes before it and after it.
-pub fn texts_in_bytes()
-    ensures around { (before text after : List ℕ) → contains (before ++ (text ++ after)) text ≡ true }
-    ensures found { (bytes text : List ℕ) → contains bytes text ≡ true → Around bytes text }
-{}
 
 /// What the actions of the rules that apply come to.
 pub fn answers_of_actions()

@@ -5,12 +5,14 @@
 mod action_fits;
 mod deciding;
 mod laws;
+mod places;
 mod rule;
 mod rule_list;
 mod rules;
 
 pub use action_fits::is_string;
-pub use laws::{answers_of_actions, texts_in_bytes};
-pub use rule::{Action, Condition, Conditions, Field, Rule, Test};
+pub use laws::answers_of_actions;
+pub use milter_filter::{Test, TextCase};
+pub use rule::{Action, Condition, Conditions, Field, Rule};
 pub use rule_list::{RuleList, StageRules};
 pub use rules::Rules;

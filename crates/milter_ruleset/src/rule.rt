@@ -1,8 +1,9 @@
 //! Rules: conditions on what a filter is shown, and what is done where they are met.
 
 ghost use Rattle.std.specs.Prelude.{◌≡◌};
-ghost use Rattle.milter_ruleset.specs.RuleNames.{field_name, test_name};
+ghost use Rattle.milter_ruleset.specs.RuleNames.{field_name};
 
+use milter_filter::{Pattern, Test, TextCase};
 use milter_message::Edit;
 use milter_wire::{Text, Verdict};
 use std::marker::Model;
@@ -46,30 +47,6 @@ impl Field {
     }
 }
 
-/// How the values of a field are compared with a text, byte for byte.
-#[derive(Clone, Copy, Debug, PartialEq, Eq)]
-pub enum Test {
-    /// Some value is the text.
-    Is,
-    /// The text occurs in some value.
-    Has,
-    /// The text occurs in no value.
-    Lacks,
-}
-
-impl Test {
-    /// The word of the test in rule files. No memory is taken.
-    pub fn name(self) -> &'static [u8]
-        ensures { result.now ≡ test_name self }
-    {
-        match self {
-            Test::Is => b"is",
-            Test::Has => b"has",
-            Test::Lacks => b"lacks",
-        }
-    }
-}
-
 /// A condition of a rule.
 #[derive(Clone, Debug, PartialEq, Eq, Drop)]
 pub struct Condition {
@@ -79,6 +56,21 @@ pub struct Condition {
     pub test: Test,
     /// The text that it looks for, which may have any byte.
     pub text: Text,
+}
+
+impl Condition {
+    /// The text that it looks for, and how.
+    pub(crate) fn pattern(&self, case: TextCase) -> Pattern<'_>
+        ensures case { result.case ≡ case }
+        ensures test { result.test ≡ self.now.test }
+        ensures text { result.text.now ≡ self.now.text }
+    {
+        Pattern {
+            case,
+            test: self.test,
+            text: self.text.as_slice(),
+        }
+    }
 }
 
 /// The conditions of a rule, all of which have to be met, from none on.

@@ -3,10 +3,10 @@
 ghost use Rattle.std.specs.Prelude.{◌≡◌, true};
 ghost use Rattle.milter_ruleset.specs.RuleSet.{is_lawful};
 
-use crate::deciding::decide_by;
+use crate::deciding::{decide_by, search_by};
 use crate::rule::Rule;
 use crate::rule_list::StageRules;
-use milter_filter::{Answer, Policy, Seen, VERSION_MAX};
+use milter_filter::{Answer, Policy, Seen, TextCase, VERSION_MAX};
 use milter_wire::{Actions, NoMemory, Options, Protocol, Stage, SymList, SymLists};
 use std::alloc::Global;
 
@@ -20,19 +20,22 @@ pub struct Rules {
     options: Options,
     lists: SymLists,
     rules: StageRules,
+    case: TextCase,
     pub ghost lawful: { is_lawful (record { options = options; lists = lists; rules = rules }) ≡ true },
 }
 
 impl Rules {
     ghost use Rattle.std.specs.Prelude.{◌≡◌};
     ghost use Rattle.milter_ruleset.specs.RuleSet.{no_rule_set};
-    ghost use Rattle.milter_ruleset.specs.RulesValue.{rule_set};
+    ghost use Rattle.milter_ruleset.specs.RulesValue.{case_of, rule_set};
+    ghost use Rattle.milter_search.specs.declared.text_case.TextCase.TheVariants.{Exact, Ignored};
     ghost use Rattle.milter_ruleset.specs.StageRules.{rules_at};
 
     /// No rules: the filter wants version 6 without any bit, and answers `Continue` to all, as
     /// [`Pass`](milter_filter::Pass) does. No memory is taken.
     pub fn new(alloc: Global) -> Self
-        ensures { rule_set result ≡ no_rule_set }
+        ensures set { rule_set result ≡ no_rule_set }
+        ensures case { case_of result ≡ Exact }
     {
         Rules {
             options: Options {
@@ -42,6 +45,7 @@ impl Rules {
             },
             lists: SymLists::new(Vec::new(alloc)),
             rules: StageRules::new(alloc),
+            case: TextCase::Exact,
         }
     }
 
@@ -51,13 +55,35 @@ impl Rules {
     /// no memory is taken.
     pub fn from_parts(options: Options, lists: SymLists, rules: StageRules) -> Self
         requires { is_lawful (record { options = options; lists = lists; rules = rules }) ≡ true }
-        ensures { rule_set result ≡ record { options = options; lists = lists; rules = rules } }
+        ensures set { rule_set result ≡ record { options = options; lists = lists; rules = rules } }
+        ensures case { case_of result ≡ Exact }
     {
         Rules {
             options,
             lists,
             rules,
+            case: TextCase::Exact,
         }
+    }
+
+    /// These rules, in the texts of whose conditions the case of ASCII letters doesn't count.
+    pub fn ignoring_case(self) -> Self
+        ensures set { rule_set result ≡ rule_set self }
+        ensures case { case_of result ≡ Ignored }
+    {
+        Rules {
+            options: self.options,
+            lists: self.lists,
+            rules: self.rules,
+            case: TextCase::Ignored,
+        }
+    }
+
+    /// Whether the case of ASCII letters counts in the texts of conditions: it does unless it is ignored.
+    pub fn case(&self) -> TextCase
+        ensures { result ≡ case_of self.now }
+    {
+        self.case
     }
 
     /// What the filter wants. No memory is taken.
@@ -85,11 +111,11 @@ impl Rules {
 impl Policy for Rules {
     ghost use Rattle.milter_ruleset.specs.RuleSet.{behavior_of};
     ghost use Rattle.milter_ruleset.specs.RulesLaw.{lawful_rules};
-    ghost use Rattle.milter_ruleset.specs.RulesValue.{rule_set};
+    ghost use Rattle.milter_ruleset.specs.RulesValue.{case_of, rule_set};
 
-    ghost behavior = { λ rules. behavior_of (rule_set rules) };
+    ghost behavior = { λ rules. behavior_of (case_of rules) (rule_set rules) };
 
-    ghost lawful = { λ rules. lawful_rules (rule_set rules) rules.lawful };
+    ghost lawful = { λ rules. lawful_rules (case_of rules) (rule_set rules) rules.lawful };
 
     fn wants(&self) -> Options {
         self.options
@@ -99,7 +125,13 @@ impl Policy for Rules {
         self.lists.as_slice()
     }
 
+    fn prepare(&self, alloc: Global, at: Stage, seen: &mut Seen) {
+        if matches!(at, Stage::Header | Stage::Body) {
+            search_by(alloc, self.case, self.rules.at(at), seen);
+        }
+    }
+
     fn decide(&self, alloc: Global, at: Stage, seen: &Seen) -> Result<Answer, NoMemory> {
-        decide_by(alloc, self.rules.at(at), seen)
+        decide_by(alloc, self.case, self.rules.at(at), seen)
     }
 }

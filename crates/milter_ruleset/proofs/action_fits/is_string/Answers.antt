@@ -1,6 +1,6 @@
 use Rattle.milter_ruleset.specs.ActionFits.{is_string}
 use Rattle.milter_ruleset.specs.RulesLaw.{string_no_nul}
-use Rattle.milter_ruleset.proofs.Occurrences.{same_test}
+use Rattle.milter_search.proofs.Occurrences.{same_test}
 use Rattle.milter_ruleset.proofs.Strings.{no_nul_string}
 use Rattle.milter_ruleset.proofs.action_fits.is_string.Goals as goal
 

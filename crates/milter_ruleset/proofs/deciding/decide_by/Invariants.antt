@@ -5,4 +5,5 @@ use Rattle.milter_ruleset.proofs.deciding.decide_by.Given as goal
 -- the edits so far, before the answer of the rules that are left
 abbrev pub invariant-loop-rule : goal.invariant-loop-rule
 invariant-loop-rule l =
-    with_edits l.edits.items (decided (drop l.rule-index l.rules) l.seen.shown) ≡ decided l.rules l.seen.shown
+    with_edits l.edits.items (decided l.case (drop l.rule-index l.rules) l.seen.shown)
+    ≡ decided l.case l.rules l.seen.shown

@@ -1,5 +1,5 @@
-use Rattle.milter_ruleset.proofs.Occurrences.{around_contained, contains_from}
-use Rattle.milter_ruleset.proofs.laws.texts_in_bytes.Goals as goal
+use Rattle.milter_search.proofs.Occurrences.{around_contained, contains_from}
+use Rattle.milter_search.proofs.pattern.texts_in_bytes.Goals as goal
 
 pub returns-clause-around : goal.returns-clause-around
 returns-clause-around c = contains_from

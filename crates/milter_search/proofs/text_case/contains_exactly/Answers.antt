@@ -1,6 +1,6 @@
-use Rattle.milter_ruleset.specs.Conditions.{contains}
-use Rattle.milter_ruleset.proofs.Occurrences.{contained_occurs, occurs_contained, same_test}
-use Rattle.milter_ruleset.proofs.deciding.contains.Goals as goal
+use Rattle.milter_search.specs.Texts.{contains}
+use Rattle.milter_search.proofs.Occurrences.{contained_occurs, occurs_contained, same_test}
+use Rattle.milter_search.proofs.text_case.contains_exactly.Goals as goal
 
 pub returns : goal.returns
 returns c =

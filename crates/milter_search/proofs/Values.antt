@@ -3,7 +3,7 @@ use Rattle.std.specs.Prelude.{◌≡◌, ℕ, Bool, true, false, ◌&&◌, ◌||
 use Rattle.std.specs.List.{filter, list_any}
 use Rattle.std.proofs.Common.{ap}
 use Rattle.milter_fields.specs.declared.header.Header.{Header}
-use Rattle.milter_ruleset.specs.Conditions.{is_named}
+use Rattle.milter_search.specs.Texts.{is_named}
 
 first_found : (named : Bool) (test : List ℕ → Bool) (header : Header) (left : Bool) (others : List Header)
     → left ≡ list_any test (map (λ other. other.value) others)

@@ -6,7 +6,7 @@ use Rattle.std.proofs.lemmas.Slice.Eq.{bytes_eq-Decides}
 use Rattle.bstr.specs.Text.{Contains}
 use Rattle.memchr.specs.Find.{OccursAt}
 use Rattle.memchr.proofs.lemmas.MatchLemmas.{OccursAt-from_part, OccursAt-split}
-use Rattle.milter_ruleset.specs.Conditions.{Around, begins_with, contains}
+use Rattle.milter_search.specs.Texts.{Around, begins_with, contains}
 
 -- bytes that begin with the text, and others after it
 take_text : (text rest : List ℕ) → take (length text) (text ++ rest) ≡ text

@@ -1,0 +1,101 @@
+"""Plays one message to `milter_tool answer` by rules that look at everything that came at each header field and at each
+piece of a body, and prints what that costs; ends with status 1 where the cost grows faster than the message.
+
+    python3 rules.py PROGRAM FOLDER
+"""
+import os
+import struct
+import subprocess
+import sys
+
+FIELDS = ['host', 'address', 'helo', 'sender', 'rcpt', 'header "X"', 'body', 'macro "{x}"']
+# Conditions of which none ends a message: what is looked for isn't there, and where it has to be missing a second
+# condition isn't met.
+TESTS = {'is': 'is "nowhere"', 'has': 'has "nowhere"', 'lacks': 'lacks "nowhere" and sender is "nobody"'}
+COUNTS = [1_000, 10_000, 100_000]
+SIZES = [1, 10, 100, 1_000, 10_000, 65_535]
+BODY = 1_000_000
+# How many times as much ten times as much of a message may cost: ten times, and what a run of a few milliseconds is off
+# by.
+MOST = 20
+# The shortest time, in seconds, of which ten times is compared.
+LEAST = 0.004
+RUNS = 3
+
+
+def packet(payload):
+    return struct.pack('>I', len(payload)) + payload
+
+
+def message(middle):
+    """The bytes of a connection with one message, with these packets between its recipient and its end."""
+    return b''.join([
+        packet(b'O' + struct.pack('>III', 6, 0x1ff, 0x1fffff)), packet(b'Chost\0004\0\x19192.0.2.1\0'),
+        packet(b'Hhelo\0'), packet(b'DM{x}\0value\0'), packet(b'M<a@x>\0'), packet(b'R<b@y>\0'), packet(b'T'), middle,
+        packet(b'E'), packet(b'Q')])
+
+
+def seconds(program, rules, given):
+    """The processor time of the fastest run on these bytes, in user mode."""
+    best = None
+    for _ in range(RUNS):
+        with open(given, 'rb') as stdin:
+            run = subprocess.Popen([program, 'answer', '--rules', rules], stdin=stdin, stdout=subprocess.DEVNULL)
+            _, status, used = os.wait4(run.pid, 0)
+        if status:
+            sys.exit('answer ended with status %d' % status)
+        best = used.ru_utime if best is None else min(best, used.ru_utime)
+    return best
+
+
+def written(folder, name, content):
+    path = os.path.join(folder, name)
+    with open(path, 'wb') as file:
+        file.write(content)
+    return path
+
+
+def is_linear(times):
+    """Whether each of these times, of which each is of ten times as much as the one before, is at most so much of it."""
+    return all(later <= MOST * max(time, LEAST) for time, later in zip(times, times[1:]))
+
+
+def main(program, folder):
+    given = {}
+    for count in COUNTS:
+        fields = b''.join(packet(b'LX\0 v%06d\0' % number) for number in range(count))
+        given['header', count] = written(folder, 'header%d' % count, message(fields + packet(b'N')))
+        pieces = b''.join(packet(b'B' + b'x') for _ in range(count))
+        given['body', count] = written(folder, 'body%d' % count, message(packet(b'N') + pieces))
+    failed = False
+    for stage, what in [('header', 'header fields'), ('body', 'pieces of one byte')]:
+        print('seconds for %s %s:' % (', '.join('{:,}'.format(count) for count in COUNTS), what))
+        for field in FIELDS:
+            for test, condition in TESTS.items():
+                rule = 'at %s when %s %s do reject\n' % (stage, field, condition)
+                rules = written(folder, 'rules', rule.encode())
+                times = [seconds(program, rules, given[stage, count]) for count in COUNTS]
+                is_right = is_linear(times)
+                failed |= not is_right
+                print('%-14s %-6s %s%s' % (
+                    field, test, ' '.join('%8.3f' % time for time in times), '' if is_right else '  NOT LINEAR'))
+    print('seconds for a body of {:,} bytes, by pieces of {} bytes:'.format(
+        BODY, ', '.join('{:,}'.format(size) for size in SIZES)))
+    paths = []
+    for size in SIZES:
+        whole, rest = divmod(BODY, size)
+        pieces = packet(b'B' + b'x' * size) * whole + (packet(b'B' + b'x' * rest) if rest else b'')
+        paths.append(written(folder, 'size%d' % size, message(packet(b'N') + pieces)))
+    for test, condition in TESTS.items():
+        rules = written(folder, 'rules', ('at body when body %s do reject\n' % condition).encode())
+        times = [seconds(program, rules, path) for path in paths]
+        # A byte of its own costs a packet; more than that is a body that is gone over again.
+        is_right = all(time <= MOST * max(times[0], LEAST) for time in times)
+        failed |= not is_right
+        print('%-14s %-6s %s%s' % (
+            'body', test, ' '.join('%8.3f' % time for time in times), '' if is_right else '  NOT LINEAR'))
+    return 1 if failed else 0
+
+
+if __name__ == '__main__':
+    sys.exit(main(*sys.argv[1:]))

@@ -1,0 +1,5 @@
+pub mod Occurrences
+pub mod FoldedTexts
+pub mod Values
+pub mod Looking
+pub mod Reading
