@@ -1,0 +1,15 @@
+//! What a person should know of a rule file: why it can't be read, and what of it can't be meant so. [`check_rules`]
+//! writes a line for each of these.
+//!
+//! docs/RULE_CHECK.md has the text of each line, and says when it is written.
+#![tactic(auto)]
+
+mod action_findings;
+mod checking;
+mod condition_findings;
+mod file_findings;
+mod rule_findings;
+mod sending;
+
+pub use checking::check_rules;
+pub use milter_text::TextFault;

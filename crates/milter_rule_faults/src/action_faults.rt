@@ -1,0 +1,248 @@
+//! What is said of a rule whose action is none, or may not be done at its stage.
+
+use crate::known_words::{ACTION, is_one_of, say_missing, say_unknown, say_unquoted};
+use crate::notes::{Notes, Piece};
+use milter_text::Word;
+use milter_wire::NoMemory;
+use std::alloc::Global;
+
+/// What stands after the word of an action.
+#[derive(Clone, Copy)]
+struct Form {
+    /// Whether a number comes first.
+    has_number: bool,
+    /// The fewest texts.
+    least: usize,
+    /// The most texts.
+    most: usize,
+    /// All of it, as it is written.
+    text: &'static [u8],
+}
+
+/// The form of an action that is one word.
+const ALONE: Form = Form {
+    has_number: false,
+    least: 0,
+    most: 0,
+    text: b"",
+};
+
+/// The form of an action with a text.
+const ONE_TEXT: Form = Form {
+    has_number: false,
+    least: 1,
+    most: 1,
+    text: b" TEXT",
+};
+
+/// The form of an action with a text, and perhaps another one.
+const ONE_OR_TWO_TEXTS: Form = Form {
+    has_number: false,
+    least: 1,
+    most: 2,
+    text: b" TEXT [TEXT]",
+};
+
+/// The form of an action with two texts.
+const TWO_TEXTS: Form = Form {
+    has_number: false,
+    least: 2,
+    most: 2,
+    text: b" TEXT TEXT",
+};
+
+/// The form of an action with a number and two texts.
+const NUMBER_AND_TWO_TEXTS: Form = Form {
+    has_number: true,
+    least: 2,
+    most: 2,
+    text: b" NUMBER TEXT TEXT",
+};
+
+/// The form of the action of this word.
+fn form_of(action: &Word) -> Form {
+    match action.keyword() {
+        Some(b"code" | b"add-rcpt" | b"del-rcpt" | b"replace-body" | b"quarantine") => ONE_TEXT,
+        Some(b"add-rcpt-par" | b"change-from") => ONE_OR_TWO_TEXTS,
+        Some(b"add-header") => TWO_TEXTS,
+        Some(b"insert-header" | b"change-header") => NUMBER_AND_TWO_TEXTS,
+        _ => ALONE,
+    }
+}
+
+/// Says what is wrong with these words, which are to be an action.
+pub(crate) fn say_bad_action(
+    alloc: Global,
+    notes: &mut Notes<'_>,
+    words: &[Word],
+) -> Result<(), NoMemory> {
+    let [action, rest @ ..] = words else {
+        return say_missing(alloc, notes, &ACTION, Piece::Plain(b"do"));
+    };
+    if !is_one_of(action, ACTION.names) {
+        return say_unknown(alloc, notes, &ACTION, action);
+    }
+    let form = form_of(action);
+    if form.most == 0 {
+        return say_not_alone(alloc, notes, action);
+    }
+    if !form.has_number {
+        return say_bad_texts(alloc, notes, action, form, action, rest);
+    }
+    match rest {
+        [] => say_form(alloc, notes, action, form),
+        [number, texts @ ..] if is_index(number) => {
+            say_bad_texts(alloc, notes, action, form, number, texts)
+        }
+        [number, ..] => say_bad_number(alloc, notes, action, number),
+    }
+}
+
+/// Whether the word is an index of header fields.
+fn is_index(word: &Word) -> bool {
+    match word.number() {
+        Some(number) => u32::try_from(number).is_ok(),
+        None => false,
+    }
+}
+
+/// Says that nothing may stand after the action.
+fn say_not_alone(alloc: Global, notes: &mut Notes<'_>, action: &Word) -> Result<(), NoMemory> {
+    let begin = Piece::Plain(b"nothing is due after ");
+    let end: &[u8] = if is_one_of(action, "reject|tempfail") {
+        b"; an answer with a text is code TEXT"
+    } else {
+        b""
+    };
+    notes.say(alloc, &[begin, Piece::Word(action), Piece::Plain(end)])
+}
+
+/// Says that the action has another form.
+fn say_form(
+    alloc: Global,
+    notes: &mut Notes<'_>,
+    action: &Word,
+    form: Form,
+) -> Result<(), NoMemory> {
+    let begin = Piece::Plain(b"the form is ");
+    notes.say(
+        alloc,
+        &[begin, Piece::Word(action), Piece::Plain(form.text)],
+    )
+}
+
+/// Says that this word is no index.
+fn say_bad_number<'x>(
+    alloc: Global,
+    notes: &mut Notes<'_>,
+    action: &'x Word,
+    number: &'x Word,
+) -> Result<(), NoMemory> {
+    let pieces = [
+        Piece::Plain(b"a number of at most 4294967295 is due after "),
+        Piece::Word(action),
+        Piece::Plain(b", in place of "),
+        Piece::Quoted(number.text.as_slice()),
+    ];
+    notes.say(alloc, &pieces)
+}
+
+/// Says what is wrong with these words, which are to be the texts of the action, after this word of it.
+fn say_bad_texts(
+    alloc: Global,
+    notes: &mut Notes<'_>,
+    action: &Word,
+    form: Form,
+    before: &Word,
+    words: &[Word],
+) -> Result<(), NoMemory> {
+    if form.most == 1 && !words.is_empty() && words.iter().all(|word| !word.quoted) {
+        return say_unquoted_words(alloc, notes, action, words);
+    }
+    if let Some((before, rest)) = first_unquoted(before, words, form.most) {
+        return say_unquoted(alloc, notes, b"a text", before, rest);
+    }
+    if words.len() < form.least || words.len() > form.most {
+        return say_form(alloc, notes, action, form);
+    }
+    match words.iter().find(|word| !word.text.has_no_nul()) {
+        Some(_) => {
+            let begin = Piece::Plain(b"a text of ");
+            let end = Piece::Plain(b" can't have a NUL");
+            notes.say(alloc, &[begin, Piece::Word(action), end])
+        }
+        None => say_bad_code(alloc, notes, words),
+    }
+}
+
+/// The first word of these that isn't in quotes, of the first so many, with the words after it, and the word before it;
+/// `before` is the one before all of them.
+fn first_unquoted<'a>(
+    before: &'a Word,
+    words: &'a [Word],
+    most: usize,
+) -> Option<(&'a Word, &'a [Word])> {
+    match words {
+        [first, ..] if !first.quoted => Some((before, words)),
+        [first, second, ..] if most > 1 && !second.quoted => Some((first, &words[1..])),
+        _ => None,
+    }
+}
+
+/// Says that these words are due in double quotes, as one text.
+fn say_unquoted_words(
+    alloc: Global,
+    notes: &mut Notes<'_>,
+    action: &Word,
+    words: &[Word],
+) -> Result<(), NoMemory> {
+    let mut text = Vec::new(alloc);
+    for word in words {
+        if !text.is_empty() {
+            text.push(b' ')?;
+        }
+        text.extend_from_slice(word.text.as_slice())?;
+    }
+    let pieces = [
+        Piece::Plain(b"a text in double quotes is due after "),
+        Piece::Word(action),
+        Piece::Plain(b": "),
+        Piece::Quoted(text.as_slice()),
+    ];
+    notes.say(alloc, &pieces)
+}
+
+/// Says that the text of a code doesn't have the form of one.
+fn say_bad_code(alloc: Global, notes: &mut Notes<'_>, words: &[Word]) -> Result<(), NoMemory> {
+    let [code, ..] = words else {
+        return Ok(());
+    };
+    let end = b" is no reply code: it begins with three digits, the first of them 4 or 5";
+    notes.say(
+        alloc,
+        &[Piece::Quoted(code.text.as_slice()), Piece::Plain(end)],
+    )
+}
+
+/// Says that the action of these words may not be done at the stage of the line.
+pub(crate) fn say_action_not_here<'x>(
+    alloc: Global,
+    notes: &mut Notes<'_>,
+    line: &'x [Word],
+    action: &'x [Word],
+) -> Result<(), NoMemory> {
+    let ([_, stage, ..], [action, ..]) = (line, action) else {
+        return Ok(());
+    };
+    let rule: &[u8] = if action.is_keyword(b"skip") {
+        b" is answered at body alone, not at "
+    } else if action.is_keyword(b"discard") {
+        b" is answered once there is a message, from mail on, not at "
+    } else {
+        b" is an edit, and is done at eob alone, not at "
+    };
+    notes.say(
+        alloc,
+        &[Piece::Word(action), Piece::Plain(rule), Piece::Word(stage)],
+    )
+}

@@ -1,0 +1,211 @@
+//! The words of rule files, and what is said of a word that is none of them.
+
+use crate::nearest::name_meant;
+use crate::notes::{Notes, Piece};
+use milter_text::Word;
+use milter_wire::NoMemory;
+use std::alloc::Global;
+
+/// Words that may stand at one place.
+#[derive(Clone, Copy)]
+pub(crate) struct Kind<'k> {
+    /// What such a word is called.
+    pub(crate) called: &'k [u8],
+    /// The words, joined by `|`.
+    pub(crate) names: &'k str,
+    /// Words that aren't known, each with the one that is meant by it.
+    pub(crate) others: &'k [(&'k str, &'k str)],
+}
+
+/// The first words of lines.
+pub(crate) const FIRST_WORD: Kind<'static> = Kind {
+    called: b"first word",
+    names: "at|version|actions|protocol|symbols",
+    others: &[],
+};
+
+/// The versions of the protocol.
+pub(crate) const VERSION: Kind<'static> = Kind {
+    called: b"version",
+    names: "2|3|4|5|6",
+    others: &[],
+};
+
+/// The stages that have rules.
+pub(crate) const STAGE: Kind<'static> = Kind {
+    called: b"stage",
+    names: "connect|helo|mail|rcpt|data|header|eoh|body|eob",
+    others: &[("eom", "eob"), ("from", "mail"), ("to", "rcpt")],
+};
+
+/// The stages that have macros.
+pub(crate) const MACRO_STAGE: Kind<'static> = Kind {
+    called: b"stage with macros",
+    names: "connect|helo|mail|rcpt|data|eoh|eom",
+    others: &[("eob", "eom"), ("from", "mail"), ("to", "rcpt")],
+};
+
+/// The words before conditions, and before an action that has none.
+pub(crate) const FIRST_JOINT: Kind<'static> = Kind {
+    called: b"word",
+    names: "when|do",
+    others: &[("if", "when"), ("then", "do")],
+};
+
+/// The words before one more condition, and before an action.
+pub(crate) const NEXT_JOINT: Kind<'static> = Kind {
+    called: b"word",
+    names: "and|do",
+    others: &[("&&", "and"), ("then", "do")],
+};
+
+/// The fields that have no name of their own.
+pub(crate) const LONE_FIELDS: &str = "host|address|helo|sender|rcpt|body";
+
+/// The fields that have a name of their own.
+pub(crate) const NAMED_FIELDS: &str = "header|macro";
+
+/// All fields.
+pub(crate) const FIELD: Kind<'static> = Kind {
+    called: b"field",
+    names: "host|address|helo|sender|rcpt|header|body|macro",
+    others: &[
+        ("from", "sender"),
+        ("mail", "sender"),
+        ("to", "rcpt"),
+        ("recipient", "rcpt"),
+        ("ip", "address"),
+        ("subject", "header"),
+    ],
+};
+
+/// The tests.
+pub(crate) const TEST: Kind<'static> = Kind {
+    called: b"test",
+    names: "is|has|lacks",
+    others: &[],
+};
+
+/// The words of actions.
+pub(crate) const ACTION: Kind<'static> = Kind {
+    called: b"action",
+    names: "continue|accept|reject|tempfail|discard|skip|code|add-header|insert-header|change-header|\
+            add-rcpt|add-rcpt-par|del-rcpt|change-from|replace-body|quarantine|progress",
+    others: &[
+        ("refuse", "reject"),
+        ("deny", "reject"),
+        ("defer", "tempfail"),
+        ("drop", "discard"),
+        ("pass", "continue"),
+        ("delete-header", "change-header"),
+    ],
+};
+
+/// Whether the name is among these, which `|` joins.
+pub(crate) fn has_name(names: &str, name: &[u8]) -> bool {
+    names.split('|').any(|known| known.as_bytes() == name)
+}
+
+/// Whether the word is plain and among these names.
+pub(crate) fn is_one_of(word: &Word, names: &str) -> bool {
+    match word.keyword() {
+        Some(name) => has_name(names, name),
+        None => false,
+    }
+}
+
+/// Says that the word is none of its kind, and which one may be meant.
+pub(crate) fn say_unknown<'x>(
+    alloc: Global,
+    notes: &mut Notes<'_>,
+    kind: &Kind<'x>,
+    word: &'x Word,
+) -> Result<(), NoMemory> {
+    let text = word.text.as_slice();
+    if !word.quoted {
+        return say_unknown_name(alloc, notes, kind, text);
+    }
+    let called = Piece::Plain(kind.called);
+    if has_name(kind.names, text) {
+        let end = Piece::Plain(b" is due without quotes");
+        return notes.say(
+            alloc,
+            &[called, Piece::Plain(b" "), Piece::Quoted(text), end],
+        );
+    }
+    let pieces = [
+        called,
+        Piece::Plain(b" is missing before "),
+        Piece::Quoted(text),
+        Piece::Plain(b"; known are "),
+        Piece::List(kind.names),
+    ];
+    notes.say(alloc, &pieces)
+}
+
+/// Says that the name is none of its kind, and which one may be meant.
+pub(crate) fn say_unknown_name<'x>(
+    alloc: Global,
+    notes: &mut Notes<'_>,
+    kind: &Kind<'x>,
+    name: &'x [u8],
+) -> Result<(), NoMemory> {
+    let meant = name_meant(alloc, kind, name)?;
+    let called = Piece::Plain(kind.called);
+    let blank = Piece::Plain(b" ");
+    let quoted = Piece::Quoted(name);
+    match meant {
+        Some(meant) => {
+            let middle = Piece::Plain(b" isn't known; did you mean ");
+            let meant = Piece::Plain(meant.as_bytes());
+            notes.say(
+                alloc,
+                &[called, blank, quoted, middle, meant, Piece::Plain(b"?")],
+            )
+        }
+        None => {
+            let middle = Piece::Plain(b" isn't known; known are ");
+            notes.say(
+                alloc,
+                &[called, blank, quoted, middle, Piece::List(kind.names)],
+            )
+        }
+    }
+}
+
+/// Says that a word of this kind is missing after this one.
+pub(crate) fn say_missing<'x>(
+    alloc: Global,
+    notes: &mut Notes<'_>,
+    kind: &Kind<'x>,
+    before: Piece<'x>,
+) -> Result<(), NoMemory> {
+    let pieces = [
+        Piece::Plain(kind.called),
+        Piece::Plain(b" is missing after "),
+        before,
+        Piece::Plain(b"; known are "),
+        Piece::List(kind.names),
+    ];
+    notes.say(alloc, &pieces)
+}
+
+/// Says that something in double quotes, as a text, is due after this word, in place of those that stand there.
+pub(crate) fn say_unquoted<'x>(
+    alloc: Global,
+    notes: &mut Notes<'_>,
+    due: &'x [u8],
+    before: &'x Word,
+    words: &'x [Word],
+) -> Result<(), NoMemory> {
+    let due = Piece::Plain(due);
+    let middle = Piece::Plain(b" in double quotes is due after ");
+    let before = Piece::Word(before);
+    match words {
+        [word, ..] if !is_one_of(word, "when|and|do|is|has|lacks") => {
+            let word = Piece::Quoted(word.text.as_slice());
+            notes.say(alloc, &[due, middle, before, Piece::Plain(b": "), word])
+        }
+        _ => notes.say(alloc, &[due, middle, before]),
+    }
+}

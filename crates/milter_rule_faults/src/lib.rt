@@ -1,0 +1,18 @@
+//! Why a rule file can't be read, in lines that a person understands.
+//!
+//! docs/RULE_CHECK.md has the text of each line, and says when it is written.
+#![tactic(auto)]
+
+mod action_faults;
+mod condition_faults;
+mod known_words;
+mod line_faults;
+mod nearest;
+mod notes;
+mod option_faults;
+mod rule_line;
+mod word_faults;
+
+pub use line_faults::say_fault;
+pub use notes::{Notes, Piece};
+pub use rule_line::{RuleLine, rule_lines};

@@ -1,0 +1,193 @@
+//! What is said of a line that isn't in words.
+
+use crate::notes::{Notes, Piece};
+use milter_wire::NoMemory;
+use std::alloc::Global;
+
+/// What the next byte of a line belongs to.
+#[derive(Clone, Copy, Debug, PartialEq, Eq)]
+enum Place {
+    /// Nothing yet: it may begin a word.
+    Between,
+    /// A plain word.
+    Plain,
+    /// A text.
+    Text,
+    /// An escape, after its backslash.
+    Escape,
+    /// An escape, as the first of its two digits.
+    FirstDigit,
+    /// An escape, as the second of its two digits.
+    SecondDigit,
+    /// What follows the closing quote of a text.
+    Closed,
+}
+
+/// Why a byte can't be where it is.
+#[derive(Clone, Copy, Debug, PartialEq, Eq)]
+enum Trouble {
+    /// It is a TAB outside of texts.
+    Tab,
+    /// It is another byte than a plain word may have.
+    Byte,
+    /// It is a double quote within a plain word.
+    Quote,
+    /// It is a control character in a text.
+    Control,
+    /// It is the character of no escape.
+    Escape,
+    /// It is no hexadecimal digit where one is due.
+    Digit,
+    /// It follows the closing quote of a text.
+    Touching,
+}
+
+/// Says what is wrong with the letters of the line.
+pub(crate) fn say_no_words(
+    alloc: Global,
+    notes: &mut Notes<'_>,
+    line: &[u8],
+) -> Result<(), NoMemory> {
+    let mut place = Place::Between;
+    let mut start = 0;
+    for (index, byte) in line.iter().enumerate() {
+        if place == Place::Between {
+            start = index;
+        }
+        place = match place_after(place, *byte) {
+            Ok(next) => next,
+            Err(trouble) => return say_trouble(alloc, notes, line, start, index, trouble),
+        };
+    }
+    let text = after(line, start.saturating_add(1));
+    let begin = Piece::Plain(b"a text isn't closed by a double quote; it begins with ");
+    notes.say(alloc, &[begin, Piece::Quoted(text)])
+}
+
+/// What the byte after this one belongs to.
+fn place_after(place: Place, byte: u8) -> Result<Place, Trouble> {
+    match place {
+        Place::Between => after_blank(byte),
+        Place::Plain => after_plain(byte),
+        Place::Text => after_text(byte),
+        Place::Escape => after_backslash(byte),
+        Place::FirstDigit if byte.is_ascii_hexdigit() => Ok(Place::SecondDigit),
+        Place::SecondDigit if byte.is_ascii_hexdigit() => Ok(Place::Text),
+        Place::FirstDigit | Place::SecondDigit => Err(Trouble::Digit),
+        Place::Closed if byte == b' ' => Ok(Place::Between),
+        Place::Closed => Err(Trouble::Touching),
+    }
+}
+
+/// What the byte after this one, which comes after a blank, belongs to.
+fn after_blank(byte: u8) -> Result<Place, Trouble> {
+    if byte == b'"' {
+        Ok(Place::Text)
+    } else {
+        after_plain(byte)
+    }
+}
+
+/// What the byte after this one, which may be of a plain word, belongs to.
+fn after_plain(byte: u8) -> Result<Place, Trouble> {
+    match byte {
+        b' ' => Ok(Place::Between),
+        b'"' => Err(Trouble::Quote),
+        b'\t' => Err(Trouble::Tab),
+        b'!'..=b'~' => Ok(Place::Plain),
+        _ => Err(Trouble::Byte),
+    }
+}
+
+/// What the byte after this one of a text belongs to.
+fn after_text(byte: u8) -> Result<Place, Trouble> {
+    match byte {
+        b'"' => Ok(Place::Closed),
+        b'\\' => Ok(Place::Escape),
+        0..=0x1f | 0x7f => Err(Trouble::Control),
+        _ => Ok(Place::Text),
+    }
+}
+
+/// What the byte after this one, which follows a backslash, belongs to.
+fn after_backslash(byte: u8) -> Result<Place, Trouble> {
+    match byte {
+        b'"' | b'\\' | b'n' | b'r' | b't' => Ok(Place::Text),
+        b'x' => Ok(Place::FirstDigit),
+        _ => Err(Trouble::Escape),
+    }
+}
+
+/// Says what is wrong with the byte at this index, which is in the word that begins at `start`.
+fn say_trouble(
+    alloc: Global,
+    notes: &mut Notes<'_>,
+    line: &[u8],
+    start: usize,
+    index: usize,
+    trouble: Trouble,
+) -> Result<(), NoMemory> {
+    let word = Piece::Quoted(up_to_blank(after(line, start)));
+    let from_here = Piece::Quoted(up_to_blank(after(line, index)));
+    match trouble {
+        Trouble::Tab => {
+            let text = b"a TAB stands outside of texts; words are separated by blanks";
+            notes.say(alloc, &[Piece::Plain(text)])
+        }
+        Trouble::Byte => {
+            let end =
+                b" has other than visible ASCII characters; as a text it is due in double quotes";
+            notes.say(alloc, &[word, Piece::Plain(end)])
+        }
+        Trouble::Quote => {
+            let begin = b"a blank is due before the double quote in ";
+            notes.say(alloc, &[Piece::Plain(begin), word])
+        }
+        Trouble::Touching => {
+            let begin = Piece::Plain(b"a blank is due between a text and ");
+            let end = Piece::Plain(b"; in a text a double quote is written \\\"");
+            notes.say(alloc, &[begin, from_here, end])
+        }
+        Trouble::Control | Trouble::Escape | Trouble::Digit => {
+            say_trouble_in_text(alloc, notes, after(line, index), trouble)
+        }
+    }
+}
+
+/// Says what is wrong with the first of these bytes, which are in a text.
+fn say_trouble_in_text(
+    alloc: Global,
+    notes: &mut Notes<'_>,
+    bytes: &[u8],
+    trouble: Trouble,
+) -> Result<(), NoMemory> {
+    let first = &bytes[..bytes.len().min(1)];
+    match trouble {
+        Trouble::Control => {
+            let begin = b"a control character stands in a text; it is written as in ";
+            notes.say(alloc, &[Piece::Plain(begin), Piece::Quoted(first)])
+        }
+        Trouble::Digit => {
+            let text = b"\\x is due with two hexadecimal digits";
+            notes.say(alloc, &[Piece::Plain(text)])
+        }
+        _ => {
+            let begin = Piece::Plain(b"a backslash before ");
+            let end = b" begins no escape; known are \\\" \\\\ \\n \\r \\t and \\xHH";
+            notes.say(alloc, &[begin, Piece::Quoted(first), Piece::Plain(end)])
+        }
+    }
+}
+
+/// The bytes from this index on.
+fn after(bytes: &[u8], index: usize) -> &[u8] {
+    &bytes[index.min(bytes.len())..]
+}
+
+/// The bytes before the first blank.
+fn up_to_blank(bytes: &[u8]) -> &[u8] {
+    match bytes.iter().position(|byte| *byte == b' ') {
+        Some(end) => &bytes[..end],
+        None => bytes,
+    }
+}
