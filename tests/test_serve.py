@@ -314,13 +314,176 @@ def far_ends(program, kind, folder):
         yield checked('the lines', served.expect_line, 1, b'quit')
 
 
+def several_addresses(program, kind, folder):
+    """One run that listens at addresses of both kinds; a wrong address among several is a wrong use, and nothing is
+    bound then."""
+    other, address = serving.place_of('unix' if kind == 'inet' else 'inet', folder)
+    free, path = serving.place_of('unix', folder)
+
+    def at_both():
+        words = [address, '--at-once', '2'] + rules_of_keys(folder)
+        with serving.Service(program, kind, folder, words) as served, served.connected() as one:
+            with serving.connected(other, lambda: served.process.poll() is not None) as two:
+                side_by_side([one, two], [opening(1) + message(1), opening(2) + message(2)])
+                quit_all([one, two])
+            served.made += 1
+            served.expect_all(b'quit')
+
+    def wrong(words):
+        run_to_end(program, words, (2, b'', b'bad address\n'))
+        expect('the path', os.path.exists(free), False)
+
+    def taken_twice():
+        run_to_end(program, [path, path], (1, b'', b'cannot listen\n'))
+
+    yield checked('at both', at_both)
+    yield checked('the second is wrong', wrong, [path, 'unix:'])
+    yield checked('the first is wrong', wrong, ['8890', path])
+    yield checked('the third is wrong', wrong, [path, path, 'inet:8890'])
+    yield checked('twice the same', taken_twice)
+
+
+LOGGED_RULES = (
+    'at helo when helo is "h3" do reject\n'
+    'at mail when sender is "<s4@x>" do tempfail\n'
+    'at rcpt when rcpt is "<b@y>" do code "550 5.1.1 \\"no\\""\n'
+    'at eob when sender is "<s1@x>" do discard\n'
+    'at eob when sender is "<s2@x>" do accept\n')
+
+
+def logged(program, kind, folder):
+    """The log has a line for each decision that isn't to go on, and names the connection and the message."""
+    words = rules_file(folder, LOGGED_RULES)
+    refused = packet(b'y', b'550 5.1.1 "no"')
+
+    def talk(key, end):
+        """A message of which a recipient is refused, and which ends so."""
+        return opening(key) + [
+            (packet(b'D', b'Mi', b'Q%d' % key) + packet(b'M', b'<s%d@x>' % key), CONTINUE),
+            (packet(b'R', b'<b@y>'), refused), (packet(b'R', b'<c@y>'), CONTINUE), (packet(b'T'), CONTINUE),
+            (packet(b'E'), packet(end))]
+
+    def expect_logged(served, *of_connections):
+        """The lines of each of these connections come in their order, beside those of the others."""
+        rest = [list(lines) for lines in of_connections]
+        while any(rest):
+            ready, _, _ = select.select([served.process.stderr], [], [], serving.SECONDS)
+            line = served.process.stderr.readline() if ready else b'none in time'
+            expect('log', line, line if [line] in [lines[:1] for lines in rest] else rest)
+            next(lines for lines in rest if lines[:1] == [line]).pop(0)
+
+    def two_connections():
+        with serving.Service(program, kind, folder, words + ['--log']) as served:
+            with served.connected() as one, served.connected() as two:
+                side_by_side([one, two], [talk(1, b'd'), talk(2, b'a')])
+                no = b'rcpt code "550 5.1.1 \\"no\\""\n'
+                expect_logged(served, [b'connection 1 message "Q1" ' + end for end in (no, b'eob discard\n')],
+                              [b'connection 2 message "Q2" ' + end for end in (no, b'eob accept\n')])
+                quit_all([one, two])
+            served.expect_all(b'quit')
+
+    def no_message():
+        with serving.Service(program, kind, folder, ['--log'] + words) as served, served.connected() as one:
+            say(one, opening(3)[:-1] + [(packet(b'H', b'h3'), packet(b'r'))])
+            expect_logged(served, [b'connection 1 message "" helo reject\n'])
+            say(one, [(packet(b'H', b'h4'), CONTINUE), (packet(b'M', b'<s4@x>'), packet(b't'))])
+            expect_logged(served, [b'connection 1 message "" mail tempfail\n'])
+
+    def no_log():
+        with serving.Service(program, kind, folder, words) as served, served.connected() as one:
+            say(one, talk(1, b'd'))
+            served.process.kill()
+            expect('log', served.process.stderr.read(), b'')
+
+    def unread():
+        with serving.Service(program, kind, folder, words + ['--log']) as served, served.connected() as one:
+            served.process.stderr.close()
+            served.process.stderr = None
+            say(one, talk(1, b'd') + [(packet(b'M', b'<s2@x>'), CONTINUE), (packet(b'R', b'<b@y>'), refused)])
+            quit_all([one])
+            served.expect_all(b'quit')
+
+    yield checked('log of two connections', two_connections)
+    yield checked('log of no message', no_message)
+    yield checked('no log', no_log)
+    yield checked('a log that nobody reads', unread)
+
+
+def changed_rules(program, kind, folder):
+    """A file of rules that changes holds for the connections that come after; one with a fault is reported once, and the
+    rules before it stay. A connection keeps the rules that it began with."""
+    path = os.path.join(folder, 'changing.rules')
+    sender = packet(b'M', b'<a@x>')
+
+    def write(text):
+        """Puts a file of another time in place of the one that is there."""
+        with open(path + '.new', 'w') as rules:
+            rules.write(text)
+        write.count += 1
+        os.utime(path + '.new', (write.count, write.count))
+        os.replace(path + '.new', path)
+
+    write.count = 1_000_000_000
+
+    def answers(connection, reply):
+        say(connection, [(sender, reply), (ABORT, b'')])
+
+    def expect_said(served, lines):
+        for line in lines:
+            ready, _, _ = select.select([served.process.stderr], [], [], serving.SECONDS)
+            expect('errors', served.process.stderr.readline() if ready else b'none in time', line)
+        expect('more errors', select.select([served.process.stderr], [], [], 0)[0], [])
+
+    def play(served):
+        def begun(reply):
+            connection = served.connected()
+            say(connection, opening(1))
+            answers(connection, reply)
+            return connection
+
+        connections = [begun(packet(b'r'))]
+        write('at mail do tempfail\n')
+        connections.append(begun(packet(b't')))
+        answers(connections[0], packet(b'r'))
+        expect_said(served, [])
+        for text, said in [('at mail do nothing\n', b'rules line 1: fault 4\n'), ('at', b'rules line 1: fault 2\n')]:
+            write(text)
+            connections += [begun(packet(b't')), begun(packet(b't'))]
+            expect_said(served, [said])
+        os.remove(path)
+        connections += [begun(packet(b't')), begun(packet(b't'))]
+        expect_said(served, [b'cannot read rules\n'])
+        write('at mail do code "550 5.7.1 Other"\n')
+        connections.append(begun(packet(b'y', b'550 5.7.1 Other')))
+        write('')
+        connections.append(begun(CONTINUE))
+        for count in range(200):
+            write('at mail do code "550 5.7.1 Number %d"\n' % count)
+            connections.append(begun(packet(b'y', b'550 5.7.1 Number %d' % count)))
+        answers(connections[0], packet(b'r'))
+        answers(connections[1], packet(b't'))
+        quit_all(connections)
+        served.expect_all(b'quit')
+
+    def run():
+        write('at mail do reject\n')
+        with serving.Service(program, kind, folder, ['--rules', path, '--at-once', '1000']) as served:
+            play(served)
+
+    yield checked('changed rules', run)
+
+
+GROUPS = [
+    rows_with_rules, rows, far_ends, interleaved, streams, greeted_again, several_addresses, logged, changed_rules]
+
+
 def groups(folder):
     """The groups of checks, each with the program and the kind of sockets that it is run with."""
     found = []
     for build in programs.BUILDS:
         program = programs.tool(build)
         for kind in serving.KINDS:
-            for group in [rows_with_rules, rows, far_ends, interleaved, streams, greeted_again]:
+            for group in GROUPS:
                 name = '%s at %s' % (os.path.basename(program), kind)
                 found.append((name, group, (program, kind, tempfile.mkdtemp(dir=folder))))
     return found

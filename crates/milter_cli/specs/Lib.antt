@@ -1,4 +1,5 @@
 pub mod AnswerRun
+pub mod ExpectedReports
 pub mod FileRun
 pub mod Filtering
 pub mod InMemory

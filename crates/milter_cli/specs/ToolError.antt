@@ -1,6 +1,6 @@
 -- How the program ends where it did not do what it was asked.
 use Rattle.std.specs.Prelude.{◌≡◌, ℕ, List, [], ◌∷◌, ◌++◌, Option, Some, Result, Ok, Err, IfErr, codes}
-use Rattle.std.specs.Prelude.{option_map}
+use Rattle.std.specs.Prelude.{decimal, option_map}
 use Rattle.std.specs.declared.io.ErrorKind.{ErrorKind as IoKind}
 use Rattle.std.specs.declared.io.ErrorKind.TheVariants as io
 use Rattle.clap.specs.declared.error.Error.{Error}
@@ -13,7 +13,7 @@ use Rattle.milter_text.specs.declared.text_fault.TextFault.TheVariants as texts
 use Rattle.milter_trace.specs.FaultText.{fault_text}
 use Rattle.milter_cli.specs.declared.tool_error.ToolError.{ToolError}
 use Rattle.milter_cli.specs.declared.tool_error.ToolError.TheVariants.{Usage, Trace, File, Answer}
-use Rattle.milter_cli.specs.declared.tool_error.ToolError.TheVariants.{Listen, Write, NoMemory}
+use Rattle.milter_cli.specs.declared.tool_error.ToolError.TheVariants.{Connect, Differs, Findings, Listen, Write, NoMemory}
 use Rattle.milter_request.specs.UsageError.{usage_lines}
 use Rattle.milter_service.specs.declared.service_error.ServiceError.{ServiceError}
 use Rattle.milter_service.specs.declared.service_error.ServiceError.TheVariants as services
@@ -26,6 +26,9 @@ error_status (Trace fault) = 1
 error_status (File error) = 1
 error_status (Answer error) = 1
 error_status Listen = 1
+error_status Connect = 1
+error_status (Differs line) = 1
+error_status Findings = 1
 error_status Write = 1
 error_status NoMemory = 1
 
@@ -43,6 +46,9 @@ error_lines (Trace fault) = option_map line (fault_text fault)
 error_lines (File error) = Some (line (file_error_text error))
 error_lines (Answer error) = Some (line (answer_error_text error))
 error_lines Listen = Some (line (codes "cannot listen"))
+error_lines Connect = Some (line (codes "cannot connect"))
+error_lines (Differs number) = Some (line (codes "differs at line " ++ decimal number))
+error_lines Findings = Some []
 error_lines Write = Some (line (codes "write fault"))
 error_lines NoMemory = Some (line (codes "out of memory"))
 

@@ -17,6 +17,8 @@ pub enum InputFile {
     Rules,
     /// An event file.
     Events,
+    /// A file of the reports that are expected.
+    Reports,
 }
 
 impl fmt::Display for InputFile {
@@ -27,6 +29,7 @@ impl fmt::Display for InputFile {
             InputFile::Session => "session",
             InputFile::Rules => "rules",
             InputFile::Events => "events",
+            InputFile::Reports => "reports",
         })
     }
 }

@@ -1,13 +1,16 @@
 //! The subcommand `rules`: from a rule file to its canonical form; and the rules that other subcommands go by.
 
-ghost use Rattle.std.specs.Prelude.{IfErr, IfOk, OnOk};
+ghost use Rattle.std.specs.Prelude.{◌≡◌, IfErr, IfOk, OnOk, false, true};
 ghost use Rattle.milter_rules.specs.RuleFile.{IsRuleFile};
-ghost use Rattle.milter_ruleset.specs.RulesValue.{rule_set};
+ghost use Rattle.milter_ruleset.specs.RulesValue.{case_of, rule_set};
+ghost use Rattle.milter_search.specs.declared.text_case.TextCase.TheVariants.{Exact, Ignored};
 ghost use Rattle.milter_rules.specs.RulesText.{rules_text};
 ghost use Rattle.milter_cli.specs.FileRun.{Has, HasNone, IsFileFault, IsOf, WritesCanonical};
 
 use crate::file_error::{FileError, InputFile, fault_error, text_error};
 use crate::file_reading::read_file;
+use crate::tool_error::{ToolError, output_error};
+use milter_rule_check::check_rules;
 use milter_rules::{Rules, read_rules, write_rules};
 use std::alloc::Global;
 use std::io::{Read, Write};
@@ -16,6 +19,8 @@ use std::io::{Read, Write};
 /// bytes.
 pub fn load_rules<R: Read + Drop>(alloc: Global, reader: R) -> Result<Rules, FileError>
     ensures found { IfOk result (λ rules. Has IsRuleFile (R.remaining reader) (rule_set rules)) }
+    // The case of letters counts in their texts.
+    ensures case { IfOk result (λ rules. case_of rules ≡ Exact) }
     // An error names no other kind of file.
     ensures named { IfErr result (IsOf InputFile.Rules) }
     // A fault of the file comes only of a file that has no rules.
@@ -25,6 +30,19 @@ pub fn load_rules<R: Read + Drop>(alloc: Global, reader: R) -> Result<Rules, Fil
     match read_rules(alloc, file.as_slice()) {
         Ok(rules) => Ok(rules),
         Err(fault) => Err(fault_error(InputFile::Rules, fault.line(), fault.number())),
+    }
+}
+
+/// These rules, in the texts of whose conditions the case of ASCII letters doesn't count where it is ignored.
+pub fn with_case_ignored(rules: Rules, ignore_case: bool) -> Rules
+    ensures set { rule_set result ≡ rule_set rules }
+    ensures ignored { ignore_case ≡ true → case_of result ≡ Ignored }
+    ensures kept { ignore_case ≡ false → result ≡ rules }
+{
+    if ignore_case {
+        rules.ignoring_case()
+    } else {
+        rules
     }
 }
 
@@ -46,5 +64,24 @@ pub fn print_rules<R: Read + Drop, W: Write>(
     match write_rules(alloc, writer, &rules) {
         Ok(()) => Ok(()),
         Err(fault) => Err(text_error(fault)),
+    }
+}
+
+/// Reads a rule file to its end, and writes a line for each thing that is to be said of it, as a file of this name;
+/// the error is `ToolError::Findings` where there was one.
+pub fn check_rule_file<R: Read + Drop, W: Write>(
+    alloc: Global,
+    name: &str,
+    reader: R,
+    writer: &mut W,
+) -> Result<(), ToolError> {
+    let file = match read_file(alloc, InputFile::Rules, reader) {
+        Ok(file) => file,
+        Err(error) => return Err(ToolError::File(error)),
+    };
+    match check_rules(alloc, name, file.as_slice(), writer) {
+        Ok(false) => Ok(()),
+        Ok(true) => Err(ToolError::Findings),
+        Err(fault) => Err(output_error(fault)),
     }
 }

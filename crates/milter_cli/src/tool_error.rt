@@ -30,6 +30,15 @@ pub enum ToolError {
     Answer(AnswerError),
     /// A socket that was not bound, or that the system doesn't wait for.
     Listen,
+    /// A filter to which no connection was made for as long as that was waited for.
+    Connect,
+    /// Reports that aren't the expected ones.
+    Differs {
+        /// The number of the line, from 1, in which they begin to differ.
+        line: u64,
+    },
+    /// Rules of which something was said.
+    Findings,
     /// Help, the version, the line of a connection or the reports of a session were not written.
     Write,
     /// Memory was refused before there was a subcommand, for the line of a connection, or in the playing of a session.
@@ -46,6 +55,9 @@ impl fmt::Display for ToolError {
             ToolError::File(error) => writeln!(f, "{error}"),
             ToolError::Answer(error) => writeln!(f, "{error}"),
             ToolError::Listen => writeln!(f, "cannot listen"),
+            ToolError::Connect => writeln!(f, "cannot connect"),
+            ToolError::Differs { line } => writeln!(f, "differs at line {line}"),
+            ToolError::Findings => Ok(()),
             ToolError::Write => writeln!(f, "write fault"),
             ToolError::NoMemory => writeln!(f, "out of memory"),
         }
@@ -68,7 +80,8 @@ pub fn report<W: Write>(ended: Result<(), ToolError>, errors: &mut W) -> ExitCod
     ExitCode::from(match error {
         ToolError::Usage(_) => 2,
         ToolError::Trace(_) | ToolError::File(_) | ToolError::Answer(_) => 1,
-        ToolError::Listen | ToolError::Write | ToolError::NoMemory => 1,
+        ToolError::Listen | ToolError::Connect | ToolError::Write | ToolError::NoMemory => 1,
+        ToolError::Differs { .. } | ToolError::Findings => 1,
     })
 }
 

@@ -6,13 +6,13 @@ use Rattle.std.specs.Prelude.{find, slice_get}
 use Rattle.std.specs.Option.{option_and_then, option_map_or}
 use Rattle.std.specs.Str.{bytes_eq}
 use Rattle.clap.specs.Facts.{explicit_source}
-use Rattle.clap.specs.Words.{Row, Shape, Text, built, fault_of, first_of, first_value, rows_of, subcommand_of, subcommand_rows_of}
+use Rattle.clap.specs.Words.{Row, Shape, Text, built, fault_of, all_of, first_of, first_value, matched_of, raw_values, rows_of, subcommand_of, subcommand_rows_of}
 use Rattle.clap.specs.Walk.{answers_to, finished, nothing_held, rows_after, settled, walk, walk_from}
 use Rattle.clap.specs.Simple.{argument_words, built_leaf, entered, help_shape, inherited, label_of, marked_built, names_of, rows_at, with_leaf_noted}
 use Rattle.clap.specs.Takes.{is_given}
 use Rattle.clap.specs.Kinds.{Kinds}
 use Rattle.clap.specs.Faults.{check_fault, defaults_fault, entered_fault, level_fault, settle_fault, walk_fault}
-use Rattle.clap.proofs.WalkLemmas.{first_value-rows}
+use Rattle.clap.proofs.WalkLemmas.{first_value-rows, raw_values-rows}
 use Rattle.clap.specs.declared.error.kind.ErrorKind.{ErrorKind}
 use Rattle.clap.specs.declared.parser.matches.Found.{Found}
 use Rattle.clap.specs.declared.parser.matches.ArgMatches.{ArgMatches}
@@ -45,6 +45,17 @@ flag_given f id o flag is h = holds_of (λ t. IsFlag t flag) f id o is h
 
 no_value : (f : Found) (id : Text) → None ≡ first_value f id → first_of id (rows_of f) ≡ None
 no_value f id none = sym (none ∙ first_value-rows f id)
+
+-- the values that are given
+pub values_given : (f : Found) (id : Text) (values : List Text) → Some values ≡ option_map raw_values (matched_of f id) → all_of id (rows_of f) ≡ Some values
+values_given f id values is = sym (is ∙ raw_values-rows f id)
+
+pub no_values : (f : Found) (id : Text) → None ≡ option_map raw_values (matched_of f id) → first_of id (rows_of f) ≡ None
+no_values f id none = go (find (λ r. bytes_eq r.id id) (rows_of f)) (sym (none ∙ raw_values-rows f id))
+  where
+    go : (o : Option Row) → option_map (λ r. r.values) o ≡ None → option_and_then (λ r. slice_get r.values 0) o ≡ None
+    go None e = refl
+    go (Some r) e = absurd (none-some _ (sym e))
 
 head : (a b : Text) → a ≡ b → slice_index a 0 ≡ slice_index b 0
 head a b e = ap (λ t. slice_index t 0) e
@@ -88,14 +99,14 @@ no_filter f none = (
   λ e. (let other : 102 ≡ 112 = head (codes "filter") (codes "play") e in absurd (omega (arith, other))),
 )
 
-pub no_serve : (f : Found) → None ≡ first_value f (codes "address") → IsUnasked (codes "serve", rows_of f)
+pub no_serve : (f : Found) → None ≡ option_map raw_values (matched_of f (codes "address")) → IsUnasked (codes "serve", rows_of f)
 no_serve f none = (
   (λ e. (let other : 115 ≡ 116 = head (codes "serve") (codes "trace") e in absurd (omega (arith, other)))),
   (λ e. (let other : 115 ≡ 97 = head (codes "serve") (codes "answer") e in absurd (omega (arith, other)))),
   (λ e. (let other : 114 ≡ 115 = letter 2 (codes "serve") (codes "session") e in absurd (omega (arith, other)))),
   (λ e. (let other : 115 ≡ 114 = head (codes "serve") (codes "rules") e in absurd (omega (arith, other)))),
   (λ e. (let other : 115 ≡ 102 = head (codes "serve") (codes "filter") e in absurd (omega (arith, other)))),
-  (λ e. no_value f (codes "address") none),
+  (λ e. no_values f (codes "address") none),
   (λ e. (let other : 115 ≡ 109 = head (codes "serve") (codes "mta") e in absurd (omega (arith, other)))),
   λ e. (let other : 115 ≡ 112 = head (codes "serve") (codes "play") e in absurd (omega (arith, other))),
 )
@@ -200,10 +211,13 @@ module _ (losses : LossWords) where
   play_shape = built_leaf (inherited (with_leaf_noted (marked_built (tool_app losses).top)) (play_app losses).top)
 
   mta_fills : Each Fills mta_shape.rules
-  mta_fills = (inr (inl refl), (inr (inl refl), (inr (inl refl), (inr (inl refl), (inr (inl refl), (inr (inl refl), (inl refl, tt)))))))
+  mta_fills = (inr (inl refl), (inr (inl refl), (inr (inl refl), (inr (inl refl), (inr (inl refl), (inr (inl refl), (inr (inl refl), (inr (inl refl), (inl refl, tt)))))))))
+
+  serve_fills : Each Fills serve_shape.rules
+  serve_fills = (inr (inl refl), (inr (inl refl), (inr (inl refl), (inr (inl refl), (inr (inl refl), (inr (inr refl), (inr (inr refl), (inl refl, tt))))))))
 
   play_fills : Each Fills play_shape.rules
-  play_fills = (inr (inl refl), (inr (inl refl), (inr (inl refl), (inr (inl refl), (inr (inl refl), (inr (inl refl), (inl refl, tt)))))))
+  play_fills = (inr (inl refl), (inr (inl refl), (inr (inr refl), (inr (inl refl), (inr (inl refl), (inr (inl refl), (inr (inl refl), (inr (inl refl), (inl refl, tt)))))))))
 
   -- the shape of the subcommand whose test is the first to hold
   abbrev pick : List (Bool × Shape) → Option Shape
@@ -233,12 +247,12 @@ module _ (losses : LossWords) where
   picked_asks words rows false true rules answer filter serve mta play help none below check unasked =
       is_there (codes "file") session_shape words (inr (inl refl), (inl refl, tt)) (λ rows e. required_here _ _ e) below (unasked.2 refl)
   picked_asks words rows false false true answer filter serve mta play help none below check unasked =
-      is_there (codes "file") rules_shape words (inr (inl refl), (inl refl, tt)) (λ rows e. required_here _ _ e) below (unasked.3 refl)
+      is_there (codes "file") rules_shape words (inr (inl refl), (inr (inr refl), (inl refl, tt))) (λ rows e. required_here _ _ e) below (unasked.3 refl)
   picked_asks words rows false false false true filter serve mta play help none below check unasked = unasked.1 refl
   picked_asks words rows false false false false true serve mta play help none below check unasked =
-      is_there (codes "address") filter_shape words (inr (inl refl), (inr (inl refl), (inr (inl refl), (inr (inr refl), (inl refl, tt))))) (λ rows e. required_here _ _ e) below (unasked.4 refl)
+      is_there (codes "address") filter_shape words (inr (inl refl), (inr (inl refl), (inr (inl refl), (inr (inr refl), (inr (inr refl), (inl refl, tt)))))) (λ rows e. required_here _ _ e) below (unasked.4 refl)
   picked_asks words rows false false false false false true mta play help none below check unasked =
-      is_there (codes "address") serve_shape words (inr (inl refl), (inr (inl refl), (inr (inl refl), (inr (inl refl), (inr (inl refl), (inl refl, tt)))))) (λ rows e. required_here _ _ e) below (unasked.5 refl)
+      is_there (codes "address") serve_shape words serve_fills (λ rows e. required_here _ _ e) below (unasked.5 refl)
   picked_asks words rows false false false false false false true play help none below check unasked = mta_asks words below (unasked.6 refl)
   picked_asks words rows false false false false false false false true help none below check unasked =
       is_there (codes "session") play_shape words play_fills (λ rows e. required_here _ _ e) below (unasked.7 refl)

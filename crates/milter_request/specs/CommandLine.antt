@@ -4,15 +4,15 @@ use Rattle.std.specs.Prelude.{◌∷◌, ◌⊎◌, ◌↔◌, Bool, IsSomeAnd, 
 use Rattle.std.specs.Borrow.{Bor}
 use Rattle.std.specs.Str.Parse.{digits_value, without_leading_plus}
 use Rattle.clap.specs.Values.{IsUnsignedIn}
-use Rattle.clap.specs.Words.{App, HasKind, Row, Rule, Text, fault_of, first_of, new_app, new_rule, subcommand_of}
+use Rattle.clap.specs.Words.{App, HasKind, Row, Rule, Text, all_of, fault_of, first_of, new_app, new_rule, subcommand_of}
 use Rattle.clap.specs.Words.{subcommand_rows_of, with_rule, with_subcommand}
 use Rattle.clap.specs.Walk.{texts}
-use Rattle.clap.specs.declared.builder.action.ArgAction.TheVariants.{Set, SetTrue}
+use Rattle.clap.specs.declared.builder.action.ArgAction.TheVariants.{Append, Set, SetTrue}
 use Rattle.clap.specs.declared.builder.command.Command.{Command}
 use Rattle.clap.specs.declared.builder.command.Command.TheViews.{out-Command}
 use Rattle.clap.specs.declared.builder.value_parser.ValueParser.TheVariants.{Names, Unsigned}
 use Rattle.milter_request.specs.declared.command_line.TheConstants.{COUNT_DEFAULT, COUNT_MAX}
-use Rattle.milter_request.specs.declared.command_line.TheConstants.{TIMEOUT_DEFAULT, TIMEOUT_MAX}
+use Rattle.milter_request.specs.declared.command_line.TheConstants.{TIMEOUT_DEFAULT, TIMEOUT_MAX, WAIT_MAX}
 use Rattle.milter_request.specs.declared.command_line.TheConstants.{AT_ONCE_DEFAULT, AT_ONCE_MAX, IDLE_DEFAULT}
 use Rattle.milter_request.specs.declared.command_line.TheConstants.{IDLE_MAX}
 use Rattle.milter_request.specs.declared.command_line.TheConstants.{MODE_DEFAULT, MODE_MAX}
@@ -37,6 +37,10 @@ trace_app = new_app (codes "trace")
 abbrev pub place_rule : Text → Rule
 place_rule name = record (new_rule name) { action = Some Set; value_names = 1; required = true }
 
+-- a word that has to be there, and may be there more than once
+abbrev pub places_rule : Text → Rule
+places_rule name = record (place_rule name) { action = Some Append }
+
 -- an option with a value
 abbrev pub option_rule : Text → Rule
 option_rule name = record (new_rule name) { long = Some name; action = Some Set; value_names = 1 }
@@ -45,15 +49,20 @@ option_rule name = record (new_rule name) { long = Some name; action = Some Set;
 abbrev pub flag_rule : Text → Rule
 flag_rule name = record (new_rule name) { long = Some name; action = Some SetTrue }
 
+-- whether the case of letters counts
+abbrev pub ignore_case_rule : Rule
+ignore_case_rule = flag_rule (codes "ignore-case")
+
 abbrev pub session_app : App
 session_app = with_rule (new_app (codes "session")) (place_rule (codes "file"))
 
 abbrev pub rules_app : App
-rules_app = with_rule (new_app (codes "rules")) (place_rule (codes "file"))
+rules_app = with_rule (with_rule (new_app (codes "rules")) (place_rule (codes "file"))) (flag_rule (codes "check"))
 
 abbrev pub answer_app : App
 answer_app =
-    with_rule (with_rule (new_app (codes "answer")) (option_rule (codes "rules"))) (flag_rule (codes "lenient"))
+    let base = with_rule (new_app (codes "answer")) (option_rule (codes "rules")) in
+    with_rule (with_rule base (flag_rule (codes "lenient"))) ignore_case_rule
 
 -- an option with a number from 1 to another
 abbrev pub number_rule : Text → ℕ → Rule
@@ -68,16 +77,20 @@ filter_base =
     with_rule (with_rule (new_app (codes "filter")) (place_rule (codes "address"))) (option_rule (codes "rules"))
 
 abbrev pub filter_app : App
-filter_app = with_rule (with_rule filter_base count_rule) (flag_rule (codes "lenient"))
+filter_app = with_rule (with_rule (with_rule filter_base count_rule) (flag_rule (codes "lenient"))) ignore_case_rule
 
 abbrev pub serve_base : App
 serve_base =
-    with_rule (with_rule (new_app (codes "serve")) (place_rule (codes "address"))) (option_rule (codes "rules"))
+    with_rule (with_rule (new_app (codes "serve")) (places_rule (codes "address"))) (option_rule (codes "rules"))
 
-abbrev pub serve_app : App
-serve_app =
+-- with its limits
+abbrev pub serve_limits_app : App
+serve_limits_app =
     let limited = with_rule serve_base (number_rule (codes "at-once") AT_ONCE_MAX) in
     with_rule (with_rule limited (number_rule (codes "timeout") IDLE_MAX)) (number_rule (codes "mode") MODE_MAX)
+
+abbrev pub serve_app : App
+serve_app = with_rule (with_rule serve_limits_app (flag_rule (codes "log"))) ignore_case_rule
 
 -- the words of `--loss`, wherever they are in memory
 abbrev pub LossWords : Type 0
@@ -93,25 +106,38 @@ loss_rule losses = record (option_rule (codes "loss")) { parser = Some (Names lo
 abbrev pub timeout_rule : Rule
 timeout_rule = number_rule (codes "timeout") TIMEOUT_MAX
 
+abbrev pub wait_rule : Rule
+wait_rule = number_rule (codes "wait") WAIT_MAX
+
 -- where the filter is, and what is played to it
 abbrev pub mta_base : App
 mta_base = with_rule (with_rule (new_app (codes "mta")) (place_rule (codes "address"))) (place_rule (codes "session"))
 
-abbrev pub mta_app : LossWords → App
-mta_app losses =
+-- with what becomes of messages whose filter is lost, and what is offered to it
+abbrev pub mta_offer_app : LossWords → App
+mta_offer_app losses =
     let limited = with_rule (with_rule mta_base (loss_rule losses)) timeout_rule in
     with_rule (with_rule limited (option_rule (codes "actions"))) (option_rule (codes "protocol"))
 
+abbrev pub mta_app : LossWords → App
+mta_app losses = with_rule (with_rule (mta_offer_app losses) wait_rule) (option_rule (codes "expect"))
+
 -- the files of both ends
 abbrev pub play_base : App
-play_base = with_rule (with_rule (new_app (codes "play")) (place_rule (codes "session"))) (option_rule (codes "rules"))
+play_base =
+    let placed = with_rule (new_app (codes "play")) (place_rule (codes "session")) in
+    with_rule (with_rule placed (option_rule (codes "rules"))) ignore_case_rule
 
 -- with what one of them offers to the other
 abbrev pub play_offer_app : App
 play_offer_app = with_rule (with_rule play_base (option_rule (codes "actions"))) (option_rule (codes "protocol"))
 
+-- with what happens meanwhile
+abbrev pub play_events_app : LossWords → App
+play_events_app losses = with_rule (with_rule play_offer_app (option_rule (codes "events"))) (loss_rule losses)
+
 abbrev pub play_app : LossWords → App
-play_app losses = with_rule (with_rule play_offer_app (option_rule (codes "events"))) (loss_rule losses)
+play_app losses = with_rule (play_events_app losses) (option_rule (codes "expect"))
 
 -- the subcommands that only read files
 abbrev pub reading_app : App
@@ -167,20 +193,27 @@ abbrev pub IsAsked : Text × List Row → Request → Type 0
 IsAsked (name, values) Trace = name ≡ codes "trace"
 IsAsked (name, values) (Session file) =
     (name ≡ codes "session") × (first_of (codes "file") values ≡ Some file.now)
-IsAsked (name, values) (Rules file) = (name ≡ codes "rules") × (first_of (codes "file") values ≡ Some file.now)
-IsAsked (name, values) (Answer rules lenient) =
-    (name ≡ codes "answer") × (first_of (codes "rules") values ≡ text_of rules)
-    × IsFlag (first_of (codes "lenient") values) lenient
-IsAsked (name, values) (Filter address rules count lenient) =
-    (name ≡ codes "filter") × (first_of (codes "address") values ≡ Some address.now)
-    × (first_of (codes "rules") values ≡ text_of rules) × IsCount (first_of (codes "count") values) count
-    × IsFlag (first_of (codes "lenient") values) lenient
+IsAsked (name, values) (Rules file check) =
+    (name ≡ codes "rules") × (first_of (codes "file") values ≡ Some file.now)
+    × IsFlag (first_of (codes "check") values) check
+IsAsked (name, values) (Answer asked) =
+    (name ≡ codes "answer") × (first_of (codes "rules") values ≡ text_of asked.rules)
+    × IsFlag (first_of (codes "lenient") values) asked.lenient
+    × IsFlag (first_of (codes "ignore-case") values) asked.ignore_case
+IsAsked (name, values) (Filter asked) =
+    (name ≡ codes "filter") × (first_of (codes "address") values ≡ Some asked.address.now)
+    × (first_of (codes "rules") values ≡ text_of asked.rules)
+    × IsCount (first_of (codes "count") values) asked.count
+    × IsFlag (first_of (codes "lenient") values) asked.lenient
+    × IsFlag (first_of (codes "ignore-case") values) asked.ignore_case
 IsAsked (name, values) (Serve asked) =
-    (name ≡ codes "serve") × (first_of (codes "address") values ≡ Some asked.address.now)
+    (name ≡ codes "serve") × (all_of (codes "address") values ≡ Some (texts asked.addresses.items))
     × (first_of (codes "rules") values ≡ text_of asked.rules)
     × IsNumberOr AT_ONCE_DEFAULT 1 AT_ONCE_MAX (first_of (codes "at-once") values) asked.at_once
     × IsNumberOr IDLE_DEFAULT 1 IDLE_MAX (first_of (codes "timeout") values) asked.timeout
     × IsNumberOr MODE_DEFAULT 1 MODE_MAX (first_of (codes "mode") values) asked.mode
+    × IsFlag (first_of (codes "log") values) asked.log
+    × IsFlag (first_of (codes "ignore-case") values) asked.ignore_case
 IsAsked (name, values) (Mta asked) =
     (name ≡ codes "mta") × (first_of (codes "address") values ≡ Some asked.address.now)
     × (first_of (codes "session") values ≡ Some asked.session.now)
@@ -188,13 +221,17 @@ IsAsked (name, values) (Mta asked) =
     × IsTimeout (first_of (codes "timeout") values) asked.timeout
     × (first_of (codes "actions") values ≡ text_of asked.actions)
     × (first_of (codes "protocol") values ≡ text_of asked.protocol)
+    × IsNumberOr 0 1 WAIT_MAX (first_of (codes "wait") values) asked.wait
+    × (first_of (codes "expect") values ≡ text_of asked.expect)
 IsAsked (name, values) (Play asked) =
     (name ≡ codes "play") × (first_of (codes "session") values ≡ Some asked.session.now)
     × (first_of (codes "rules") values ≡ text_of asked.rules)
+    × IsFlag (first_of (codes "ignore-case") values) asked.ignore_case
     × (first_of (codes "actions") values ≡ text_of asked.actions)
     × (first_of (codes "protocol") values ≡ text_of asked.protocol)
     × (first_of (codes "events") values ≡ text_of asked.events)
     × IsLoss (first_of (codes "loss") values) asked.loss
+    × (first_of (codes "expect") values ≡ text_of asked.expect)
 
 -- the subcommand of this name, with these values, asks for nothing
 abbrev pub IsUnasked : Text × List Row → Type 0

@@ -59,7 +59,16 @@ A session file has these lines, in this order:
   end                            ends the message; others may follow
 
 TEXT is in double quotes, with the escapes \\\" \\\\ \\n \\r \\t and \\xHH. Blank lines, and
-lines that begin with #, are skipped. A file has at most 134,217,728 bytes.
+lines that begin with #, are skipped. A file has at most 134,217,728 bytes. As:
+
+  client 4 \"mail.example.org\" 49152 \"192.0.2.1\"
+  helo \"mail.example.org\"
+  message
+  sender \"<ada@example.org>\"
+  recipient \"<brook@example.net>\"
+  header \"Subject\" \"Lunch\"
+  body \"At one?\\r\\n\"
+  end
 
 It is printed in canonical form. The first fault is printed on standard error,
 with the number N of its line, from 1:
@@ -102,7 +111,8 @@ header, eoh, body or eob. CONDITION is one of
   FIELD has TEXT                 a value of the field contains it
   FIELD lacks TEXT               no value of the field contains it
 
-where FIELD is host, address, helo, sender, rcpt, header TEXT, body or macro TEXT.
+in which the case of letters counts, but with --ignore-case where the rules are used,
+and where FIELD is host, address, helo, sender, rcpt, header TEXT, body or macro TEXT.
 ACTION is a verdict:
 
   continue, accept, reject, tempfail, discard, skip, code TEXT
@@ -122,10 +132,18 @@ or the edits and continue.
 
 TEXT is in double quotes, with the escapes \\\" \\\\ \\n \\r \\t and \\xHH. Blank lines, and
 lines that begin with #, are skipped. A file has at most 134,217,728 bytes and
-10,000 rules.
+10,000 rules. As:
 
-It is printed in canonical form. The first fault is printed on standard error,
-with the number N of its line, from 1:
+  protocol NOCONNECT|NOHELO|NOMAIL|NODATA|NOBODY
+  at rcpt when rcpt is \"<old@example.net>\" do code \"550 5.1.1 Moved\"
+  at eoh when header \"X-Spam\" is \"yes\" do reject
+  at eob do add-header \"X-Seen\" \"mx.example.net\"
+
+It is printed in canonical form. With --check it isn't printed: in place of it there
+is a line FILE:LINE: TEXT for each thing that is to be said of it, also for a fault,
+as of a word that isn't known or a rule that can never apply, and the status is 1
+where there is one. Without it the first fault is printed on standard error, with
+the number N of its line, from 1:
 
   rules line N: fault 1          an unknown line, or a bad or repeated one of
                                  version, actions, protocol or symbols
@@ -139,8 +157,8 @@ with the number N of its line, from 1:
   write fault                    standard output was not written
   out of memory                  memory was refused
 
-Status: 0 after all rules were printed, 1 after a fault, 2 after a wrong use of the
-command line.";
+Status: 0 after all rules were printed, or nothing was to be said of them, 1 after a
+fault or what was said, 2 after a wrong use of the command line.";
 
 /// What is read and written by the filter's end on standard input and output, and its fault lines.
 pub(crate) const ANSWER: &str = "\
@@ -225,22 +243,34 @@ ADDRESS is where mail servers (MTAs) connect:
                                  socket there on which nobody listens any more is
                                  replaced, any other file is refused
 
-as inet:8890@127.0.0.1. The filter asks for what the rule file says, and answers
-by its rules: milter_tool help rules has their form. Without one it lets all mail
-go on. Connections are served at once, up to N of them; others wait. A greeting or
-a sender that comes within a message ends that message, as with --lenient.
+as inet:8890@127.0.0.1. With several addresses it listens on all of them. The
+filter asks for what the rule file says, and answers by its rules: milter_tool help
+rules has their form. Without one it lets all mail go on. Connections are served at
+once, up to N of them; others wait. A greeting or a sender that comes within a
+message ends that message, as with --lenient.
 
 A line is printed for each connection as it ends, with its number, as by filter:
 milter_tool help filter has their forms. One that was idle for too long is closed,
 and its line says read fault.
 
+A rule file that changes holds for the connections that come then. Where it has a
+fault, the line of that is printed on standard error, and the rules before stay.
+
+With --log a line is printed on standard error for each decision that isn't to go
+on, at a stage about a message, as the mail server names that by the macro i:
+
+  connection N message ID STAGE VERDICT
+
+ID is in quotes, and empty where there is none. VERDICT is a word of the rules:
+accept, reject, tempfail or discard, or code and its text in quotes.
+
 A fault is printed on standard error:
 
-  bad address                    ADDRESS isn't of its form (status 2)
+  bad address                    an ADDRESS isn't of its form (status 2)
   bad mode                       OCTAL has a digit above 7 (status 2)
   cannot read rules              the rule file was not read, or is too large
   rules line N: fault K          the rule file has a fault
-  cannot listen                  the socket was not bound, or not waited for
+  cannot listen                  a socket was not bound, or not waited for
   write fault                    standard output was not written
   out of memory                  memory was refused
 
@@ -258,7 +288,7 @@ ADDRESS is where the filter listens:
 as inet:8890@127.0.0.1. SESSION is a session file: milter_tool help session has its
 form. Its messages are played one after another. A connection that is lost settles
 the message that is being played by --loss, and the next one is played over a new
-connection.
+connection. With --wait connecting is tried again until a filter listens.
 
 NAMES are joined by |, or none. The actions are
 
@@ -278,7 +308,8 @@ Once every message is settled, this is printed:
 BY is filter, connection, or default and why the filter was lost: reset, timeout,
 memory, or fault K. OUTCOME is released, discarded, refused TEXT, no-recipients or
 refused-at-connection. A released message follows as it is sent on, in lines as those
-of a session file, after a line quarantine TEXT where it is quarantined.
+of a session file, after a line quarantine TEXT where it is quarantined. With
+--expect nothing is printed where this is the text of the FILE.
 
   fault 1                        a packet has length 0 or above 65536, an unknown
                                  code, or a payload that isn't in its layout
@@ -296,8 +327,11 @@ A fault of what was asked for is printed on standard error:
   bad value for --actions        NAMES isn't of its form (status 2)
   bad value for --protocol       NAMES isn't of its form (status 2)
   bad address                    ADDRESS isn't of its form (status 2)
+  cannot read reports            the file of --expect was not read, or is too large
   cannot read session            the session file was not read, or is too large
   session line N: fault K        the session file has a fault
+  cannot connect                 no filter listened while --wait lasted
+  differs at line N              the messages aren't what --expect has; they were printed
   write fault                    standard output was not written
   out of memory                  memory was refused
 
@@ -332,7 +366,8 @@ and lines that begin with #, are skipped. A file has at most 134,217,728 bytes a
 10,000,000 events, four for each round.
 
 What is printed has the form that milter_tool help mta explains, for the messages
-that are settled; the events need not settle all. With the rules
+that are settled; the events need not settle all. With --expect nothing is printed
+where that is the text of the FILE. With the rules
 
   at eob do add-header \"X-One\" \"1\"
   at eob do add-header \"X-Two\" \"2\"
@@ -372,6 +407,8 @@ A fault of what was asked for is printed on standard error:
   cannot read events             the event file was not read, or is too large
   events line N: fault 1         an unknown line, or one in another form
   events line N: fault 2         with this line there are too many events
+  cannot read reports            the file of --expect was not read, or is too large
+  differs at line N              the messages aren't what --expect has; they were printed
   write fault                    standard output was not written
   out of memory                  memory was refused
 

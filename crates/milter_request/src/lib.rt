@@ -12,7 +12,8 @@ mod usage_error;
 
 pub use address::Address;
 pub use command_line::{
-    MtaRequest, PlayRequest, Request, ServeRequest, command_line_limits, parse,
+    AnswerRequest, FilterRequest, MtaRequest, PlayRequest, Request, ServeRequest,
+    command_line_limits, parse,
 };
 pub use mode::parse_mode;
 pub use target::{Offer, Target};

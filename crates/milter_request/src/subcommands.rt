@@ -3,11 +3,13 @@
 ghost use Rattle.std.specs.Prelude.{◌≡◌, IfOk, codes, false};
 ghost use Rattle.clap.specs.Words.{app_of, rule_of};
 ghost use Rattle.milter_request.specs.CommandLine.{IsLocal, answer_app, count_rule, filter_app, filter_base, filtering_app, flag_rule};
-ghost use Rattle.milter_request.specs.CommandLine.{loss_rule, mta_app, mta_base, number_rule, option_rule, place_rule};
-ghost use Rattle.milter_request.specs.CommandLine.{play_app, play_base, play_offer_app, reading_app, rules_app};
-ghost use Rattle.milter_request.specs.CommandLine.{serve_app, serve_base, session_app, timeout_rule, tool_app, top_app, trace_app};
+ghost use Rattle.milter_request.specs.CommandLine.{loss_rule, mta_app, mta_base, mta_offer_app, number_rule, option_rule, place_rule, places_rule};
+ghost use Rattle.milter_request.specs.CommandLine.{play_app, play_base, play_events_app, play_offer_app, reading_app, rules_app};
+ghost use Rattle.milter_request.specs.CommandLine.{serve_app, serve_base, serve_limits_app, session_app, timeout_rule, tool_app, top_app, trace_app, wait_rule};
 
-use crate::command_line::{AT_ONCE_MAX, COUNT_MAX, IDLE_MAX, MODE_MAX, TIMEOUT_MAX, VERSION};
+use crate::command_line::{
+    AT_ONCE_MAX, COUNT_MAX, IDLE_MAX, MODE_MAX, TIMEOUT_MAX, VERSION, WAIT_MAX,
+};
 use crate::help_text;
 use clap::builder::ValueParser;
 use clap::{Arg, ArgAction, Command};
@@ -82,7 +84,8 @@ fn rules<'a>(alloc: Global) -> Result<Command<'a>, AllocError>
     Command::new(alloc, "rules")
         .about("Prints what a rule file has, in canonical form")
         .after_long_help(help_text::RULES)
-        .arg(place(alloc, "file", "FILE", "The path of the rule file"))
+        .arg(place(alloc, "file", "FILE", "The path of the rule file"))?
+        .arg(check_flag(alloc))
 }
 
 fn answer<'a>(alloc: Global) -> Result<Command<'a>, AllocError>
@@ -93,7 +96,8 @@ fn answer<'a>(alloc: Global) -> Result<Command<'a>, AllocError>
         .about("Replies to a mail server, on standard input and output, as a filter")
         .after_long_help(help_text::ANSWER)
         .arg(rules_option(alloc))?
-        .arg(lenient_flag(alloc))
+        .arg(lenient_flag(alloc))?
+        .arg(ignore_case_flag(alloc))
 }
 
 fn filter<'a>(alloc: Global) -> Result<Command<'a>, AllocError>
@@ -102,7 +106,8 @@ fn filter<'a>(alloc: Global) -> Result<Command<'a>, AllocError>
 {
     filter_places(alloc)?
         .arg(count_option(alloc))?
-        .arg(lenient_flag(alloc))
+        .arg(lenient_flag(alloc))?
+        .arg(ignore_case_flag(alloc))
 }
 
 /// The subcommand `filter` with its address and its rules.
@@ -124,6 +129,16 @@ fn filter_places<'a>(alloc: Global) -> Result<Command<'a>, AllocError>
 
 fn serve<'a>(alloc: Global) -> Result<Command<'a>, AllocError>
     ensures shape { IfOk result (λ c. app_of c ≡ serve_app) }
+    ensures local { IfOk result IsLocal }
+{
+    serve_limits(alloc)?
+        .arg(log_flag(alloc))?
+        .arg(ignore_case_flag(alloc))
+}
+
+/// The subcommand `serve` with its addresses, its rules and its limits.
+fn serve_limits<'a>(alloc: Global) -> Result<Command<'a>, AllocError>
+    ensures shape { IfOk result (λ c. app_of c ≡ serve_limits_app) }
     ensures local { IfOk result IsLocal }
 {
     serve_places(alloc)?
@@ -150,7 +165,7 @@ fn serve<'a>(alloc: Global) -> Result<Command<'a>, AllocError>
         ))
 }
 
-/// The subcommand `serve` with its address and its rules.
+/// The subcommand `serve` with its addresses and its rules.
 fn serve_places<'a>(alloc: Global) -> Result<Command<'a>, AllocError>
     ensures shape { IfOk result (λ c. app_of c ≡ serve_base) }
     ensures local { IfOk result IsLocal }
@@ -158,17 +173,22 @@ fn serve_places<'a>(alloc: Global) -> Result<Command<'a>, AllocError>
     Command::new(alloc, "serve")
         .about("Serves many connections of mail servers at once, as a filter, until it is ended")
         .after_long_help(help_text::SERVE)
-        .arg(place(
-            alloc,
-            "address",
-            "ADDRESS",
-            "Where to listen: inet:PORT@HOST or unix:PATH",
-        ))?
+        .arg(addresses_place(alloc))?
         .arg(rules_option(alloc))
 }
 
 fn mta<'a>(alloc: Global, losses: &'a [&'a str]) -> Result<Command<'a>, AllocError>
     ensures shape { IfOk result (λ c. app_of c ≡ mta_app losses.entry) }
+    ensures local { IfOk result IsLocal }
+{
+    mta_offer(alloc, losses)?
+        .arg(wait_option(alloc))?
+        .arg(expect_option(alloc))
+}
+
+/// The subcommand `mta` with all that decides what is played.
+fn mta_offer<'a>(alloc: Global, losses: &'a [&'a str]) -> Result<Command<'a>, AllocError>
+    ensures shape { IfOk result (λ c. app_of c ≡ mta_offer_app losses.entry) }
     ensures local { IfOk result IsLocal }
 {
     mta_places(alloc)?
@@ -201,6 +221,14 @@ fn play<'a>(alloc: Global, losses: &'a [&'a str]) -> Result<Command<'a>, AllocEr
     ensures shape { IfOk result (λ c. app_of c ≡ play_app losses.entry) }
     ensures local { IfOk result IsLocal }
 {
+    play_events(alloc, losses)?.arg(expect_option(alloc))
+}
+
+/// The subcommand `play` with all that decides what is played.
+fn play_events<'a>(alloc: Global, losses: &'a [&'a str]) -> Result<Command<'a>, AllocError>
+    ensures shape { IfOk result (λ c. app_of c ≡ play_events_app losses.entry) }
+    ensures local { IfOk result IsLocal }
+{
     play_offer(alloc)?
         .arg(events_option(alloc))?
         .arg(loss_option(alloc, losses))
@@ -225,7 +253,8 @@ fn play_files<'a>(alloc: Global) -> Result<Command<'a>, AllocError>
         .about("Plays a session to a filter in memory, and prints what becomes of its messages")
         .after_long_help(help_text::PLAY)
         .arg(session_place(alloc))?
-        .arg(rules_option(alloc))
+        .arg(rules_option(alloc))?
+        .arg(ignore_case_flag(alloc))
 }
 
 /// The session that is played.
@@ -258,6 +287,80 @@ fn lenient_flag<'a>(alloc: Global) -> Arg<'a>
         .long("lenient")
         .action(ArgAction::SetTrue)
         .help("Has a greeting or a sender within a message end that message, as an abort does")
+}
+
+/// Whether the case of letters counts in the texts of conditions.
+fn ignore_case_flag<'a>(alloc: Global) -> Arg<'a>
+    ensures rule { rule_of result ≡ flag_rule (codes "ignore-case") }
+    ensures local { result.global ≡ false }
+{
+    Arg::new(alloc, "ignore-case")
+        .long("ignore-case")
+        .action(ArgAction::SetTrue)
+        .help("Takes the texts of conditions without regard to the case of ASCII letters")
+}
+
+/// Whether what is to be said of rules is printed in place of them.
+fn check_flag<'a>(alloc: Global) -> Arg<'a>
+    ensures rule { rule_of result ≡ flag_rule (codes "check") }
+    ensures local { result.global ≡ false }
+{
+    Arg::new(alloc, "check")
+        .long("check")
+        .action(ArgAction::SetTrue)
+        .help("Prints what is wrong with the rules, and which of them can't do what they seem to")
+}
+
+/// For how long connecting is tried again.
+fn wait_option<'a>(alloc: Global) -> Arg<'a>
+    ensures rule { rule_of result ≡ wait_rule }
+    ensures local { result.global ≡ false }
+{
+    number_option(
+        alloc,
+        "wait",
+        "SECONDS",
+        "For how long connecting is tried again at first, from 1 to 3,600; without it once",
+        WAIT_MAX,
+    )
+}
+
+/// The reports that are expected.
+fn expect_option<'a>(alloc: Global) -> Arg<'a>
+    ensures rule { rule_of result ≡ option_rule (codes "expect") }
+    ensures local { result.global ≡ false }
+{
+    option(
+        alloc,
+        "expect",
+        "FILE",
+        "The path of a file with the reports that are expected; nothing is printed where they are these",
+    )
+}
+
+/// The addresses that are listened on.
+fn addresses_place<'a>(alloc: Global) -> Arg<'a>
+    ensures rule { rule_of result ≡ places_rule (codes "address") }
+    ensures local { result.global ≡ false }
+{
+    place(
+        alloc,
+        "address",
+        "ADDRESS",
+        "Where to listen: inet:PORT@HOST or unix:PATH",
+    )
+    .action(ArgAction::Append)
+}
+
+/// Whether a line is written for each decision that isn't to go on.
+fn log_flag<'a>(alloc: Global) -> Arg<'a>
+    ensures rule { rule_of result ≡ flag_rule (codes "log") }
+    ensures local { result.global ≡ false }
+{
+    Arg::new(alloc, "log")
+        .long("log")
+        .action(ArgAction::SetTrue)
+        .help("Writes a line on standard error for each decision that isn't to go on")
 }
 
 /// Which actions are offered to a filter.

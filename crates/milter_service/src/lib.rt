@@ -8,5 +8,5 @@ mod service;
 mod service_error;
 
 pub use listener::{Listener, Stream};
-pub use service::{Limits, Report, Service};
+pub use service::{Host, Limits, Service};
 pub use service_error::ServiceError;

@@ -36,8 +36,14 @@ pub struct Limits {
     pub timeout: u64,
 }
 
-/// What is told of a service.
-pub trait Report {
+/// Who has a service run: it gives connections their policies, and takes note of what becomes of them.
+pub trait Host<'p, P: Policy> {
+    /// The policy of a connection that has come.
+    fn policy(&mut self) -> &'p P;
+
+    /// Takes note that the connection with this number has its turn.
+    fn begins_turn(&mut self, number: u32);
+
     /// Takes note of how a connection ended; they are numbered from 1 in the order in which they came.
     fn ended(&mut self, number: u32, served: Served) -> Result<(), ServiceError>;
 }
@@ -49,12 +55,11 @@ struct Source {
     is_ready: bool,
 }
 
-/// A service of many connections by one policy.
+/// A service of many connections, each of which has a policy of its host.
 #[derive(Drop)]
 pub struct Service<'r, 'p, R: Net + Clock, P: Policy> {
     rt: &'r R,
     alloc: Global,
-    policy: &'p P,
     limits: Limits,
     poll: Poll,
     start: Instant,
@@ -75,7 +80,6 @@ impl<'r, 'p, R: Net + Clock, P: Policy> Service<'r, 'p, R, P> {
     pub fn new(
         rt: &'r R,
         alloc: Global,
-        policy: &'p P,
         limits: Limits,
         listeners: Vec<Listener>,
     ) -> Result<Self, ServiceError> {
@@ -96,7 +100,6 @@ impl<'r, 'p, R: Net + Clock, P: Policy> Service<'r, 'p, R, P> {
         Ok(Service {
             rt,
             alloc,
-            policy,
             limits,
             poll,
             start: Instant::now(rt)?,
@@ -110,7 +113,7 @@ impl<'r, 'p, R: Net + Clock, P: Policy> Service<'r, 'p, R, P> {
     }
 
     /// Serves until it is ended from outside, or by an error.
-    pub fn run<L: Report>(&mut self, report: &mut L) -> Result<(), ServiceError> {
+    pub fn run<H: Host<'p, P>>(&mut self, host: &mut H) -> Result<(), ServiceError> {
         let mut events = Events::with_capacity(self.alloc, EVENTS_MAX)?;
         let mut buffer = read_buffer(self.alloc)?;
         for _ in 0..u64::MAX {
@@ -118,9 +121,9 @@ impl<'r, 'p, R: Net + Clock, P: Policy> Service<'r, 'p, R, P> {
             self.poll.poll(&mut events, timeout)?;
             let now = self.now()?;
             self.note(&events)?;
-            self.accept(now, report)?;
-            self.take_turns(now, buffer.as_mut_slice(), report)?;
-            self.close_idle(now, report)?;
+            self.accept(now, host)?;
+            self.take_turns(now, buffer.as_mut_slice(), host)?;
+            self.close_idle(now, host)?;
         }
         Ok(())
     }
@@ -182,20 +185,20 @@ impl<'r, 'p, R: Net + Clock, P: Policy> Service<'r, 'p, R, P> {
     }
 
     /// Takes connections that have come, as far as there is room for them.
-    fn accept<L: Report>(&mut self, now: u64, report: &mut L) -> Result<(), ServiceError> {
+    fn accept<H: Host<'p, P>>(&mut self, now: u64, host: &mut H) -> Result<(), ServiceError> {
         self.is_full = false;
         for place in 0..self.sources.len() {
-            self.accept_from(place, now, report)?;
+            self.accept_from(place, now, host)?;
         }
         Ok(())
     }
 
     /// Takes connections that have come on one of the listeners.
-    fn accept_from<L: Report>(
+    fn accept_from<H: Host<'p, P>>(
         &mut self,
         place: usize,
         now: u64,
-        report: &mut L,
+        host: &mut H,
     ) -> Result<(), ServiceError> {
         for _ in 0..ACCEPTS_MAX {
             if self.clients.len() >= self.limits.at_once {
@@ -208,7 +211,7 @@ impl<'r, 'p, R: Net + Clock, P: Policy> Service<'r, 'p, R, P> {
                 return Ok(());
             }
             match source.listener.accept() {
-                Ok(stream) => self.add(stream, now, report)?,
+                Ok(stream) => self.add(stream, now, host)?,
                 Err(error) => match error.kind() {
                     ErrorKind::WouldBlock => source.is_ready = false,
                     ErrorKind::ConnectionAborted | ErrorKind::ConnectionReset => {}
@@ -223,17 +226,17 @@ impl<'r, 'p, R: Net + Clock, P: Policy> Service<'r, 'p, R, P> {
     }
 
     /// Adds a client.
-    fn add<L: Report>(
+    fn add<H: Host<'p, P>>(
         &mut self,
         stream: Stream,
         now: u64,
-        report: &mut L,
+        host: &mut H,
     ) -> Result<(), ServiceError> {
         self.count = self.count.wrapping_add(1);
         let number = self.count;
-        let connection = match Connection::new(self.alloc, self.policy, CommandOrder::Lenient) {
+        let connection = match Connection::new(self.alloc, host.policy(), CommandOrder::Lenient) {
             Ok(connection) => connection,
-            Err(_) => return report.ended(number, Served::Failed(FilterFault::NoMemory)),
+            Err(_) => return host.ended(number, Served::Failed(FilterFault::NoMemory)),
         };
         let client = Client {
             stream,
@@ -243,13 +246,13 @@ impl<'r, 'p, R: Net + Clock, P: Policy> Service<'r, 'p, R, P> {
             is_queued: false,
         };
         match self.clients.insert(client) {
-            Ok(key) => self.watch(key, report),
-            Err(_) => report.ended(number, Served::Failed(FilterFault::NoMemory)),
+            Ok(key) => self.watch(key, host),
+            Err(_) => host.ended(number, Served::Failed(FilterFault::NoMemory)),
         }
     }
 
     /// Has the system say when a client is ready.
-    fn watch<L: Report>(&mut self, key: usize, report: &mut L) -> Result<(), ServiceError> {
+    fn watch<H: Host<'p, P>>(&mut self, key: usize, host: &mut H) -> Result<(), ServiceError> {
         let Some(client) = self.clients.get_mut(key) else {
             return Ok(());
         };
@@ -258,48 +261,48 @@ impl<'r, 'p, R: Net + Clock, P: Policy> Service<'r, 'p, R, P> {
             .watch(self.poll.registry(), Token(key))
             .is_err()
         {
-            return self.close(key, Served::ReadFault, report);
+            return self.close(key, Served::ReadFault, host);
         }
         Ok(())
     }
 
     /// Closes the connection of a client, and says how it ended.
-    fn close<L: Report>(
+    fn close<H: Host<'p, P>>(
         &mut self,
         key: usize,
         served: Served,
-        report: &mut L,
+        host: &mut H,
     ) -> Result<(), ServiceError> {
         match self.clients.try_remove(key) {
-            Some(client) => report.ended(client.number, served),
+            Some(client) => host.ended(client.number, served),
             None => Ok(()),
         }
     }
 
     /// Gives each client that waits for its turn one.
-    fn take_turns<L: Report>(
+    fn take_turns<H: Host<'p, P>>(
         &mut self,
         now: u64,
         buffer: &mut [u8],
-        report: &mut L,
+        host: &mut H,
     ) -> Result<(), ServiceError>
         requires { 0 < length buffer.old }
     {
         for _ in 0..self.queue.len() {
             if let Some(key) = self.queue.pop_front() {
-                self.take_turn(key, now, buffer, report)?;
+                self.take_turn(key, now, buffer, host)?;
             }
         }
         Ok(())
     }
 
     /// Gives a client its turn.
-    fn take_turn<L: Report>(
+    fn take_turn<H: Host<'p, P>>(
         &mut self,
         key: usize,
         now: u64,
         buffer: &mut [u8],
-        report: &mut L,
+        host: &mut H,
     ) -> Result<(), ServiceError>
         requires { 0 < length buffer.old }
     {
@@ -308,15 +311,16 @@ impl<'r, 'p, R: Net + Clock, P: Policy> Service<'r, 'p, R, P> {
         };
         client.is_queued = false;
         client.last = now;
+        host.begins_turn(client.number);
         match client.take_turn(buffer) {
             Turn::Again => self.enqueue(key),
             Turn::AwaitsInput | Turn::AwaitsOutput => Ok(()),
-            Turn::Ended(served) => self.close(key, served, report),
+            Turn::Ended(served) => self.close(key, served, host),
         }
     }
 
     /// Closes the connections that have been idle for too long.
-    fn close_idle<L: Report>(&mut self, now: u64, report: &mut L) -> Result<(), ServiceError> {
+    fn close_idle<H: Host<'p, P>>(&mut self, now: u64, host: &mut H) -> Result<(), ServiceError> {
         if now < self.next_check {
             return Ok(());
         }
@@ -327,7 +331,7 @@ impl<'r, 'p, R: Net + Clock, P: Policy> Service<'r, 'p, R, P> {
                 None => false,
             };
             if is_idle {
-                self.close(key, Served::ReadFault, report)?;
+                self.close(key, Served::ReadFault, host)?;
             }
         }
         Ok(())

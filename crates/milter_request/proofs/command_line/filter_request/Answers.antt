@@ -4,14 +4,16 @@ use Rattle.milter_request.specs.declared.command_line.TheConstants.{COUNT_DEFAUL
 use Rattle.milter_request.proofs.RequestLaws.{flag_given, no_filter, number_given, text_given, value_given}
 use Rattle.milter_request.proofs.command_line.filter_request.Goals as goal
 
-pub returns-in-Some : goal.returns-in-Some
-returns-in-Some c = (
-  refl,
-  value_given (found_of c.args.given.now) (codes "address") _ c.in-Some.ensures,
-  text_given (found_of c.args.given.now) (codes "rules") c.get_str-in-Some.result c.get_str-in-Some.ensures,
-  number_given COUNT_DEFAULT 1 COUNT_MAX (found_of c.args.given.now) (codes "count") c.get_str-in-Some-2.result c.number_or.result (omega arith) c.get_str-in-Some-2.ensures c.number_or.ensures,
-  flag_given (found_of c.args.given.now) (codes "lenient") c.get_str-in-Some-3.result c.is_set.result c.get_str-in-Some-3.ensures c.is_set.ensures,
-)
+pub returns-in_err-address : goal.returns-in_err-address
+returns-in_err-address c = rw c.from_residual.ensures (no_filter (found_of c.args.given.now) c.in_err-address.ensures)
 
-pub returns-in-None : goal.returns-in-None
-returns-in-None c = no_filter (found_of c.args.given.now) c.in-None.ensures
+pub returns : goal.returns
+returns c =
+    let found = found_of c.args.given.now in (
+      refl,
+      value_given found (codes "address") _ c.in_ok-address.ensures,
+      text_given found (codes "rules") c.get_str-2.result c.get_str-2.ensures,
+      number_given COUNT_DEFAULT 1 COUNT_MAX found (codes "count") c.get_str-3.result c.number_or.result (omega arith) c.get_str-3.ensures c.number_or.ensures,
+      flag_given found (codes "lenient") c.get_str-4.result c.is_set.result c.get_str-4.ensures c.is_set.ensures,
+      flag_given found (codes "ignore-case") c.get_str-5.result c.is_set-2.result c.get_str-5.ensures c.is_set-2.ensures,
+    )

@@ -5,4 +5,4 @@ use Rattle.milter_request.proofs.command_line.parse.Goals as goal
 pub unwrap-requires : goal.unwrap-requires
 unwrap-requires g c =
     let matched = c.in_ok-matches.ensures in
-    some_request matched.0 (map g.S.AsStr.text c.args.words.now) _ c.request_of.result matched.2 c.request_of.ensures
+    some_request matched.0 (map g.S.AsStr.text c.args.words.now) _ c.in_ok-request_of.field-0 matched.2 c.in_ok-request_of.ensures

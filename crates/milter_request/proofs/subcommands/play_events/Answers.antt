@@ -2,11 +2,11 @@ use Rattle.std.proofs.Common.{◌≡◌, ◌∙◌, ap, codes, false, Result, Ok
 use Rattle.clap.specs.Words.{AddsArg, app_of, rule_of, with_rule}
 use Rattle.clap.specs.declared.builder.arg.Arg.{Arg}
 use Rattle.clap.specs.declared.builder.command.Command.{Command}
-use Rattle.milter_request.specs.CommandLine.{LossWords, loss_rule, option_rule, play_app, play_offer_app}
-use Rattle.milter_request.proofs.subcommands.play.Goals as goal
+use Rattle.milter_request.specs.CommandLine.{LossWords, loss_rule, option_rule, play_events_app, play_offer_app}
+use Rattle.milter_request.proofs.subcommands.play_events.Goals as goal
 
 with_both : {E : Type 0} (losses : LossWords) (offer one : Command) (events loss : Arg) (r : Result Command E) → app_of offer ≡ play_offer_app → AddsArg offer events one → rule_of events ≡ option_rule (codes "events")
-    → events.global ≡ false → IfOk r (λ c. AddsArg one loss c) → rule_of loss ≡ loss_rule losses → loss.global ≡ false → IfOk r (λ c. app_of c ≡ play_app losses)
+    → events.global ≡ false → IfOk r (λ c. AddsArg one loss c) → rule_of loss ≡ loss_rule losses → loss.global ≡ false → IfOk r (λ c. app_of c ≡ play_events_app losses)
 with_both losses offer one events loss (Err e) is adds rule local last last_rule last_local = tt
 with_both losses offer one events loss (Ok c) is adds rule local last last_rule last_local =
     last.shape last_local ∙ ap (λ a. with_rule a (rule_of loss)) (adds.shape local ∙ ap (λ a. with_rule a (rule_of events)) is ∙ ap (λ r. with_rule play_offer_app r) rule)

@@ -1,0 +1,77 @@
+//! Connections to a filter that may not listen yet.
+
+use milter_converse::{Dial, DialFault};
+use std::rt::Clock;
+use std::thread;
+use std::time::{Duration, Instant};
+
+/// How many milliseconds pass between two tries.
+const PAUSE: u64 = 50;
+
+/// The most tries, in one hour and more.
+const TRIES_MAX: u32 = 100_000;
+
+/// Makes connections as another does. The first of them is tried again for a while; where it is not made, none is.
+#[derive(Drop)]
+pub struct WaitingDial<'r, R: Clock, D: Dial> {
+    clock: &'r R,
+    dial: D,
+    // For how long the first connection is tried again; none once it was tried, or where it is tried once.
+    wait: Option<Duration>,
+    has_failed: bool,
+}
+
+impl<'r, R: Clock, D: Dial> WaitingDial<'r, R, D> {
+    /// Makes connections as `dial` does, and tries the first again for so many seconds; only once where that is 0.
+    pub fn new(clock: &'r R, dial: D, seconds: u32) -> Self {
+        let wait = match seconds {
+            0 => None,
+            _ => Some(Duration::from_secs(u64::from(seconds))),
+        };
+        WaitingDial {
+            clock,
+            dial,
+            wait,
+            has_failed: false,
+        }
+    }
+
+    /// Whether the first connection was waited for and not made.
+    pub fn has_failed(&self) -> bool {
+        self.has_failed
+    }
+
+    /// Tries to connect for so long.
+    fn connect_within(&mut self, wait: Duration) -> Result<D::Link, DialFault> {
+        let Ok(start) = Instant::now(self.clock) else {
+            return Err(DialFault);
+        };
+        for _ in 0..TRIES_MAX {
+            if let Ok(link) = self.dial.dial() {
+                return Ok(link);
+            }
+            match start.elapsed(self.clock) {
+                Ok(elapsed) if elapsed < wait => {}
+                _ => return Err(DialFault),
+            }
+            thread::sleep(self.clock, Duration::from_millis(PAUSE));
+        }
+        Err(DialFault)
+    }
+}
+
+impl<'r, R: Clock, D: Dial> Dial for WaitingDial<'r, R, D> {
+    type Link = D::Link;
+
+    fn dial(&mut self) -> Result<D::Link, DialFault> {
+        if self.has_failed {
+            return Err(DialFault);
+        }
+        let Some(wait) = self.wait.take() else {
+            return self.dial.dial();
+        };
+        let link = self.connect_within(wait);
+        self.has_failed = link.is_err();
+        link
+    }
+}
