@@ -1,15 +1,24 @@
 #!/usr/bin/env bash
 # Has `milter_tool` talk to real peers, over TCP and over Unix sockets. `filter`, `serve` and `answer`: to miltertest,
 # which plays the scripts of interop/, to `serve` several at once beside a connection that says nothing, and to a
-# Postfix of its own on the loopback, which takes mail and delivers it edited or refuses it. With `serve` it has many
-# clients at once, one of which is idle after its greeting, and random sequences of SMTP commands with greetings within
-# a transaction, of which each reply has to be what the rules say. `mta`: to filters on Sendmail's libmilter, one that
-# does what its words say (interop/scripted.c) and OpenDKIM. It needs Debian's packages miltertest, postfix,
-# libmilter-dev and opendkim, a C compiler, openssl, and root, as whom Postfix starts. It isn't part of the test
-# command. The program is built first where it has to be; another one may be given. The last line is 'N passed, M
-# failed'.
+# Postfix of its own on the loopback, which takes mail and delivers it edited or refuses it. With `serve` a Postfix has
+# a chrooted smtpd, and a Postfix and a Sendmail have many clients at once, one of which is idle after its greeting, and
+# random sequences of SMTP commands with greetings within a transaction, of which each reply has to be what the rules
+# say. `mta`: to filters on Sendmail's libmilter, one that does what its words say (interop/scripted.c) and OpenDKIM. It
+# needs Debian's packages miltertest, postfix, libmilter-dev and opendkim, a C compiler, openssl, and root, as whom
+# Postfix and Sendmail start. It isn't part of the test command. The program is built first where it has to be; another
+# one may be given. The last line is 'N passed, M failed'.
 #
-#     sudo bash tests/interop.sh [PROGRAM]
+#     sudo [SENDMAIL_ROOT=FOLDER] bash tests/interop.sh [PROGRAM]
+#
+# Debian's packages of Sendmail and of Postfix can't both be installed. So Sendmail is run from an unpacked copy of its
+# packages, in the folder SENDMAIL_ROOT, or in /opt/sendmail where that isn't given. This makes one:
+#
+#     sudo apt-get install m4 libdb5.3 libldap-2.5-0 libnsl2 libsasl2-2 libwrap0
+#     cd "$(mktemp -d)" && apt-get download sendmail-bin sendmail-cf
+#     for package in sendmail-*.deb; do sudo dpkg -x "$package" /opt/sendmail; done
+#
+# Without one a line 'sendmail: not run, ..' says so, and it is no failure.
 set -u
 cd "$(dirname "${BASH_SOURCE[0]}")/.."
 PATH=$PATH:/usr/sbin:/sbin
@@ -19,7 +28,8 @@ command -v postfix >/dev/null && command -v smtp-sink >/dev/null || missing+=(po
 command -v opendkim >/dev/null || missing+=(opendkim)
 [ -f /usr/include/libmilter/mfapi.h ] || missing+=(libmilter-dev)
 if [ ${#missing[@]} != 0 ]; then
-    echo "interop.sh needs Debian's packages miltertest, postfix, libmilter-dev and opendkim. Not there: ${missing[*]}" >&2
+    echo "interop.sh needs Debian's packages miltertest, postfix, libmilter-dev and opendkim." \
+        "Not there: ${missing[*]}" >&2
     exit 2
 fi
 if [ "$(id -u)" != 0 ]; then

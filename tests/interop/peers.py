@@ -2,6 +2,7 @@
 import os
 import socket
 import subprocess
+import sys
 import threading
 import time
 
@@ -111,13 +112,14 @@ class Filter:
 
 
 class Service:
-    """A run of the program that serves many connections at once at the address, and that anyone may connect to."""
+    """A run of the program that serves many connections at once at the address. To a Unix socket anyone may connect, or
+    where a group is given that group alone."""
 
-    def __init__(self, program, address, rules):
+    def __init__(self, program, address, rules, group=None):
         self.address = address
-        mode = ['--mode', '666'] if address.startswith('unix:') else []
-        self.process = subprocess.Popen([program, 'serve', address, '--rules', rules] + mode, stdout=subprocess.PIPE,
-                                        stderr=subprocess.STDOUT)
+        mode = ['--mode', '666'] if address.startswith('unix:') and group is None else []
+        self.process = subprocess.Popen([program, 'serve', address, '--rules', rules] + mode, bufsize=0, group=group,
+                                        stdout=subprocess.PIPE, stderr=subprocess.STDOUT)
 
     def __enter__(self):
         listening(self.address)
@@ -127,10 +129,28 @@ class Service:
         self.process.kill()
         self.process.wait()
 
-    def ended(self):
-        """What it has printed; it is ended."""
+    def ended(self, count=0):
+        """What it has printed; it is ended, once these are so many lines."""
+        too_late = threading.Timer(SECONDS, self.process.kill)
+        too_late.start()
+        lines = [self.process.stdout.readline() for _ in range(count)]
+        too_late.cancel()
         self.process.terminate()
-        return finished(self.process)[0]
+        return b''.join(lines).decode(errors='replace') + finished(self.process)[0]
+
+
+def recording(recorder, address):
+    """A run of examples/record.py, which passes one connection to the recorder on, and prints it."""
+    process = subprocess.Popen([sys.executable, os.path.join(TOP, 'examples', 'record.py'), plain(recorder),
+                                plain(address)], stdout=subprocess.PIPE)
+    listening(recorder)
+    return process
+
+
+def recorded(program, process):
+    """The lines of `milter_tool trace` for the connection that was recorded."""
+    trace, _ = finished(process)
+    return subprocess.run([program, 'trace'], input=trace.encode(), stdout=subprocess.PIPE).stdout.decode().splitlines()
 
 
 def finished(process):

@@ -1,19 +1,16 @@
 """A Postfix of its own on the loopback, with the filter, for tests/interop.sh.
 
 Its queue and settings are in a temporary folder. One port of it has `milter_tool filter` at a TCP address, another one
-at a Unix address; what `sendmail` submits goes by `milter_tool answer`, with a process for each connection. What it
-delivers goes to smtp-sink, which writes each message with its envelope to a file.
+at a Unix address; what `sendmail` submits goes by `milter_tool answer`, with a process for each connection.
 """
-import glob
 import os
-import re
 import shutil
-import smtplib
 import subprocess
 import tempfile
-import time
 
+import mail_server
 import peers
+from mail_server import ADDED, FROM, MESSAGE, TO, body, envelope, fields
 
 MAIN = """\
 compatibility_level = 3.6
@@ -50,9 +47,9 @@ virtual_alias_maps =
 soft_bounce = no
 """
 MASTER = """\
-127.0.0.1:{inet_port} inet n - n - - smtpd
+127.0.0.1:{inet_port} inet n - {chroot} - - smtpd
     -o smtpd_milters={inet}
-127.0.0.1:{unix_port} inet n - n - - smtpd
+127.0.0.1:{unix_port} inet n - {chroot} - - smtpd
     -o smtpd_milters={unix}
 pickup unix n - n 1 1 pickup
 cleanup unix n - n - 0 cleanup
@@ -70,19 +67,6 @@ proxymap unix - - n - - proxymap
 anvil unix - - n - 1 anvil
 scache unix - - n - 1 scache
 """
-FROM, TO = 'ada@example.org', 'bob@example.net'
-# The recipients of a message with each edit.
-ADDED = ['<added@example.net>', '<with@example.net> NOTIFY=NEVER']
-MESSAGE = """\
-From: Ada <ada@example.org>
-To: Bob <bob@example.net>
-Subject: first
-X-Twice: one
-X-Twice: two
-
-a body
-of two lines
-"""
 
 
 def in_postfix(address):
@@ -90,43 +74,41 @@ def in_postfix(address):
     return address if address.startswith('unix:') else 'inet:' + peers.plain(address)
 
 
-class Postfix:
-    """A running Postfix with its sink."""
+class Postfix(mail_server.MailServer):
+    """A running Postfix with its sink. Where no filter of submitted mail is given it is the one at the TCP address. Its
+    smtpd may be chrooted."""
+    name = 'Postfix'
+    deferred = '451 4.7.1 Service unavailable - try again later'
+    no_recipient = '55'
+    # It hands a greeting to the filter before the abort that is due.
+    greeting_within = ['H', 'A']
+    greetings = 100
 
-    def __init__(self, work, inet, unix, submitted):
-        self.work = work
+    def __init__(self, work, inet, unix, submitted=None, chroot='n'):
+        super().__init__(work)
         self.config = os.path.join(work, 'config')
-        self.delivered = os.path.join(work, 'delivered')
-        self.ports = {'inet': peers.free_port(), 'unix': peers.free_port()}
-        self.sink_port = peers.free_port()
-        for name in ('config', 'queue', 'data', 'delivered'):
+        for name in ('config', 'queue', 'data'):
             os.mkdir(os.path.join(work, name))
         shutil.chown(os.path.join(work, 'data'), 'postfix')
-        shutil.chown(self.delivered, 'postfix')
-        values = {'work': work, 'sink': self.sink_port, 'submitted': in_postfix(submitted), 'inet': in_postfix(inet),
-                  'unix': in_postfix(unix), 'inet_port': self.ports['inet'], 'unix_port': self.ports['unix']}
+        values = {'work': work, 'sink': self.sink_port, 'submitted': in_postfix(submitted or inet),
+                  'inet': in_postfix(inet), 'unix': in_postfix(unix), 'inet_port': self.ports['inet'],
+                  'unix_port': self.ports['unix'], 'chroot': chroot}
         for name, text in (('main.cf', MAIN), ('master.cf', MASTER)):
             with open(os.path.join(self.config, name), 'w') as file:
                 file.write(text.format(**values))
 
-    def __enter__(self):
-        self.sink = subprocess.Popen(
-            ['smtp-sink', '-u', 'postfix', '-d', os.path.join(self.delivered, 'message.'),
-             '127.0.0.1:%d' % self.sink_port, '100'])
+    def start(self):
+        """Starts it."""
         subprocess.run(['postfix', '-c', self.config, 'start'], check=True, stdout=subprocess.DEVNULL,
                        stderr=subprocess.DEVNULL)
-        for port in [self.sink_port] + list(self.ports.values()):
-            peers.listening('inet:%d@127.0.0.1' % port)
-        return self
 
-    def __exit__(self, *_):
+    def stop(self):
+        """Ends it."""
         subprocess.run(['postfix', '-c', self.config, 'stop'], stdout=subprocess.DEVNULL, stderr=subprocess.DEVNULL)
-        self.sink.terminate()
-        self.sink.wait()
 
-    def connected(self, kind):
-        """A client of the port whose filter is of this kind."""
-        return smtplib.SMTP('127.0.0.1', self.ports[kind], 'mail.example.org', timeout=peers.SECONDS)
+    def refused(self, _, text):
+        """How it says to a client that an address is refused with this text."""
+        return text
 
     def submit(self, sender, recipient, message):
         """Submits a message with Postfix's own `sendmail`."""
@@ -138,124 +120,12 @@ class Postfix:
         subprocess.run(['smtp-source', '-d', '-s', '1', '-m', str(count), '-f', FROM, '-t', TO,
                         '-M', 'mail.example.org', '127.0.0.1:%d' % self.ports[kind]], check=True)
 
-    def received(self, count):
-        """The texts of so many messages that were delivered, once they are; they are taken away."""
-        files = []
-        for _ in range(10 * peers.SECONDS):
-            files = [name for name in glob.glob(self.delivered + '/message.*') if self.whole(name)]
-            if len(files) >= count:
-                break
-            time.sleep(0.1)
-        texts = []
-        for name in sorted(files):
-            with open(name, newline='') as file:
-                texts.append(file.read().replace('\r\n', '\n'))
-            os.remove(name)
-        return texts
-
-    def whole(self, name):
-        """Whether smtp-sink has closed this file."""
-        folder = '/proc/%d/fd' % self.sink.pid
-        return name not in [os.path.realpath(os.path.join(folder, each)) for each in os.listdir(folder)]
-
     def held(self):
         """How many messages are on hold; they are deleted."""
         queue = os.path.join(self.work, 'queue', 'hold')
         found = sum(len(files) for _, _, files in os.walk(queue))
         subprocess.run(['postsuper', '-c', self.config, '-d', 'ALL', 'hold'], stderr=subprocess.DEVNULL)
         return found
-
-
-def envelope(text):
-    """The sender's and the recipients' words, as smtp-sink writes them, without the original recipients."""
-    sender = re.search(r'^X-Mail-Args: (.*)$', text, re.M)[1]
-    recipients = re.findall(r'^X-Rcpt-Args: (.*)$', text, re.M)
-    return sender, sorted(re.sub(' ORCPT=[^ ]*', '', each) for each in recipients)
-
-
-def fields(text, *names):
-    """The header fields of these names, in the order of the message."""
-    header = text.split('\n\n', 1)[0].splitlines()
-    return [line for line in header if line.split(':')[0] in names]
-
-
-def body(text):
-    """The body of a message, without the empty line that smtp-sink writes after it."""
-    return text.split('\n\n', 1)[1].removesuffix('\n')
-
-
-def reply(send, *words):
-    """The reply of SMTP to a step that is refused, or 'taken'."""
-    try:
-        send(*words)
-    except smtplib.SMTPResponseException as error:
-        return '%d %s' % (error.smtp_code, error.smtp_error.decode())
-    except smtplib.SMTPRecipientsRefused as error:
-        (code, text), = error.recipients.values()
-        return '%d %s' % (code, text.decode())
-    return 'taken'
-
-
-# What is sent, and what SMTP replies: sender, recipient, header fields, body, reply.
-REFUSED = [
-    ('refused@example.org', TO, '', 'a body', '550 5.7.1 Command rejected'),
-    ('later@example.org', TO, '', 'a body', '451 4.7.1 Service unavailable - try again later'),
-    ('code@example.org', TO, '', 'a body', '451 4.7.1 Not this sender, not now'),
-    ('macro@example.org', TO, '', 'a body', '550 5.7.1 Not by this macro'),
-    (FROM, 'refused@example.net', '', 'a body', '550 5.1.1 Not this recipient'),
-    (FROM, 'data@example.net', '', 'a body', "554 5.7.1 Not this recipient's data"),
-    (FROM, TO, 'X-Refused: yes\n', 'a body', '554 5.6.0 Not with this field'),
-    (FROM, TO, 'X-First: 1\nX-Second: 2\n', 'a body', '554 5.6.0 Not with these fields'),
-    (FROM, TO, '', 'this is not wanted', '554 5.6.0 Not this body'),
-    (FROM, TO, 'Subject: the end\n', 'a body', '554 5.7.1 Not at the end'),
-]
-
-
-def play_refusals(checks, postfix, kind):
-    """Each refusal, all of them on one connection, and one of the greeting."""
-    with postfix.connected(kind) as client:
-        for sender, recipient, header, text, expected in REFUSED:
-            found = reply(client.sendmail, sender, [recipient], header + '\n' + text + '\n')
-            checks.check('Postfix, %s: refused' % kind, found, expected)
-            client.rset()
-        # The next message of the connection passes.
-        client.sendmail(FROM, [TO, 'carl@example.net'], MESSAGE)
-    text, = postfix.received(1)
-    checks.check('Postfix, %s: passed after refusals' % kind,
-                 (envelope(text)[1], fields(text, 'Subject', 'X-Twice', 'X-Passed'), body(text)),
-                 (['<bob@example.net>', '<carl@example.net>'],
-                  ['Subject: first', 'X-Twice: one', 'X-Twice: two', 'X-Passed: yes'], 'a body\nof two lines\n'))
-    # Postfix sends this macro to a filter that asks for it.
-    checks.check('Postfix, %s: symbol list' % kind, fields(text, 'X-Asked-For'), ['X-Asked-For: client_addr'])
-    client = smtplib.SMTP('127.0.0.1', postfix.ports[kind], 'refused.example.org', timeout=peers.SECONDS)
-    found = reply(client.sendmail, FROM, [TO], MESSAGE)
-    checks.check('Postfix, %s: greeting refused' % kind, found, '550 5.7.1 Not this name')
-    client.quit()
-
-
-def play_edits(checks, postfix, kind):
-    """A message with each edit, one that is discarded, one on hold, and one that no stage after the sender's sees."""
-    with postfix.connected(kind) as client:
-        client.sendmail(FROM, ['edited@example.net'], MESSAGE)
-        text, = postfix.received(1)
-        sender, recipients = envelope(text)
-        checks.check('Postfix, %s: sender' % kind, (sender.split()[0], 'RET=HDRS' in sender.split()),
-                     ('<changed@example.org>', True))
-        checks.check('Postfix, %s: recipients' % kind, recipients, ADDED)
-        checks.check('Postfix, %s: header' % kind, fields(text, 'X-Top', 'Subject', 'X-Twice', 'X-Added', 'X-Passed'),
-                     ['X-Top: inserted', 'Subject: changed', 'X-Twice: one', 'X-Added: added', 'X-Passed: yes'])
-        checks.check('Postfix, %s: body' % kind, body(text), 'another body\nof two lines\n')
-        client.sendmail(FROM, ['discarded@example.net'], MESSAGE)
-        client.sendmail(FROM, ['quarantined@example.net'], MESSAGE)
-        checks.check('Postfix, %s: on hold' % kind, postfix.held(), 1)
-        client.sendmail('accepted@example.org', [TO], MESSAGE)
-        long_body = 'skip the rest\n' + 4000 * 'one more line of this body\n' + 'the rest is seen\n'
-        client.sendmail(FROM, [TO], '\n' + long_body)
-    texts = sorted(postfix.received(2), key=len)
-    checks.check('Postfix, %s: accepted at the sender' % kind, (len(texts), fields(texts[0], 'X-Passed', 'X-Edited')),
-                 (2, []))
-    checks.check('Postfix, %s: rest of the body skipped' % kind, (fields(texts[1], 'X-Passed'), body(texts[1])),
-                 (['X-Passed: yes'], long_body))
 
 
 def play_own_clients(checks, postfix):
@@ -266,10 +136,10 @@ def play_own_clients(checks, postfix):
         checks.check('smtp-source, %s' % kind, [fields(text, 'X-Passed') for text in texts], 20 * [['X-Passed: yes']])
     postfix.submit(FROM, TO, MESSAGE)
     text, = postfix.received(1)
-    checks.check('sendmail', (fields(text, 'X-Passed'), body(text)), (['X-Passed: yes'], 'a body\nof two lines\n'))
+    checks.check('submitted', (fields(text, 'X-Passed'), body(text)), (['X-Passed: yes'], 'a body\nof two lines\n'))
     postfix.submit(FROM, 'edited@example.net', MESSAGE)
     text, = postfix.received(1)
-    checks.check('sendmail, edited', (envelope(text)[1], fields(text, 'X-Added'), body(text)),
+    checks.check('submitted, edited', (envelope(text)[1], fields(text, 'X-Added'), body(text)),
                  (ADDED, ['X-Added: added'], 'another body\nof two lines\n'))
 
 
@@ -281,18 +151,36 @@ def play(checks, program):
         os.mkdir(sockets)
         os.chmod(sockets, 0o755)
         inet, unix = 'inet:%d@127.0.0.1' % peers.free_port(), 'unix:' + os.path.join(sockets, 'filter')
-        rules = peers.rules_of('postfix')
+        rules = peers.rules_of('mail_server')
         # The connections of the refusals, of the refused greeting, of the edits, and of smtp-source.
         with peers.Filter(program, inet, rules, 4) as first, peers.Filter(program, unix, rules, 4) as second:
             os.chmod(peers.plain(unix), 0o666)
             submitted, end_answers = peers.answering(program, rules)
             with Postfix(work, inet, unix, submitted) as postfix:
                 for kind in postfix.ports:
-                    play_refusals(checks, postfix, kind)
-                    play_edits(checks, postfix, kind)
+                    mail_server.play_refusals(checks, postfix, kind)
+                    mail_server.play_edits(checks, postfix, kind)
                 play_own_clients(checks, postfix)
             # Postfix closes the connection without a word where the greeting was refused.
             lines = 'connection 1 quit\nconnection 2 ended 0\nconnection 3 quit\nconnection 4 quit\n'
             for served in (first, second):
                 checks.check('Postfix: the lines of the filter', served.finished(), (lines, 0))
             checks.check('Postfix: the statuses of answer', set(end_answers()), {0})
+
+
+def play_chrooted(checks, program):
+    """An smtpd that sees nothing but its queue directory, with filters at a port and in that directory; to the latter
+    the group of Postfix may connect."""
+    with tempfile.TemporaryDirectory() as work:
+        os.chmod(work, 0o755)
+        inet, rules = 'inet:%d@127.0.0.1' % peers.free_port(), peers.rules_of('mail_server')
+        server = Postfix(work, inet, 'unix:milter/filter', chroot='y')
+        folder = os.path.join(work, 'queue', 'milter')
+        os.mkdir(folder)
+        shutil.chown(folder, 'root', 'postfix')
+        os.chmod(folder, 0o750)
+        with peers.Service(program, inet, rules), \
+                peers.Service(program, 'unix:%s/filter' % folder, rules, 'postfix'), server:
+            server.name = 'Postfix, chrooted'
+            for kind in server.ports:
+                mail_server.play_refusals(checks, server, kind)

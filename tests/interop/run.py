@@ -4,6 +4,7 @@
     python3 tests/interop/run.py PROGRAM
 """
 import concurrent.futures
+import functools
 import os
 import subprocess
 import sys
@@ -13,6 +14,7 @@ import many
 import mta
 import peers
 import postfix
+import sendmail
 
 AT_ONCE = 8
 SCRIPTS = ['stages', 'edits', 'protocol', 'messages']
@@ -52,24 +54,19 @@ def play_at_once(checks, program, address):
         with concurrent.futures.ThreadPoolExecutor(AT_ONCE) as running:
             ends = list(running.map(lambda _: miltertest('messages', address), range(AT_ONCE)))
         checks.check('messages at once at ' + address, ends, AT_ONCE * [('', 0)])
-        lines = sorted(line.split(' ', 2)[2] for line in served.ended().splitlines())
+        lines = sorted(line.split(' ', 2)[2] for line in served.ended(AT_ONCE).splitlines())
         checks.check('messages at once at %s: the lines' % address, lines, AT_ONCE * ['quit'])
 
 
 def record(checks, program, name, address, recorder):
     """Plays one message with each edit past a recorder, and compares the packets of its end."""
     with peers.Filter(program, address, peers.rules_of('edits'), 1) as served:
-        recording = subprocess.Popen(
-            [sys.executable, os.path.join(peers.TOP, 'examples', 'record.py'), peers.plain(recorder),
-             peers.plain(address)], stdout=subprocess.PIPE)
-        peers.listening(recorder)
+        recording = peers.recording(recorder, address)
         checks.check(name, miltertest('edits', recorder, '-D', 'recorded'), ('', 0))
         checks.check(name + ': the lines of the filter', served.finished(), ('connection 1 quit\n', 0))
-        trace, _ = peers.finished(recording)
-    printed = subprocess.run([program, 'trace'], input=trace.encode(), stdout=subprocess.PIPE).stdout.decode()
-    expected = text_of('edits.trace')
-    replies = [line for line in printed.splitlines(keepends=True) if line.startswith('<')]
-    checks.check(name + ': packets', ''.join(replies[-len(expected.splitlines()):]), expected)
+        replies = [line for line in peers.recorded(program, recording) if line.startswith('<')]
+    expected = text_of('edits.trace').splitlines()
+    checks.check(name + ': packets', replies[-len(expected):], expected)
 
 
 def main():
@@ -90,7 +87,14 @@ def main():
             checks.part('at once at ' + address, play_at_once, program, address)
     checks.part('mta', mta.play, program)
     checks.part('Postfix', postfix.play, program)
-    checks.part('Postfix, many at once', many.play, program)
+    checks.part('Postfix, chrooted', postfix.play_chrooted, program)
+    checks.part('Postfix, many at once', many.play, program, postfix.Postfix)
+    root = os.environ.get('SENDMAIL_ROOT', sendmail.UNPACKED)
+    missing = sendmail.missing(root)
+    if missing:
+        print('sendmail: not run, ' + missing)
+    else:
+        checks.part('Sendmail, many at once', many.play, program, functools.partial(sendmail.Sendmail, root))
     print('%d passed, %d failed' % (checks.passed, checks.failed))
     return 1 if checks.failed else 0
 
