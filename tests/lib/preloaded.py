@@ -21,23 +21,37 @@ def compiled(source, folder):
     return path
 
 
-def ended(command, given, preloaded, named):
-    """Runs a command with the object preloaded and these variables. Answers its status, output and errors, and what
-    the object reported: bytes, fewer than 65,536."""
+def run_with(preloaded, named, run):
+    """Has this function run a program with the object preloaded and these variables: it is called with options of
+    subprocess.Popen. Answers what it answers, and what the object reported: bytes, fewer than 65,536."""
     ends, reports = os.pipe()
     environment = {'LD_PRELOAD': preloaded, 'PRELOADED_REPORT': str(reports)}
     environment.update((name, str(value)) for name, value in named.items())
     try:
-        end = programs.ended(command, given, env=environment, pass_fds=[reports], timeout=SECONDS)
+        answer = run(env=environment, pass_fds=[reports])
     finally:
         os.close(reports)
         with os.fdopen(ends, 'rb') as report:
             reported = report.read()
-    return end, reported
+    return answer, reported
+
+
+def ended(command, given, preloaded, named):
+    """Runs a command with the object preloaded and these variables. Answers its status, output and errors, and what
+    the object reported."""
+    return run_with(
+        preloaded, named, lambda **started: programs.ended(command, given, timeout=SECONDS, **started))
+
+
+def is_refused(refuser, number, run):
+    """Has this function run a program as run_with does, with the allocation of this number refused by refuse.c as it
+    was compiled. Answers what it answers, and whether the program came to that allocation."""
+    answer, reported = run_with(refuser, {'REFUSED_ALLOCATION': number}, run)
+    return answer, bool(reported)
 
 
 def refused(command, given, refuser, number):
-    """Runs a command with its allocation of this number refused, by refuse.c as it was compiled. Answers its status,
-    output and errors, and whether it came to that allocation."""
-    end, reported = ended(command, given, refuser, {'REFUSED_ALLOCATION': number})
-    return end, bool(reported)
+    """Runs a command with its allocation of this number refused. Answers its status, output and errors, and whether it
+    came to that allocation."""
+    return is_refused(
+        refuser, number, lambda **started: programs.ended(command, given, timeout=SECONDS, **started))

@@ -18,17 +18,18 @@ KINDS = ['inet', 'unix']
 
 
 class Filter:
-    """A run of `milter_tool filter` on a socket of this kind, with these options."""
+    """A run of `milter_tool filter` on a socket of this kind, with these options. What `started` has are options of
+    subprocess.Popen."""
 
     subcommand = 'filter'
 
-    def __init__(self, program, kind, folder, options, files=None, stdout=subprocess.PIPE, host=None):
+    def __init__(self, program, kind, folder, options, files=None, stdout=subprocess.PIPE, host=None, **started):
         self.at, self.address = place_of(kind, folder, host)
         self.ended = 0
         limit = None if files is None else lambda: resource.setrlimit(resource.RLIMIT_NOFILE, (files, files))
         self.process = subprocess.Popen(
             [program, self.subcommand] + (options + [self.address] if kind == 'inet' else [self.address] + options),
-            bufsize=0, stdin=subprocess.DEVNULL, stdout=stdout, stderr=subprocess.PIPE, preexec_fn=limit)
+            bufsize=0, stdin=subprocess.DEVNULL, stdout=stdout, stderr=subprocess.PIPE, preexec_fn=limit, **started)
 
     def __enter__(self):
         return self
@@ -61,11 +62,11 @@ class Service(Filter):
 
     subcommand = 'serve'
 
-    def __init__(self, program, kind, folder, options=(), files=None):
+    def __init__(self, program, kind, folder, options=(), files=None, **started):
         self.made = 0
         self.out = os.path.join(tempfile.mkdtemp(dir=folder), 'lines')
         with open(self.out, 'wb') as lines:
-            super().__init__(program, kind, folder, list(options), files, lines)
+            super().__init__(program, kind, folder, list(options), files, lines, **started)
 
     def connected(self):
         """A connection, which has the next number where the one before is made by now."""

@@ -45,11 +45,11 @@ def message(key):
         (packet(b'E'), packet(b'y', b'554 5.7.1 end %d' % key))]
 
 
-def rules_of_keys(folder):
-    """The options that name a file of rules by which each sender has replies of its own."""
+def rules_of_keys(folder, keys=KEYS):
+    """The options that name a file of rules by which each sender of the first keys has replies of its own."""
     path = os.path.join(tempfile.mkdtemp(dir=folder), 'rules')
     with open(path, 'w') as rules:
-        for key in range(KEYS):
+        for key in range(keys):
             rules.write('at rcpt when sender is "<s%d@x>" do code "550 5.1.1 rcpt %d"\n' % (key, key))
             rules.write('at eob when sender is "<s%d@x>" and body has "body %d\\r" do code "554 5.7.1 end %d"\n'
                         % (key, key, key))

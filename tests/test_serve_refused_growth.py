@@ -1,0 +1,111 @@
+#!/usr/bin/env python3
+"""Serves mail servers by `milter_tool serve`, as both compilers built it, with one allocation refused: the first one,
+then the second one, and so on, until a run makes fewer allocations than that. Three connections come one after another,
+by rules and with a log. What is run is what `rt ci` built; lib/refuse.c says what counts as an allocation.
+
+A run ends before it listens or later, with `out of memory` alone on standard error but for lines of the log, and status
+1; or it goes on, and gives up at most one connection, with the line `failed 7`. What was replied is right as far as it
+goes, and whole on each connection that was not given up.
+
+Counted are the runs.
+"""
+import os
+import re
+import sys
+import tempfile
+
+from lib import checks, preloaded, programs, serving
+from lib.checks import expect
+from lib.talks import QUIT, message, opening, rules_of_keys
+
+CONNECTIONS = 3
+# What is searched for at each header field and at each piece of a body, for which memory is taken.
+SEARCHES = '''\
+at header when header "Subject" is "of nothing" do reject
+at header when header "X-Spam" has "yes" and header "Subject" has "nothing" do reject
+at body when body has "nothing" and header "Subject" lacks "of" do reject
+'''
+LOGGED = rb'(connection \d+ message "\d+" (rcpt|eob) code "[^"\n]*"\n)*'
+
+
+def talk_of(key):
+    """What a connection sends, and all replies to it."""
+    parts = opening(key) + message(key) + message(key) + [(QUIT, b'')]
+    return b''.join(given for given, _ in parts), b''.join(reply for _, reply in parts)
+
+
+def replies_to(served, given):
+    """The replies to these bytes on a new connection, as far as they come; none where the run is over."""
+    found = b''
+    try:
+        with serving.connected(served.at, lambda: served.process.poll() is not None) as connection:
+            connection.sendall(given)
+            while piece := connection.recv(1 << 16):
+                found += piece
+    except (checks.Wrong, ConnectionError):
+        pass
+    return found
+
+
+def is_over(served):
+    """Waits until each connection has its line, and answers whether the run is over instead."""
+    serving.waited_for(lambda: served.process.poll() is not None or len(served.lines()) == CONNECTIONS)
+    return len(served.lines()) < CONNECTIONS
+
+
+def expect_lines(served, talks, found):
+    """A run that goes on has a line for each connection: at most one was given up, and the others have all replies."""
+    lines = served.lines()
+    expect('numbers', [number for number, _ in lines], [b'%d' % (at + 1) for at in range(len(talks))])
+    endings = [ending for _, ending in lines]
+    whole = [b'quit' if found[at] == replies else b'failed 7' for at, (_, replies) in enumerate(talks)]
+    expect('endings', [one for one, two in zip(endings, whole) if one != two and one != b'failed 7'], [])
+    expect('how many are given up', endings.count(b'failed 7') <= 1, True)
+
+
+def run(program, kind, folder, words, **started):
+    """A run with three connections, which ends or goes on as the head of this file says."""
+    talks = [talk_of(key) for key in range(CONNECTIONS)]
+    with serving.Service(program, kind, folder, words, **started) as served:
+        found = [replies_to(served, given) for given, _ in talks]
+        for at, (_, replies) in enumerate(talks):
+            expect('replies of %d' % (at + 1), replies.startswith(found[at]), True)
+        over = is_over(served)
+        if over:
+            served.process.wait(serving.SECONDS)
+            expect('status', served.process.returncode, 1)
+        else:
+            expect_lines(served, talks, found)
+            served.process.kill()
+        errors = served.process.stderr.read()
+        expected = LOGGED + b'out of memory\n' if over else LOGGED
+        expect('errors', errors, errors if re.fullmatch(expected, errors) else expected)
+
+
+def refused(program, kind, folder):
+    """Runs with each allocation refused in turn."""
+    refuser = preloaded.compiled('refuse.c', folder)
+    words = rules_of_keys(folder, CONNECTIONS) + ['--log']
+    with open(words[1], 'a') as rules:
+        rules.write(SEARCHES)
+
+    def with_refused(number):
+        return preloaded.is_refused(
+            refuser, number, lambda **started: run(program, kind, folder, words, **started))[1]
+
+    yield from checks.with_each_refused(with_refused)
+
+
+def groups(folder):
+    """The groups of checks, each with the program and the kind of sockets that it is run with."""
+    for build in programs.BUILDS:
+        program = programs.tool(build)
+        for kind in serving.KINDS:
+            name = '%s at %s' % (os.path.basename(program), kind)
+            yield name, refused, (program, kind, tempfile.mkdtemp(dir=folder))
+
+
+if __name__ == '__main__':
+    programs.need('tool')
+    with tempfile.TemporaryDirectory() as work:
+        sys.exit(checks.run_all(groups(work)))
