@@ -10,8 +10,9 @@ interrupted is taken up again where it was. Each crate keeps its work in its out
 alone proves all of it from nothing.
 
 Two `rt` wait for one another where they share a library, so each crate is proved in a folder of its own, in which the
-libraries below it are links, and its out/ is moved there and back. Half as many crates as there are processors are
-proved at a time, since `rt` takes two to four processors for a large one; those with the longest way to the top first.
+libraries below it are links, and its out/ is moved there and back. Three crates are proved at a time on four processors,
+as far as there is memory for them, since `rt` takes more than one processor for a large one; those with the longest way
+to the top first.
 """
 
 import concurrent.futures
@@ -27,8 +28,11 @@ import time
 
 TOP = os.path.dirname(os.path.dirname(os.path.realpath(__file__)))
 SOURCES = ("src", "specs", "proofs")
+# The most memory that the proof of a crate takes, in bytes.
+MEMORY = 5 << 30
 # How many crates are proved at a time.
-WORKERS = max(len(os.sched_getaffinity(0)) // 2, 1)
+WORKERS = max(
+    min(len(os.sched_getaffinity(0)) * 3 // 4, os.sysconf("SC_PHYS_PAGES") * os.sysconf("SC_PAGE_SIZE") // MEMORY), 1)
 # The commands that run.
 RUNNING = set()
 
