@@ -56,7 +56,7 @@ def written(folder, name, content):
 
 
 def is_linear(times):
-    """Whether each of these times, of which each is of ten times as much as the one before, is at most so much of it."""
+    """Whether each of these times, each of ten times as much as the one before, is at most so much of it."""
     return all(later <= MOST * max(time, LEAST) for time, later in zip(times, times[1:]))
 
 

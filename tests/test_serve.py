@@ -410,7 +410,7 @@ def logged(program, kind, folder):
 
 
 def changed_rules(program, kind, folder):
-    """A file of rules that changes holds for the connections that come after; one with a fault is reported once, and the
+    """A file of rules that changes holds for the connections that come after; a fault in it is reported once, and the
     rules before it stay. A connection keeps the rules that it began with."""
     path = os.path.join(folder, 'changing.rules')
     sender = packet(b'M', b'<a@x>')

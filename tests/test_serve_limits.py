@@ -1,8 +1,8 @@
 #!/usr/bin/env python3
 """Has `milter_tool serve` meet what a mail server, a client or a system can do to it, as both compilers built it, over
 TCP and over Unix sockets: peers that don't read, that send without end, that are slow, idle or too many; descriptors
-that are used up; a stop and a start again; and the sockets, options and lines that can't be. What is run is what `rt ci`
-built; nothing is proved here.
+that are used up; a stop and a start again; and the sockets, options and lines that can't be. What is run is what `rt
+ci` built; nothing is proved here.
 
 Counted are the connections and the runs.
 """

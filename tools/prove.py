@@ -10,9 +10,9 @@ interrupted is taken up again where it was. Each crate keeps its work in its out
 alone proves all of it from nothing.
 
 Two `rt` wait for one another where they share a library, so each crate is proved in a folder of its own, in which the
-libraries below it are links, and its out/ is moved there and back. Three crates are proved at a time on four processors,
-as far as there is memory for them, since `rt` takes more than one processor for a large one; those with the longest way
-to the top first.
+libraries below it are links, and its out/ is moved there and back. Three crates are proved at a time on four
+processors, as far as there is memory for them, since `rt` takes more than one processor for a large one; those with the
+longest way to the top first.
 """
 
 import concurrent.futures
