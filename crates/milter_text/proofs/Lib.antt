@@ -8,4 +8,5 @@ pub mod Digits
 pub mod FirstLine
 pub mod FirstWord
 pub mod FoundByte
-pub mod Runs
+pub mod RunLaws
+pub mod Lanes

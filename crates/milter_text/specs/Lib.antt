@@ -3,6 +3,7 @@ pub mod Words
 pub mod WordValues
 pub mod Unquoting
 pub mod Quoting
+pub mod Runs
 pub mod WordFault
 pub mod LineFault
 pub mod LineCursor

@@ -4,6 +4,8 @@ ghost use Rattle.std.specs.Prelude.{◌≡◌, ◌<◌, ◌≤◌, All, IfSome, 
 ghost use Rattle.milter_text.specs.Words.{digit_value, escape_of, is_bare};
 ghost use Rattle.milter_text.specs.Unquoting.{byte_at};
 
+use crate::runs::{DELETE, run_len};
+
 /// The byte that these begin with as it is written between quotes, and the bytes after it; or none.
 pub(crate) fn take_byte(bytes: &[u8]) -> Option<(u8, &[u8])>
     ensures { option_map (λ taken. (taken.0, taken.1.now)) result ≡ byte_at bytes.now }
@@ -24,10 +26,7 @@ pub(crate) fn bare_len(bytes: &[u8]) -> usize
     ensures within { result ≤ length bytes.now }
     ensures bare { All (λ byte. IsTrue (is_bare byte)) (take result bytes.now) }
 {
-    bytes
-        .iter()
-        .position(|byte| !is_bare(*byte))
-        .unwrap_or(bytes.len())
+    run_len(bytes, DELETE)
 }
 
 /// The byte that a backslash and this character encode.

@@ -12,6 +12,7 @@ mod line_fault;
 mod line_words;
 mod lines;
 mod quoting;
+mod runs;
 mod text_fault;
 mod text_writer;
 mod word;

@@ -118,7 +118,9 @@ fn take_quoted(alloc: Global, body: &[u8]) -> Result<(Word, &[u8]), WordFault>
     while let Some((byte, after)) = take_byte(rest) {
         text.push(byte)?;
         let count = bare_len(after);
-        text.extend_from_slice(&after[..count])?;
+        if count > 0 {
+            text.extend_from_slice(&after[..count])?;
+        }
         rest = &after[count..];
     }
     let Some(after) = after_quote(rest) else {

@@ -1,10 +1,11 @@
 //! Texts in quotes.
 
-ghost use Rattle.std.specs.Prelude.{◌≡◌, ◌≤◌, ◌++◌, ◌∷◌, [], OnOk, OnErr, IsTrue, length, take};
+ghost use Rattle.std.specs.Prelude.{◌≡◌, ◌≤◌, ◌++◌, OnOk, OnErr, length, take};
 ghost use Rattle.std.specs.List.{flat_map};
 ghost use Rattle.milter_stream.specs.Appending.{PutsBytes};
 ghost use Rattle.milter_text.specs.Quoting.{quoted, quoted_byte};
 
+use crate::runs::run_len;
 use milter_stream::{NoMemory, hex_digit};
 use std::alloc::Global;
 
@@ -34,7 +35,7 @@ fn put_quoted(out: &mut Vec<u8>, text: &[u8]) -> Result<(), NoMemory>
 }
 
 /// Appends the bytes as they are written between quotes. After `NoMemory` a prefix of that may have been appended.
-#[tactic(auto, using(crate::proofs::Runs::run_put))]
+#[tactic(auto, using(crate::proofs::RunLaws::run_put))]
 pub fn put_escaped(out: &mut Vec<u8>, bytes: &[u8]) -> Result<(), NoMemory>
     ensures { PutsBytes (flat_map quoted_byte bytes.now) out.old.items out.new.items result }
 {
@@ -57,18 +58,7 @@ fn literal_len(bytes: &[u8]) -> usize
     ensures within { result ≤ length bytes.now }
     ensures own { flat_map quoted_byte (take result bytes.now) ≡ take result bytes.now }
 {
-    let mut count = 0;
-    while count < bytes.len() && is_literal(bytes[count]) {
-        count += 1;
-    }
-    count
-}
-
-/// Whether the byte is written as itself.
-fn is_literal(byte: u8) -> bool
-    ensures { IsTrue result → quoted_byte byte ≡ byte ∷ [] }
-{
-    byte >= b' ' && byte <= b'~' && byte != b'"' && byte != b'\\'
+    run_len(bytes, u8::MAX)
 }
 
 /// Appends a byte as it is written between quotes.

@@ -1,14 +1,26 @@
-use Rattle.std.proofs.Common.{sym, ◌∙◌}
+use Rattle.std.proofs.Common.{◌≡◌, ◌++◌, ◌∷◌, [], drop, subst, sym, arith, ◌∙◌}
 use Rattle.std.proofs.lemmas.Bool.{false≢true}
 use Rattle.std.proofs.lemmas.List.{take_rest}
-use Rattle.milter_text.proofs.Runs.{consumed_first}
-use Rattle.milter_text.proofs.WordLaws.{consumed_more, consumed_word, no_end_after_quote, no_quote_at_end, quote_found}
+use Rattle.milter_text.proofs.RunLaws.{consumed_first}
+use Rattle.milter_text.proofs.WordLaws.{Consumed, consumed_more, consumed_word, no_end_after_quote, no_quote_at_end, quote_found}
 use Rattle.milter_text.proofs.line_words.take_quoted.Goals as goal
+use Rattle.milter_text.proofs.line_words.take_quoted.Goals.{then-count-gt0+in_ok-extend_from_slice, else-count-gt0}
 
 pub loop-byte-preserved : goal.loop-byte-preserved
 loop-byte-preserved c =
-    rw (c.in_ok-extend_from_slice.ensures.items, c.in_ok-push.ensures.items, take_rest c.in-Some.after.now c.bare_len-count.result)
-    (consumed_first c.loop-byte.text.items c.loop-byte.rest.now c.args.body.now c.in-Some.after.now c.in-Some.byte c.bare_len-count.result c.loop-byte.invariant (sym c.in-Some.ensures) c.bare_len-count.ensures.bare)
+    let after = c.in-Some.after.now in
+    let count = c.bare_len-count.result in
+    rw (take_rest after count)
+    (elim c.if-count-gt0.branch [
+      | then-count-gt0+in_ok-extend_from_slice w ↦
+          rw (w.text-is, w.in_ok-extend_from_slice.ensures.items, c.in_ok-push.ensures.items)
+          (consumed_first c.loop-byte.text.items c.loop-byte.rest.now c.args.body.now after c.in-Some.byte count c.loop-byte.invariant (sym c.in-Some.ensures) c.bare_len-count.ensures.bare)
+      | else-count-gt0 w ↦
+          let none : 0 ≡ count = omega (arith, w.if-count-gt0.false) in
+          rw (w.text-is, c.in_ok-push.ensures.items)
+          (subst (λ n. Consumed (c.loop-byte.text.items ++ c.in-Some.byte ∷ []) (drop n after) c.args.body.now) none
+          (consumed_more c.loop-byte.text.items c.loop-byte.rest.now c.args.body.now after c.in-Some.byte c.loop-byte.invariant (sym c.in-Some.ensures)))
+    ])
 
 pub returns-in_default-after_quote-clause-only : goal.returns-in_default-after_quote-clause-only
 returns-in_default-after_quote-clause-only c = λ word rest b _.

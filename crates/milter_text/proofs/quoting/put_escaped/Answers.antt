@@ -1,5 +1,5 @@
 use Rattle.milter_text.specs.Quoting.{quoted_byte}
-use Rattle.milter_text.proofs.Runs.{run_goes_on}
+use Rattle.milter_text.proofs.RunLaws.{run_goes_on}
 use Rattle.milter_text.proofs.quoting.put_escaped.Goals as goal
 
 pub loop-rest-preserved : goal.loop-rest-preserved
