@@ -3,3 +3,4 @@ pub mod FoldedTexts
 pub mod Values
 pub mod Looking
 pub mod Reading
+mod FirstBytes

@@ -1,5 +1,5 @@
 -- What is found in all header fields is found in the first ones or in those after them.
-use Rattle.std.proofs.Common.{◌≡◌, ◌∙◌, ◌||◌, ◌&&◌, ◌-◌, ℕ, Bool, true, false, List, length, take, drop, refl, sym, ap, le_refl, take-append-drop}
+use Rattle.std.proofs.Common.{◌≡◌, ◌∙◌, ◌||◌, ◌&&◌, ◌-◌, ℕ, Bool, true, false, List, length, take, drop, sym, ap, le_refl, take-append-drop}
 use Rattle.std.proofs.Math.Seq.{take-length}
 use Rattle.std.proofs.lemmas.List.{length-drop}
 use Rattle.std.proofs.lemmas.List.Folds.{list_any-append}

@@ -16,7 +16,7 @@ take_text (byte ∷ text) rest = ap (λ bytes. byte ∷ bytes) (take_text text r
 begins_text : (text rest : List ℕ) → begins_with (text ++ rest) text ≡ true
 begins_text text rest = (bytes_eq-Decides (take (length text) (text ++ rest)) text).1 (take_text text rest)
 
-contains_first : (bytes text : List ℕ) → begins_with bytes text ≡ true → contains bytes text ≡ true
+pub contains_first : (bytes text : List ℕ) → begins_with bytes text ≡ true → contains bytes text ≡ true
 contains_first [] text begins = begins
 contains_first (byte ∷ bytes) text begins = or_left (begins_with (byte ∷ bytes) text) (contains bytes text) begins
 

@@ -1,13 +1,12 @@
 -- A text that occurs in bytes occurs in the first of them, or begins so late that it is found without them.
-use Rattle.std.proofs.Common.{◌≡◌, ◌∙◌, ◌<◌, ◌≤◌, ◌+◌, ◌-◌, ◌⊎◌, ⊎_elim, inl, inr, ℕ, Bool, true, false, List, ◌++◌, length, take, drop, refl, sym, ap, subst, arith, le_refl, append_assoc, length-append, take-append-drop, true≢false}
+use Rattle.std.proofs.Common.{◌≡◌, ◌∙◌, ◌≤◌, ◌+◌, ◌-◌, ◌⊎◌, ⊎_elim, inl, inr, ℕ, true, false, List, ◌++◌, length, take, drop, refl, sym, ap, subst, arith, le_refl, append_assoc, length-append, take-append-drop, true≢false}
 use Rattle.std.proofs.Math.Seq.{take-append-add, take-length}
 use Rattle.std.proofs.lemmas.Bool.{cases_lt}
 use Rattle.std.proofs.lemmas.List.{drop-append-le, drop-map, length-drop, length-map, take-map}
-use Rattle.std.specs.Str.{str_to_ascii_lowercase}
 use Rattle.milter_search.specs.declared.text_case.TextCase.{TextCase}
 use Rattle.milter_search.specs.declared.text_case.TextCase.TheVariants.{Exact, Ignored}
 use Rattle.milter_search.specs.Searches.{BodySearch, HasRead, occurs_in, read_to_end}
-use Rattle.milter_search.specs.Texts.{Around, contains, folded}
+use Rattle.milter_search.specs.Texts.{contains, folded}
 use Rattle.milter_search.proofs.Occurrences.{around_contained, contains_from, same_test}
 
 contains_around : (bytes before text after : List ℕ) → bytes ≡ before ++ (text ++ after) → contains bytes text ≡ true

@@ -1,5 +1,5 @@
 -- Texts that are looked for in values.
-use Rattle.std.specs.Prelude.{◌≡◌, ◌++◌, ℕ, Bool, ◌&&◌, ◌||◌, List, [], ◌∷◌, codes, length, map, take}
+use Rattle.std.specs.Prelude.{◌≡◌, ◌++◌, ℕ, Bool, ◌||◌, List, [], ◌∷◌, codes, length, map, take}
 use Rattle.std.specs.List.{filter, list_any}
 use Rattle.std.specs.Str.{bytes_eq, str_eq_ignore_ascii_case, str_to_ascii_lowercase}
 use Rattle.milter_fields.specs.declared.header.Header.{Header}

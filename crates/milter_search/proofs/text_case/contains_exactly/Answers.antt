@@ -2,8 +2,8 @@ use Rattle.milter_search.specs.Texts.{contains}
 use Rattle.milter_search.proofs.Occurrences.{contained_occurs, occurs_contained, same_test}
 use Rattle.milter_search.proofs.text_case.contains_exactly.Goals as goal
 
-pub returns : goal.returns
-returns c =
+pub returns-in_default : goal.returns-in_default
+returns-in_default c =
     let bytes = c.args.bytes.now in
     let text = c.args.text.now in
     same_test c.contains_str.result (contains bytes text)

@@ -1,4 +1,4 @@
-use Rattle.std.proofs.Common.{◌≡◌, ◌∙◌, ◌⊎◌, ◌+◌, ◌-◌, ◌≤◌, ap, length, subst, sym}
+use Rattle.std.proofs.Common.{◌≡◌, ◌∙◌, ◌-◌, ap, length, subst, sym}
 use Rattle.milter_search.specs.Searches.{HasRead, occurs_in}
 use Rattle.milter_search.specs.contracts.body_search.BodySearch.{the_view}
 use Rattle.milter_search.proofs.Reading.{bytes_after, far_enough, read_before, read_late}
