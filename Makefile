@@ -26,6 +26,7 @@ bench:
 	bash bench/serve.sh
 	bash bench/core.sh
 	bash bench/mta.sh
+	bash bench/texts.sh
 	bash bench/world.sh
 
 install: all
