@@ -1,5 +1,6 @@
 """The programs that the tests run, as `rt ci` leaves them in crates/NAME/out: each as both compilers built it. Here are
-their names, the function that runs one of them, and the functions that compare how a run ended with what is expected.
+their names, the functions that write a file for one of them and run it, and those that compare how a run ended with
+what is expected.
 """
 import os
 import subprocess
@@ -51,6 +52,13 @@ def need_files(paths):
     for path in paths:
         if not os.path.isfile(path):
             sys.exit('%s is missing: run `rt ci`, which builds it' % os.path.relpath(path, TOP))
+
+
+def written(path, text):
+    """Writes a file, and answers its path."""
+    with open(path, 'w', encoding='utf-8') as file:
+        file.write(text)
+    return path
 
 
 def ended(command, given=b'', stdout=subprocess.PIPE, **options):
