@@ -73,9 +73,9 @@ class MailServer:
         self.sink.terminate()
         self.sink.wait()
 
-    def connected(self, kind, greeting='mail.example.org'):
-        """A client of the port whose filter is of this kind."""
-        return smtplib.SMTP('127.0.0.1', self.ports[kind], greeting, timeout=peers.SECONDS)
+    def connected(self, kind, greeting='mail.example.org', source='127.0.0.1'):
+        """A client of the port whose filter is of this kind, which connects from this address."""
+        return smtplib.SMTP('127.0.0.1', self.ports[kind], greeting, peers.SECONDS, (source, 0))
 
     def to_address(self, address):
         """How its reply to a sender or to a recipient begins."""

@@ -4,13 +4,10 @@ import os
 import re
 import signal
 import subprocess
-import sys
 import tempfile
 
 import peers
-
-sys.path.insert(0, os.path.join(peers.TOP, 'tests'))
-from lib import reports  # noqa: E402
+from lib import reports
 
 OPENDKIM = '''Mode s
 Domain example.org
@@ -40,7 +37,8 @@ end
 def compiled(work):
     """The scripted filter."""
     path = os.path.join(work, 'scripted')
-    subprocess.run(['cc', '-O2', '-o', path, os.path.join(peers.HERE, 'scripted.c'), '-lmilter', '-lpthread'], check=True)
+    subprocess.run(['cc', '-O2', '-o', path, os.path.join(peers.HERE, 'scripted.c'), '-lmilter', '-lpthread'],
+                   check=True)
     return path
 
 

@@ -8,6 +8,8 @@ import time
 
 HERE = os.path.dirname(os.path.abspath(__file__))
 TOP = os.path.dirname(os.path.dirname(HERE))
+# What imports this may import what tests/lib has.
+sys.path.insert(0, os.path.join(TOP, 'tests'))
 SECONDS = 60
 
 

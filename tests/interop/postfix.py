@@ -4,12 +4,14 @@ Its queue and settings are in a temporary folder. One port of it has `milter_too
 at a Unix address; what `sendmail` submits goes by `milter_tool answer`, with a process for each connection.
 """
 import os
+import re
 import shutil
 import subprocess
 import tempfile
 
 import mail_server
 import peers
+from lib import programs
 from mail_server import ADDED, FROM, MESSAGE, TO, body, envelope, fields
 
 MAIN = """\
@@ -70,13 +72,13 @@ scache unix - - n - 1 scache
 
 
 def in_postfix(address):
-    """An address of a filter as Postfix takes it."""
-    return address if address.startswith('unix:') else 'inet:' + peers.plain(address)
+    """An address of a filter as Postfix takes it; an empty one is none."""
+    return 'inet:' + peers.plain(address) if address.startswith('inet:') else address
 
 
 class Postfix(mail_server.MailServer):
     """A running Postfix with its sink. Where no filter of submitted mail is given it is the one at the TCP address. Its
-    smtpd may be chrooted."""
+    smtpd may be chrooted. Further lines of main.cf stand in place of those for the same."""
     name = 'Postfix'
     deferred = '451 4.7.1 Service unavailable - try again later'
     no_recipient = '55'
@@ -84,7 +86,7 @@ class Postfix(mail_server.MailServer):
     greeting_within = ['H', 'A']
     greetings = 100
 
-    def __init__(self, work, inet, unix, submitted=None, chroot='n'):
+    def __init__(self, work, inet, unix, submitted=None, chroot='n', main=''):
         super().__init__(work)
         self.config = os.path.join(work, 'config')
         for name in ('config', 'queue', 'data'):
@@ -93,9 +95,10 @@ class Postfix(mail_server.MailServer):
         values = {'work': work, 'sink': self.sink_port, 'submitted': in_postfix(submitted or inet),
                   'inet': in_postfix(inet), 'unix': in_postfix(unix), 'inet_port': self.ports['inet'],
                   'unix_port': self.ports['unix'], 'chroot': chroot}
-        for name, text in (('main.cf', MAIN), ('master.cf', MASTER)):
-            with open(os.path.join(self.config, name), 'w') as file:
-                file.write(text.format(**values))
+        given = re.findall(r'^\w+', main, re.M)
+        lines = [line for line in MAIN.format(**values).splitlines() if line.split()[0] not in given]
+        programs.written(os.path.join(self.config, 'main.cf'), ''.join(line + '\n' for line in lines) + main)
+        programs.written(os.path.join(self.config, 'master.cf'), MASTER.format(**values))
 
     def start(self):
         """Starts it."""

@@ -10,6 +10,7 @@ import subprocess
 import sys
 import tempfile
 
+import cookbook
 import many
 import mta
 import peers
@@ -89,6 +90,7 @@ def main():
     checks.part('Postfix', postfix.play, program)
     checks.part('Postfix, chrooted', postfix.play_chrooted, program)
     checks.part('Postfix, many at once', many.play, program, postfix.Postfix)
+    checks.part('cookbook', cookbook.play, program)
     root = os.environ.get('SENDMAIL_ROOT', sendmail.UNPACKED)
     missing = sendmail.missing(root)
     if missing:
