@@ -11,6 +11,8 @@ import sys
 import tempfile
 
 import cookbook
+import cookbook_settings
+import cookbook_statements
 import many
 import mta
 import peers
@@ -90,7 +92,8 @@ def main():
     checks.part('Postfix', postfix.play, program)
     checks.part('Postfix, chrooted', postfix.play_chrooted, program)
     checks.part('Postfix, many at once', many.play, program, postfix.Postfix)
-    checks.part('cookbook', cookbook.play, program)
+    for part in (cookbook, cookbook_settings, cookbook_statements):
+        checks.part(part.__name__, part.play, program)
     root = os.environ.get('SENDMAIL_ROOT', sendmail.UNPACKED)
     missing = sendmail.missing(root)
     if missing:
