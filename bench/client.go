@@ -1,6 +1,6 @@
-// A mail server's end on go-milter, as bench/texts.sh measures it beside `milter_tool mta`: it asks the filter at a Unix
-// socket about so many messages on one connection, each with ten header fields and a body of so many bytes in lines of
-// 64, and prints the verdict on each.
+// A mail server's end on go-milter, as bench/texts.sh measures it beside `milter_tool mta`: it asks the filter at a
+// Unix socket about so many messages on one connection, each with ten header fields and a body of so many bytes in
+// lines of 64, and prints the verdict on each.
 //
 //	client SOCKET COUNT BODY
 package main

@@ -2,12 +2,12 @@
 # Measures how session files are read and reports printed. First the user instructions for each byte of body that
 # `milter_tool session` takes to read a session file and print it, which callgrind counts; it counts a copy by
 # `rep movsb` and a clearing by `rep stosb` a byte at a time, so that both are turned off in the C library. Then
-# `milter_tool mta`, which reads ten messages of 10 MiB from a session file, plays them and prints the reports, beside a
-# mail server's end on go-milter (`client.go`) that makes the same messages and prints a word for each. Both ask a filter
-# on Sendmail's libmilter (`filter.c`) over a Unix socket. It prints the least of five runs, in seconds by the clock and
-# of processor time of the mail server's end, and the ratios. It takes valgrind, libmilter (libmilter-dev), a C compiler,
-# Python, and Go with go-milter (golang-go, golang-github-emersion-go-milter-dev). The program is built first where it
-# has to be; another one may be given.
+# `milter_tool mta`, which reads ten messages of 10 MiB from a session file, plays them and prints the reports, beside
+# a mail server's end on go-milter (`client.go`) that makes the same messages and prints a word for each. Both ask a
+# filter on Sendmail's libmilter (`filter.c`) over a Unix socket. It prints the least of five runs, in seconds by the
+# clock and of processor time of the mail server's end, and the ratios. It takes valgrind, libmilter (libmilter-dev), a
+# C compiler, Python, and Go with go-milter (golang-go, golang-github-emersion-go-milter-dev). The program is built
+# first where it has to be; another one may be given.
 #
 #     bash bench/texts.sh [PROGRAM]
 set -eu

@@ -1,5 +1,5 @@
 #!/usr/bin/env python3
-"""Checks the documents against the repository: each block of code in README.md, docs/FILTERS.md and
+"""Checks the documents against the repository: each block of code in docs/LIBRARY.md, docs/FILTERS.md and
 docs/MAIL_SERVERS.md is lines of its example's program, each link between documents leads to a file, and each clause of
 docs/PROOFS.md and each definition of docs/DEFINITIONS.md is in the crate under which it is listed. And no line of the
 code or of the definitions is too long, but imports.
@@ -14,7 +14,7 @@ from lib.programs import TOP
 
 # The documents with code of a crate.
 EXAMPLES = {
-    'README.md': 'milter_example', 'docs/FILTERS.md': 'milter_loop_guard', 'docs/MAIL_SERVERS.md': 'milter_pair'}
+    'docs/LIBRARY.md': 'milter_example', 'docs/FILTERS.md': 'milter_loop_guard', 'docs/MAIL_SERVERS.md': 'milter_pair'}
 COLUMNS = 120
 DOCUMENTS = ['README.md', 'CHANGELOG.md', 'SECURITY.md', 'cases/README.md', 'cases/tables/README.md'] + sorted(
     os.path.relpath(path, TOP) for path in glob.glob(os.path.join(TOP, 'docs', '*.md')))
