@@ -1,7 +1,8 @@
 #!/usr/bin/env python3
 """Makes the tar file and the Debian package of the proved program, in a copy of what they are made of, and looks at
-what is in them: the program runs, its manual page has each subcommand, the units start the program where the package
-puts it, and the documents are there. And the units of systemd/ are those that docs/DEPLOY.md shows; those that make a
+what is in them: the program runs, its manual page has each subcommand, mandoc finds no mistake in the pages, where it is
+installed, bash completes the program's words, the units start the program where the package puts it, and the documents
+are there. And the units of systemd/ are those that docs/DEPLOY.md shows; those that make a
 Unix socket give it a group and a mode, and the one of `serve` is exposed as little as systemd-analyze says, where that
 is installed.
 
@@ -22,6 +23,9 @@ from lib.programs import BUILDS, TOP, need, tool
 PACKED = ['README.md', 'CHANGELOG.md', 'SECURITY.md', 'docs', 'examples', 'systemd', 'tools']
 # The most that systemd-analyze says of the exposure of this unit, in tenths.
 HARDENED, EXPOSURE_MAX = 'milter-serve.service', 15
+# What bash completes of lines.
+COMPLETED = {'milter_tool se': ['session', 'serve'], 'milter_tool mta --e': ['--expect'],
+             'milter_tool help pl': ['play'], 'milter_tool serve --no': []}
 UNITS = sorted(os.listdir(os.path.join(TOP, 'systemd')))
 
 
@@ -62,6 +66,11 @@ def looked_at(root, folder_of_program):
         sections = re.findall(r'(?m)^\.SH MILTER_TOOL (\w+)', page.read())
     commands = re.findall(r'(?m)^  (\w+)  ', helped.stdout)
     yield None if sections + ['HELP'] == [it.upper() for it in commands] else 'the manual page has %s' % sections
+    yield from linted(os.path.join(root, 'share', 'man'))
+    script = os.path.join(root, 'share', 'bash-completion', 'completions', 'milter_tool')
+    for line, wanted in COMPLETED.items():
+        found = completed(script, line)
+        yield None if found == wanted else 'bash completes %s as %s' % (line, found)
     for unit in UNITS:
         started = re.findall(r'(?m)^ExecStart=(\S+)', read(root, 'lib', 'systemd', 'system', unit))
         is_well = started.count(folder_of_program + '/milter_tool') == len(started)
@@ -69,6 +78,26 @@ def looked_at(root, folder_of_program):
         yield None if is_well else '%s starts %s' % (unit, started)
     for name in ['README.md', 'docs/HEADLINE.md', 'examples/conversation.trace']:
         yield None if read(TOP, name) == read(root, 'share', 'doc', 'milter_tool', name) else '%s differs' % name
+
+
+def linted(folder):
+    """Whether each manual page is there and, where mandoc is, has no mistake for it."""
+    for name in ['man1/milter_tool.1', 'man5/milter_rules.5', 'man5/milter_session.5']:
+        path = os.path.join(folder, name + '.gz')
+        yield None if os.path.exists(path) else 'no manual page %s' % name
+        if shutil.which('mandoc'):
+            found = subprocess.run(['mandoc', '-T', 'lint', '-W', 'warning', path], stdout=subprocess.PIPE,
+                                   stderr=subprocess.STDOUT, check=False, text=True).stdout
+            yield None if not found else 'mandoc of %s: %s' % (name, found)
+
+
+def completed(script, line):
+    """The words that bash offers for the last one of a line."""
+    words = line.split(' ')
+    found = subprocess.run(
+        ['bash', '-c', 'source "$1"; COMP_WORDS=("${@:2}"); COMP_CWORD=$(($# - 2)); _milter_tool; '
+         'printf "%s\\n" "${COMPREPLY[@]}"', 'bash', script, *words], stdout=subprocess.PIPE, check=True, text=True)
+    return found.stdout.split()
 
 
 def packages():

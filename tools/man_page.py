@@ -8,6 +8,9 @@ import re
 import subprocess
 import sys
 
+# The day of the pages.
+DATE = "2026-11-26"
+
 
 def printed(program, *words):
     return subprocess.run([program, *words], stdout=subprocess.PIPE, check=True, text=True).stdout
@@ -29,7 +32,7 @@ def main():
     name, version = printed(program, "--version").split()
     summary, _, rest = printed(program, "--help").partition("\n\n")
     commands = re.findall(r"(?m)^  (\w+)  ", rest)
-    print(f'.TH {name.upper()} 1 "" "{name} {version}"')
+    print(f'.TH {name.upper()} 1 {DATE} "{name} {version}"')
     print(f".SH NAME\n{escaped(name)} \\- {escaped(summary[0].lower() + summary[1:])}")
     print(f".SH SYNOPSIS\n{as_it_is(rest.partition('Usage: ')[2].partition(chr(10))[0])}", end="")
     print(f".SH DESCRIPTION\n{as_it_is(rest.partition(chr(10) * 2)[2])}", end="")

@@ -1,6 +1,6 @@
 #!/usr/bin/env bash
-# Puts the proved program in place, or packs it: the program, its manual page, the units for systemd, the documents and
-# the examples.
+# Puts the proved program in place, or packs it: the program, its manual pages, what bash completes of it, the units for
+# systemd, the documents and the examples.
 #
 #     tools/package.sh install DESTDIR PREFIX   in place, as DESTDIR/PREFIX/bin/milter_tool and so on
 #     tools/package.sh dist                     dist/milter_tool-VERSION-x86_64-linux.tar.gz
@@ -12,13 +12,31 @@ cd "$(dirname "${BASH_SOURCE[0]}")/.."
 program=crates/milter_tool/out/milter_tool
 version=$("$program" --version | cut -d ' ' -f 2)
 
+# Prints the manual page of a form of file.
+format_page() {
+    case $1 in
+    milter_rules)
+        python3 tools/format_page.py "$1" 'what a filter asks of a mail server, and what it answers' mail.rules \
+            'Rule files' 'Words and quotes'
+        ;;
+    milter_session)
+        python3 tools/format_page.py "$1" 'the messages that a test mail server plays' policy.session \
+            'Session files' 'Words and quotes'
+        ;;
+    esac
+}
+
 # Puts all of it below the folder $1, for a machine on which the program will be in the folder $2.
 put() {
-    local root=$1 bin=$2 unit
+    local root=$1 bin=$2 unit page
     install -D -m 755 "$program" "$root/bin/milter_tool"
-    install -d "$root/share/man/man1" "$root/lib/systemd/system" "$root/share/doc/milter_tool/docs" \
-        "$root/share/doc/milter_tool/examples"
+    install -d "$root/share/man/man1" "$root/share/man/man5" "$root/share/bash-completion/completions" \
+        "$root/lib/systemd/system" "$root/share/doc/milter_tool/docs" "$root/share/doc/milter_tool/examples"
     python3 tools/man_page.py "$program" | gzip -n9 >"$root/share/man/man1/milter_tool.1.gz"
+    for page in milter_rules milter_session; do
+        format_page "$page" | gzip -n9 >"$root/share/man/man5/$page.5.gz"
+    done
+    python3 tools/completion.py "$program" >"$root/share/bash-completion/completions/milter_tool"
     for unit in systemd/*; do
         sed "s|/usr/local/bin/|$bin/|" "$unit" >"$root/lib/systemd/system/$(basename "$unit")"
     done
