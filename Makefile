@@ -1,5 +1,5 @@
 # `make` proves and builds the program, `make check` proves what changed, `make test` is the whole test command,
-# `make bench` measures, `make install PREFIX=/usr/local` puts the program in place, with its manual page, units and
+# `make bench` measures, `make install PREFIX=/usr/local` puts the program in place, with its manual pages, units and
 # documents, and `make dist` and `make deb` pack the same for machines without the toolchain.
 
 PREFIX ?= /usr/local

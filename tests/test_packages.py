@@ -1,8 +1,8 @@
 #!/usr/bin/env python3
 """Makes the tar file and the Debian package of the proved program, in a copy of what they are made of, and looks at
-what is in them: the program runs, its manual page has each subcommand, mandoc finds no mistake in the pages, where it is
-installed, bash completes the program's words, the units start the program where the package puts it, and the documents
-are there. And the units of systemd/ are those that docs/DEPLOY.md shows; those that make a
+what is in them: the program runs, its manual page has each subcommand, mandoc finds no mistake in the pages where it
+is installed, bash completes the program's words, the units start the program where the package puts it, and the
+documents are there. And the units of systemd/ are those that docs/DEPLOY.md shows; those that make a
 Unix socket give it a group and a mode, and the one of `serve` is exposed as little as systemd-analyze says, where that
 is installed.
 

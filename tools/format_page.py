@@ -39,10 +39,11 @@ def cells(line):
 
 
 def row(heads, line):
-    """A line of a table, as an entry of a list: the first cell, the second under it, and the others with their heads."""
+    """A line of a table, as an entry of a list: the first cell, under it the second and the others with their heads."""
     first, second, *others = cells(line)
     more = [f"({head[0].lower() + head[1:]}: {it})" for head, it in zip(heads[2:], others) if it]
-    return f".TP\n{words(first)}\n{words(' '.join(filter(None, [second, *more]))) or '.br'}\n"
+    text = " ".join(filter(None, [second, *more]))
+    return f".TP\n{words(first)}\n{words(text) or '.br'}\n"
 
 
 def page_of(lines):
