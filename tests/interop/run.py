@@ -13,6 +13,7 @@ import tempfile
 import cookbook
 import cookbook_settings
 import cookbook_statements
+import edit_rules
 import many
 import mta
 import peers
@@ -92,6 +93,8 @@ def main():
     checks.part('Postfix', postfix.play, program)
     checks.part('Postfix, chrooted', postfix.play_chrooted, program)
     checks.part('Postfix, many at once', many.play, program, postfix.Postfix)
+    checks.part('edits in memory', edit_rules.play, program)
+    checks.part('Postfix, edits', edit_rules.play, program, postfix.Postfix)
     for part in (cookbook, cookbook_settings, cookbook_statements):
         checks.part(part.__name__, part.play, program)
     root = os.environ.get('SENDMAIL_ROOT', sendmail.UNPACKED)
@@ -99,7 +102,9 @@ def main():
     if missing:
         print('sendmail: not run, ' + missing)
     else:
-        checks.part('Sendmail, many at once', many.play, program, functools.partial(sendmail.Sendmail, root))
+        sendmail_at = functools.partial(sendmail.Sendmail, root)
+        checks.part('Sendmail, many at once', many.play, program, sendmail_at)
+        checks.part('Sendmail, edits', edit_rules.play, program, sendmail_at)
     print('%d passed, %d failed' % (checks.passed, checks.failed))
     return 1 if checks.failed else 0
 
