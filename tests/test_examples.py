@@ -1,5 +1,6 @@
 #!/usr/bin/env python3
-"""Runs the scripts of examples/ that make traces and session files.
+"""Runs the scripts of examples/ that make traces and session files, and what README.md begins with: its rules, its
+session, and what it says that is printed.
 
 record.py is run between connections of this test and `milter_tool answer`, over TCP and over Unix sockets: with
 connections that overlap, one that is reset, one whose filter isn't there, and one that is open when it is ended. It
@@ -274,12 +275,31 @@ def played(kind, folder):
     yield checked('what is not sent', run, leading + 'symbols eom "i"\n', canonical, canonical)
 
 
+def readme(kind, folder):
+    """The rules and the session of README.md, by `serve` and `mta`, print what stands there."""
+    with open(os.path.join(programs.TOP, 'README.md'), encoding='utf-8') as file:
+        blocks = re.findall(r'(?m)(?:^    .*\n)+', file.read())
+    rules, session, printed = (
+        next(block.replace('\n    ', '\n')[4:] for block in blocks if block.startswith('    ' + first))
+        for first in ('at rcpt', 'client', 'message'))
+    expected = programs.written(os.path.join(folder, 'expected'), printed)
+    options = ['--rules', programs.written(os.path.join(folder, 'mail.rules'), rules)]
+
+    def run():
+        with serving.Service(TOOL, kind, folder, options) as served:
+            serving.listening(served)
+            command = [TOOL, 'mta', served.address, '/dev/stdin', '--wait', '10', '--expect', expected]
+            expect('the test', ended(command, session.encode()), (0, '', ''))
+
+    yield checked('the rules and the session', run)
+
+
 def groups(folder):
     """Groups of checks: of each its name, its function, and what that is called with."""
     for group in mails, traces, captured:
         yield group.__name__, group, ()
     for kind in serving.KINDS:
-        for group in recorded, played:
+        for group in recorded, played, readme:
             yield '%s at %s' % (group.__name__, kind), group, (kind, tempfile.mkdtemp(dir=folder))
 
 
