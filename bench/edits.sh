@@ -1,8 +1,8 @@
 #!/usr/bin/env bash
 # Times `apply` over messages of 10,000 header fields or recipients and 10,000 edits of one kind: `milter_test_driver
 # edits` reads a session file and the packets of the edits, decodes them, and applies them. This prints a line for each
-# kind: seconds of processor time (the least of three runs of the program) and the most memory; and the same for lists of
-# edits of 1 MiB of the kinds that cost most. Status 1 where a kind takes more than a second for 10,000 edits. The
+# kind: seconds of processor time (the least of three runs of the program) and the most memory; and the same for lists
+# of edits of 1 MiB of the kinds that cost most. Status 1 where a kind takes more than a second for 10,000 edits. The
 # program is built first where it has to be.
 set -eu
 cd "$(dirname "${BASH_SOURCE[0]}")/.."

@@ -1,11 +1,11 @@
 #!/usr/bin/env bash
 # Measures `milter_tool mta`, which plays session files, against `milter_tool filter` and against a filter on Sendmail's
-# libmilter (`filter.c`): all over a Unix socket, the mail server's end and the filter on one processor together. For each
-# filter a line has how many messages of sixteen commands with 4 KiB of body are played a second, and MB a second of
-# messages with 10 MiB of body, by the clock and by the processor time of `mta` alone: the least of three runs, without
-# the time of a run that plays one message. In both the session file is read first, which the difference has in it. It
-# takes libmilter (libmilter-dev), a C compiler, Python and some minutes. The program is built first where it has to be;
-# another one may be given.
+# libmilter (`filter.c`): all over a Unix socket, the mail server's end and the filter on one processor together. For
+# each filter a line has how many messages of sixteen commands with 4 KiB of body are played a second, and MB a second
+# of messages with 10 MiB of body, by the clock and by the processor time of `mta` alone: the least of three runs,
+# without the time of a run that plays one message. In both the session file is read first, which the difference has in
+# it. It takes libmilter (libmilter-dev), a C compiler, Python and some minutes. The program is built first where it has
+# to be; another one may be given.
 #
 #     bash bench/mta.sh [PROGRAM]
 set -eu

@@ -1,10 +1,10 @@
 #!/usr/bin/env bash
 # Times `milter_tool session`, which reads a session file and prints it in its canonical form, over files of 1, 64 and
 # 127 MiB: messages of 1 MiB each, with twenty recipients, forty header fields and a body in lines of 82 bytes; and over
-# the worst forms of 32 MiB: messages of 36 bytes each, one line of words, and lines that are no session at all. It prints
-# a line for each: bytes, seconds (the best of three, from the start of the program to its end), MB a second, and the most
-# memory; then the figures that it is held to: 127 MiB takes at most 2.2 times 64 MiB, and a file whose first line is at
-# fault at most a second. Status 1 where one is missed. The program is built first where it has to be.
+# the worst forms of 32 MiB: messages of 36 bytes each, one line of words, and lines that are no session at all. It
+# prints a line for each: bytes, seconds (the best of three, from the start of the program to its end), MB a second, and
+# the most memory; then the figures that it is held to: 127 MiB takes at most 2.2 times 64 MiB, and a file whose first
+# line is at fault at most a second. Status 1 where one is missed. The program is built first where it has to be.
 set -eu
 cd "$(dirname "${BASH_SOURCE[0]}")/.."
 make -s all >/dev/null

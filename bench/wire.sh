@@ -2,9 +2,9 @@
 # Measures what it takes to read and to encode packets, with `milter_test_driver packets`: user instructions for a
 # message of 16 packets, with ten header fields and 4 KiB of body, and MB of packets a second for bodies of 10 MiB,
 # beside a plain copy of the same bytes in the same run. The instructions are callgrind's, without those of a run over
-# the message once; callgrind counts a copy by `rep movsb` a byte at a time, so that this is turned off in the C library.
-# It prints a line for each, and takes valgrind, Python and half a minute. The program is built first, which proves what
-# it is made of.
+# the message once; callgrind counts a copy by `rep movsb` a byte at a time, so that this is turned off in the C
+# library. It prints a line for each, and takes valgrind, Python and half a minute. The program is built first, which
+# proves what it is made of.
 set -eu
 cd "$(dirname "${BASH_SOURCE[0]}")/.."
 (cd crates/milter_test_driver && rt run -- packets split 1 </dev/null >/dev/null 2>&1) || {

@@ -2,11 +2,11 @@
 # Measures a world (`milter_world`), with a filter that lets all mail go on: `milter_test_driver world` plays a session
 # file by `play`, and by `run` in rounds of 1 byte and of 100, and crates/milter_pair drives the same two ends by a loop
 # of its own. A message has ten header fields, and so sixteen commands where its body has 4 KiB. A line for each session
-# has the user instructions of a message: callgrind's, without those of a run that only reads the session file; callgrind
-# counts a copy by `rep movsb` and a clearing by `rep stosb` a byte at a time, so that both are turned off in the C
-# library. Status 1 where `play` takes more than 1.5 times what the loop takes, or where rounds take more than 1.1 times
-# as much for each message of a session ten times as long. It takes valgrind, Python and some minutes. The programs are
-# built first where they have to be.
+# has the user instructions of a message: callgrind's, without those of a run that only reads the session file;
+# callgrind counts a copy by `rep movsb` and a clearing by `rep stosb` a byte at a time, so that both are turned off in
+# the C library. Status 1 where `play` takes more than 1.5 times what the loop takes, or where rounds take more than 1.1
+# times as much for each message of a session ten times as long. It takes valgrind, Python and some minutes. The
+# programs are built first where they have to be.
 #
 #     bash bench/world.sh
 set -eu
