@@ -2,6 +2,7 @@ pub mod Binds
 pub mod Ports
 pub mod Written
 pub mod Steps
+pub mod Lanes
 pub mod StringFields
 pub mod SequenceLaws
 pub mod LentLists

@@ -1,18 +1,18 @@
 -- A string that is decoded was encoded so, and a string that is encoded is decoded.
-use Rattle.std.proofs.Common.{◌≡◌, ◌≢◌, ℕ, zero, suc, ◌+◌, ◌<◌, ◌≤◌, false, ltb, List, [], ◌∷◌, ◌++◌, length, take, drop, Option, Some, None, refl, sym, ap, subst, ◌∙◌, arith, inl, inr, add-one, append-nil, length-append}
-use Rattle.std.specs.Prelude.{◌==◌, position, slice_index}
+use Rattle.std.proofs.Common.{◌≡◌, ◌≢◌, ℕ, zero, suc, ◌+◌, Bool, true, ◌<◌, ◌≤◌, false, ltb, List, [], ◌∷◌, ◌++◌, length, take, drop, Option, Some, None, refl, sym, ap, subst, ◌∙◌, arith, inl, inr, add-one, append-nil, length-append}
+use Rattle.std.specs.Prelude.{◌==◌, ◌↔◌, IsTrue, not, position}
+use Rattle.std.specs.Option.{is_some}
 use Rattle.std.specs.List.{position_or_len}
-use Rattle.std.proofs.lemmas.Bool.{cases_lt, false_from_ne_true, le-ltb, lt-ltb, ltb-true, ne_eqb}
-use Rattle.std.proofs.lemmas.List.Sums.{position_or_len_is}
-use Rattle.memchr.specs.Find.{IsFirstByte, is_byte}
+use Rattle.std.proofs.lemmas.Bool.{cases_lt, lt-ltb, ltb-true, ne_eqb}
 use Rattle.std.proofs.lemmas.Option.{cond_some, none-some, same_Some}
 use Rattle.std.proofs.lemmas.List.Elements.{All-nil, All-cons, All-head, All-tail}
 use Rattle.milter_fields.specs.Field.{string, HasNoNul}
 use Rattle.milter_fields.specs.Decoding.{ended, string_at, string_in}
+use Rattle.milter_fields.proofs.Lanes.{position_none}
 use Rattle.milter_fields.proofs.Binds.{bind_some}
 use Rattle.milter_fields.proofs.Steps.{ended_takes}
 
--- ---- the first NUL, as the code finds it
+-- ---- the first NUL
 
 abbrev end_of : List ℕ → ℕ
 end_of bytes = position_or_len (λ byte. byte == 0) bytes
@@ -47,16 +47,46 @@ string_at-nul bytes n h =
     let g = cond_some (ltb (end_of bytes) (length bytes)) (end_of bytes) n h in
     rw (← g.1) (found bytes (ltb-true _ _ g.0))
 
--- the first NUL, as a search for it finds it
-pub first_zero : (bytes : List ℕ) (found : Option ℕ) → IsFirstByte (is_byte 0) bytes found → found ≡ position (λ byte. byte == 0) bytes
-first_zero bytes (Some k) h =
-    let at : end_of bytes ≡ k = position_or_len_is (λ byte. byte == 0) bytes k 0 (omega (arith, h.0.high))
-    (λ j lt. false_from_ne_true (slice_index bytes j == 0) (h.0.before j (omega arith) lt)) (λ _. h.1) in
-    rw (at, lt-ltb k (length bytes) h.0.high) refl
-first_zero bytes None h =
-    let at : end_of bytes ≡ length bytes = position_or_len_is (λ byte. byte == 0) bytes (length bytes) 0 (omega arith)
-    (λ j lt. false_from_ne_true (slice_index bytes j == 0) (h j (omega arith) lt)) (λ lt. absurd (omega (arith, lt))) in
-    rw (at, le-ltb (length bytes) (length bytes) (omega arith)) refl
+before_nul : (text : List ℕ) → length text ≤ end_of text → HasNoNul text
+unfolding HasNoNul
+before_nul [] h = All-nil (λ byte. byte ≢ 0)
+before_nul (zero ∷ text) h = absurd (let z : end_of (0 ∷ text) ≡ 0 = refl in omega (arith, z))
+before_nul (suc byte ∷ text) h =
+    let some : suc byte ≢ 0 = omega arith in
+    All-cons (λ byte. byte ≢ 0) (suc byte) text some (before_nul text (omega (arith, end_of-suc byte text)))
+
+no_nul_before : (text : List ℕ) → HasNoNul text → length text ≤ end_of text
+unfolding HasNoNul
+no_nul_before [] h = omega arith
+no_nul_before (zero ∷ text) h = absurd (All-head (λ byte. byte ≢ 0) 0 text h refl)
+no_nul_before (suc byte ∷ text) h = omega (arith, end_of-suc byte text, no_nul_before text (All-tail (λ byte. byte ≢ 0) (suc byte) text h))
+
+no_nul_found : (text : List ℕ) → position (λ byte. byte == 0) text ≡ None → HasNoNul text
+no_nul_found text h =
+    elim (cases_lt (end_of text) (length text)) [
+      | inl lt ↦ absurd (none-some (end_of text) (sym h ∙ rw (lt-ltb _ _ lt) refl))
+      | inr le ↦ before_nul text le
+    ]
+
+finds_no_nul : (text : List ℕ) → HasNoNul text → position (λ byte. byte == 0) text ≡ None
+finds_no_nul text h = sym (position_none (λ byte. byte == 0) text (no_nul_before text h))
+
+is_none_found : (found : Option ℕ) (none : Bool) → is_some found ≡ not none → IsTrue none → found ≡ None
+is_none_found None none s t = refl
+is_none_found (Some k) true s t = absurd cc
+is_none_found (Some k) false s t = absurd cc
+
+found_is_none : (found : Option ℕ) (none : Bool) → is_some found ≡ not none → found ≡ None → IsTrue none
+found_is_none None true s e = refl
+found_is_none None false s e = absurd cc
+found_is_none (Some k) none s e = absurd (none-some k (sym e))
+
+-- a text without NUL is one where none is found
+pub tells_no_nul : (text : List ℕ) (found : Option ℕ) (none : Bool) → found ≡ position (λ byte. byte == 0) text → is_some found ≡ not none → IsTrue none ↔ HasNoNul text
+tells_no_nul text found none e s = (
+  λ t. no_nul_found text (sym e ∙ is_none_found found none s t),
+  λ h. found_is_none found none s (e ∙ finds_no_nul text h),
+)
 
 -- ---- a string at the start
 

@@ -12,6 +12,7 @@ pub mod families;
 mod header;
 mod lent_lists;
 mod lists;
+mod nuls;
 mod pair;
 mod path;
 mod port;

@@ -1,21 +1,20 @@
 //! Strings: a text, and the NUL that ends it.
 
-ghost use Rattle.std.specs.Prelude.{◌≡◌, ◌==◌, ◌++◌, ◌↔◌, IsTrue, OnOk, length, option_map, position};
+ghost use Rattle.std.specs.Prelude.{◌≡◌, ◌++◌, ◌↔◌, IsTrue, OnOk, length, option_map};
 ghost use Rattle.milter_stream.specs.Appending.{PutsBytes};
 ghost use Rattle.milter_fields.specs.Field.{HasNoNul, string};
 ghost use Rattle.milter_fields.specs.Decoding.{DecodesOptional, string_at, string_in};
 
+use crate::nuls::first_nul;
 use crate::text::Text;
-use memchr::memchr;
 use milter_stream::NoMemory;
 use std::alloc::Global;
 
 /// Whether a string can carry the text: no byte of it is a NUL. No memory is taken.
-#[tactic(auto, unfolding(crate::specs::Field::HasNoNul))]
 pub fn has_no_nul(text: &[u8]) -> bool
     ensures { IsTrue result ↔ HasNoNul text.now }
 {
-    text.iter().all(|byte| *byte != 0)
+    first_nul(text).is_none()
 }
 
 /// The number of bytes of the string that carries the text: those of the text, and a NUL. No memory is taken.
@@ -40,13 +39,6 @@ pub fn put_bytes(out: &mut Vec<u8>, bytes: &[u8]) -> Result<(), NoMemory>
 {
     out.extend_from_slice(bytes)?;
     Ok(())
-}
-
-/// The index of the first NUL.
-fn first_nul(bytes: &[u8]) -> Option<usize>
-    ensures { result ≡ position (λ byte. byte == 0) bytes.now }
-{
-    memchr(0, bytes)
 }
 
 /// The text of the string that the bytes begin with, and the bytes after the string.

@@ -1,7 +1,7 @@
 use Rattle.std.proofs.Common.{ap, sym, ◌∙◌, arith}
 use lib.Count.{count_trailing_zeros}
 use Rattle.milter_text.specs.Runs.{ends_run}
-use Rattle.milter_text.proofs.Lanes.{run_ends_at, run_goes_through}
+use Rattle.milter_fields.proofs.Lanes.{run_ends_at, run_goes_through}
 use Rattle.milter_text.proofs.runs.last_run_end.Goals as goal
 
 pub returns-then-ends-ne0 : goal.returns-then-ends-ne0

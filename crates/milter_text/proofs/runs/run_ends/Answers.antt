@@ -1,6 +1,7 @@
 use Rattle.std.proofs.Common.{ℕ, cond, leb, arith}
 use Rattle.std.proofs.lemmas.Simd.{zip2_splat, zip2_splat_left}
-use Rattle.milter_text.proofs.Lanes.{bits_of_mask, mask_and, mask_or}
+use Rattle.milter_fields.proofs.Lanes.{bits_of_mask}
+use Rattle.milter_text.proofs.Lanes.{mask_and, mask_or}
 use Rattle.milter_text.specs.Runs.{ends_run}
 use Rattle.milter_text.proofs.runs.run_ends.Goals as goal
 
