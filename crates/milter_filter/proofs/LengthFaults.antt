@@ -4,7 +4,7 @@ use Rattle.std.specs.Prelude.{◌==◌, nat_lt}
 use Rattle.std.proofs.lemmas.Bool.{eqb-true}
 use Rattle.std.proofs.lemmas.Option.{same_Some}
 use Rattle.std.proofs.lemmas.List.{length-take}
-use Rattle.std.proofs.lemmas.List.Elements.{All-append, All-from_get_or, All-take}
+use Rattle.std.proofs.lemmas.List.Elements.{All-nil, All-append, All-from_get_or, All-take}
 use Rattle.milter_stream.specs.declared.fault.NoMemory.{NoMemory}
 use Rattle.milter_stream.specs.declared.fault.WireFault.{WireFault}
 use Rattle.milter_stream.specs.declared.fault.WireFault.TheVariants.{ZeroLength, TooLong}
@@ -53,6 +53,9 @@ is-short (a ∷ b ∷ c ∷ []) more fault unfinished is = omega arith
 
 pub piece-bytes : (piece : List ℕ) → ((i : ℕ) → get_or piece i 0 < 256) → IsBytes piece
 piece-bytes piece below = All-from_get_or (λ b. b < 2 ^ 8) piece 0 (λ i _. below i)
+
+pub no-bytes : IsBytes []
+no-bytes = All-nil (λ b. b < 2 ^ 8)
 
 pub fed-bytes : (unread piece new : List ℕ) (n : ℕ) → IsBytes unread → IsBytes piece → new ≡ unread ++ take n piece → IsBytes new
 fed-bytes unread piece new n below piece_below fed =

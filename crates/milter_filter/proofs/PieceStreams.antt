@@ -1,12 +1,11 @@
 -- A stream of one packet, and one that begins with a packet or a fault.
-use Rattle.std.proofs.Common.{◌≡◌, ℕ, false, if◌then◌else◌, List, [], ◌∷◌, ◌++◌, take, drop, map, Option, None, Some, Ok, Err, refl, sym, ◌∙◌, ap, append-nil, flat_map, inl, inr}
+use Rattle.std.proofs.Common.{◌≡◌, ℕ, false, if◌then◌else◌, List, [], ◌∷◌, ◌++◌, take, drop, map, Option, None, Some, Ok, Err, refl, sym, ◌∙◌, ap, append-nil, inl, inr}
 use Rattle.milter_stream.specs.declared.fault.WireFault.{WireFault}
 use Rattle.milter_stream.specs.Stream.{Division, Frame, IsFrame, IsUnfinished, divide, first_frame, frame_bytes, length_fault, with_frame}
 use Rattle.milter_stream.proofs.Division.{divide-first}
 use Rattle.milter_stream.proofs.Frames.{first_frame-packet}
 use Rattle.milter_stream.proofs.StreamLaws.{divide-fault, divide-handed, divide-nil, divide-unfinished, length_fault-fed}
 use Rattle.milter_wire.specs.Frames.{frame_command}
-use Rattle.milter_wire.specs.Reply.{encoding}
 use Rattle.milter_wire.specs.declared.agreement.Agreed.{Agreed}
 use Rattle.milter_wire.specs.declared.command.Command.TheVariants.{Abort}
 use Rattle.milter_exchange.specs.declared.command_order.CommandOrder.{CommandOrder}
@@ -19,6 +18,7 @@ use Rattle.milter_exchange.specs.declared.filter_state.FilterState.TheVariants.{
 use Rattle.milter_exchange.specs.Conversations.{Received}
 use Rattle.milter_exchange.specs.Standings.{Standing, nothing_kept, standing_after, standing_before, standing_in, standing_next, standing_replies, standing_replies_at, standing_replies_in}
 use Rattle.milter_filter.specs.Cores.{GivesUp}
+use Rattle.milter_filter.specs.Replying.{Replying, replying_after, replying_next}
 use Rattle.milter_filter.specs.Streams.{IsOnePacketAtMost, fault_after, read_in, received_in}
 
 -- ---- one packet
@@ -28,22 +28,14 @@ divide-one f fits =
     let first = ap first_frame (sym (append-nil (frame_bytes f))) ∙ first_frame-packet f [] fits in
     divide-first (frame_bytes f) f [] first ∙ ap (with_frame f) divide-nil
 
-module _ (b : Behavior) (s : Standing) where
-  pub standing-packet : (f : Frame) (bytes : List ℕ) (new : Standing) → IsFrame f → bytes ≡ frame_bytes f → new ≡ standing_next b s (frame_command f)
-      → new ≡ standing_after b s (read_in bytes)
-  standing-packet f bytes new fits is e = rw (is, divide-one f fits) e
+module _ (b : Behavior) {P : Type 0} (old : Replying P) where
+  pub replied-packet : (f : Frame) (bytes : List ℕ) (new : Replying P) → IsFrame f → bytes ≡ frame_bytes f → new ≡ replying_next b old (frame_command f)
+      → new ≡ replying_after b old (read_in bytes)
+  replied-packet f bytes new fits is e = rw (is, divide-one f fits, append-nil) e
 
-  pub replies-packet : (f : Frame) (bytes start new : List ℕ) → IsFrame f → bytes ≡ frame_bytes f → new ≡ start ++ flat_map encoding (standing_replies_at b s (frame_command f))
-      → new ≡ start ++ flat_map encoding (standing_replies b s (read_in bytes))
-  replies-packet f bytes start new fits is e = rw (is, divide-one f fits, append-nil) e
-
-  -- ---- no packet yet
-
-  pub standing-unfinished : (bytes : List ℕ) → IsUnfinished bytes → s ≡ standing_after b s (read_in bytes)
-  standing-unfinished bytes unfinished = rw (divide-unfinished bytes unfinished) refl
-
-  pub replies-unfinished : (bytes start : List ℕ) → IsUnfinished bytes → start ≡ start ++ flat_map encoding (standing_replies b s (read_in bytes))
-  replies-unfinished bytes start unfinished = rw (divide-unfinished bytes unfinished) (sym (append-nil start))
+  -- no packet yet
+  pub replied-unfinished : (bytes : List ℕ) → IsUnfinished bytes → old ≡ replying_after b old (read_in bytes)
+  replied-unfinished bytes unfinished = rw (divide-unfinished bytes unfinished) (ap (λ pending. record { policy = old.policy; standing = old.standing; pending = pending }) (sym (append-nil old.pending)))
 
 pub rest-packet : (f : Frame) (bytes : List ℕ) → IsFrame f → bytes ≡ frame_bytes f → [] ≡ (divide bytes).rest
 rest-packet f bytes fits is = rw (is, divide-one f fits) refl

@@ -15,6 +15,7 @@ use Rattle.milter_exchange.specs.declared.filter_state.FilterState.TheVariants.{
 use Rattle.milter_exchange.specs.Conversations.{Received}
 use Rattle.milter_exchange.specs.Standings.{Standing, standing_after, standing_in, standing_next, standing_replies, standing_replies_at, standing_replies_in}
 use Rattle.milter_filter.specs.Cores.{Core, GivesUp, Takes}
+use Rattle.milter_filter.specs.Replying.{Replying, TakesBytes}
 use Rattle.milter_filter.specs.Streams.{fault_after, read_in, received_in}
 use Rattle.milter_exchange.proofs.Going.{standing_after-append, standing_replies-append}
 
@@ -142,17 +143,23 @@ some-bytes [] some = absurd (some refl)
 some-bytes (x ∷ xs) some = omega arith
 
 -- all of a piece, where the mail server has quit in it
-pub all-taken : {P : Type 0} (b : Behavior) (old new : Core P) (piece unread : List ℕ) (i : ℕ) → new.policy ≡ old.policy
-    → Progress b old.standing (old.unread ++ take i piece) new.standing unread new.pending → new.standing.state ≢ Serving → new.unread ≡ [] → new.pending ≡ []
-    → ((fault : FilterFault) → new.standing.state ≢ Failed fault) → Takes b old piece (length piece) new
-all-taken b old new piece unread i policy p ended nothing silent going =
-    let both = ended-all b old.standing new.standing (old.unread ++ take i piece) (drop i piece) unread new.pending p ended in
+pub all-taken : {P : Type 0} (b : Behavior) (old new : Core P) (piece left : List ℕ) (i : ℕ)
+    → TakesBytes b (record { policy = old.policy; standing = old.standing; pending = [] }) old.unread piece i (record { policy = new.policy; standing = new.standing; pending = new.pending }) left
+    → new.standing.state ≢ Serving → new.unread ≡ [] → new.pending ≡ [] → Takes b old piece (length piece) new
+all-taken {P} b old new piece left i found ended nothing silent =
+    let p : Progress b old.standing (old.unread ++ take i piece) new.standing left new.pending = record {
+      standing = ap (λ (r : Replying P). r.standing) found.replied;
+      unread_is = found.left_is;
+      unfinished = found.is_unread.0;
+      replied = ap (λ (r : Replying P). r.pending) found.replied;
+    } in
+    let both = ended-all b old.standing new.standing (old.unread ++ take i piece) (drop i piece) left new.pending p ended in
     let all = bytes-all old.unread piece i ∙ ap (λ xs. old.unread ++ xs) (sym (take_all (length piece) piece (omega arith))) in
     record {
-      policy = policy;
+      policy = ap (λ (r : Replying P). r.policy) found.replied;
       within = omega arith;
       progress = some-bytes piece;
-      going = going;
+      going = found.going;
       unfinished = subst IsUnfinished (sym nothing) tt;
       standing = both.0 ∙ ap (λ xs. standing_after b old.standing (read_in xs)) all;
       pending = both.1 ∙ ap (λ xs. flat_map encoding (standing_replies b old.standing (read_in xs))) all;

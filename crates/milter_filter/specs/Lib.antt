@@ -6,3 +6,4 @@ pub mod Cores
 pub mod Asking
 pub mod Serving
 pub mod PieceServing
+pub mod Replying

@@ -1,6 +1,6 @@
 //! What a filter's end keeps of a connection.
 
-ghost use Rattle.std.specs.Prelude.{◌≡◌, ◌≤◌, ◌+◌, ◌↔◌, [], IfSome, IsTrue, Ok, OnOk, length, true};
+ghost use Rattle.std.specs.Prelude.{◌≡◌, ◌≤◌, ◌+◌, ◌↔◌, [], IfSome, IsTrue, Ok, OnOk, length, true, if◌then◌else◌};
 ghost use Rattle.std.specs.Option.{option_copied};
 ghost use Rattle.milter_wire.specs.Command.{encoding};
 ghost use Rattle.milter_wire.specs.LentCommand.{command_of};
@@ -99,7 +99,7 @@ impl Connection {
     }
 
     /// Whether an abort is due before the command.
-    pub(crate) fn needs_abort(&self, command: &CommandRef<'_>) -> bool
+    fn needs_abort(&self, command: &CommandRef<'_>) -> bool
         ensures { result ≡ needs_abort self.now.order self.now.agreed self.now.last_rank (Ok (command_of command.now)) }
     {
         match self.order {
@@ -210,6 +210,17 @@ impl Connection {
         self.shown_bytes = 0;
         self.connection_bytes = 0;
         self.last_rank = 0;
+    }
+
+    /// Ends the message that is under way, where an abort is due before the command.
+    pub(crate) fn end_message_before(&mut self, command: &CommandRef<'_>)
+        ensures serving { self.new.state ≡ self.old.state }
+        ensures new { self.new ≡ (if needs_abort self.old.order self.old.agreed self.old.last_rank
+            (Ok (command_of command.now)) then after_message self.old else self.old) }
+    {
+        if self.needs_abort(command) {
+            self.end_message();
+        }
     }
 
     /// Notes what was agreed on.

@@ -6,9 +6,9 @@ ghost use Rattle.milter_exchange.specs.declared.filter_fault.FilterFault.TheVari
 ghost use Rattle.milter_exchange.specs.declared.filter_state.FilterState.TheVariants.{Failed, Quit, Serving};
 ghost use Rattle.milter_filter.specs.Streams.{received_in};
 
-use crate::connection::Connection;
-use crate::piece_receiving::receive_piece;
+use crate::pieces::take_piece;
 use crate::policy::Policy;
+use crate::replier::Replier;
 use milter_exchange::{CommandOrder, FilterFault, FilterState};
 use milter_wire::{NoMemory, Splitter};
 use std::alloc::Global;
@@ -18,33 +18,29 @@ use std::marker::Model;
 /// replies that its policy calls for, by what was agreed on. It neither reads nor writes.
 #[derive(Drop)]
 pub struct FilterCore<'p, P: Policy> {
-    alloc: Global,
-    policy: &'p P,
     splitter: Splitter,
-    connection: Connection,
-    pending: Vec<u8>,
-    // How many of the pending bytes were sent.
+    replier: Replier<'p, P>,
+    // How many bytes of the replies were sent.
     sent: usize,
 }
 
 impl<'p, P: Policy> Model for FilterCore<'p, P> {
     ghost use Rattle.std.specs.Prelude.{◌≡◌, ◌≤◌, drop, length};
-    ghost use Rattle.milter_stream.specs.Number.{IsBytes};
-    ghost use Rattle.milter_stream.specs.Stream.{IsUnfinished};
     ghost use Rattle.milter_exchange.specs.declared.filter_state.FilterState.TheVariants.{Serving};
     ghost use Rattle.milter_filter.specs.Cores.{Core};
+    ghost use Rattle.milter_filter.specs.Replying.{IsUnread};
 
     ghost Value = { Core P };
 
     ghost view = { λ c. record {
-      policy = c.policy.now;
-      standing = c.connection;
+      policy = c.replier.policy;
+      standing = c.replier.standing;
       unread = c.splitter;
-      pending = drop c.sent c.pending.items;
+      pending = drop c.sent c.replier.pending;
     } };
 
-    ghost invariant = { λ c. (c.connection.state ≡ Serving → IsUnfinished c.splitter × IsBytes c.splitter)
-        × (c.sent ≤ length c.pending.items) };
+    ghost invariant = { λ c. (c.replier.standing.state ≡ Serving → IsUnread c.splitter)
+        × (c.sent ≤ length c.replier.pending) };
 }
 
 impl<'p, P: Policy> FilterCore<'p, P> {
@@ -66,11 +62,8 @@ impl<'p, P: Policy> FilterCore<'p, P> {
     {
         let splitter = Splitter::new(alloc)?;
         Ok(FilterCore {
-            alloc,
-            policy,
             splitter,
-            connection: Connection::new(alloc, order),
-            pending: Vec::new(alloc),
+            replier: Replier::new(alloc, policy, order),
             sent: 0,
         })
     }
@@ -79,7 +72,7 @@ impl<'p, P: Policy> FilterCore<'p, P> {
     pub fn pending(&self) -> &[u8]
         ensures { result.now ≡ self.now.pending }
     {
-        &self.pending[self.sent..]
+        &self.replier.pending()[self.sent..]
     }
 
     /// Notes that the first `count` bytes of what waits were sent. No memory is taken.
@@ -87,6 +80,8 @@ impl<'p, P: Policy> FilterCore<'p, P> {
         requires { count ≤ length self.old.pending }
         ensures { self.new ≡ record self.old { pending = drop count self.old.pending } }
     {
+        // No more bytes are sent than there are, so the sum has no overflow.
+        let _all = self.replier.pending().len();
         self.sent += count;
     }
 
@@ -102,7 +97,7 @@ impl<'p, P: Policy> FilterCore<'p, P> {
     pub fn state(&self) -> FilterState
         ensures { result ≡ self.now.standing.state }
     {
-        self.connection.state()
+        self.replier.state()
     }
 
     /// Takes bytes from the start of a piece of what the mail server sends, and answers how many. While replies wait
@@ -124,20 +119,20 @@ impl<'p, P: Policy> FilterCore<'p, P> {
             IfErr result (λ fault. fault ≢ faults.NoMemory →
             GivesUp (P.behavior self.old.policy) self.old.standing (received_in (self.old.unread ++ piece.now)) fault) }
     {
-        match self.connection.state() {
+        match self.replier.state() {
             FilterState::Failed(fault) => Err(fault),
             FilterState::Quit => Ok(piece.len()),
             FilterState::Serving => {
                 if !self.pending().is_empty() {
                     return Ok(0);
                 }
-                self.receive(piece)
+                self.take(piece)
             }
         }
     }
 
     /// Takes bytes of a piece where it serves and nothing waits to be sent.
-    fn receive(&mut self, piece: &[u8]) -> Result<usize, FilterFault>
+    fn take(&mut self, piece: &[u8]) -> Result<usize, FilterFault>
         requires serving { self.old.standing.state ≡ Serving }
         requires nothing_pending { self.old.pending ≡ [] }
         ensures takes { IfOk result (λ n. Takes (P.behavior self.old.policy) self.old piece.now n self.new) }
@@ -146,27 +141,24 @@ impl<'p, P: Policy> FilterCore<'p, P> {
             GivesUp (P.behavior self.old.policy) self.old.standing (received_in (self.old.unread ++ piece.now)) fault) }
     {
         let FilterCore {
-            alloc,
-            policy,
             splitter,
-            connection,
-            pending,
+            replier,
             sent,
         } = self;
-        pending.clear();
+        replier.clear_pending();
         *sent = 0;
-        let taken = match receive_piece(*alloc, *policy, splitter, connection, piece, pending) {
+        let policy = replier.policy();
+        let taken = match take_piece(splitter, replier, piece) {
             Ok(taken) => taken,
             Err(fault) => {
-                *connection = Connection::failed(*alloc, fault);
-                pending.clear();
+                replier.fail(policy, fault);
                 return Err(fault);
             }
         };
-        if self.connection.is_serving() {
+        if replier.is_serving() {
             return Ok(taken);
         }
-        self.splitter.clear();
+        splitter.clear();
         Ok(piece.len())
     }
 }

@@ -1,6 +1,6 @@
 use Rattle.std.proofs.Common.{arith}
 use Rattle.milter_filter.proofs.PacketCommands.{found-encoded}
-use Rattle.milter_filter.proofs.packet_receiving.read_command.Goals as goal
+use Rattle.milter_filter.proofs.replier.read_command.Goals as goal
 
 pub returns-clause-encoded : goal.returns-clause-encoded
 returns-clause-encoded c =

@@ -2,11 +2,12 @@ use Rattle.std.proofs.Common.{sym, subst}
 use Rattle.milter_wire.specs.Reply.{Fits}
 use Rattle.milter_exchange.specs.Replies.{options_reply}
 use Rattle.milter_filter.proofs.Agreeing.{agreed_fits}
-use Rattle.milter_filter.proofs.receiving.receive_options.Goals as goal
+use Rattle.milter_filter.proofs.replier.Replier.agree_on.Goals as goal
 
 pub encode-encoded-requires : goal.encode-encoded-requires
 encode-encoded-requires g c =
-    let b = g.P.Policy.behavior c.args.policy.now in
-    let law = (g.met.P.Policy.lawful c.args.policy.now).wants.reply in
+    let policy = c.self.inside.policy.now in
+    let b = g.P.Policy.behavior policy in
+    let law = (g.met.P.Policy.lawful policy).wants.reply in
     let fits = agreed_fits c.args.offer b.wants b.lists c.requires law in
     subst (λ agreed. Fits (options_reply agreed)) (sym c.in_ok-options.ensures) fits

@@ -1,0 +1,70 @@
+//! What a filter's end does with a piece of a stream.
+
+ghost use Rattle.std.specs.Prelude.{◌≡◌, ◌++◌, [], IfErr, IfOk, take};
+ghost use Rattle.milter_exchange.specs.declared.filter_state.FilterState.TheVariants.{Serving};
+ghost use Rattle.milter_filter.specs.Replying.{FailsIn, IsUnread, StopsAt, TakesBytes};
+ghost use Rattle.milter_filter.specs.Streams.{IsOnePacketAtMost};
+
+use crate::policy::Policy;
+use crate::replier::Replier;
+use milter_exchange::FilterFault;
+use milter_wire::Splitter;
+
+/// Takes bytes of a piece up to the end of one packet, replies to the packet if it is whole, and answers how many bytes
+/// were taken.
+fn take_packet<P: Policy>(
+    splitter: &mut Splitter,
+    replier: &mut Replier<'_, P>,
+    piece: &[u8],
+) -> Result<usize, FilterFault>
+    requires unread { IsUnread splitter.old }
+    requires serving { replier.old.standing.state ≡ Serving }
+    ensures takes { IfOk result (λ n. TakesBytes (P.behavior replier.old.policy) replier.old splitter.old piece.now n
+        replier.new splitter.new) }
+    ensures one { IfOk result (λ n. IsOnePacketAtMost (splitter.old ++ take n piece.now)) }
+    ensures fails { IfErr result (λ fault. FailsIn (P.behavior replier.old.policy) replier.old.standing splitter.old
+        piece.now fault splitter.new) }
+{
+    let taken = splitter.feed(piece)?;
+    match splitter.next() {
+        Ok(None) => {}
+        Ok(Some(packet)) => {
+            if let Err(fault) = replier.reply_to_packet(&packet) {
+                return Err(fault);
+            }
+        }
+        Err(fault) => return Err(FilterFault::Wire(fault)),
+    }
+    Ok(taken)
+}
+
+/// Takes bytes of a piece up to the end of the first packet that has replies, or of one with which the mail server
+/// quits, or else all of them, and answers how many.
+pub(crate) fn take_piece<P: Policy>(
+    splitter: &mut Splitter,
+    replier: &mut Replier<'_, P>,
+    piece: &[u8],
+) -> Result<usize, FilterFault>
+    requires unread { IsUnread splitter.old }
+    requires serving { replier.old.standing.state ≡ Serving }
+    requires nothing_pending { replier.old.pending ≡ [] }
+    ensures takes { IfOk result (λ n. TakesBytes (P.behavior replier.old.policy) replier.old splitter.old piece.now n
+        replier.new splitter.new) }
+    ensures stops { IfOk result (λ n. StopsAt (P.behavior replier.old.policy) replier.old splitter.old piece.now n
+        replier.new) }
+    ensures fails { IfErr result (λ fault. FailsIn (P.behavior replier.old.policy) replier.old.standing splitter.old
+        piece.now fault splitter.new) }
+{
+    let mut taken = 0;
+    while taken < piece.len() {
+        if !replier.pending().is_empty() || !replier.is_serving() {
+            break;
+        }
+        let more = match take_packet(splitter, replier, &piece[taken..]) {
+            Ok(more) => more,
+            Err(fault) => return Err(fault),
+        };
+        taken += more;
+    }
+    Ok(taken)
+}
