@@ -1,5 +1,5 @@
 -- What becomes of a mail server's end by a piece of what a filter sends.
-use Rattle.std.proofs.Common.{◌≡◌, ◌≢◌, ℕ, true, false, List, [], ◌∷◌, ◌++◌, Option, None, Some, Result, Ok, Err, refl, sym, ◌∙◌, ap, subst, take, drop, length, ◌+◌, ◌<◌, arith, take-add, take-append-drop}
+use Rattle.std.proofs.Common.{◌≡◌, ◌≢◌, ℕ, true, false, List, [], ◌∷◌, ◌++◌, Option, None, Some, Result, Ok, Err, refl, sym, ◌∙◌, ap, subst, take, drop, length, ◌+◌, ◌<◌, arith, take-add, take-append-drop, length-drop}
 use Rattle.std.specs.Prelude.{if◌then◌else◌}
 use Rattle.std.proofs.lemmas.List.Sums.{fold-append}
 use Rattle.milter_stream.specs.declared.fault.WireFault.{WireFault}
@@ -31,6 +31,7 @@ use Rattle.milter_mta.specs.declared.link.Next.TheVariants as nexts
 use Rattle.milter_mta.specs.declared.link.Link.{Link as Connected}
 use Rattle.milter_mta.specs.declared.session_state.SessionState.{SessionState}
 use Rattle.milter_mta.specs.Conversations.{Leaves, awaiting, link_of, messages_at, mta_of, position_of}
+use Rattle.milter_mta.specs.Cores.{Hears, IsLostAfter}
 use Rattle.milter_mta.specs.Mta.{Link, Mta, Position, at_packet}
 use Rattle.milter_mta.specs.Mta.Position.{Offering, Sending, Quitting, Ended}
 use Rattle.milter_mta.specs.Receiving.{After, agreed_on, at, byte_at, fails, framed, goes_on, heard, heard_at, heard_byte, heard_on, replied, replied_at, ruled_on, wire_loss}
@@ -119,12 +120,26 @@ whole-lost m after loss piece n is =
     ∙ ap (λ (a : After). heard_on a (drop n piece)) is
     ∙ lost-stays after loss (drop n piece)
 
-leaves-lost : (old : Mta) (expected : After) (state : SessionState) (loss : Loss) → loss ≢ Memory → Leaves old expected state (Err loss)
-    → expected ≡ record { mta = mta_of state None [] []; loss = Some loss }
-leaves-lost old expected state Memory other leaves = absurd (other refl)
-leaves-lost old expected state Reset other leaves = leaves
-leaves-lost old expected state Timeout other leaves = leaves
-leaves-lost old expected state (Fault fault) other leaves = leaves
+leaves-lost : (old : Mta) (expected : After) (new : Mta) (loss : Loss) → loss ≢ Memory → Leaves old expected new (Err loss)
+    → expected ≡ record { mta = new; loss = Some loss }
+leaves-lost old expected new Memory other leaves = absurd (other refl)
+leaves-lost old expected new Reset other leaves = leaves
+leaves-lost old expected new Timeout other leaves = leaves
+leaves-lost old expected new (Fault fault) other leaves = leaves
+
+leaves-refused : (old : Mta) (expected : After) (new : Mta) (loss : Loss) → loss ≡ Memory → Leaves old expected new (Err loss) → new ≡ lost Memory old
+leaves-refused old expected new Memory is leaves = leaves
+leaves-refused old expected new Reset is leaves = absurd cc
+leaves-refused old expected new Timeout is leaves = absurd cc
+leaves-refused old expected new (Fault fault) is leaves = absurd cc
+
+-- a loss, where memory was refused and where it was not
+hears-err : (old : Mta) (piece : List ℕ) (new : Mta) (loss : Loss) → (loss ≢ Memory → heard old piece ≡ record { mta = new; loss = Some loss })
+    → (loss ≡ Memory → IsLostAfter old piece new) → Hears old piece new (Err loss)
+hears-err old piece new Memory cause memory = memory refl
+hears-err old piece new Reset cause memory = cause (λ is. absurd cc)
+hears-err old piece new Timeout cause memory = cause (λ is. absurd cc)
+hears-err old piece new (Fault fault) cause memory = cause (λ is. absurd cc)
 
 wire_loss-fault : (fault : WireFault) → wire_loss fault ≢ Memory → wire_loss fault ≡ Fault (Wire fault)
 wire_loss-fault NoMemory other = absurd (other refl)
@@ -149,14 +164,35 @@ module _ (s : SessionState) (c : Connected) (unread piece new : List ℕ) (n : �
       ∙ framed-over (with_unread link h.before) (link_of s.opening (awaiting c.next) [] []) (mta_of s (Some c) [] []) refl
       (position_of s.opening c.next) (frame_reply f) (has-message s.opening c.next s.ledger.waiting)
 
-  pub reply-lost : (f : Frame) (state : SessionState) (loss : Loss) → IsUnfinished unread → IsFrame f → new ≡ frame_bytes f
-      → Leaves (mta_of s (Some (awaiting c.next)) [] []) (framed (position_of s.opening c.next) (frame_reply f) (mta_of s (Some (awaiting c.next)) [] [])) state (Err loss)
-      → loss ≢ Memory → heard (mta_of s (Some c) [] unread) piece ≡ record { mta = mta_of state None [] []; loss = Some loss }
-  reply-lost f state loss u fits is leaves other =
-      whole-lost (mta_of s (Some c) [] unread) (mta_of state None [] []) loss piece n
-      (heard-reply f u fits is ∙ leaves-lost (mta_of s (Some (awaiting c.next)) [] []) _ state loss other leaves)
+  -- memory was refused before anything of the piece was heard
+  refused-lost : (state : SessionState) → 0 < length piece → mta_of state None [] [] ≡ lost Memory (mta_of s (Some (awaiting c.next)) [] [])
+      → IsLostAfter (mta_of s (Some c) [] unread) piece (mta_of state None [] [])
+  refused-lost state some lost_is = record {
+    count = 0;
+    before = mta_of s (Some c) [] unread;
+    within = some;
+    heard_before = refl;
+    owed_before = owed;
+    lost_then = lost_is ∙ lost-over (link_of s.opening (awaiting c.next) [] []) (link_of s.opening c [] unread) (mta_of s (Some c) [] []) refl Memory;
+  }
 
-  pub fault-lost : (fault : WireFault) (state : SessionState) (loss : Loss) → IsUnfinished unread → length_fault new ≡ Some fault → loss ≡ wire_loss fault
+  pub hears-refused : (state : SessionState) (loss : Loss) → 0 < length piece → loss ≡ Memory
+      → mta_of state None [] [] ≡ lost Memory (mta_of s (Some (awaiting c.next)) [] [])
+      → Hears (mta_of s (Some c) [] unread) piece (mta_of state None [] []) (Err loss)
+  hears-refused state loss some is lost_is =
+      hears-err (mta_of s (Some c) [] unread) piece (mta_of state None [] []) loss (λ other. absurd (other is)) (λ same. refused-lost state some lost_is)
+
+  pub hears-reply : (f : Frame) (state : SessionState) (loss : Loss) → 0 < length piece → IsUnfinished unread → IsFrame f → new ≡ frame_bytes f
+      → Leaves (mta_of s (Some (awaiting c.next)) [] []) (framed (position_of s.opening c.next) (frame_reply f) (mta_of s (Some (awaiting c.next)) [] []))
+      (mta_of state None [] []) (Err loss)
+      → Hears (mta_of s (Some c) [] unread) piece (mta_of state None [] []) (Err loss)
+  hears-reply f state loss some u fits is leaves =
+      hears-err (mta_of s (Some c) [] unread) piece (mta_of state None [] []) loss
+      (λ other. whole-lost (mta_of s (Some c) [] unread) (mta_of state None [] []) loss piece n
+      (heard-reply f u fits is ∙ leaves-lost (mta_of s (Some (awaiting c.next)) [] []) _ (mta_of state None [] []) loss other leaves))
+      (λ same. refused-lost state some (leaves-refused (mta_of s (Some (awaiting c.next)) [] []) _ (mta_of state None [] []) loss same leaves))
+
+  fault-lost : (fault : WireFault) (state : SessionState) (loss : Loss) → IsUnfinished unread → length_fault new ≡ Some fault → loss ≡ wire_loss fault
       → mta_of state None [] [] ≡ lost (wire_loss fault) (mta_of s (Some (awaiting c.next)) [] [])
       → loss ≢ Memory → heard (mta_of s (Some c) [] unread) piece ≡ record { mta = mta_of state None [] []; loss = Some loss }
   unfolding link
@@ -169,6 +205,13 @@ module _ (s : SessionState) (c : Connected) (unread piece new : List ℕ) (n : �
       ∙ fails-over (with_unread link h.before) (link_of s.opening (awaiting c.next) [] []) (mta_of s (Some c) [] []) refl (Wire fault)
       ∙ ap (λ (m : Mta). record { mta = m; loss = Some (Fault (Wire fault)) }) (sym after)
       ∙ ap (λ (l : Loss). record { mta = mta_of state None [] []; loss = Some l }) (sym (loss_is ∙ named))
+
+  pub hears-fault : (fault : WireFault) (state : SessionState) (loss : Loss) → 0 < length piece → IsUnfinished unread → length_fault new ≡ Some fault
+      → loss ≡ wire_loss fault → mta_of state None [] [] ≡ lost (wire_loss fault) (mta_of s (Some (awaiting c.next)) [] [])
+      → Hears (mta_of s (Some c) [] unread) piece (mta_of state None [] []) (Err loss)
+  hears-fault fault state loss some u is loss_is lost_is =
+      hears-err (mta_of s (Some c) [] unread) piece (mta_of state None [] []) loss (fault-lost fault state loss u is loss_is lost_is)
+      (λ same. refused-lost state some (lost_is ∙ ap (λ (l : Loss). lost l (mta_of s (Some (awaiting c.next)) [] [])) (sym loss_is ∙ same)))
 
 -- ---- a piece
 
@@ -186,6 +229,19 @@ module _ (old m : Mta) (piece : List ℕ) (i : ℕ) (so_far : heard old (take i 
       ∙ fold-append heard_byte (goes_on old) (take i piece) (drop i piece)
       ∙ ap (λ (a : After). heard_on a (drop i piece)) so_far
       ∙ is
+
+  pub hears-rest : (new : Mta) (loss : Loss) → i < length piece → Hears m (drop i piece) new (Err loss) → Hears old piece new (Err loss)
+  hears-rest new Memory within hears = record {
+    count = i + hears.count;
+    before = hears.before;
+    within = omega (arith, hears.within, within, length-drop i piece);
+    heard_before = heard-more hears.count (goes_on hears.before) hears.heard_before;
+    owed_before = hears.owed_before;
+    lost_then = hears.lost_then;
+  }
+  hears-rest new Reset within hears = heard-rest _ hears
+  hears-rest new Timeout within hears = heard-rest _ hears
+  hears-rest new (Fault fault) within hears = heard-rest _ hears
 
 pub early : (link : Link) (m : Mta) (bytes : List ℕ) → link.owed ≡ false → 0 < length bytes → heard (at link m) bytes ≡ fails Early (at link m)
 early link m [] owed some = absurd (omega arith)

@@ -123,12 +123,21 @@ pub record IsStanding (state : SessionState) (connection : Option Connected) : T
 
 -- ---- what a reply leaves
 
--- what was expected; or, where memory was refused, the filter is lost
-abbrev pub Leaves : Mta → After → SessionState → Result Connected Loss → Type 0
-Leaves old expected state (Ok connection) = expected ≡ goes_on (mta_of state (Some connection) [] [])
-Leaves old expected state (Err Memory) = mta_of state None [] [] ≡ lost Memory old
-Leaves old expected state (Err loss) = expected ≡ record { mta = mta_of state None [] []; loss = Some loss }
+-- while the reply to what was sent is owed
+abbrev pub owing : SessionState → Connected → Mta
+owing state connection = mta_of state (Some (awaiting connection.next)) [] []
 
-abbrev pub StandsAfter : SessionState → Result Connected Loss → Type 0
-StandsAfter state (Ok connection) = IsStanding state (Some connection)
-StandsAfter state (Err loss) = IsStanding state None
+-- after a loss there is no connection
+abbrev pub mta_after : {A : Type 0} → SessionState → Connected → List ℕ → Result A Loss → Mta
+mta_after state connection unread (Ok value) = mta_of state (Some connection) [] unread
+mta_after state connection unread (Err loss) = mta_of state None [] []
+
+-- what was expected; or, where memory was refused, the filter is lost
+abbrev pub Leaves : Mta → After → Mta → Result Unit Loss → Type 0
+Leaves old expected new (Ok done) = expected ≡ goes_on new
+Leaves old expected new (Err Memory) = new ≡ lost Memory old
+Leaves old expected new (Err loss) = expected ≡ record { mta = new; loss = Some loss }
+
+abbrev pub StandsAfter : {A : Type 0} → SessionState → Connected → Result A Loss → Type 0
+StandsAfter state connection (Ok value) = IsStanding state (Some connection)
+StandsAfter state connection (Err loss) = IsStanding state None

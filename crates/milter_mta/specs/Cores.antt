@@ -39,3 +39,8 @@ abbrev pub Hears : Mta → List ℕ → Mta → Result Unit Loss → Type 0
 Hears old piece new (Ok done) = heard old piece ≡ goes_on new
 Hears old piece new (Err Memory) = IsLostAfter old piece new
 Hears old piece new (Err loss) = heard old piece ≡ record { mta = new; loss = Some loss }
+
+-- the same of the first bytes of a piece, whose number is answered
+abbrev pub HearsSome : Mta → List ℕ → Mta → Result ℕ Loss → Type 0
+HearsSome old piece new (Ok taken) = heard old (take taken piece) ≡ goes_on new
+HearsSome old piece new (Err loss) = Hears old piece new (Err loss)

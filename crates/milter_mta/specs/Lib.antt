@@ -5,4 +5,5 @@ pub mod Receiving
 pub mod Accounts
 pub mod Conversations
 pub mod Cores
+pub mod Taking
 pub mod Worked

@@ -1,14 +1,16 @@
 //! A connection to a filter: what is sent on it next.
 
-ghost use Rattle.std.specs.Prelude.{◌≡◌, ◌∷◌, [], List, false, option_map, ℕ};
+ghost use Rattle.std.specs.Prelude.{◌≡◌, [], List, drop, false, option_map, true, ℕ};
 ghost use Rattle.milter_wire.specs.LentCommand.{command_of};
-ghost use Rattle.milter_mta.specs.Conversations.{CanSend, IsUnderWay, awaiting, link_of, messages_at, position_of};
+ghost use Rattle.milter_plan.specs.Talks.{asks_first, left_of};
+ghost use Rattle.milter_mta.specs.Conversations.{CanSend, IsUnderWay, link_of, messages_at, position_of};
 ghost use Rattle.milter_mta.specs.declared.link.Next.TheVariants as nexts;
-ghost use Rattle.milter_mta.specs.Sending.{command_at, finished, want_at};
+ghost use Rattle.milter_mta.specs.Sending.{after_packet, asks_at, command_at, finished, want_at};
 
 use crate::want::Want;
 use milter_plan::{Opening, Talk};
 use milter_wire::{CommandRef, Options};
+use std::mem::replace;
 
 /// What is sent next to a filter.
 #[derive(Debug, Drop)]
@@ -77,49 +79,62 @@ impl Link {
         }
     }
 
-    /// The packet was sent: its reply is awaited, or the next one follows.
-    pub(crate) fn finish(self, opening: &Opening) -> Link
-        requires { CanSend opening.now self.next }
-        ensures finished { (unread : List ℕ) → link_of opening.now result [] unread
-            ≡ finished (link_of opening.now self [] unread) }
-        ensures can_send { CanSend opening.now result.next }
-        ensures messages { messages_at result.next ≡ messages_at self.next }
+    /// Notes that the packet was sent: its reply is awaited, or the next packet follows. Doesn't allocate.
+    pub(crate) fn finish(&mut self, opening: &Opening)
+        requires { CanSend opening.now self.old.next }
+        ensures finished { (unread : List ℕ) → link_of opening.now self.new [] unread
+            ≡ finished (link_of opening.now self.old [] unread) }
+        ensures can_send { CanSend opening.now self.new.next }
+        ensures messages { messages_at self.new.next ≡ messages_at self.old.next }
     {
-        if self.aborts {
-            return Link::at(self.next);
-        }
-        match self.next {
-            Next::Offer => Link::awaiting(Next::Offer),
-            Next::Command(talk) => finish_command(talk, opening),
-            Next::Quit | Next::Nothing => Link::at(Next::Nothing),
-        }
+        self.owed = !self.aborts && self.next.finish(opening);
+        self.aborts = false;
     }
 
-    /// A connection on which the reply to this is awaited.
-    pub(crate) fn awaiting(next: Next) -> Self
-        ensures { result ≡ awaiting next }
+    /// What was sent next, which is taken out; nothing is sent next then. Doesn't allocate.
+    pub(crate) fn take_next(&mut self) -> Next
+        ensures next { result ≡ self.old.next }
+        ensures left { self.new ≡ record self.old { next = nexts.Nothing } }
     {
-        Link {
-            aborts: false,
-            next,
-            owed: true,
+        replace(&mut self.next, Next::Nothing)
+    }
+}
+
+impl Next {
+    /// Notes that the packet was sent, and answers whether it has a reply. Doesn't allocate.
+    fn finish(&mut self, opening: &Opening) -> bool
+        requires { CanSend opening.now self.old }
+        ensures asks { result ≡ asks_at (position_of opening.now self.old) }
+        ensures same { result ≡ true → self.new ≡ self.old }
+        ensures after { result ≡ false →
+            position_of opening.now self.new ≡ after_packet (position_of opening.now self.old) }
+        ensures can_send { CanSend opening.now self.new }
+        ensures messages { messages_at self.new ≡ messages_at self.old }
+    {
+        match self {
+            Next::Offer => true,
+            Next::Command(talk) => finish_command(talk, opening),
+            Next::Quit => {
+                *self = Next::Nothing;
+                false
+            }
+            Next::Nothing => false,
         }
     }
 }
 
-/// The next command of a message was sent.
-fn finish_command(talk: Talk, opening: &Opening) -> Link
-    requires { IsUnderWay opening.now talk }
-    ensures finished { (unread : List ℕ) → link_of opening.now result [] unread
-        ≡ finished (link_of opening.now
-        (record { aborts = false; next = nexts.Command talk; owed = false }) [] unread) }
-    ensures can_send { CanSend opening.now result.next }
-    ensures messages { messages_at result.next ≡ talk.message ∷ [] }
+/// Notes that the next command of a message was sent, and answers whether it has a reply.
+fn finish_command(talk: &mut Talk, opening: &Opening) -> bool
+    requires { IsUnderWay opening.now talk.old }
+    ensures asks { result ≡ asks_first talk.old.agreed (left_of opening.now talk.old) }
+    ensures same { result ≡ true → talk.new ≡ talk.old }
+    ensures after { result ≡ false → left_of opening.now talk.new ≡ drop 1 (left_of opening.now talk.old) }
+    ensures kept { talk.new ≡ record talk.old { cursor = talk.new.cursor } }
+    ensures under_way { IsUnderWay opening.now talk.new }
 {
     if talk.is_asked(opening) {
-        return Link::awaiting(Next::Command(talk));
+        return true;
     }
-    let mut talk = talk;
     talk.advance(opening);
-    Link::at(Next::Command(talk))
+    false
 }

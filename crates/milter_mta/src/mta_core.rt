@@ -148,8 +148,8 @@ impl MtaCore {
         if !self.pending.as_slice().is_empty() {
             return;
         }
-        if let Some(link) = self.link.take() {
-            self.link = Some(link.finish(&self.state.opening));
+        if let Some(link) = &mut self.link {
+            link.finish(&self.state.opening);
         }
     }
 
@@ -162,22 +162,21 @@ impl MtaCore {
         if piece.is_empty() {
             return Ok(());
         }
-        let Some(link) = self.link.take() else {
+        let Some(link) = &mut self.link else {
             let loss = Loss::Fault(MtaFault::Early);
             self.state.lose_waiting(loss);
             return Err(loss);
         };
         if !link.owed {
             let loss = Loss::Fault(MtaFault::Early);
-            self.state.lose(link.next, loss);
+            self.state.lose(link, loss);
+            self.link = None;
             return Err(loss);
         }
         match self.state.feed_piece(&mut self.splitter, link, piece) {
-            Ok(link) => {
-                self.link = Some(link);
-                Ok(())
-            }
+            Ok(()) => Ok(()),
             Err(loss) => {
+                self.link = None;
                 self.splitter.clear();
                 Err(loss)
             }
@@ -189,8 +188,11 @@ impl MtaCore {
     pub fn lost(&mut self, loss: Loss)
         ensures { self.new ≡ lost loss self.old }
     {
-        match self.link.take() {
-            Some(link) => self.state.lose(link.next, loss),
+        match &mut self.link {
+            Some(link) => {
+                self.state.lose(link, loss);
+                self.link = None;
+            }
             None => self.state.lose_waiting(loss),
         }
     }

@@ -2,14 +2,14 @@
 
 ghost use Rattle.std.specs.Prelude.{◌≡◌, ◌<◌, [], None, Some};
 ghost use Rattle.milter_mta.specs.declared.link.Next.TheVariants as nexts;
-ghost use Rattle.milter_mta.specs.Conversations.{IsStanding, awaiting, mta_of, with_state_report};
+ghost use Rattle.milter_mta.specs.Conversations.{IsStanding, awaiting, mta_of, owing, with_state_report};
 ghost use Rattle.milter_mta.specs.Settling.{default_report, lost};
 
 use crate::config::Config;
 use crate::ledger::Ledger;
 use crate::link::{Link, Next};
 use milter_mail::Message;
-use milter_outcome::{ActedVerdicts, By, Loss, MtaFault, Report, fall_back};
+use milter_outcome::{ActedVerdicts, By, Loss, Report, fall_back};
 use milter_plan::{Opening, Talk};
 use milter_wire::Verdict;
 use std::alloc::Global;
@@ -41,7 +41,7 @@ impl SessionState {
     }
 
     /// The filter is lost with a message under way. No memory is taken.
-    pub(crate) fn lose_talk(&mut self, talk: Talk, loss: Loss)
+    fn lose_talk(&mut self, talk: Talk, loss: Loss)
         requires { IsStanding self.old (Some (awaiting (nexts.Command talk))) }
         ensures lost { mta_of self.new None [] []
             ≡ lost loss (mta_of self.old (Some (awaiting (nexts.Command talk))) [] []) }
@@ -63,40 +63,15 @@ impl SessionState {
         }
     }
 
-    /// The filter of a connection is lost. No memory is taken.
-    pub(crate) fn lose(&mut self, next: Next, loss: Loss)
-        requires { IsStanding self.old (Some (awaiting next)) }
-        ensures lost { mta_of self.new None [] [] ≡ lost loss (mta_of self.old (Some (awaiting next)) [] []) }
+    /// The filter of a connection is lost. Doesn't allocate.
+    pub(crate) fn lose(&mut self, link: &mut Link, loss: Loss)
+        requires { IsStanding self.old (Some (awaiting link.old.next)) }
+        ensures lost { mta_of self.new None [] [] ≡ lost loss (owing self.old link.old) }
         ensures standing { IsStanding self.new None }
     {
-        match next {
+        match link.take_next() {
             Next::Command(talk) => self.lose_talk(talk, loss),
             Next::Offer | Next::Quit | Next::Nothing => self.lose_waiting(loss),
         }
-    }
-
-    /// The filter sent with a message under way what can't be taken. The loss is answered.
-    pub(crate) fn fail_talk(&mut self, talk: Talk, fault: MtaFault) -> Loss
-        requires { IsStanding self.old (Some (awaiting (nexts.Command talk))) }
-        ensures loss { result ≡ Loss.Fault fault }
-        ensures lost { mta_of self.new None [] []
-            ≡ lost (Loss.Fault fault) (mta_of self.old (Some (awaiting (nexts.Command talk))) [] []) }
-        ensures standing { IsStanding self.new None }
-    {
-        let loss = Loss::Fault(fault);
-        self.lose_talk(talk, loss);
-        loss
-    }
-
-    /// Memory was refused with a message under way. The loss is answered.
-    pub(crate) fn refuse_talk(&mut self, talk: Talk) -> Loss
-        requires { IsStanding self.old (Some (awaiting (nexts.Command talk))) }
-        ensures loss { result ≡ Loss.Memory }
-        ensures lost { mta_of self.new None [] []
-            ≡ lost Loss.Memory (mta_of self.old (Some (awaiting (nexts.Command talk))) [] []) }
-        ensures standing { IsStanding self.new None }
-    {
-        self.lose_talk(talk, Loss::Memory);
-        Loss::Memory
     }
 }

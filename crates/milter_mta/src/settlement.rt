@@ -1,6 +1,6 @@
 //! How a message is settled by the last verdict on it.
 
-ghost use Rattle.std.specs.Prelude.{◌≡◌, ◌≢◌, ◌<◌, ◌≤◌, ◌-◌, ◌++◌, ◌∷◌, [], All, IfErr, IfOk, List, Some, length};
+ghost use Rattle.std.specs.Prelude.{◌≡◌, ◌≢◌, ◌<◌, ◌≤◌, ◌-◌, ◌++◌, ◌∷◌, [], All, IfErr, IfOk, List, OnOk, Some, length};
 ghost use Rattle.milter_outcome.specs.declared.acted.Acted.{Acted as ActedValue};
 ghost use Rattle.milter_outcome.specs.Outcomes.{at_connection, fallback};
 ghost use Rattle.milter_plan.specs.TalkVerdicts.{on_connection, with_verdict};
@@ -23,12 +23,13 @@ impl SessionState {
     /// stage. Where memory is refused the filter is lost before that verdict.
     pub(crate) fn settle(
         &mut self,
+        link: &mut Link,
         talk: Talk,
         stage: Stage,
         verdict: Verdict,
-    ) -> Result<Link, Loss>
+    ) -> Result<(), Loss>
         requires { IsStanding self.old (Some (awaiting (nexts.Command talk))) }
-        ensures settled { IfOk result (λ link. mta_of self.new (Some link) [] []
+        ensures settled { OnOk result (mta_of self.new (Some link.new) [] []
             ≡ settled talk.agreed stage talk.edits verdict talk.acted
             (mta_of self.old (Some (awaiting (nexts.Command talk))) [] [])) }
         ensures refused { IfErr result (λ loss. loss ≡ Loss.Memory) }
@@ -36,11 +37,11 @@ impl SessionState {
             talk.acted ≡ with_verdict stage verdict before →
             self.new ≡ with_state_report
             (default_report self.old.config.on_loss Loss.Memory talk.message before) self.old) }
-        ensures standing { StandsAfter self.new result }
+        ensures standing { StandsAfter self.new link.new result }
     {
         match stage {
-            Stage::Connect | Stage::Helo => self.settle_all(talk, verdict),
-            _ => self.settle_first(talk, stage, verdict),
+            Stage::Connect | Stage::Helo => self.settle_all(link, talk, verdict),
+            _ => self.settle_first(link, talk, stage, verdict),
         }
     }
 
@@ -106,9 +107,15 @@ impl SessionState {
     }
 
     /// Settles the message under way, whose last verdict is this one at this stage, and goes on to the next one.
-    fn settle_first(&mut self, talk: Talk, stage: Stage, verdict: Verdict) -> Result<Link, Loss>
+    fn settle_first(
+        &mut self,
+        link: &mut Link,
+        talk: Talk,
+        stage: Stage,
+        verdict: Verdict,
+    ) -> Result<(), Loss>
         requires { IsStanding self.old (Some (awaiting (nexts.Command talk))) }
-        ensures settled { IfOk result (λ link. mta_of self.new (Some link) [] []
+        ensures settled { OnOk result (mta_of self.new (Some link.new) [] []
             ≡ settled_first talk.agreed stage talk.edits verdict talk.acted
             (mta_of self.old (Some (awaiting (nexts.Command talk))) [] [])) }
         ensures refused { IfErr result (λ loss. loss ≡ Loss.Memory) }
@@ -116,7 +123,7 @@ impl SessionState {
             talk.acted ≡ with_verdict stage verdict before →
             self.new ≡ with_state_report
             (default_report self.old.config.on_loss Loss.Memory talk.message before) self.old) }
-        ensures standing { StandsAfter self.new result }
+        ensures standing { StandsAfter self.new link.new result }
     {
         let Talk {
             agreed,
@@ -141,7 +148,8 @@ impl SessionState {
                     outcome,
                     settled_by: By::Filter,
                 });
-                Ok(self.next_talk(agreed, macros, opened, stage))
+                *link = self.next_talk(agreed, macros, opened, stage);
+                Ok(())
             }
             Err(kept) => {
                 self.ledger.give_room(opened.into_vec());
@@ -214,16 +222,16 @@ impl SessionState {
     }
 
     /// Settles every message by a verdict on the client or its greeting, the last of those on the message under way.
-    fn settle_all(&mut self, talk: Talk, verdict: Verdict) -> Result<Link, Loss>
+    fn settle_all(&mut self, link: &mut Link, talk: Talk, verdict: Verdict) -> Result<(), Loss>
         requires { IsStanding self.old (Some (awaiting (nexts.Command talk))) }
-        ensures settled { IfOk result (λ link. mta_of self.new (Some link) [] []
+        ensures settled { OnOk result (mta_of self.new (Some link.new) [] []
             ≡ settled_all verdict talk.acted (mta_of self.old (Some (awaiting (nexts.Command talk))) [] [])) }
         ensures refused { IfErr result (λ loss. loss ≡ Loss.Memory) }
         ensures lost { IfErr result (λ loss. (before : List ActedValue) (last : ActedValue) →
             talk.acted ≡ before ++ last ∷ [] →
             self.new ≡ with_state_report
             (default_report self.old.config.on_loss Loss.Memory talk.message before) self.old) }
-        ensures standing { StandsAfter self.new result }
+        ensures standing { StandsAfter self.new link.new result }
     {
         let Talk { message, acted, .. } = talk;
         let Ok(copies) = self.copies(&acted) else {
@@ -232,6 +240,7 @@ impl SessionState {
         self.report_at_connection(message, acted, &verdict);
         self.report_all(copies, &verdict);
         self.connection = Some(verdict);
-        Ok(Link::at(Next::Quit))
+        *link = Link::at(Next::Quit);
+        Ok(())
     }
 }

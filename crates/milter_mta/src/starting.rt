@@ -3,7 +3,7 @@
 ghost use Rattle.std.specs.Prelude.{◌≡◌, ◌⊎◌, ◌++◌, [], None, Ok, Some};
 ghost use Rattle.milter_wire.specs.declared.stage.Stage.{Stage as StageValue};
 ghost use Rattle.milter_mail.specs.ChosenMacros.{chosen_macros};
-ghost use Rattle.milter_mta.specs.Conversations.{IsStanding, Leaves, StandsAfter, awaiting, begun_position, messages_at, mta_of, position_of, session_of};
+ghost use Rattle.milter_mta.specs.Conversations.{IsStanding, Leaves, StandsAfter, awaiting, begun_position, messages_at, mta_after, mta_of, position_of, session_of};
 ghost use Rattle.milter_mta.specs.declared.link.Next.TheVariants as nexts;
 ghost use Rattle.milter_mta.specs.Receiving.{agreed_on};
 ghost use Rattle.milter_outcome.specs.Hearing.{is_end};
@@ -47,18 +47,20 @@ impl SessionState {
     }
 
     /// The first message is under way from the client on, by what was agreed on.
-    pub(crate) fn open(&mut self, agreed: Agreed) -> Result<Link, Loss>
+    pub(crate) fn open(&mut self, link: &mut Link, agreed: Agreed) -> Result<(), Loss>
         requires { IsStanding self.old None }
         ensures leaves { Leaves (mta_of self.old (Some (awaiting nexts.Offer)) [] [])
-            (agreed_on (Ok agreed) (mta_of self.old (Some (awaiting nexts.Offer)) [] [])) self.new result }
-        ensures standing { StandsAfter self.new result }
+            (agreed_on (Ok agreed) (mta_of self.old (Some (awaiting nexts.Offer)) [] []))
+            (mta_after self.new link.new [] result) result }
+        ensures standing { StandsAfter self.new link.new result }
     {
         let Ok(macros) = self.opening.macros.chosen(self.alloc, &agreed.lists) else {
             self.lose_waiting(Loss::Memory);
             return Err(Loss::Memory);
         };
         let acted = ActedVerdicts::new(self.ledger.take_room(self.alloc));
-        Ok(Link::at(self.begin(agreed, macros, acted, Stage::Connect)))
+        *link = Link::at(self.begin(agreed, macros, acted, Stage::Connect));
+        Ok(())
     }
 
     /// The next message is under way from its sender on, after these verdicts on the client; the last one ended at this

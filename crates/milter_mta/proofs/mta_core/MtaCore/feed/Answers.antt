@@ -1,5 +1,4 @@
-use Rattle.std.proofs.Common.{◌≡◌, ◌<◌, ◌==◌, ℕ, zero, suc, Bool, true, false, Option, None, Some, ap, arith, length, sym, ◌∙◌}
-use Rattle.std.specs.Prelude.{not}
+use Rattle.std.proofs.Common.{◌≡◌, ◌<◌, ◌==◌, ℕ, zero, suc, Bool, true, false, Option, Some, ap, arith, length, sym, ◌∙◌}
 use Rattle.milter_outcome.specs.declared.loss.Loss.TheVariants.{Fault}
 use Rattle.milter_outcome.specs.declared.loss.MtaFault.TheVariants.{Early}
 use Rattle.milter_mta.specs.declared.link.Link.{Link as Connected}
@@ -8,10 +7,6 @@ use Rattle.milter_mta.specs.Mta.{Mta}
 use Rattle.milter_mta.specs.Receiving.{heard}
 use Rattle.milter_mta.proofs.FedPieces.{early-sending, early-unlinked}
 use Rattle.milter_mta.proofs.mta_core.MtaCore.feed.Goals as goal
-
-not_owed : (owed : Bool) → not owed ≡ true → owed ≡ false
-not_owed true is = absurd cc
-not_owed false is = cc
 
 not_empty : (n : ℕ) (empty : Bool) → empty ≡ (n == 0) → empty ≡ false → 0 < n
 not_empty zero empty e is = absurd (zero_empty empty e is)
@@ -24,23 +19,19 @@ pub returns-in_default : goal.returns-in_default
 returns-in_default c =
     let state = c.self.inside.state in
     let piece = c.args.piece.now in
-    let linked : c.self.inside.link ≡ None = sym c.take.ensures.value ∙ c.in_default.is in
     let some = not_empty (length piece) c.is_empty.result c.is_empty.ensures c.if-is_empty.false in
     ap (λ (m : Mta). heard m piece) (sym c.self.view_is)
-    ∙ ap (λ (l : Option Connected). heard (mta_of state l c.self.inside.pending c.self.inside.splitter) piece) linked
+    ∙ ap (λ (l : Option Connected). heard (mta_of state l c.self.inside.pending c.self.inside.splitter) piece) c.in_default.is
     ∙ early-unlinked state c.lose_waiting.new.self piece some c.lose_waiting.ensures.lost
     ∙ ap (λ (l : Option Connected). record { mta = mta_of c.lose_waiting.new.self l c.self.inside.pending c.self.inside.splitter; loss = Some (Fault Early) })
-    (sym c.take.ensures.after)
+    (sym c.in_default.is)
 
 pub returns-then-not-link : goal.returns-then-not-link
 returns-then-not-link c =
     let state = c.self.inside.state in
     let piece = c.args.piece.now in
-    let linked : c.self.inside.link ≡ Some c.in-Some.link = sym c.take.ensures.value ∙ c.in-Some.is in
     let some = not_empty (length piece) c.is_empty.result c.is_empty.ensures c.if-is_empty.false in
     ap (λ (m : Mta). heard m piece) (sym c.self.view_is)
-    ∙ ap (λ (l : Option Connected). heard (mta_of state l c.self.inside.pending c.self.inside.splitter) piece) linked
+    ∙ ap (λ (l : Option Connected). heard (mta_of state l c.self.inside.pending c.self.inside.splitter) piece) c.in-Some.is
     ∙ early-sending state c.lose.new.self c.in-Some.link c.self.inside.pending c.self.inside.splitter piece
-    (not_owed c.in-Some.link.owed c.if-not-link.true) some c.lose.ensures.lost
-    ∙ ap (λ (l : Option Connected). record { mta = mta_of c.lose.new.self l c.self.inside.pending c.self.inside.splitter; loss = Some (Fault Early) })
-    (sym c.take.ensures.after)
+    c.if-not-link.true some c.lose.ensures.lost
