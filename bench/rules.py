@@ -1,5 +1,5 @@
 """Plays one message to `milter_tool answer` by rules that look at everything that came at each header field and at each
-piece of a body, and prints what that costs; ends with status 1 where the cost grows faster than the message.
+chunk of a body, and prints what that costs; ends with status 1 where the cost grows faster than the message.
 
     python3 rules.py PROGRAM FOLDER
 """
@@ -65,10 +65,10 @@ def main(program, folder):
     for count in COUNTS:
         fields = b''.join(packet(b'LX\0 v%06d\0' % number) for number in range(count))
         given['header', count] = written(folder, 'header%d' % count, message(fields + packet(b'N')))
-        pieces = b''.join(packet(b'B' + b'x') for _ in range(count))
-        given['body', count] = written(folder, 'body%d' % count, message(packet(b'N') + pieces))
+        chunks = b''.join(packet(b'B' + b'x') for _ in range(count))
+        given['body', count] = written(folder, 'body%d' % count, message(packet(b'N') + chunks))
     failed = False
-    for stage, what in [('header', 'header fields'), ('body', 'pieces of one byte')]:
+    for stage, what in [('header', 'header fields'), ('body', 'chunks of one byte')]:
         print('seconds for %s %s:' % (', '.join('{:,}'.format(count) for count in COUNTS), what))
         for field in FIELDS:
             for test, condition in TESTS.items():
@@ -79,13 +79,13 @@ def main(program, folder):
                 failed |= not is_right
                 print('%-14s %-6s %s%s' % (
                     field, test, ' '.join('%8.3f' % time for time in times), '' if is_right else '  NOT LINEAR'))
-    print('seconds for a body of {:,} bytes, by pieces of {} bytes:'.format(
+    print('seconds for a body of {:,} bytes, by chunks of {} bytes:'.format(
         BODY, ', '.join('{:,}'.format(size) for size in SIZES)))
     paths = []
     for size in SIZES:
         whole, rest = divmod(BODY, size)
-        pieces = packet(b'B' + b'x' * size) * whole + (packet(b'B' + b'x' * rest) if rest else b'')
-        paths.append(written(folder, 'size%d' % size, message(packet(b'N') + pieces)))
+        chunks = packet(b'B' + b'x' * size) * whole + (packet(b'B' + b'x' * rest) if rest else b'')
+        paths.append(written(folder, 'size%d' % size, message(packet(b'N') + chunks)))
     for test, condition in TESTS.items():
         rules = written(folder, 'rules', ('at body when body %s do reject\n' % condition).encode())
         times = [seconds(program, rules, path) for path in paths]

@@ -1,7 +1,7 @@
 #!/usr/bin/env bash
 # Measures what rules cost that look at all header fields so far at each header field, and at the whole body so far at
-# each piece of it, for each field and each test: one message of 1,000 to 100,000 header fields or pieces of one byte,
-# and a body of 1,000,000 bytes in pieces of 1 to 65,535 bytes, to `milter_tool answer`. It prints the processor time
+# each chunk of it, for each field and each test: one message of 1,000 to 100,000 header fields or chunks of one byte,
+# and a body of 1,000,000 bytes in chunks of 1 to 65,535 bytes, to `milter_tool answer`. It prints the processor time
 # of the fastest of three runs, and fails where ten times as much of a message costs more than twenty times as much. It
 # takes Python and a minute. The program is built first where it has to be; another one may be given.
 #

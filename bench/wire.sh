@@ -63,13 +63,13 @@ best() {
 message 4096 >"$work/message"
 message 10485760 >"$work/body"
 echo "a message of 16 packets and $(stat -c %s "$work/message") bytes, user instructions:"
-for what in split lent owned encode; do
+for what in split borrowed owned encode; do
     once=$(instructions "$what" 1)
     often=$(instructions "$what" $((AGAIN + 1)))
     printf '%-8s %8d\n' "$what" $(((often - once) / AGAIN))
 done
 echo "a message with a body of 10 MiB, MB/s:"
-for what in copy split lent owned encode; do
+for what in copy split borrowed owned encode; do
     once=$(best "$what" 1)
     often=$(best "$what" 41)
     awk -v what="$what" -v took=$((often - once)) -v size="$(stat -c %s "$work/body")" 'BEGIN {

@@ -25,7 +25,7 @@ MESSAGES = 2
 # What may become of a message whose filter is lost.
 ON_LOSS = ['tempfail', 'reject', 'accept']
 # The tables of rows that are played in memory, and over sockets with the same result.
-PLAYED = ['play_verdicts', 'play_edits', 'play_agreements']
+PLAYED = ['play_verdicts', 'play_edits', 'play_negotiations']
 # The codes of the packets that no filter replies to.
 UNANSWERED = b'DAQ'
 # So long a filter may keep silent, in seconds; and the time that a filter may take, where none keeps silent.

@@ -19,7 +19,7 @@ from lib.checks import expect
 from lib.talks import QUIT, message, opening, rules_of_keys
 
 CONNECTIONS = 3
-# What is searched for at each header field and at each piece of a body, for which memory is taken.
+# What is searched for at each header field and at each chunk of a body, for which memory is taken.
 SEARCHES = '''\
 at header when header "Subject" is "of nothing" do reject
 at header when header "X-Spam" has "yes" and header "Subject" has "nothing" do reject

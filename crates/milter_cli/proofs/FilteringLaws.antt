@@ -5,8 +5,8 @@ use Rattle.std.specs.Io.KnownBytes.{Appends}
 use Rattle.std.proofs.KnownBytes.{Appends-nil, Appends-trans}
 use Rattle.milter_exchange.specs.Behavior.{Behavior}
 use Rattle.milter_filter.specs.declared.served.Served.{Served}
-use Rattle.milter_text.specs.Writing.{WritesPrefix, WritesText}
-use Rattle.milter_cli.specs.Filtering.{ServedAll, ServedSome, ServesEach, report_line, report_lines}
+use Rattle.milter_text.specs.WrittenText.{WritesPrefix, WritesText}
+use Rattle.milter_cli.specs.FilterRuns.{ServedAll, ServedSome, ServesEach, report_line, report_lines}
 
 pub on_error : {E P : Type 0} (r : Result Unit E) → P → OnErr r P
 on_error (Ok done) h = tt

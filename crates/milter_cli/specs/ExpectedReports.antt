@@ -2,7 +2,7 @@
 use Rattle.std.specs.Prelude.{◌≡◌, ◌≢◌, ◌==◌, ◌+◌, ℕ, List, Option, length, slice_get, take}
 use Rattle.std.specs.List.{filter}
 use Rattle.std.specs.Io.KnownBytes.{Appends}
-use Rattle.milter_text.specs.Writing.{WritesPrefix}
+use Rattle.milter_text.specs.WrittenText.{WritesPrefix}
 use Rattle.milter_cli.specs.declared.tool_error.ToolError.{ToolError}
 use Rattle.milter_cli.specs.declared.tool_error.ToolError.TheVariants.{Differs}
 

@@ -1,7 +1,7 @@
 pub mod AnswerRun
 pub mod ExpectedReports
 pub mod FileRun
-pub mod Filtering
+pub mod FilterRuns
 pub mod InMemory
-pub mod Playing
+pub mod MtaRuns
 pub mod ToolError

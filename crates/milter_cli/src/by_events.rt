@@ -8,7 +8,7 @@ ghost use Rattle.milter_cli.specs.FileRun.{Has, HasNone, IsFileFault, IsOf};
 ghost use Rattle.milter_cli.specs.InMemory.{IsRun, WritesAtMost, WritesReports};
 
 use crate::file_error::{FileError, InputFile, fault_error};
-use crate::file_reading::read_file;
+use crate::file_input::read_file;
 use milter_events::read_events;
 use milter_filter::Policy;
 use milter_mail::Session;

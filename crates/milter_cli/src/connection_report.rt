@@ -1,7 +1,7 @@
 //! The line of a connection that was served.
 
 ghost use Rattle.std.specs.Prelude.{Some};
-ghost use Rattle.milter_cli.specs.Filtering.{report_text};
+ghost use Rattle.milter_cli.specs.FilterRuns.{report_text};
 
 use milter_filter::Served;
 use std::fmt;

@@ -5,7 +5,7 @@ ghost use Rattle.milter_cli.specs.ExpectedReports.{DiffersAt, EndsBeside, line_f
 ghost use Rattle.milter_cli.specs.FileRun.{IsFileFault, IsOf};
 
 use crate::file_error::{FileError, InputFile};
-use crate::file_reading::read_file;
+use crate::file_input::read_file;
 use crate::tool_error::{ToolError, output_error};
 use milter_text::write_text;
 use std::alloc::Global;

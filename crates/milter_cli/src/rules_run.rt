@@ -8,7 +8,7 @@ ghost use Rattle.milter_rules.specs.RulesText.{rules_text};
 ghost use Rattle.milter_cli.specs.FileRun.{Has, HasNone, IsFileFault, IsOf, WritesCanonical};
 
 use crate::file_error::{FileError, InputFile, fault_error, text_error};
-use crate::file_reading::read_file;
+use crate::file_input::read_file;
 use crate::tool_error::{ToolError, output_error};
 use milter_rule_check::check_rules;
 use milter_rules::{Rules, read_rules, write_rules};

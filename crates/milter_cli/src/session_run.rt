@@ -6,7 +6,7 @@ ghost use Rattle.milter_session.specs.SessionText.{session_text};
 ghost use Rattle.milter_cli.specs.FileRun.{Has, HasNone, IsFileFault, IsOf, WritesCanonical};
 
 use crate::file_error::{FileError, InputFile, fault_error, text_error};
-use crate::file_reading::read_file;
+use crate::file_input::read_file;
 use milter_mail::Session;
 use milter_session::{read_session, write_session};
 use std::alloc::Global;

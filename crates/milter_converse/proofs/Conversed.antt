@@ -7,16 +7,16 @@ use Rattle.milter_outcome.specs.declared.loss.Loss.{Loss}
 use Rattle.milter_outcome.specs.declared.report.Report.{Report}
 use Rattle.milter_mta.specs.declared.want.Want.{Want}
 use Rattle.milter_mta.specs.declared.want.Want.TheVariants as wants
-use Rattle.milter_mta.specs.Accounts.{Settlement}
+use Rattle.milter_mta.specs.Accounts.{Disposition}
 use Rattle.milter_mta.specs.Mta.{Mta}
-use Rattle.milter_mta.specs.Sending.{want}
-use Rattle.milter_mta.specs.Settling.{lost}
-use Rattle.milter_walk.specs.AnyFilter.{ConnectionIsReported, GoesOnWalks, IsOnWalk, IsReportByWalk, without_messages}
-use Rattle.milter_converse.specs.Conversing.{Converses, ReportsEach, first_events}
-use Rattle.milter_converse.specs.Driving.{IsBetween, IsOver, Moves, Steps, dials_left}
+use Rattle.milter_mta.specs.Output.{want}
+use Rattle.milter_mta.specs.Dispositions.{lost}
+use Rattle.milter_walk.specs.AnyFilter.{ConnectionIsReported, GoesOnDialogues, IsOnDialogue, IsReportByDialogue, without_messages}
+use Rattle.milter_converse.specs.ClientRuns.{Converses, ReportsEach, first_events}
+use Rattle.milter_converse.specs.ConnectionRuns.{IsBetween, IsOver, Moves, Steps, dials_left}
 use Rattle.milter_converse.specs.Events.{Event, IsOutside, Runs}
 use Rattle.milter_converse.specs.Events.Event.{GaveUp}
-use Rattle.milter_converse.proofs.Linked.{linked-fewer, linked-on, lost-between, lost-fewer}
+use Rattle.milter_converse.proofs.Connected.{connected-fewer, connected-on, lost-between, lost-fewer}
 use Rattle.milter_converse.proofs.Stepping.{one-step, runs-append, steps-on}
 
 -- ---- one connection
@@ -39,7 +39,7 @@ module _ (start : Mta) (some : start.session.messages ≢ []) where
   ends m last moves steps (inl same) = record {
     steps = steps-on start m last moves.steps steps;
     between = subst IsBetween (sym same.0) same.1;
-    fewer = subst (λ (x : Mta). dials_left x < length start.session.messages) (sym same.0) (linked-fewer start m moves.stays.linked some);
+    fewer = subst (λ (x : Mta). dials_left x < length start.session.messages) (sym same.0) (connected-fewer start m moves.stays.connected some);
   }
   ends m last moves steps (inr over) = record {
     steps = steps-on start m last moves.steps steps;
@@ -50,7 +50,7 @@ module _ (start : Mta) (some : start.session.messages ≢ []) where
 
 -- one turn after the other
 pub moves-on : (a b c : Mta) → Moves a b → Moves b c → Moves a c
-moves-on a b c first next = record { steps = steps-on a b c first.steps next.steps; stays = linked-on a b c first.stays next.stays }
+moves-on a b c first next = record { steps = steps-on a b c first.steps next.steps; stays = connected-on a b c first.stays next.stays }
 
 -- ---- a connection that was there
 
@@ -60,36 +60,36 @@ between-runs m (inr done) = subst (λ (w : Want). Runs m (first_events w) m) (sy
 
 -- ---- to the end
 
-pub settlement-is : (s : Settlement) (connection : Option Verdict) (messages : List Report) → s.connection ≡ connection → s.messages ≡ messages
+pub disposition-is : (s : Disposition) (connection : Option Verdict) (messages : List Report) → s.connection ≡ connection → s.messages ≡ messages
     → s ≡ record { connection = connection; messages = messages }
-settlement-is s connection messages of_connection of_messages =
+disposition-is s connection messages of_connection of_messages =
     subst (λ (x : Option Verdict). s ≡ record { connection = x; messages = messages }) of_connection
     (subst (λ (x : List Report). s ≡ record { connection = s.connection; messages = x }) of_messages refl)
 
-reports-each : (old last : Mta) (s : Settlement) → s ≡ record { connection = last.connection; messages = last.reports } → GoesOnWalks old last → last.session.messages ≡ []
+reports-each : (old last : Mta) (s : Disposition) → s ≡ record { connection = last.connection; messages = last.reports } → GoesOnDialogues old last → last.session.messages ≡ []
     → ReportsEach old s
 reports-each old last s is goes none = record {
   added = goes.settles.added;
-  reports_are = ap (λ (x : Settlement). x.messages) is ∙ goes.settles.reports_are;
-  by_walks =
+  reports_are = ap (λ (x : Disposition). x.messages) is ∙ goes.settles.reports_are;
+  by_dialogues =
       let all : goes.settles.settled ≡ old.session.messages =
       sym (goes.settles.messages_are ∙ ap (λ (l : List MailObject). goes.settles.settled ++ l) none ∙ append-nil goes.settles.settled) in
-      subst (λ (l : List MailObject). AllZip (IsReportByWalk old.config (without_messages old.session)) l goes.settles.added) all goes.settles.by_walks;
+      subst (λ (l : List MailObject). AllZip (IsReportByDialogue old.config (without_messages old.session)) l goes.settles.added) all goes.settles.by_dialogues;
 }
 
-pub converses : ((old new : Mta) (events : List Event) → IsOnWalk old → Runs old events new → GoesOnWalks old new)
-    → ((old new : Mta) (events : List Event) → IsOnWalk old → ConnectionIsReported old → Runs old events new → ConnectionIsReported new)
-    → ((m : Mta) → IsOnWalk m → want m ≡ wants.Done → m.session.messages ≡ [])
-    → (old begun last : Mta) (s : Settlement) → Runs old (first_events (want old)) begun → Steps begun last → want last ≡ wants.Done
+pub converses : ((old new : Mta) (events : List Event) → IsOnDialogue old → Runs old events new → GoesOnDialogues old new)
+    → ((old new : Mta) (events : List Event) → IsOnDialogue old → ConnectionIsReported old → Runs old events new → ConnectionIsReported new)
+    → ((m : Mta) → IsOnDialogue m → want m ≡ wants.Done → m.session.messages ≡ [])
+    → (old begun last : Mta) (s : Disposition) → Runs old (first_events (want old)) begun → Steps begun last → want last ≡ wants.Done
     → s ≡ record { connection = last.connection; messages = last.reports } → Converses old s
-converses walks connections settles old begun last s first steps done is =
+converses dialogues connections settles old begun last s first steps done is =
     let runs = runs-append old begun last (first_events (want old)) steps.events first steps.runs in
     record {
       events = steps.events;
       last = last;
       runs = runs;
       done = done;
-      settlement_is = is;
-      reports_each = λ on. let goes = walks old last _ on runs in reports-each old last s is goes (settles last goes.on_walk done);
+      disposition_is = is;
+      reports_each = λ on. let goes = dialogues old last _ on runs in reports-each old last s is goes (settles last goes.on_dialogue done);
       connection_is = λ on is_reported. connections old last _ on is_reported runs;
     }

@@ -1,6 +1,6 @@
-mod Walked
+mod OnDialogue
 mod Stepping
-mod Linked
+mod Connected
 mod Turning
 mod Dialled
 mod Conversed

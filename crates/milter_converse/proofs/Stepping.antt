@@ -1,7 +1,7 @@
 -- Events, one after the other.
 use Rattle.std.proofs.Common.{List, [], ◌∷◌, ◌++◌, refl, subst}
 use Rattle.milter_mta.specs.Mta.{Mta}
-use Rattle.milter_converse.specs.Driving.{Steps}
+use Rattle.milter_converse.specs.ConnectionRuns.{Steps}
 use Rattle.milter_converse.specs.Events.{Does, Event, Runs}
 
 pub runs-append : (a b c : Mta) (events more : List Event) → Runs a events b → Runs b more c → Runs a (events ++ more) c

@@ -5,23 +5,23 @@ use Rattle.std.specs.Io.KnownBytes.{Appends}
 use Rattle.milter_outcome.specs.declared.loss.Loss.{Loss}
 use Rattle.milter_outcome.specs.declared.loss.Loss.TheVariants.{Fault, Memory, Reset, Timeout}
 use Rattle.milter_mta.specs.declared.want.Want.TheVariants as wants
-use Rattle.milter_mta.specs.Cores.{Hears}
+use Rattle.milter_mta.specs.Cores.{ReceivesBytes}
 use Rattle.milter_mta.specs.Mta.{Mta}
-use Rattle.milter_mta.specs.Sending.{advanced, pending, sent, want}
+use Rattle.milter_mta.specs.Output.{advanced, pending, sent, want}
 use Rattle.milter_converse.specs.declared.link_calls.Stop.{Stop}
 use Rattle.milter_converse.specs.declared.link_calls.Stop.TheVariants.{Interrupted, Lost, Over}
-use Rattle.milter_converse.specs.Driving.{IsBetween, IsLinked, IsOver, Moves, Receives, StaysLinked, Steps, Transmits, Turns, Writes}
-use Rattle.milter_converse.specs.Events.{Hearing}
+use Rattle.milter_converse.specs.ConnectionRuns.{IsBetween, IsConnected, IsOver, Moves, Receives, StaysConnected, Steps, Transmits, Turns, Writes}
+use Rattle.milter_converse.specs.Events.{Reception}
 use Rattle.milter_converse.specs.Events.Event.{Advanced, Read, Wrote}
-use Rattle.milter_converse.proofs.Linked.{advanced-linked, hears-lost, hears-ok, linked-on, sent-linked, still-linked}
+use Rattle.milter_converse.proofs.Connected.{advanced-connected, receives_bytes-lost, receives_bytes-ok, connected-on, sent-connected, still-connected}
 use Rattle.milter_converse.proofs.Stepping.{no-steps, one-step, steps-on}
 
-stays-put : (old new : Mta) → IsLinked old → new ≡ old → Moves old new
-stays-put old new on e = subst (Moves old) (sym e) (record { steps = no-steps old; stays = still-linked old on })
+stays-put : (old new : Mta) → IsConnected old → new ≡ old → Moves old new
+stays-put old new on e = subst (Moves old) (sym e) (record { steps = no-steps old; stays = still-connected old on })
 
-advances : (old new : Mta) → IsLinked old → want old ≡ wants.Send → new ≡ advanced old → Moves old new
+advances : (old new : Mta) → IsConnected old → want old ≡ wants.Send → new ≡ advanced old → Moves old new
 advances old new on wanted e =
-    subst (Moves old) (sym e) (record { steps = one-step old (advanced old) Advanced (wanted, refl); stays = advanced-linked old on })
+    subst (Moves old) (sym e) (record { steps = one-step old (advanced old) Advanced (wanted, refl); stays = advanced-connected old on })
 
 -- ---- a write
 
@@ -41,17 +41,17 @@ writes written all old made new packet count is packet_is some within appends se
   };
 }
 
-writes-moves : (written all : Option (List ℕ)) (old new : Mta) → IsLinked old → want old ≡ wants.Send → Writes written all old new → Moves old new
+writes-moves : (written all : Option (List ℕ)) (old new : Mta) → IsConnected old → want old ≡ wants.Send → Writes written all old new → Moves old new
 writes-moves written all old new on wanted w =
     let made = one-step old (advanced old) Advanced (wanted, refl) in
-    let stays = advanced-linked old on in
+    let stays = advanced-connected old on in
     record {
       steps = steps-on old (advanced old) new made (one-step (advanced old) new (Wrote w.bytes) w.sends);
-      stays = subst (StaysLinked old) (sym w.sends.sent_is)
-          (linked-on old (advanced old) (sent (length w.bytes) (advanced old)) stays (sent-linked (advanced old) (length w.bytes) stays.linked));
+      stays = subst (StaysConnected old) (sym w.sends.sent_is)
+          (connected-on old (advanced old) (sent (length w.bytes) (advanced old)) stays (sent-connected (advanced old) (length w.bytes) stays.connected));
     }
 
-pub transmits-turns : (written all : Option (List ℕ)) (old new : Mta) (result : Result Unit Stop) → IsLinked old → want old ≡ wants.Send
+pub transmits-turns : (written all : Option (List ℕ)) (old new : Mta) (result : Result Unit Stop) → IsConnected old → want old ≡ wants.Send
     → Transmits written all old new result → Turns old new result
 transmits-turns written all old new (Ok done) on wanted t = writes-moves written all old new on wanted t
 transmits-turns written all old new (Err (Lost Memory)) on wanted t = (stays-put old new on t.1, tt)
@@ -63,20 +63,20 @@ transmits-turns written all old new (Err Over) on wanted t = absurd t
 
 -- ---- a read
 
-read-step : (old new : Mta) (bytes : List ℕ) → Hearing bytes old new → Steps old new
+read-step : (old new : Mta) (bytes : List ℕ) → Reception bytes old new → Steps old new
 read-step old new bytes h = one-step old new (Read bytes) h
 
-hearing-moves : (old new : Mta) (bytes : List ℕ) → IsLinked old → (h : Hearing bytes old new) → h.result ≡ Ok tt → Moves old new
-hearing-moves old new bytes on h e =
-    record { steps = read-step old new bytes h; stays = hears-ok old new bytes on (subst (Hears old bytes new) e h.hears) }
+reception-moves : (old new : Mta) (bytes : List ℕ) → IsConnected old → (h : Reception bytes old new) → h.result ≡ Ok tt → Moves old new
+reception-moves old new bytes on h e =
+    record { steps = read-step old new bytes h; stays = receives_bytes-ok old new bytes on (subst (ReceivesBytes old bytes new) e h.receives_bytes) }
 
-hearing-over : (old new : Mta) (bytes : List ℕ) (loss : Loss) → IsLinked old → (h : Hearing bytes old new) → h.result ≡ Err loss → Steps old new × IsOver old new
-hearing-over old new bytes loss on h e =
-    (read-step old new bytes h, inr (hears-lost old new bytes loss on (subst (Hears old bytes new) e h.hears)))
+reception-over : (old new : Mta) (bytes : List ℕ) (loss : Loss) → IsConnected old → (h : Reception bytes old new) → h.result ≡ Err loss → Steps old new × IsOver old new
+reception-over old new bytes loss on h e =
+    (read-step old new bytes h, inr (receives_bytes-lost old new bytes loss on (subst (ReceivesBytes old bytes new) e h.receives_bytes)))
 
-pub receives-turns : (unread left : Option (List ℕ)) (old new : Mta) (result : Result Unit Stop) → IsLinked old → Receives unread left old new result → Turns old new result
-receives-turns unread left old new (Ok done) on r = hearing-moves old new r.bytes on r.hearing r.result_is
-receives-turns unread left old new (Err Over) on r = hearing-over old new r.1.bytes r.0 on r.1.hearing r.1.result_is
+pub receives-turns : (unread left : Option (List ℕ)) (old new : Mta) (result : Result Unit Stop) → IsConnected old → Receives unread left old new result → Turns old new result
+receives-turns unread left old new (Ok done) on r = reception-moves old new r.bytes on r.reception r.result_is
+receives-turns unread left old new (Err Over) on r = reception-over old new r.1.bytes r.0 on r.1.reception r.1.result_is
 receives-turns unread left old new (Err (Lost loss)) on r = (stays-put old new on r.1, r.2)
 receives-turns unread left old new (Err Interrupted) on r = stays-put old new on r.1
 

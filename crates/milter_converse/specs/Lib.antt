@@ -1,4 +1,4 @@
 pub mod Events
 pub mod LinkCalls
-pub mod Driving
-pub mod Conversing
+pub mod ConnectionRuns
+pub mod ClientRuns

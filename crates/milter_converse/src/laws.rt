@@ -2,24 +2,25 @@
 
 ghost use Rattle.std.specs.Prelude.{List};
 ghost use Rattle.milter_mta.specs.Mta.{Mta};
-ghost use Rattle.milter_walk.specs.AnyFilter.{ConnectionIsReported, GoesOnWalks, IsOnWalk};
+ghost use Rattle.milter_walk.specs.AnyFilter.{ConnectionIsReported, GoesOnDialogues, IsOnDialogue};
 ghost use Rattle.milter_converse.specs.Events.{Event, Runs};
 
-use milter_walk::{connections_are_reported, messages_are_settled_by_walks};
+use milter_walk::{connections_are_reported, messages_are_settled_by_dialogues};
 
-/// Whatever happens to it, the verdicts that a mail server's end acts on are those of a walk through the plan of the
-/// message that is sent, and each report is by a walk through its message's plan.
-pub fn events_keep_to_walks()
-    ensures { (old new : Mta) (events : List Event) → IsOnWalk old → Runs old events new → GoesOnWalks old new }
+/// Whatever happens to it, the verdicts that a mail server's end acts on are those of a dialogue through the plan of
+/// the message that is sent, and each report is by a dialogue through its message's plan.
+pub fn events_keep_to_dialogues()
+    ensures { (old new : Mta) (events : List Event) → IsOnDialogue old → Runs old events new → GoesOnDialogues old new }
 {
-    messages_are_settled_by_walks();
+    messages_are_settled_by_dialogues();
 }
 
 /// Whatever happens to it, there is a verdict on the connection exactly where it settled messages.
 pub fn events_report_connections()
-    ensures { (old new : Mta) (events : List Event) → IsOnWalk old → ConnectionIsReported old → Runs old events new →
+    ensures { (old new : Mta) (events : List Event) → IsOnDialogue old → ConnectionIsReported old →
+        Runs old events new →
         ConnectionIsReported new }
 {
-    messages_are_settled_by_walks();
+    messages_are_settled_by_dialogues();
     connections_are_reported();
 }

@@ -5,15 +5,15 @@
 //! `milter_mta`, which this crate re-exports.
 #![tactic(auto)]
 
-mod conversing;
-mod dialling;
-mod driving;
+mod client;
+mod connection;
+mod dialer;
 mod laws;
 mod link_calls;
 
-pub use conversing::converse;
-pub use dialling::{Dial, DialFault};
-pub use laws::{events_keep_to_walks, events_report_connections};
+pub use client::converse;
+pub use dialer::{Dial, DialFault};
+pub use laws::{events_keep_to_dialogues, events_report_connections};
 pub use milter_mta::{
     Acted, ActedVerdicts, By, Config, Loss, MtaCore, MtaFault, OnLoss, Outcome, Refusal, Report,
     Reports, Want,

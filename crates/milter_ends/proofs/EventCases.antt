@@ -4,9 +4,9 @@ use Rattle.std.proofs.lemmas.Bool.{le-ltb}
 use Rattle.std.proofs.lemmas.List.{drop_all}
 use Rattle.milter_message.specs.MailObject.{MailObject}
 use Rattle.milter_mta.specs.declared.want.Want.TheVariants as wants
-use Rattle.milter_mta.specs.Mta.{Link}
-use Rattle.milter_mta.specs.Sending.{want, want_in, want_unlinked}
-use Rattle.milter_mta.specs.Settling.{lost as lost_by}
+use Rattle.milter_mta.specs.Mta.{FilterConnection}
+use Rattle.milter_mta.specs.Output.{want, want_in, want_unconnected}
+use Rattle.milter_mta.specs.Dispositions.{lost as lost_by}
 use Rattle.milter_transcript.proofs.ByteCounting.{by_lt, lt-ltb}
 use Rattle.milter_outcome.specs.declared.loss.Loss.{Loss}
 use Rattle.milter_schedule.specs.declared.event.Event.{Event}
@@ -17,7 +17,7 @@ use Rattle.milter_schedule.specs.declared.state.State.TheVariants.{Idle, Linked,
 use Rattle.milter_ends.specs.Ends.{IsAt, IsOfConnection, IsLossBy, IsOfFilter, AreEndsOf, Ends, Steps, lost_ends}
 use Rattle.milter_schedule.specs.Schedule as states
 use Rattle.milter_schedule.specs.Schedule.{Scenario, happens, idle_at}
-use Rattle.milter_ends.proofs.EndSteps.{LossLaws, count-by, loses, messages-left, nothing, walks-lost}
+use Rattle.milter_ends.proofs.EndSteps.{LossLaws, count-by, loses, messages-left, nothing, dialogues-lost}
 use Rattle.milter_ends.proofs.EventMoves.{count-idle, dead-answer, dead-to, gives-up}
 
 module _ {P : Type 0} (p : Scenario) (ends : Ends P) (is : AreEndsOf p ends) where
@@ -26,7 +26,7 @@ module _ {P : Type 0} (p : Scenario) (ends : Ends P) (is : AreEndsOf p ends) whe
 
   stays-as : (event : Event) (s : State) → ends.state ≡ s → happens p s event ≡ states.stays s → Steps p ends event ends
   stays-as event s at e =
-      nothing p ends is.possible is.by_walks event is.is_at
+      nothing p ends is.possible is.by_dialogues event is.is_at
       (ap (λ (x : State). happens p x event) at ∙ e ∙ ap states.stays (sym at))
 
   pub no_dial : ((settled : ℕ) → ends.state ≢ Idle settled) → Steps p ends Dial ends
@@ -40,8 +40,8 @@ module _ {P : Type 0} (p : Scenario) (ends : Ends P) (is : AreEndsOf p ends) whe
   pub over : (event : Event) → ends.state ≡ Done → Steps p ends event ends
   over event at = stays-as event Done at refl
 
-  pub unlinked : (event : Event) → ((settled : ℕ) (c : Counts) → ends.state ≢ Linked settled c) → IsOfConnection event → Steps p ends event ends
-  unlinked event other kind = by_state ends.state refl
+  pub unconnected : (event : Event) → ((settled : ℕ) (c : Counts) → ends.state ≢ Linked settled c) → IsOfConnection event → Steps p ends event ends
+  unconnected event other kind = by_state ends.state refl
     where
       idle-stays : (settled : ℕ) (event : Event) → IsOfConnection event → happens p (Idle settled) event ≡ states.stays (Idle settled)
       idle-stays settled (Send n) kind = refl
@@ -62,8 +62,8 @@ module _ {P : Type 0} (p : Scenario) (ends : Ends P) (is : AreEndsOf p ends) whe
   dead event none kind = by_state ends.state refl event kind
     where
       by_event : (settled : ℕ) (c : Counts) → ends.state ≡ Linked settled c → (event : Event) → IsOfFilter event → Steps p ends event ends
-      by_event settled c at (ToFilter n) kind = dead-to p ends is.possible is.by_walks settled c at (at-state (Linked settled c) at) none n
-      by_event settled c at (Answer n) kind = dead-answer p ends is.possible is.by_walks settled c at (at-state (Linked settled c) at) none n
+      by_event settled c at (ToFilter n) kind = dead-to p ends is.possible is.by_dialogues settled c at (at-state (Linked settled c) at) none n
+      by_event settled c at (Answer n) kind = dead-answer p ends is.possible is.by_dialogues settled c at (at-state (Linked settled c) at) none n
       by_event settled c at (Send n) kind = absurd kind
       by_event settled c at (ToMta n) kind = absurd kind
       by_event settled c at Die kind = absurd kind
@@ -90,8 +90,8 @@ module _ {P : Type 0} (p : Scenario) (ends : Ends P) (is : AreEndsOf p ends) whe
   lost laws event loss going kind = by_state ends.state refl event kind
     where
       by_idle : (settled : ℕ) → ends.state ≡ Idle settled → (event : Event) → IsLossBy loss event → Steps p ends event (lost_ends loss ends (happens p ends.state event).state)
-      by_idle settled at Lose e = gives-up p ends is.possible is.by_walks settled at (at-state (Idle settled) at) loss laws Lose (rw e refl)
-      by_idle settled at Timeout e = gives-up p ends is.possible is.by_walks settled at (at-state (Idle settled) at) loss laws Timeout (rw e refl)
+      by_idle settled at Lose e = gives-up p ends is.possible is.by_dialogues settled at (at-state (Idle settled) at) loss laws Lose (rw e refl)
+      by_idle settled at Timeout e = gives-up p ends is.possible is.by_dialogues settled at (at-state (Idle settled) at) loss laws Timeout (rw e refl)
       by_idle settled at Dial e = absurd e
       by_idle settled at (Send n) e = absurd e
       by_idle settled at (ToFilter n) e = absurd e
@@ -100,8 +100,8 @@ module _ {P : Type 0} (p : Scenario) (ends : Ends P) (is : AreEndsOf p ends) whe
       by_idle settled at Die e = absurd e
 
       by_linked : (settled : ℕ) (c : Counts) → ends.state ≡ Linked settled c → (event : Event) → IsLossBy loss event → Steps p ends event (lost_ends loss ends (happens p ends.state event).state)
-      by_linked settled c at Lose e = loses p ends is.possible is.by_walks settled c at (at-state (Linked settled c) at) laws loss Lose (rw e refl)
-      by_linked settled c at Timeout e = loses p ends is.possible is.by_walks settled c at (at-state (Linked settled c) at) laws loss Timeout (rw e refl)
+      by_linked settled c at Lose e = loses p ends is.possible is.by_dialogues settled c at (at-state (Linked settled c) at) laws loss Lose (rw e refl)
+      by_linked settled c at Timeout e = loses p ends is.possible is.by_dialogues settled c at (at-state (Linked settled c) at) laws loss Timeout (rw e refl)
       by_linked settled c at Dial e = absurd e
       by_linked settled c at (Send n) e = absurd e
       by_linked settled c at (ToFilter n) e = absurd e
@@ -121,8 +121,8 @@ module _ {P : Type 0} (p : Scenario) (ends : Ends P) (is : AreEndsOf p ends) whe
   count-lost laws event loss going kind = by_state ends.state refl event kind
     where
       by_idle : (settled : ℕ) → ends.state ≡ Idle settled → (event : Event) → IsLossBy loss event → (happens p (Idle settled) event).state ≡ idle_at p (length (lost_by loss ends.mta).reports)
-      by_idle settled at Lose e = rw (← e) (ap (idle_at p) (sym (count-idle p ends is.possible is.by_walks settled at (at-state (Idle settled) at) loss)))
-      by_idle settled at Timeout e = rw (← e) (ap (idle_at p) (sym (count-idle p ends is.possible is.by_walks settled at (at-state (Idle settled) at) loss)))
+      by_idle settled at Lose e = rw (← e) (ap (idle_at p) (sym (count-idle p ends is.possible is.by_dialogues settled at (at-state (Idle settled) at) loss)))
+      by_idle settled at Timeout e = rw (← e) (ap (idle_at p) (sym (count-idle p ends is.possible is.by_dialogues settled at (at-state (Idle settled) at) loss)))
       by_idle settled at Dial e = absurd e
       by_idle settled at (Send n) e = absurd e
       by_idle settled at (ToFilter n) e = absurd e
@@ -132,8 +132,8 @@ module _ {P : Type 0} (p : Scenario) (ends : Ends P) (is : AreEndsOf p ends) whe
 
       by_linked : (settled : ℕ) (c : Counts) → ends.state ≡ Linked settled c → (event : Event) → IsLossBy loss event
           → (happens p (Linked settled c) event).state ≡ idle_at p (length (lost_by loss ends.mta).reports)
-      by_linked settled c at Lose e = rw (← e) (ap (idle_at p) (sym (count-by p ends is.possible is.by_walks settled c at (at-state (Linked settled c) at) laws.settles_nothing loss)))
-      by_linked settled c at Timeout e = rw (← e) (ap (idle_at p) (sym (count-by p ends is.possible is.by_walks settled c at (at-state (Linked settled c) at) laws.settles_nothing loss)))
+      by_linked settled c at Lose e = rw (← e) (ap (idle_at p) (sym (count-by p ends is.possible is.by_dialogues settled c at (at-state (Linked settled c) at) laws.settles_nothing loss)))
+      by_linked settled c at Timeout e = rw (← e) (ap (idle_at p) (sym (count-by p ends is.possible is.by_dialogues settled c at (at-state (Linked settled c) at) laws.settles_nothing loss)))
       by_linked settled c at Dial e = absurd e
       by_linked settled c at (Send n) e = absurd e
       by_linked settled c at (ToFilter n) e = absurd e
@@ -146,10 +146,10 @@ module _ {P : Type 0} (p : Scenario) (ends : Ends P) (is : AreEndsOf p ends) whe
       by_state (Linked settled c) at event kind = by_linked settled c at event kind
       by_state Done at event kind = absurd (going at)
 
-  want-lost : LossLaws → (loss : Loss) → want (lost_by loss ends.mta) ≡ want_unlinked (drop (length (lost_by loss ends.mta).reports) p.session.messages)
+  want-lost : LossLaws → (loss : Loss) → want (lost_by loss ends.mta) ≡ want_unconnected (drop (length (lost_by loss ends.mta).reports) p.session.messages)
   want-lost laws loss =
-      ap (λ (l : Option Link). want_in l (lost_by loss ends.mta).session.messages) (laws.unlinked loss ends.mta)
-      ∙ ap want_unlinked (messages-left p (lost_by loss ends.mta) (walks-lost p ends is.possible is.by_walks laws loss))
+      ap (λ (l : Option FilterConnection). want_in l (lost_by loss ends.mta).session.messages) (laws.unconnected loss ends.mta)
+      ∙ ap want_unconnected (messages-left p (lost_by loss ends.mta) (dialogues-lost p ends is.possible is.by_dialogues laws loss))
 
   pub dials-again : LossLaws → (event : Event) (loss : Loss) → ends.state ≢ Done → IsLossBy loss event → want (lost_by loss ends.mta) ≡ wants.Dial
       → (happens p ends.state event).state ≡ Idle (length (lost_by loss ends.mta).reports)
@@ -157,7 +157,7 @@ module _ {P : Type 0} (p : Scenario) (ends : Ends P) (is : AreEndsOf p ends) whe
       count-lost laws event loss going kind
       ∙ by_lt n (length p.session.messages)
       (λ less. ap (λ (k : Bool). if k then Idle n else Done) (lt-ltb n (length p.session.messages) less))
-      (λ none. absurd (let w : wants.Done ≡ wants.Dial = ap want_unlinked (sym (drop_all n p.session.messages none)) ∙ sym (want-lost laws loss) ∙ wanted in cc))
+      (λ none. absurd (let w : wants.Done ≡ wants.Dial = ap want_unconnected (sym (drop_all n p.session.messages none)) ∙ sym (want-lost laws loss) ∙ wanted in cc))
     where
       n : ℕ
       n = length (lost_by loss ends.mta).reports
@@ -170,9 +170,9 @@ module _ {P : Type 0} (p : Scenario) (ends : Ends P) (is : AreEndsOf p ends) whe
       (λ less. absurd (other (want-lost laws loss ∙ some-left (length (lost_by loss ends.mta).reports) p.session.messages less)))
       (λ none. ap (λ (k : Bool). if k then Idle (length (lost_by loss ends.mta).reports) else Done) (le-ltb (length (lost_by loss ends.mta).reports) (length p.session.messages) none))
     where
-      by_list : (l : List MailObject) → 0 < length l → want_unlinked l ≡ wants.Dial
+      by_list : (l : List MailObject) → 0 < length l → want_unconnected l ≡ wants.Dial
       by_list [] some = absurd (let h : 0 < 0 = some in omega arith)
       by_list (m ∷ l) some = refl
 
-      some-left : (n : ℕ) (l : List MailObject) → n < length l → want_unlinked (drop n l) ≡ wants.Dial
+      some-left : (n : ℕ) (l : List MailObject) → n < length l → want_unconnected (drop n l) ≡ wants.Dial
       some-left n l less = by_list (drop n l) (let d = length-drop n l in omega arith)

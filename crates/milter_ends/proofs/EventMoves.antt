@@ -5,9 +5,9 @@ use Rattle.milter_outcome.specs.declared.loss.Loss.{Loss}
 use Rattle.milter_outcome.specs.declared.report.Report.{Report}
 use Rattle.milter_message.specs.MailObject.{MailObject}
 use Rattle.milter_mta.specs.declared.want.Want.TheVariants as wants
-use Rattle.milter_mta.specs.Mta.{Configuration, Link, Mta}
-use Rattle.milter_mta.specs.Sending.{advanced, pending, sent, want}
-use Rattle.milter_mta.specs.Settling.{acted_in, defaulted, lost}
+use Rattle.milter_mta.specs.Mta.{Configuration, FilterConnection, Mta}
+use Rattle.milter_mta.specs.Output.{advanced, pending, sent, want}
+use Rattle.milter_mta.specs.Dispositions.{acted_in, defaulted, lost}
 use Rattle.milter_walk.specs.Lines.{Line}
 use Rattle.milter_exchange.specs.declared.filter_fault.FilterFault.{FilterFault as Fault}
 use Rattle.milter_exchange.specs.declared.filter_state.FilterState.TheVariants.{Serving}
@@ -16,24 +16,24 @@ use Rattle.milter_filter.specs.Cores.{Core, GivesUp, Takes}
 use Rattle.milter_schedule.specs.declared.event.Event.{Event}
 use Rattle.milter_schedule.specs.declared.event.Event.TheVariants.{Send, ToFilter, Answer, Die}
 use Rattle.milter_transcript.specs.ByteCounts.{due, owed, packet_end, to_filter, to_mta}
-use Rattle.milter_progress.specs.Following.{SendsLines, after_at}
+use Rattle.milter_progress.specs.FollowedLines.{SendsLines, after_at}
 use Rattle.milter_schedule.specs.Rounds.{AreCounts}
-use Rattle.milter_ends.specs.Ends.{IsAt, IsFilterAt, IsFilterIn, IsIdle, IsLinked, IsReportedByWalks, IsPossible, Ends, Steps}
-use Rattle.milter_progress.specs.Following.{IsMtaAt}
+use Rattle.milter_ends.specs.Ends.{IsAt, IsFilterAt, IsFilterIn, IsIdle, IsLinked, IsReportedByDialogues, IsPossible, Ends, Steps}
+use Rattle.milter_progress.specs.FollowedLines.{IsMtaAt}
 use Rattle.milter_schedule.specs.Schedule as states
 use Rattle.milter_schedule.specs.declared.state.Counts.{Counts}
 use Rattle.milter_schedule.specs.declared.state.State.{State}
 use Rattle.milter_schedule.specs.Schedule.{Scenario, happens, idle_at, lines_at, sends, sent_to, entries_at}
 use Rattle.milter_schedule.specs.declared.state.State.TheVariants.{Idle, Linked, Done}
-use Rattle.milter_transcript.specs.Transcript.{default_reports}
+use Rattle.milter_transcript.specs.ConnectionEntries.{default_reports}
 use Rattle.milter_transcript.proofs.ByteCounting.{by_lt, due-le, lt-ltb, owed-le, owed-mono, packet_end-due}
 use Rattle.milter_progress.proofs.Pieces.{wants-nothing, wants-receive, wants-send}
 use Rattle.milter_progress.proofs.Steps.{want-advanced}
 use Rattle.milter_ends.proofs.PieceMoves.{CoresGiveUp, CoresSend, CoresTake, all-taken, answered-counts, answered-way, answers-piece, counts-now, fails-not, none_on_way, pending-length, pipe-len, pending-len, sends-piece, sent-counts, sent-way, serving, takes-piece, is-owed}
 use Rattle.milter_progress.proofs.Reported.{reports-advanced, reports-sent, sends-lines}
-use Rattle.milter_ends.proofs.EndSteps.{LossLaws, SendLaws, count-is, idle-at, lost_to, messages-left, nothing, config-is, walks-on, walks-lost}
+use Rattle.milter_ends.proofs.EndSteps.{LossLaws, SendLaws, count-is, idle-at, lost_to, messages-left, nothing, config-is, dialogues-on, dialogues-lost}
 
-module _ {P : Type 0} (p : Scenario) (ends : Ends P) (possible : IsPossible p) (by_walks : IsReportedByWalks p ends.mta) where
+module _ {P : Type 0} (p : Scenario) (ends : Ends P) (possible : IsPossible p) (by_dialogues : IsReportedByDialogues p ends.mta) where
   -- ---- lost while there is no connection
 
   module _ (settled : ℕ) (at : ends.state ≡ Idle settled) (idle : IsIdle p settled ends) (loss : Loss) where
@@ -41,16 +41,16 @@ module _ {P : Type 0} (p : Scenario) (ends : Ends P) (possible : IsPossible p) (
     given_up_now = default_reports p.config.on_loss loss (drop settled p.session.messages) []
 
     left-is : ends.mta.session.messages ≡ drop settled p.session.messages
-    left-is = messages-left p ends.mta by_walks ∙ ap (λ (n : ℕ). drop n p.session.messages) idle.settled_is
+    left-is = messages-left p ends.mta by_dialogues ∙ ap (λ (n : ℕ). drop n p.session.messages) idle.settled_is
 
     loses-idle : (lost loss ends.mta).reports ≡ ends.mta.reports ++ given_up_now
     loses-idle =
-        ap (λ (l : Option Link). (record (defaulted loss (acted_in l) ends.mta.session.messages ends.mta) { link = None }).reports) idle.unlinked
+        ap (λ (l : Option FilterConnection). (record (defaulted loss (acted_in l) ends.mta.session.messages ends.mta) { filter_connection = None }).reports) idle.unconnected
         ∙ by_messages ends.mta.session.messages
         ∙ ap (λ (l : List MailObject). ends.mta.reports ++ default_reports ends.mta.config.on_loss loss l []) left-is
-        ∙ ap (λ (k : Configuration). ends.mta.reports ++ default_reports k.on_loss loss (drop settled p.session.messages) []) (config-is p ends.mta by_walks)
+        ∙ ap (λ (k : Configuration). ends.mta.reports ++ default_reports k.on_loss loss (drop settled p.session.messages) []) (config-is p ends.mta by_dialogues)
       where
-        by_messages : (l : List MailObject) → (record (defaulted loss [] l ends.mta) { link = None }).reports ≡ ends.mta.reports ++ default_reports ends.mta.config.on_loss loss l []
+        by_messages : (l : List MailObject) → (record (defaulted loss [] l ends.mta) { filter_connection = None }).reports ≡ ends.mta.reports ++ default_reports ends.mta.config.on_loss loss l []
         by_messages [] = sym (append-nil ends.mta.reports)
         by_messages (message ∷ messages) = refl
 
@@ -62,15 +62,15 @@ module _ {P : Type 0} (p : Scenario) (ends : Ends P) (possible : IsPossible p) (
         omega arith
 
     pub gives-up : LossLaws → (event : Event) → happens p (Idle settled) event ≡ states.gives_up p settled given_up_now
-        → Steps p ends event (lost_to p ends possible by_walks loss (happens p ends.state event).state)
+        → Steps p ends event (lost_to p ends possible by_dialogues loss (happens p ends.state event).state)
     gives-up laws event e =
         let is : happens p ends.state event ≡ states.gives_up p settled given_up_now = ap (λ (s : State). happens p s event) at ∙ e in
         record {
           is = record {
             possible = possible;
-            by_walks = walks-lost p ends possible by_walks laws loss;
-            is_at = subst (λ (s : State). IsAt p s (lost_to p ends possible by_walks loss s)) (sym (ap (λ (a : states.After). a.state) is))
-                (idle-at p ends possible by_walks (settled + length given_up_now) (lost loss ends.mta) (laws.unlinked loss ends.mta) count-idle);
+            by_dialogues = dialogues-lost p ends possible by_dialogues laws loss;
+            is_at = subst (λ (s : State). IsAt p s (lost_to p ends possible by_dialogues loss s)) (sym (ap (λ (a : states.After). a.state) is))
+                (idle-at p ends possible by_dialogues (settled + length given_up_now) (lost loss ends.mta) (laws.unconnected loss ends.mta) count-idle);
           };
           policy = refl;
           state = refl;
@@ -85,8 +85,8 @@ module _ {P : Type 0} (p : Scenario) (ends : Ends P) (possible : IsPossible p) (
     follows_lines = sends-lines p.config.on_loss (entries_at p settled) linked.opened linked.follows
 
     -- where nothing changes but the filter and the pipes
-    stays-linked : (k : Counts) (filter : Option (Core P)) (pipe back : List ℕ) → (k.sent ≡ c.sent) → (k.heard ≡ c.heard)
-        → IsFilterIn p.filter ends.policy lines k k.lives filter pipe → take k.heard (to_mta lines) ++ back ≡ take k.answered (to_mta lines) → AreCounts lines k
+    stays-linked : (k : Counts) (filter : Option (Core P)) (pipe back : List ℕ) → (k.sent ≡ c.sent) → (k.received ≡ c.received)
+        → IsFilterIn p.filter ends.policy lines k k.lives filter pipe → take k.received (to_mta lines) ++ back ≡ take k.answered (to_mta lines) → AreCounts lines k
         → IsLinked p settled k (record ends { filter = filter; to_filter = pipe; to_mta = back; state = Linked settled k })
     stays-linked k filter pipe back s h is way counts =
         record {
@@ -94,7 +94,7 @@ module _ {P : Type 0} (p : Scenario) (ends : Ends P) (possible : IsPossible p) (
           opened_settled = linked.opened_settled;
           follows = linked.follows;
           mta = subst (λ (n : ℕ). IsMtaAt linked.opened lines (record k { sent = n }) ends.mta) (sym s)
-              (subst (λ (n : ℕ). IsMtaAt linked.opened lines (record k { sent = c.sent; heard = n }) ends.mta) (sym h) linked.mta);
+              (subst (λ (n : ℕ). IsMtaAt linked.opened lines (record k { sent = c.sent; received = n }) ends.mta) (sym h) linked.mta);
           filter = is;
           answers = way;
           counts = counts;
@@ -106,7 +106,7 @@ module _ {P : Type 0} (p : Scenario) (ends : Ends P) (possible : IsPossible p) (
     steps-to event k filter pipe back e is =
         let all : happens p ends.state event ≡ states.stays (Linked settled k) = ap (λ (s : State). happens p s event) at ∙ e in
         record {
-          is = record { possible = possible; by_walks = by_walks; is_at = is };
+          is = record { possible = possible; by_dialogues = by_dialogues; is_at = is };
           policy = refl;
           state = sym (ap (λ (a : states.After). a.state) all);
           reports = sym (append-nil ends.mta.reports) ∙ ap (λ (a : states.After). ends.mta.reports ++ a.reports) (sym all);
@@ -118,7 +118,7 @@ module _ {P : Type 0} (p : Scenario) (ends : Ends P) (possible : IsPossible p) (
     dies =
         steps-to Die (record c { lives = false }) None [] ends.to_mta refl
         (stays-linked (record c { lives = false }) None [] ends.to_mta refl refl tt linked.answers
-        (record { not_over = linked.counts.not_over; taken = linked.counts.taken; sent = linked.counts.sent; heard = linked.counts.heard; answered = linked.counts.answered }))
+        (record { not_over = linked.counts.not_over; taken = linked.counts.taken; sent = linked.counts.sent; received = linked.counts.received; answered = linked.counts.answered }))
 
     pub lives-not : ends.filter ≡ None → c.lives ≡ false
     lives-not e = by_lives c.lives ends.filter e linked.filter
@@ -234,42 +234,42 @@ module _ {P : Type 0} (p : Scenario) (ends : Ends P) (possible : IsPossible p) (
 
     -- ---- a piece is sent
 
-    is-owed-now : c.heard ≤ owed lines c.sent
+    is-owed-now : c.received ≤ owed lines c.sent
     is-owed-now = is-owed linked.opened lines follows_lines c linked.counts ends.mta linked.mta
 
     -- a packet is wanted exactly before what is due
-    pub want-is : (c.sent < due lines c.heard → want ends.mta ≡ wants.Send)
+    pub want-is : (c.sent < due lines c.received → want ends.mta ≡ wants.Send)
     want-is early = by_place linked.mta
       where
-        here : want (after_at linked.opened lines c.sent c.heard).mta ≡ wants.Send
-        here = wants-send lines linked.opened c.sent c.heard follows_lines early is-owed-now
+        here : want (after_at linked.opened lines c.sent c.received).mta ≡ wants.Send
+        here = wants-send lines linked.opened c.sent c.received follows_lines early is-owed-now
 
         by_place : IsMtaAt linked.opened lines c ends.mta → want ends.mta ≡ wants.Send
         by_place (inl e) = ap want e ∙ here
-        by_place (inr e) = ap want e.1 ∙ want-advanced (after_at linked.opened lines c.sent c.heard).mta ∙ here
+        by_place (inr e) = ap want e.1 ∙ want-advanced (after_at linked.opened lines c.sent c.received).mta ∙ here
 
-    pub want-not : due lines c.heard ≤ c.sent → want ends.mta ≡ wants.Receive
+    pub want-not : due lines c.received ≤ c.sent → want ends.mta ≡ wants.Receive
     want-not late = by_place linked.mta
       where
         by_place : IsMtaAt linked.opened lines c ends.mta → want ends.mta ≡ wants.Receive
-        by_place (inl e) = ap want e ∙ wants-receive lines linked.opened c.sent c.heard follows_lines (let s = linked.counts.sent in omega arith) linked.counts.not_over
+        by_place (inl e) = ap want e ∙ wants-receive lines linked.opened c.sent c.received follows_lines (let s = linked.counts.sent in omega arith) linked.counts.not_over
         by_place (inr e) = absurd (let g = e.0 in let f : c.sent < c.sent = omega arith in omega arith)
 
-    pub early-is : want ends.mta ≡ wants.Send → c.sent < due lines c.heard
-    early-is e = by_lt c.sent (due lines c.heard) (λ less. less) (λ late. absurd (let w : wants.Send ≡ wants.Receive = sym e ∙ want-not late in cc))
+    pub early-is : want ends.mta ≡ wants.Send → c.sent < due lines c.received
+    early-is e = by_lt c.sent (due lines c.received) (λ less. less) (λ late. absurd (let w : wants.Send ≡ wants.Receive = sym e ∙ want-not late in cc))
 
     module _ (n : ℕ) where
       pub sends-not : want ends.mta ≢ wants.Send → Steps p ends (Send n) ends
       sends-not other =
-          by_lt c.sent (due lines c.heard)
+          by_lt c.sent (due lines c.received)
           (λ early. absurd (other (want-is early)))
           (λ late.
-          nothing p ends possible by_walks (Send n) (subst (λ (s : State). IsAt p s ends) (sym at) linked)
+          nothing p ends possible by_dialogues (Send n) (subst (λ (s : State). IsAt p s ends) (sym at) linked)
           (ap (λ (s : State). happens p s (Send n)) at
-          ∙ ap (λ (b : Bool). states.stays (if b then sent_to lines settled c (min (c.sent + n) (packet_end lines c.sent)) else Linked settled c)) (le-ltb c.sent (due lines c.heard) late)
+          ∙ ap (λ (b : Bool). states.stays (if b then sent_to lines settled c (min (c.sent + n) (packet_end lines c.sent)) else Linked settled c)) (le-ltb c.sent (due lines c.received) late)
           ∙ ap states.stays (sym at)))
 
-      module _ (laws : SendLaws) (early : c.sent < due lines c.heard) where
+      module _ (laws : SendLaws) (early : c.sent < due lines c.received) where
         abbrev count : ℕ
         count = min n (length (pending (advanced ends.mta)))
 
@@ -286,7 +286,7 @@ module _ {P : Type 0} (p : Scenario) (ends : Ends P) (possible : IsPossible p) (
 
         sent-event : happens p (Linked settled c) (Send n) ≡ states.stays (sent_to lines settled c (c.sent + count))
         sent-event =
-            ap (λ (b : Bool). states.stays (if b then sent_to lines settled c (min (c.sent + n) (packet_end lines c.sent)) else Linked settled c)) (lt-ltb c.sent (due lines c.heard) early)
+            ap (λ (b : Bool). states.stays (if b then sent_to lines settled c (min (c.sent + n) (packet_end lines c.sent)) else Linked settled c)) (lt-ltb c.sent (due lines c.received) early)
             ∙ ap (λ (s : ℕ). states.stays (sent_to lines settled c s)) (sym sent-is)
 
         abbrev mta_then : Mta
@@ -295,12 +295,12 @@ module _ {P : Type 0} (p : Scenario) (ends : Ends P) (possible : IsPossible p) (
         mta-then : IsMtaAt linked.opened lines sent_counts mta_then
         mta-then = sends-piece linked.opened lines follows_lines c linked.counts ends.mta linked.mta laws.adds_up early count count-le
 
-        walks-sent : IsReportedByWalks p mta_then
-        walks-sent =
-            let one = laws.advanced_on ends.mta by_walks.walks.on_walk in
-            walks-on p ends possible by_walks laws.both mta_then
-            (laws.both ends.mta (advanced ends.mta) mta_then one (laws.sent_on (advanced ends.mta) count one.on_walk))
-            (laws.sent_reported (advanced ends.mta) count (laws.advanced_reported ends.mta by_walks.connection))
+        dialogues-sent : IsReportedByDialogues p mta_then
+        dialogues-sent =
+            let one = laws.advanced_on ends.mta by_dialogues.dialogues.on_dialogue in
+            dialogues-on p ends possible by_dialogues laws.both mta_then
+            (laws.both ends.mta (advanced ends.mta) mta_then one (laws.sent_on (advanced ends.mta) count one.on_dialogue))
+            (laws.sent_reported (advanced ends.mta) count (laws.advanced_reported ends.mta by_dialogues.connection))
 
         same-reports : mta_then.reports ≡ ends.mta.reports
         same-reports = reports-sent count (advanced ends.mta) ∙ reports-advanced ends.mta
@@ -311,7 +311,7 @@ module _ {P : Type 0} (p : Scenario) (ends : Ends P) (possible : IsPossible p) (
         sent-steps state pipe e is =
             let all : happens p ends.state (Send n) ≡ states.stays state = ap (λ (s : State). happens p s (Send n)) at ∙ sent-event ∙ ap states.stays e in
             record {
-              is = record { possible = possible; by_walks = walks-sent; is_at = is };
+              is = record { possible = possible; by_dialogues = dialogues-sent; is_at = is };
               policy = refl;
               state = sym (ap (λ (a : states.After). a.state) all);
               reports = same-reports ∙ sym (append-nil ends.mta.reports) ∙ ap (λ (a : states.After). ends.mta.reports ++ a.reports) (sym all);
@@ -321,8 +321,8 @@ module _ {P : Type 0} (p : Scenario) (ends : Ends P) (possible : IsPossible p) (
         end_le : c.sent + count ≤ length (to_filter lines)
         end_le =
             let l = pending-length linked.opened lines follows_lines c linked.counts ends.mta linked.mta laws.adds_up early in
-            let d = packet_end-due lines c.sent c.heard early is-owed-now in
-            let f = due-le lines c.heard in
+            let d = packet_end-due lines c.sent c.received early is-owed-now in
+            let f = due-le lines c.received in
             omega arith
 
         pub sends-last : (pipe : List ℕ) → c.sent + count ≡ length (to_filter lines) → Steps p ends (Send n) (record ends { mta = mta_then; to_filter = pipe; state = Done })
@@ -366,45 +366,45 @@ module _ {P : Type 0} (p : Scenario) (ends : Ends P) (possible : IsPossible p) (
         pub done-is : c.sent + count ≡ length (to_filter lines) → want mta_then ≡ wants.Done
         done-is all = by_place mta-then
           where
-            is_owed_then : c.heard ≤ owed lines (c.sent + count)
+            is_owed_then : c.received ≤ owed lines (c.sent + count)
             is_owed_then = let t = is-owed-now in let m = owed-mono lines c.sent (c.sent + count) (omega arith) in omega arith
 
-            due_then : due lines c.heard ≡ length (to_filter lines)
+            due_then : due lines c.received ≡ length (to_filter lines)
             due_then =
                 let l = pending-length linked.opened lines follows_lines c linked.counts ends.mta linked.mta laws.adds_up early in
-                let d = packet_end-due lines c.sent c.heard early is-owed-now in
-                let f = due-le lines c.heard in
+                let d = packet_end-due lines c.sent c.received early is-owed-now in
+                let f = due-le lines c.received in
                 omega arith
 
             by_place : IsMtaAt linked.opened lines sent_counts mta_then → want mta_then ≡ wants.Done
             by_place (inl e) =
-                let h = possible.last_unanswered settled c.heard due_then in
+                let h = possible.last_unanswered settled c.received due_then in
                 let o = owed-le lines (c.sent + count) in
                 let t = is_owed_then in
-                ap want e ∙ wants-nothing lines linked.opened (c.sent + count) c.heard follows_lines (all ∙ sym due_then) all (omega arith)
+                ap want e ∙ wants-nothing lines linked.opened (c.sent + count) c.received follows_lines (all ∙ sym due_then) all (omega arith)
             by_place (inr e) = absurd (let g = e.0 in let d = due_then in let f : c.sent < c.sent = omega arith in omega arith)
 
         pub done-not : c.sent + count < length (to_filter lines) → want mta_then ≢ wants.Done
         done-not less none = by_place mta-then
           where
-            is_owed_then : c.heard ≤ owed lines (c.sent + count)
+            is_owed_then : c.received ≤ owed lines (c.sent + count)
             is_owed_then = let t = is-owed-now in let m = owed-mono lines c.sent (c.sent + count) (omega arith) in omega arith
 
-            sent_le : c.sent + count ≤ due lines c.heard
+            sent_le : c.sent + count ≤ due lines c.received
             sent_le =
                 let l = pending-length linked.opened lines follows_lines c linked.counts ends.mta linked.mta laws.adds_up early in
-                let d = packet_end-due lines c.sent c.heard early is-owed-now in
+                let d = packet_end-due lines c.sent c.received early is-owed-now in
                 omega arith
 
-            want-here : want (after_at linked.opened lines (c.sent + count) c.heard).mta ≢ wants.Done
+            want-here : want (after_at linked.opened lines (c.sent + count) c.received).mta ≢ wants.Done
             want-here e =
-                by_lt (c.sent + count) (due lines c.heard)
-                (λ before. let w : wants.Done ≡ wants.Send = sym e ∙ wants-send lines linked.opened (c.sent + count) c.heard follows_lines before is_owed_then in cc)
-                (λ at_end. let w : wants.Done ≡ wants.Receive = sym e ∙ wants-receive lines linked.opened (c.sent + count) c.heard follows_lines (let s = sent_le in omega arith) less in cc)
+                by_lt (c.sent + count) (due lines c.received)
+                (λ before. let w : wants.Done ≡ wants.Send = sym e ∙ wants-send lines linked.opened (c.sent + count) c.received follows_lines before is_owed_then in cc)
+                (λ at_end. let w : wants.Done ≡ wants.Receive = sym e ∙ wants-receive lines linked.opened (c.sent + count) c.received follows_lines (let s = sent_le in omega arith) less in cc)
 
             by_place : IsMtaAt linked.opened lines sent_counts mta_then → ⊥
             by_place (inl e) = want-here (sym (ap want e) ∙ none)
-            by_place (inr e) = want-here (sym (ap want e.1 ∙ want-advanced (after_at linked.opened lines (c.sent + count) c.heard).mta) ∙ none)
+            by_place (inr e) = want-here (sym (ap want e.1 ∙ want-advanced (after_at linked.opened lines (c.sent + count) c.received).mta) ∙ none)
 
         pub not_all : want mta_then ≢ wants.Done → c.sent + count < length (to_filter lines)
         not_all more = by_lt (c.sent + count) (length (to_filter lines)) (λ less. less) (λ all. absurd (more (done-is (let e = end_le in omega arith))))
@@ -414,25 +414,25 @@ module _ {P : Type 0} (p : Scenario) (ends : Ends P) (possible : IsPossible p) (
 
     -- ---- what the filter's end is
 
-    pub serves : (core : Core P) → ends.filter ≡ Some core → core.standing.state ≡ Serving
+    pub serves : (core : Core P) → ends.filter ≡ Some core → core.order_state.state ≡ Serving
     serves core some = serving p.filter ends.policy lines (possible.answered settled) c linked.counts core ends.to_filter (lives-is core some).is
 
     pub fails : CoresGiveUp P → (core : Core P) → ends.filter ≡ Some core → (n : ℕ) → core.pending ≡ [] → (fault : Fault)
-        → GivesUp p.filter core.standing (received_in (core.unread ++ take n ends.to_filter)) fault → ⊥
+        → GivesUp p.filter core.order_state (received_in (core.unread ++ take n ends.to_filter)) fault → ⊥
     fails laws core some n none fault gives =
         fails-not p.filter ends.policy lines (possible.answered settled) c linked.counts core ends.to_filter (lives-is core some).is
         (take n ends.to_filter) (drop n ends.to_filter) (take-append-drop n ends.to_filter) laws none fault gives
 
     pub dead-to : ends.filter ≡ None → (n : ℕ) → Steps p ends (ToFilter n) ends
     dead-to none n =
-        nothing p ends possible by_walks (ToFilter n) (subst (λ (s : State). IsAt p s ends) (sym at) linked)
+        nothing p ends possible by_dialogues (ToFilter n) (subst (λ (s : State). IsAt p s ends) (sym at) linked)
         (ap (λ (s : State). happens p s (ToFilter n)) at
         ∙ ap (λ (b : Bool). states.stays (Linked settled (states.if_lives b c (record c { taken = min (c.taken + n) c.sent })))) (lives-not none)
         ∙ ap states.stays (sym at))
 
     pub dead-answer : ends.filter ≡ None → (n : ℕ) → Steps p ends (Answer n) ends
     dead-answer none n =
-        nothing p ends possible by_walks (Answer n) (subst (λ (s : State). IsAt p s ends) (sym at) linked)
+        nothing p ends possible by_dialogues (Answer n) (subst (λ (s : State). IsAt p s ends) (sym at) linked)
         (ap (λ (s : State). happens p s (Answer n)) at
         ∙ ap (λ (b : Bool). states.stays (Linked settled (states.if_lives b c (record c { answered = min (c.answered + n) (owed lines c.taken) })))) (lives-not none)
         ∙ ap states.stays (sym at))
@@ -459,9 +459,9 @@ module _ {P : Type 0} (p : Scenario) (ends : Ends P) (possible : IsPossible p) (
         let s = possible.short_to_mta settled in
         omega arith
 
-    pub short_heard : (n : ℕ) → c.heard + length (take n ends.to_mta) < 2 ^ 128
-    short_heard n =
-        let e = count-is p ends possible by_walks settled c at linked n in
+    pub short_received : (n : ℕ) → c.received + length (take n ends.to_mta) < 2 ^ 128
+    short_received n =
+        let e = count-is p ends possible by_dialogues settled c at linked n in
         let a = linked.counts.answered in
         let k = owed-le lines c.taken in
         let s = possible.short_to_mta settled in

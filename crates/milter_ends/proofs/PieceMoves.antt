@@ -7,22 +7,22 @@ use Rattle.milter_wire.specs.Reply.{encoding}
 use Rattle.milter_exchange.specs.Behavior.{Behavior}
 use Rattle.milter_exchange.specs.declared.filter_fault.FilterFault.{FilterFault as Fault}
 use Rattle.milter_exchange.specs.declared.filter_state.FilterState.TheVariants.{Failed, Serving}
-use Rattle.milter_exchange.specs.Standings.{Standing, fresh as fresh_standing, standing_after, standing_replies}
+use Rattle.milter_exchange.specs.OrderStates.{OrderState, fresh as fresh_order_state, order_state_after, order_state_replies}
 use Rattle.milter_mta.specs.Mta.{Mta}
-use Rattle.milter_mta.specs.Receiving.{After, goes_on, heard, heard_on}
-use Rattle.milter_mta.specs.Sending.{advanced, pending, sent}
+use Rattle.milter_mta.specs.Replies.{After, goes_on, received, received_on}
+use Rattle.milter_mta.specs.Output.{advanced, pending, sent}
 use Rattle.milter_walk.specs.Lines.{Line}
 use Rattle.milter_filter.specs.Cores.{Core, GivesUp, GoesOn, Takes, fresh_core, given_up}
 use Rattle.milter_filter.specs.Streams.{received_in}
 use Rattle.milter_transcript.specs.ByteCounts.{due, owed, packet_end, to_filter, to_mta}
-use Rattle.milter_progress.specs.Following.{SendsLines, after_at}
+use Rattle.milter_progress.specs.FollowedLines.{SendsLines, after_at}
 use Rattle.milter_transcript.specs.Answered.{AnswersLines}
 use Rattle.milter_schedule.specs.Rounds.{AreCounts}
 use Rattle.milter_ends.specs.Ends.{IsFilterAt}
-use Rattle.milter_progress.specs.Following.{IsMtaAt}
+use Rattle.milter_progress.specs.FollowedLines.{IsMtaAt}
 use Rattle.milter_schedule.specs.declared.state.Counts.{Counts}
 use Rattle.milter_transcript.proofs.ByteCounting.{due-le, due-mono, owed-due, owed-le, owed-mono, packet_end-due, packet_end-more}
-use Rattle.milter_progress.proofs.Pieces.{AddsUp, goes-on, hears, not_lost, pends, sends}
+use Rattle.milter_progress.proofs.Pieces.{AddsUp, goes-on, receives_bytes, not_lost, pends, sends}
 use Rattle.milter_progress.proofs.Steps.{advanced-again, sent-nothing}
 
 -- ---- a beginning that goes on by a piece
@@ -78,20 +78,20 @@ CoresTake P = (b : Behavior) (old core new : Core P) (input sent piece : List �
 
 abbrev pub CoresGiveUp : Type 0 → Type 0
 CoresGiveUp P = (b : Behavior) (old core : Core P) (input sent piece : List ℕ) (fault : Fault) →
-    GoesOn b old input sent core → core.pending ≡ [] → GivesUp b core.standing (received_in (core.unread ++ piece)) fault →
+    GoesOn b old input sent core → core.pending ≡ [] → GivesUp b core.order_state (received_in (core.unread ++ piece)) fault →
     GoesOn b old (input ++ piece) sent (given_up core fault)
 
 module _ {P : Type 0} (b : Behavior) (policy : P) (lines : List Line) (answers : AnswersLines b lines) (c : Counts) (counts : AreCounts lines c)
     (core : Core P) (pipe : List ℕ) (is : IsFilterAt b policy lines c core pipe) where
   out_le : c.sent ≤ length (to_filter lines)
-  out_le = let a = counts.sent in let d = due-le lines c.heard in omega arith
+  out_le = let a = counts.sent in let d = due-le lines c.received in omega arith
 
   pub pending-is : take c.answered (to_mta lines) ++ core.pending ≡ take (owed lines c.taken) (to_mta lines)
   pending-is = is.goes_on.replied ∙ answers.replied c.taken
 
-  pub serving : core.standing.state ≡ Serving
+  pub serving : core.order_state.state ≡ Serving
   serving =
-      ap (λ (s : Standing). s.state) is.goes_on.standing
+      ap (λ (s : OrderState). s.state) is.goes_on.order_state
       ∙ answers.serves c.taken (let a = counts.not_over in let d = counts.taken in omega arith)
 
   pub pending-len : c.answered + length core.pending ≡ owed lines c.taken
@@ -106,10 +106,10 @@ module _ {P : Type 0} (b : Behavior) (policy : P) (lines : List Line) (answers :
       empty pipe
       (let n = pending-len in
       let l = pipe-len in
-      let h = counts.heard in
+      let h = counts.received in
       let s = counts.sent in
       let k : 0 < length core.pending = positive core.pending some in
-      let d = owed-due lines c.heard c.taken (omega arith) in
+      let d = owed-due lines c.received c.taken (omega arith) in
       omega arith)
     where
       positive : (xs : List ℕ) → xs ≢ [] → 0 < length xs
@@ -137,25 +137,25 @@ module _ {P : Type 0} (b : Behavior) (policy : P) (lines : List Line) (answers :
           not_over = counts.not_over;
           taken = here.within;
           sent = counts.sent;
-          heard = counts.heard;
+          received = counts.received;
           answered = let a = counts.answered in omega arith;
         }
 
     -- it can't fail
     pub fails-not : CoresGiveUp P → core.pending ≡ [] → (fault : Fault)
-        → GivesUp b core.standing (received_in (core.unread ++ piece)) fault → ⊥
+        → GivesUp b core.order_state (received_in (core.unread ++ piece)) fault → ⊥
     fails-not laws none fault gives =
         let new = laws b (fresh_core policy) core (take c.taken (to_filter lines)) (take c.answered (to_mta lines)) piece fault is.goes_on none gives in
         let over = counts.not_over in
         let w = here.within in
         let state : Failed fault ≡ Serving =
-        ap (λ (s : Standing). s.state) new.standing
-        ∙ ap (λ (l : List ℕ). (standing_of l).state) (sym here.goes)
+        ap (λ (s : OrderState). s.state) new.order_state
+        ∙ ap (λ (l : List ℕ). (order_state_of l).state) (sym here.goes)
         ∙ answers.serves (c.taken + length piece) (omega arith) in
         absurd cc
       where
-        standing_of : List ℕ → Standing
-        standing_of l = standing_after b fresh_standing (received_in l)
+        order_state_of : List ℕ → OrderState
+        order_state_of l = order_state_after b fresh_order_state (received_in l)
 
     -- it takes all of the piece
     module _ (laws : CoresTake P) (none : core.pending ≡ []) (n : ℕ) (new : Core P) (takes : Takes b core piece n new) where
@@ -178,13 +178,13 @@ module _ {P : Type 0} (b : Behavior) (policy : P) (lines : List Line) (answers :
           by_pending : (p : List ℕ) → new.pending ≡ p → n ≡ length piece
           by_pending [] e = takes.all e
           by_pending (byte ∷ bytes) e =
-              let p = goes-now.replied ∙ ap (λ (l : List ℕ). flat_map encoding (standing_replies b fresh_standing (received_in l))) (sym part-is) ∙ answers.replied (c.taken + n) in
+              let p = goes-now.replied ∙ ap (λ (l : List ℕ). flat_map encoding (order_state_replies b fresh_order_state (received_in l))) (sym part-is) ∙ answers.replied (c.taken + n) in
               let m = owed-mono lines c.taken (c.taken + n) (omega arith) in
               let a = counts.answered in
               let len = nothing-left (to_mta lines) new.pending c.answered (owed lines (c.taken + n)) (omega arith) (owed-le lines (c.taken + n)) p in
               let some = ap length e in
-              let h = counts.heard in
-              let d = owed-due lines c.heard (c.taken + n) (omega arith) in
+              let h = counts.received in
+              let d = owed-due lines c.received (c.taken + n) (omega arith) in
               let s = counts.sent in
               let w = here.within in
               let t = takes.within in
@@ -224,10 +224,10 @@ module _ {P : Type 0} (b : Behavior) (policy : P) (lines : List Line) (answers :
         on_way = is.on_way;
       }
 
-  pub answered-way : (back : List ℕ) → take c.heard (to_mta lines) ++ back ≡ take c.answered (to_mta lines)
-      → take c.heard (to_mta lines) ++ (back ++ take n core.pending) ≡ take (c.answered + length (take n core.pending)) (to_mta lines)
+  pub answered-way : (back : List ℕ) → take c.received (to_mta lines) ++ back ≡ take c.answered (to_mta lines)
+      → take c.received (to_mta lines) ++ (back ++ take n core.pending) ≡ take (c.answered + length (take n core.pending)) (to_mta lines)
   answered-way back on_way =
-      sym (append_assoc (take c.heard (to_mta lines)) back (take n core.pending))
+      sym (append_assoc (take c.received (to_mta lines)) back (take n core.pending))
       ∙ ap (λ (l : List ℕ). l ++ take n core.pending) on_way ∙ sym answer-cut.goes
 
   pub answered-counts : AreCounts lines answered_now
@@ -236,7 +236,7 @@ module _ {P : Type 0} (b : Behavior) (policy : P) (lines : List Line) (answers :
         not_over = counts.not_over;
         taken = counts.taken;
         sent = counts.sent;
-        heard = let h = counts.heard in omega arith;
+        received = let h = counts.received in omega arith;
         answered = answer-cut.within;
       }
 
@@ -245,70 +245,70 @@ module _ {P : Type 0} (b : Behavior) (policy : P) (lines : List Line) (answers :
 module _ (opened : Mta) (lines : List Line) (follows : SendsLines opened lines) (c : Counts) (counts : AreCounts lines c) (m : Mta)
     (is : IsMtaAt opened lines c m) where
   abbrev here_mta : Mta
-  here_mta = (after_at opened lines c.sent c.heard).mta
+  here_mta = (after_at opened lines c.sent c.received).mta
 
-  here-after : after_at opened lines c.sent c.heard ≡ goes_on here_mta
-  here-after = goes-on (after_at opened lines c.sent c.heard) (not_lost lines opened c.sent c.heard follows)
+  here-after : after_at opened lines c.sent c.received ≡ goes_on here_mta
+  here-after = goes-on (after_at opened lines c.sent c.received) (not_lost lines opened c.sent c.received follows)
 
   owed_le : c.answered ≤ owed lines c.sent
   owed_le = let a = counts.answered in let e = owed-mono lines c.taken c.sent counts.taken in omega arith
 
-  pub is-owed : c.heard ≤ owed lines c.sent
-  is-owed = let h = counts.heard in let o = owed_le in omega arith
+  pub is-owed : c.received ≤ owed lines c.sent
+  is-owed = let h = counts.received in let o = owed_le in omega arith
 
-  module _ (back piece rest : List ℕ) (on_way : take c.heard (to_mta lines) ++ back ≡ take c.answered (to_mta lines)) (cut : piece ++ rest ≡ back) where
-    abbrev heard_now : Counts
-    heard_now = record c { heard = c.heard + length piece }
+  module _ (back piece rest : List ℕ) (on_way : take c.received (to_mta lines) ++ back ≡ take c.answered (to_mta lines)) (cut : piece ++ rest ≡ back) where
+    abbrev received_now : Counts
+    received_now = record c { received = c.received + length piece }
 
-    heard-cut : IsCut (to_mta lines) piece c.heard c.answered
-    heard-cut =
-        cut-at (to_mta lines) piece rest c.heard c.answered counts.heard (let h = counts.answered in let k = owed-le lines c.taken in omega arith)
-        (ap (λ (l : List ℕ). take c.heard (to_mta lines) ++ l) cut ∙ on_way)
+    received-cut : IsCut (to_mta lines) piece c.received c.answered
+    received-cut =
+        cut-at (to_mta lines) piece rest c.received c.answered counts.received (let h = counts.answered in let k = owed-le lines c.taken in omega arith)
+        (ap (λ (l : List ℕ). take c.received (to_mta lines) ++ l) cut ∙ on_way)
 
-    pub heard-way : take (c.heard + length piece) (to_mta lines) ++ rest ≡ take c.answered (to_mta lines)
-    heard-way =
-        rest-at (to_mta lines) piece rest c.heard c.answered heard-cut
-        (ap (λ (l : List ℕ). take c.heard (to_mta lines) ++ l) cut ∙ on_way)
+    pub received-way : take (c.received + length piece) (to_mta lines) ++ rest ≡ take c.answered (to_mta lines)
+    received-way =
+        rest-at (to_mta lines) piece rest c.received c.answered received-cut
+        (ap (λ (l : List ℕ). take c.received (to_mta lines) ++ l) cut ∙ on_way)
 
-    pub heard-counts : AreCounts lines heard_now
-    heard-counts =
+    pub received-counts : AreCounts lines received_now
+    received-counts =
         record {
           not_over = counts.not_over;
           taken = counts.taken;
-          sent = let h = counts.sent in let k = due-mono lines c.heard (c.heard + length piece) (omega arith) in omega arith;
-          heard = heard-cut.within;
+          sent = let h = counts.sent in let k = due-mono lines c.received (c.received + length piece) (omega arith) in omega arith;
+          received = received-cut.within;
           answered = counts.answered;
         }
 
     -- what the mail server's end makes of the piece, and that nothing is lost
-    pub record IsHeard (after : After) : Type 0 where
+    pub record IsReceived (after : After) : Type 0 where
       pub goes_on : after ≡ goes_on after.mta
-      pub is_at : IsMtaAt opened lines heard_now after.mta
+      pub is_at : IsMtaAt opened lines received_now after.mta
 
-    pub hears-piece : IsHeard (heard m piece)
-    hears-piece = by_place is piece heard-cut refl
+    pub receives_bytes-piece : IsReceived (received m piece)
+    receives_bytes-piece = by_place is piece received-cut refl
       where
-        by_place : IsMtaAt opened lines c m → (bytes : List ℕ) → IsCut (to_mta lines) bytes c.heard c.answered → piece ≡ bytes → IsHeard (heard m piece)
+        by_place : IsMtaAt opened lines c m → (bytes : List ℕ) → IsCut (to_mta lines) bytes c.received c.answered → piece ≡ bytes → IsReceived (received m piece)
         by_place (inl e) bytes k same =
-            let all : heard m piece ≡ after_at opened lines c.sent (c.heard + length piece) =
-            ap (λ (x : Mta). heard x piece) e
-            ∙ sym (ap (λ (a : After). heard_on a piece) here-after)
-            ∙ ap (heard_on (after_at opened lines c.sent c.heard)) heard-cut.is
-            ∙ hears lines opened c.sent c.heard (length piece) follows counts.sent (let o = owed_le in let w = heard-cut.within in omega arith) in
+            let all : received m piece ≡ after_at opened lines c.sent (c.received + length piece) =
+            ap (λ (x : Mta). received x piece) e
+            ∙ sym (ap (λ (a : After). received_on a piece) here-after)
+            ∙ ap (received_on (after_at opened lines c.sent c.received)) received-cut.is
+            ∙ receives_bytes lines opened c.sent c.received (length piece) follows counts.sent (let o = owed_le in let w = received-cut.within in omega arith) in
             record {
-              goes_on = goes-on (heard m piece) (ap (λ (a : After). a.loss) all ∙ not_lost lines opened c.sent (c.heard + length piece) follows);
+              goes_on = goes-on (received m piece) (ap (λ (a : After). a.loss) all ∙ not_lost lines opened c.sent (c.received + length piece) follows);
               is_at = inl (ap (λ (a : After). a.mta) all);
             }
         by_place (inr e) [] k same =
-            let nothing : heard m piece ≡ goes_on m = ap (heard m) same in
-            let zero_more : c.heard ≡ c.heard + length piece = let n = ap length same in omega arith in
+            let nothing : received m piece ≡ goes_on m = ap (received m) same in
+            let zero_more : c.received ≡ c.received + length piece = let n = ap length same in omega arith in
             record {
-              goes_on = goes-on (heard m piece) (ap (λ (a : After). a.loss) nothing);
-              is_at = subst (λ (x : Mta). IsMtaAt opened lines heard_now x) (sym (ap (λ (a : After). a.mta) nothing))
-                  (subst (λ (h : ℕ). IsMtaAt opened lines (record c { heard = h }) m) zero_more (inr e));
+              goes_on = goes-on (received m piece) (ap (λ (a : After). a.loss) nothing);
+              is_at = subst (λ (x : Mta). IsMtaAt opened lines received_now x) (sym (ap (λ (a : After). a.mta) nothing))
+                  (subst (λ (h : ℕ). IsMtaAt opened lines (record c { received = h }) m) zero_more (inr e));
             }
         by_place (inr e) (byte ∷ bytes) k same =
-            absurd (let o = owed_le in let w = k.within in let d = owed-due lines c.heard c.sent (omega arith) in let g = e.0 in let f : c.sent < c.sent = omega arith in omega arith)
+            absurd (let o = owed_le in let w = k.within in let d = owed-due lines c.received c.sent (omega arith) in let g = e.0 in let f : c.sent < c.sent = omega arith in omega arith)
 
   -- ---- a piece is sent
 
@@ -322,17 +322,17 @@ module _ (opened : Mta) (lines : List Line) (follows : SendsLines opened lines) 
       by_place (inl e) = ap advanced e
       by_place (inr e) = ap advanced e.1 ∙ advanced-again here_mta
 
-  module _ (adds : AddsUp) (early : c.sent < due lines c.heard) where
+  module _ (adds : AddsUp) (early : c.sent < due lines c.received) where
     pub pending-now : pending (advanced m) ≡ take (packet_end lines c.sent - c.sent) (drop c.sent (to_filter lines))
-    pending-now = ap pending made-now ∙ pends adds lines opened c.sent c.heard follows early is-owed
+    pending-now = ap pending made-now ∙ pends adds lines opened c.sent c.received follows early is-owed
 
     end_le : packet_end lines c.sent ≤ length (to_filter lines)
-    end_le = let d = packet_end-due lines c.sent c.heard early is-owed in let f = due-le lines c.heard in omega arith
+    end_le = let d = packet_end-due lines c.sent c.received early is-owed in let f = due-le lines c.received in omega arith
 
     pub pending-length : c.sent + length (pending (advanced m)) ≡ packet_end lines c.sent
     pending-length =
         let p = ap length pending-now in
-        let n = packet_end-more lines c.sent c.heard early is-owed in
+        let n = packet_end-more lines c.sent c.received early is-owed in
         let l = length-drop c.sent (to_filter lines) in
         let o = end_le in
         let t = length-take-le (packet_end lines c.sent - c.sent) (drop c.sent (to_filter lines)) (omega arith) in
@@ -354,7 +354,7 @@ module _ (opened : Mta) (lines : List Line) (follows : SendsLines opened lines) 
               subst (λ (x : Mta). IsMtaAt opened lines sent_now x) (sym (ap (λ (j : ℕ). sent j (advanced m)) e ∙ sent-nothing (advanced m) ∙ made-now))
               (subst (λ (s : ℕ). IsMtaAt opened lines (record c { sent = s }) made_here) same (inr (early, refl)))
           by_count (suc j) e =
-              inl (ap (sent k) made-now ∙ ap (λ (a : After). a.mta) (sends adds lines opened c.sent c.heard k follows early is-owed (omega arith) within))
+              inl (ap (sent k) made-now ∙ ap (λ (a : After). a.mta) (sends adds lines opened c.sent c.received k follows early is-owed (omega arith) within))
 
       -- on its way to the filter
       pub sent-way : (pipe : List ℕ) → take c.taken (to_filter lines) ++ pipe ≡ take c.sent (to_filter lines)
@@ -370,12 +370,12 @@ module _ (opened : Mta) (lines : List Line) (follows : SendsLines opened lines) 
 
       pub sent-counts : c.sent + k < length (to_filter lines) → AreCounts lines sent_now
       sent-counts more =
-          let d = packet_end-due lines c.sent c.heard early is-owed in
+          let d = packet_end-due lines c.sent c.received early is-owed in
           let w = within in
           record {
             not_over = more;
             taken = let t = counts.taken in omega arith;
             sent = omega arith;
-            heard = counts.heard;
+            received = counts.received;
             answered = counts.answered;
           }

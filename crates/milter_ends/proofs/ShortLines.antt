@@ -5,7 +5,7 @@ use Rattle.std.proofs.lemmas.List.Concat.{flat_map-append, flat_map-cons}
 use Rattle.std.proofs.lemmas.List.Elements.{All-head, All-tail}
 use Rattle.std.proofs.lemmas.List.Sums.{sum_by-cons}
 use Rattle.milter_stream.specs.Number.{number}
-use Rattle.milter_wire.specs.declared.agreement.Agreed.{Agreed}
+use Rattle.milter_wire.specs.declared.negotiation.Negotiated.{Negotiated}
 use Rattle.milter_wire.specs.declared.command.Command.{Command}
 use Rattle.milter_wire.specs.declared.command.Command.TheVariants as commands
 use Rattle.milter_wire.specs.declared.reply.Reply.{Reply}
@@ -14,7 +14,7 @@ use Rattle.milter_wire.specs.declared.verdict.Verdict.{Verdict}
 use Rattle.milter_wire.specs.declared.verdict.Verdict.TheVariants.{Skip}
 use Rattle.milter_options.specs.declared.options.Options.{Options}
 use Rattle.milter_options.specs.declared.options.TheConstants.Protocol.{SKIP}
-use Rattle.milter_wire.specs.Agreement.{agree, has, has_leading_space, is_asked}
+use Rattle.milter_wire.specs.Negotiation.{negotiate, has, has_leading_space, is_asked}
 use Rattle.milter_wire.specs.Command as sent_to
 use Rattle.milter_wire.specs.Command.{bytes_of}
 use Rattle.milter_wire.specs.Reply.{Fits, encoding, payload_of, code_of}
@@ -35,11 +35,11 @@ use Rattle.milter_exchange.specs.Lawful.{IsLawful}
 use Rattle.milter_exchange.specs.Permitted.{is_permitted, permitted_verdict}
 use Rattle.milter_exchange.specs.Replies.{options_reply}
 use Rattle.milter_exchange.specs.Seen.{Seen, seen}
-use Rattle.milter_exchange.specs.Talk.{is_closed, is_left_out, talk}
+use Rattle.milter_exchange.specs.Dialogue.{is_closed, is_left_out, dialogue_with}
 use Rattle.milter_walk.specs.Lines.{Line, abort_line, answer_bytes, line_of, quit_line}
 use Rattle.milter_walk.specs.Sessions.{lines_after, lines_from, session_lines}
 use Rattle.milter_walk.specs.Settled.{ends_with_client, ends_with_message}
-use Rattle.milter_walk.specs.Walks.{opening_of}
+use Rattle.milter_walk.specs.Dialogues.{opening_of}
 use Rattle.milter_transcript.specs.ByteCounts.{to_filter, to_mta}
 
 abbrev pub Each : {A : Type 0} → (A → Type 0) → List A → Type 0
@@ -74,73 +74,73 @@ some-command c = let a = length-append (number (length (sent_to.payload_of c) + 
 
 -- ---- answers
 
-edits-length : (agreed : Agreed) (es : List Edit) → length (flat_map encoding (map edits.reply_of (filter (is_permitted agreed) es))) ≤ sum_by weight_of es
-edits-length agreed [] = omega arith
-edits-length agreed (e ∷ es) = by_permitted (is_permitted agreed e) (edits-length agreed es)
+edits-length : (negotiated : Negotiated) (es : List Edit) → length (flat_map encoding (map edits.reply_of (filter (is_permitted negotiated) es))) ≤ sum_by weight_of es
+edits-length negotiated [] = omega arith
+edits-length negotiated (e ∷ es) = by_permitted (is_permitted negotiated e) (edits-length negotiated es)
   where
-    by_permitted : (k : Bool) → length (flat_map encoding (map edits.reply_of (filter (is_permitted agreed) es))) ≤ sum_by weight_of es
-        → length (flat_map encoding (map edits.reply_of (cond k (e ∷ filter (is_permitted agreed) es) (filter (is_permitted agreed) es)))) ≤ sum_by weight_of (e ∷ es)
+    by_permitted : (k : Bool) → length (flat_map encoding (map edits.reply_of (filter (is_permitted negotiated) es))) ≤ sum_by weight_of es
+        → length (flat_map encoding (map edits.reply_of (cond k (e ∷ filter (is_permitted negotiated) es) (filter (is_permitted negotiated) es)))) ≤ sum_by weight_of (e ∷ es)
     by_permitted true rest =
         let s = sum_by-cons weight_of e es in
-        let f = ap length (flat_map-cons encoding (edits.reply_of e) (map edits.reply_of (filter (is_permitted agreed) es))) in
-        let a = length-append (encoding (edits.reply_of e)) (flat_map encoding (map edits.reply_of (filter (is_permitted agreed) es))) in
+        let f = ap length (flat_map-cons encoding (edits.reply_of e) (map edits.reply_of (filter (is_permitted negotiated) es))) in
+        let a = length-append (encoding (edits.reply_of e)) (flat_map encoding (map edits.reply_of (filter (is_permitted negotiated) es))) in
         omega arith
     by_permitted false rest = let s = sum_by-cons weight_of e es in omega arith
 
-verdict-length : (agreed : Agreed) (v : Verdict) → Fits (verdicts.reply_of v) → length (encoding (verdicts.reply_of (permitted_verdict agreed v))) ≤ 65540
-verdict-length agreed Skip fits = by_skip (has agreed (Some SKIP))
+verdict-length : (negotiated : Negotiated) (v : Verdict) → Fits (verdicts.reply_of v) → length (encoding (verdicts.reply_of (permitted_verdict negotiated v))) ≤ 65540
+verdict-length negotiated Skip fits = by_skip (has negotiated (Some SKIP))
   where
     by_skip : (k : Bool) → length (encoding (verdicts.reply_of (if k then Skip else Verdict.Continue))) ≤ 65540
     by_skip true = reply-length (verdicts.reply_of Skip) fits
     by_skip false = reply-length (verdicts.reply_of Verdict.Continue) (record { fields = tt; payload = omega arith })
-verdict-length agreed other fits = reply-length (verdicts.reply_of other) fits
+verdict-length negotiated other fits = reply-length (verdicts.reply_of other) fits
 
-module _ (b : Behavior) (lawful : IsLawful b) (agreed : Agreed) where
-  answer-length : (stage : Option Stage) (asked : Bool) (shown : Seen) → length (answer_bytes (answer_to b agreed stage asked shown)) ≤ 33554432
+module _ (b : Behavior) (lawful : IsLawful b) (negotiated : Negotiated) where
+  answer-length : (stage : Option Stage) (asked : Bool) (shown : Seen) → length (answer_bytes (answer_to b negotiated stage asked shown)) ≤ 33554432
   answer-length None asked shown = omega arith
   answer-length (Some stage) false shown = omega arith
   answer-length (Some stage) true shown =
       let answer = b.decide stage shown in
       let fit = lawful.answers stage shown in
-      let es = map edits.reply_of (filter (is_permitted agreed) answer.edits) in
-      let v = verdicts.reply_of (permitted_verdict agreed answer.verdict) in
+      let es = map edits.reply_of (filter (is_permitted negotiated) answer.edits) in
+      let v = verdicts.reply_of (permitted_verdict negotiated answer.verdict) in
       let f = ap length (flat_map-append encoding es (v ∷ [])) in
       let a = length-append (flat_map encoding es) (flat_map encoding (v ∷ [])) in
       let o = ap length (flat_map-cons encoding v [] ∙ append-nil (encoding v)) in
-      let e = edits-length agreed answer.edits in
+      let e = edits-length negotiated answer.edits in
       let w = fit.weight in
-      let l = verdict-length agreed answer.verdict fit.verdict in
+      let l = verdict-length negotiated answer.verdict fit.verdict in
       omega arith
 
-  exchange-short : (walk : List Exchange) (c : Command) → sent_to.Fits c → IsShort (line_of (exchange_of b agreed (commands_of walk) c))
-  exchange-short walk c fits =
+  exchange-short : (dialogue : List Exchange) (c : Command) → sent_to.Fits c → IsShort (line_of (exchange_of b negotiated (commands_of dialogue) c))
+  exchange-short dialogue c fits =
       record {
         out = command-length c fits;
-        back = answer-length (stage_of c) (is_asked agreed c) (seen (has_leading_space agreed) (c ∷ commands_of walk));
+        back = answer-length (stage_of c) (is_asked negotiated c) (seen (has_leading_space negotiated) (c ∷ commands_of dialogue));
       }
 
-  -- ---- talks
+  -- ---- dialogues
 
   pub record Shorts (lines : List Line) (count : ℕ) : Type 0 where
     pub each : Each IsShort lines
     pub few : length lines ≤ count
 
-  talk-short : (left : List Command) (walk : List Exchange) → Each sent_to.Fits left → Shorts (map line_of (talk b agreed walk left)) (length left)
-  unfolding talk
-  talk-short [] walk fits = record { each = tt; few = omega arith }
-  talk-short (c ∷ left) walk fits = by_out (is_left_out walk c) (λ w. talk-short left w fits.1)
+  dialogue_with-short : (left : List Command) (dialogue : List Exchange) → Each sent_to.Fits left → Shorts (map line_of (dialogue_with b negotiated dialogue left)) (length left)
+  unfolding dialogue_with
+  dialogue_with-short [] dialogue fits = record { each = tt; few = omega arith }
+  dialogue_with-short (c ∷ left) dialogue fits = by_out (is_left_out dialogue c) (λ w. dialogue_with-short left w fits.1)
     where
-      by_closed : (closed : Bool) → ((w : List Exchange) → Shorts (map line_of (talk b agreed w left)) (length left))
-          → Shorts (map line_of (exchange_of b agreed (commands_of walk) c ∷ (if closed then [] else talk b agreed (exchange_of b agreed (commands_of walk) c ∷ walk) left))) (length (c ∷ left))
-      by_closed true rest = record { each = (exchange-short walk c fits.0, tt); few = omega arith }
+      by_closed : (closed : Bool) → ((w : List Exchange) → Shorts (map line_of (dialogue_with b negotiated w left)) (length left))
+          → Shorts (map line_of (exchange_of b negotiated (commands_of dialogue) c ∷ (if closed then [] else dialogue_with b negotiated (exchange_of b negotiated (commands_of dialogue) c ∷ dialogue) left))) (length (c ∷ left))
+      by_closed true rest = record { each = (exchange-short dialogue c fits.0, tt); few = omega arith }
       by_closed false rest =
-          let r = rest (exchange_of b agreed (commands_of walk) c ∷ walk) in
-          record { each = (exchange-short walk c fits.0, r.each); few = let f = r.few in omega arith }
+          let r = rest (exchange_of b negotiated (commands_of dialogue) c ∷ dialogue) in
+          record { each = (exchange-short dialogue c fits.0, r.each); few = let f = r.few in omega arith }
 
-      by_out : (out : Bool) → ((w : List Exchange) → Shorts (map line_of (talk b agreed w left)) (length left))
-          → Shorts (map line_of (if out then talk b agreed walk left else exchange_of b agreed (commands_of walk) c ∷ (if is_closed (exchange_of b agreed (commands_of walk) c ∷ walk) left then [] else talk b agreed (exchange_of b agreed (commands_of walk) c ∷ walk) left))) (length (c ∷ left))
-      by_out true rest = let r = rest walk in record { each = r.each; few = let f = r.few in omega arith }
-      by_out false rest = by_closed (is_closed (exchange_of b agreed (commands_of walk) c ∷ walk) left) rest
+      by_out : (out : Bool) → ((w : List Exchange) → Shorts (map line_of (dialogue_with b negotiated w left)) (length left))
+          → Shorts (map line_of (if out then dialogue_with b negotiated dialogue left else exchange_of b negotiated (commands_of dialogue) c ∷ (if is_closed (exchange_of b negotiated (commands_of dialogue) c ∷ dialogue) left then [] else dialogue_with b negotiated (exchange_of b negotiated (commands_of dialogue) c ∷ dialogue) left))) (length (c ∷ left))
+      by_out true rest = let r = rest dialogue in record { each = r.each; few = let f = r.few in omega arith }
+      by_out false rest = by_closed (is_closed (exchange_of b negotiated (commands_of dialogue) c ∷ dialogue) left) rest
 
   shorts-append : (xs ys : List Line) (n k : ℕ) → Shorts xs n → Shorts ys k → Shorts (xs ++ ys) (n + k)
   shorts-append xs ys n k a c = record { each = both xs a.each; few = let l = length-append xs ys in let f = a.few in let g = c.few in omega arith }
@@ -173,39 +173,39 @@ module _ (b : Behavior) (lawful : IsLawful b) (agreed : Agreed) where
       let r = count-bytes left in let o = some-command c in omega arith
 
   module _ (s : MailSession) (is : IsSession s) where
-    plan-short : (m : MailObject) → IsSendable s.client s.helo s.macros m → length (plan agreed s m) ≤ WEIGHT_MAX
-    plan-short m good = let c = count-bytes (plan agreed s m) in let w = plan_weight agreed s m in let f = good.weight_fits in omega arith
+    plan-short : (m : MailObject) → IsSendable s.client s.helo s.macros m → length (plan negotiated s m) ≤ WEIGHT_MAX
+    plan-short m good = let c = count-bytes (plan negotiated s m) in let w = plan_weight negotiated s m in let f = good.weight_fits in omega arith
 
-    steps-short : (m : MailObject) → IsSendable s.client s.helo s.macros m → length (message_steps agreed (macros_of agreed s) m) ≤ WEIGHT_MAX
-    steps-short m good = let p = plan-short m good in let l = length-append (opening agreed s) (message_steps agreed (macros_of agreed s) m) in omega arith
+    steps-short : (m : MailObject) → IsSendable s.client s.helo s.macros m → length (message_steps negotiated (macros_of negotiated s) m) ≤ WEIGHT_MAX
+    steps-short m good = let p = plan-short m good in let l = length-append (opening negotiated s) (message_steps negotiated (macros_of negotiated s) m) in omega arith
 
-    plan-fits : (m : MailObject) → IsSendable s.client s.helo s.macros m → Each sent_to.Fits (plan agreed s m)
-    plan-fits m good = each-of (plan agreed s m) (plan_fits agreed s m is.client_fits is.helo_fits is.macros_fit good)
+    plan-fits : (m : MailObject) → IsSendable s.client s.helo s.macros m → Each sent_to.Fits (plan negotiated s m)
+    plan-fits m good = each-of (plan negotiated s m) (plan_fits negotiated s m is.client_fits is.helo_fits is.macros_fit good)
       where
         each-of : (xs : List Command) → All sent_to.Fits xs → Each sent_to.Fits xs
         each-of [] all = tt
         each-of (x ∷ xs) all = (All-head sent_to.Fits x xs all, each-of xs (All-tail sent_to.Fits x xs all))
 
-    steps-fits : (m : MailObject) → IsSendable s.client s.helo s.macros m → Each sent_to.Fits (message_steps agreed (macros_of agreed s) m)
-    steps-fits m good = last-of (opening agreed s) (plan-fits m good)
+    steps-fits : (m : MailObject) → IsSendable s.client s.helo s.macros m → Each sent_to.Fits (message_steps negotiated (macros_of negotiated s) m)
+    steps-fits m good = last-of (opening negotiated s) (plan-fits m good)
       where
-        last-of : (xs : List Command) → Each sent_to.Fits (xs ++ message_steps agreed (macros_of agreed s) m) → Each sent_to.Fits (message_steps agreed (macros_of agreed s) m)
+        last-of : (xs : List Command) → Each sent_to.Fits (xs ++ message_steps negotiated (macros_of negotiated s) m) → Each sent_to.Fits (message_steps negotiated (macros_of negotiated s) m)
         last-of [] e = e
         last-of (x ∷ xs) e = last-of xs e.1
 
-    pub from-short : (messages : List MailObject) → Each (IsSendable s.client s.helo s.macros) messages → (walk : List Exchange) (left : List Command)
-        → Each sent_to.Fits left → length left ≤ WEIGHT_MAX → Shorts (lines_from b agreed s messages walk left) (16777218 * (length messages + 1))
-    from-short [] good walk left fits few =
-        let t = talk-short left walk fits in
-        let r = shorts-append (map line_of (talk b agreed walk left)) _ (length left) 2 t
-        (after-short (onto (talk b agreed walk left) walk) (quit_line ∷ []) 1 (record { each = (bare commands.Quit quit-fits, tt); few = omega arith })) in
+    pub from-short : (messages : List MailObject) → Each (IsSendable s.client s.helo s.macros) messages → (dialogue : List Exchange) (left : List Command)
+        → Each sent_to.Fits left → length left ≤ WEIGHT_MAX → Shorts (lines_from b negotiated s messages dialogue left) (16777218 * (length messages + 1))
+    from-short [] good dialogue left fits few =
+        let t = dialogue_with-short left dialogue fits in
+        let r = shorts-append (map line_of (dialogue_with b negotiated dialogue left)) _ (length left) 2 t
+        (after-short (onto (dialogue_with b negotiated dialogue left) dialogue) (quit_line ∷ []) 1 (record { each = (bare commands.Quit quit-fits, tt); few = omega arith })) in
         record { each = r.each; few = let f = r.few in omega arith }
-    from-short (m ∷ messages) good walk left fits few =
-        let t = talk-short left walk fits in
-        let w = onto (talk b agreed walk left) walk in
-        let rest = from-short messages good.1 (opening_of w) (message_steps agreed (macros_of agreed s) m) (steps-fits m good.0) (steps-short m good.0) in
-        let r = shorts-append (map line_of (talk b agreed walk left)) _ (length left) (16777218 * (length messages + 1) + 1) t
-        (after-short w (lines_from b agreed s messages (opening_of w) (message_steps agreed (macros_of agreed s) m)) (16777218 * (length messages + 1)) rest) in
+    from-short (m ∷ messages) good dialogue left fits few =
+        let t = dialogue_with-short left dialogue fits in
+        let w = onto (dialogue_with b negotiated dialogue left) dialogue in
+        let rest = from-short messages good.1 (opening_of w) (message_steps negotiated (macros_of negotiated s) m) (steps-fits m good.0) (steps-short m good.0) in
+        let r = shorts-append (map line_of (dialogue_with b negotiated dialogue left)) _ (length left) (16777218 * (length messages + 1) + 1) t
+        (after-short w (lines_from b negotiated s messages (opening_of w) (message_steps negotiated (macros_of negotiated s) m)) (16777218 * (length messages + 1)) rest) in
         record { each = r.each; few = let f = r.few in omega arith }
 
 -- ---- in all
@@ -228,11 +228,11 @@ pub record AreShort (lines : List Line) : Type 0 where
   pub to_filter : length (to_filter lines) < 2 ^ 128
   pub to_mta : length (to_mta lines) < 2 ^ 128
 
-pub short : (b : Behavior) (offer : Options) (s : MailSession) → IsLawful b → IsSession s → sent_to.Fits (commands.Options offer) → Fits (options_reply (agree offer b.wants b.lists))
+pub short : (b : Behavior) (offer : Options) (s : MailSession) → IsLawful b → IsSession s → sent_to.Fits (commands.Options offer) → Fits (options_reply (negotiate offer b.wants b.lists))
     → (messages : List MailObject) → Each (IsSendable s.client s.helo s.macros) messages → length messages < 2 ^ 64 → AreShort (session_lines b offer s messages)
 short b offer s lawful is fits replied [] good few = record { to_filter = omega arith; to_mta = omega arith }
 short b offer s lawful is fits replied (m ∷ messages) good few =
-    let g = agree offer b.wants b.lists in
+    let g = negotiate offer b.wants b.lists in
     let r = from-short b lawful g s is messages good.1 [] (plan g s m) (plan-fits b lawful g s is m good.0) (plan-short b lawful g s is m good.0) in
     let each : Each IsShort (session_lines b offer s (m ∷ messages)) =
     (record { out = command-length (commands.Options offer) fits; back = let l = reply-length (options_reply g) replied in omega arith }, r.each) in

@@ -5,9 +5,9 @@ use Rattle.milter_outcome.specs.declared.loss.Loss.{Loss}
 use Rattle.milter_outcome.specs.declared.loss.Loss.TheVariants as losses
 use Rattle.milter_outcome.specs.declared.loss.Loss.TheVariants.{Reset}
 use Rattle.milter_mta.specs.Mta.{Mta, fresh}
-use Rattle.milter_mta.specs.Sending.{advanced, dialled, pending, sent}
-use Rattle.milter_mta.specs.Settling.{lost}
-use Rattle.milter_walk.specs.AnyFilter.{ConnectionIsReported, GoesOnWalks}
+use Rattle.milter_mta.specs.Output.{advanced, dialled, pending, sent}
+use Rattle.milter_mta.specs.Dispositions.{lost}
+use Rattle.milter_walk.specs.AnyFilter.{ConnectionIsReported, GoesOnDialogues}
 use Rattle.milter_walk.specs.Lines.{Line}
 use Rattle.milter_filter.specs.Cores.{Core, GoesOn, fresh_core}
 use Rattle.milter_transcript.specs.Answered.{AnswersLines}
@@ -19,7 +19,7 @@ use Rattle.milter_schedule.specs.declared.state.State.{State}
 use Rattle.milter_schedule.specs.declared.state.State.TheVariants.{Idle, Linked, Done}
 use Rattle.milter_schedule.specs.Rounds.{AreCounts}
 use Rattle.milter_schedule.specs.Schedule.{Scenario, first, happens, lines_at, entries_at}
-use Rattle.milter_progress.specs.Following.{Follows, IsMtaAt}
+use Rattle.milter_progress.specs.FollowedLines.{Follows, IsMtaAt}
 
 -- both ends, the bytes on their way each way, and how far they are by the schedule's state; the filter's end is there
 -- only while it lives
@@ -48,15 +48,15 @@ IsFilterIn b policy lines c false None pipe = Unit {0}
 
 -- ---- the mail server's end
 
--- from the start of the session on its reports are by walks, and so is its verdict on the connection
-pub record IsReportedByWalks (p : Scenario) (m : Mta) : Type 0 where
-  pub walks : GoesOnWalks (fresh p.config p.session) m
+-- from the start of the session on its reports are by dialogues, and so is its verdict on the connection
+pub record IsReportedByDialogues (p : Scenario) (m : Mta) : Type 0 where
+  pub dialogues : GoesOnDialogues (fresh p.config p.session) m
   pub connection : ConnectionIsReported m
 
 -- ---- both
 
--- they are connected, and both are where the counts say in the transcript of the connection, which began when so many
--- messages were settled
+-- they are connected, and both are where the counts say in the list of the entries of the connection, which began when
+-- so many messages were settled
 pub record IsLinked {P : Type 0} (p : Scenario) (settled : ℕ) (c : Counts) (ends : Ends P) : Type 0 where
   pub opened : Mta
   pub opened_settled : length opened.reports ≡ settled
@@ -64,12 +64,12 @@ pub record IsLinked {P : Type 0} (p : Scenario) (settled : ℕ) (c : Counts) (en
   pub mta : IsMtaAt opened (lines_at p settled) c ends.mta
   pub filter : IsFilterIn p.filter ends.policy (lines_at p settled) c c.lives ends.filter ends.to_filter
   pub answers :
-      take c.heard (to_mta (lines_at p settled)) ++ ends.to_mta ≡ take c.answered (to_mta (lines_at p settled))
+      take c.received (to_mta (lines_at p settled)) ++ ends.to_mta ≡ take c.answered (to_mta (lines_at p settled))
   pub counts : AreCounts (lines_at p settled) c
 
 -- they aren't connected, and so many messages are settled, but not all
 pub record IsIdle {P : Type 0} (p : Scenario) (settled : ℕ) (ends : Ends P) : Type 0 where
-  pub unlinked : ends.mta.link ≡ None
+  pub unconnected : ends.mta.filter_connection ≡ None
   pub settled_is : length ends.mta.reports ≡ settled
   pub some_left : settled < length p.session.messages
 
@@ -83,19 +83,21 @@ pub record IsPossible (p : Scenario) : Type 0 where
   -- the filter answers the lines of each connection as they stand
   pub answered : (settled : ℕ) → AnswersLines p.filter (lines_at p settled)
   -- and the mail server's end follows them
-  pub followed : (settled : ℕ) (m : Mta) → settled < length p.session.messages → m.link ≡ None → m.config ≡ p.config →
+  pub followed : (settled : ℕ) (m : Mta) → settled < length p.session.messages → m.filter_connection ≡ None →
+      m.config ≡ p.config →
       m.session ≡ record p.session { messages = drop settled p.session.messages } →
       Follows p.config.on_loss (dialled m) (entries_at p settled)
   -- where no further packet is due all answers have come, as the last packet has none
-  pub last_unanswered : (settled heard : ℕ) → due (lines_at p settled) heard ≡ length (to_filter (lines_at p settled)) →
-      length (to_mta (lines_at p settled)) ≤ heard
+  pub last_unanswered : (settled received : ℕ) → due (lines_at p settled) received
+      ≡ length (to_filter (lines_at p settled)) →
+      length (to_mta (lines_at p settled)) ≤ received
   pub short_to_filter : (settled : ℕ) → length (to_filter (lines_at p settled)) < 2 ^ 128
   pub short_to_mta : (settled : ℕ) → length (to_mta (lines_at p settled)) < 2 ^ 128
 
 -- the ends are of the scenario, and where their state says
 pub record AreEndsOf {P : Type 0} (p : Scenario) (ends : Ends P) : Type 0 where
   pub possible : IsPossible p
-  pub by_walks : IsReportedByWalks p ends.mta
+  pub by_dialogues : IsReportedByDialogues p ends.mta
   pub is_at : IsAt p ends.state ends
 
 -- before their first connection

@@ -9,9 +9,9 @@ ghost use Rattle.milter_filter.specs.Streams.{received_in};
 ghost use Rattle.milter_outcome.specs.declared.loss.Loss.{Loss};
 ghost use Rattle.milter_mta.specs.declared.want.Want.TheVariants as wants;
 ghost use Rattle.milter_mta.specs.Mta.{fresh as fresh_mta};
-ghost use Rattle.milter_mta.specs.Receiving.{heard};
-ghost use Rattle.milter_mta.specs.Sending.{advanced, dialled, pending, want};
-ghost use Rattle.milter_mta.specs.Settling.{lost};
+ghost use Rattle.milter_mta.specs.Replies.{received};
+ghost use Rattle.milter_mta.specs.Output.{advanced, dialled, pending, want};
+ghost use Rattle.milter_mta.specs.Dispositions.{lost};
 ghost use Rattle.milter_schedule.specs.declared.event.Event.{Event};
 ghost use Rattle.milter_schedule.specs.declared.event.Event.TheVariants.{Answer, Dial, Die, Send, ToFilter, ToMta};
 ghost use Rattle.milter_schedule.specs.declared.state.Counts.{Counts};
@@ -22,7 +22,7 @@ ghost use Rattle.milter_ends.specs.Ends.{AreEndsOf, Ends, IsLossBy, IsOfConnecti
 use milter_filter::{Policy, cores_go_on};
 use milter_mta::losses_settle_one;
 use milter_walk::{
-    connections_are_reported, messages_are_settled_by_walks, sending_settles_nothing,
+    connections_are_reported, messages_are_settled_by_dialogues, sending_settles_nothing,
     sent_bytes_add_up,
 };
 
@@ -34,7 +34,7 @@ pub fn fresh_ends_begin<P: Policy>()
     ensures over { (p : Scenario) → want (fresh_mta p.config p.session) ≢ wants.Dial → first p ≡ Done }
 {
     connections_are_reported();
-    messages_are_settled_by_walks();
+    messages_are_settled_by_dialogues();
 }
 
 /// An event that can't apply changes nothing: a dial where there is a connection or all is over, a move where there is
@@ -42,7 +42,7 @@ pub fn fresh_ends_begin<P: Policy>()
 pub fn events_without_effect<P: Policy>()
     ensures no_dial { (p : Scenario) (ends : Ends P) → AreEndsOf p ends →
         ((settled : ℕ) → ends.state ≢ Idle settled) → Steps p ends Dial ends }
-    ensures unlinked { (p : Scenario) (ends : Ends P) (event : Event) → AreEndsOf p ends →
+    ensures unconnected { (p : Scenario) (ends : Ends P) (event : Event) → AreEndsOf p ends →
         ((settled : ℕ) (c : Counts) → ends.state ≢ Linked settled c) → IsOfConnection event →
         Steps p ends event ends }
     ensures over { (p : Scenario) (ends : Ends P) (event : Event) → AreEndsOf p ends → ends.state ≡ Done →
@@ -67,7 +67,7 @@ pub fn dialled_ends_step<P: Policy>()
 {
     connections_are_reported();
     cores_go_on::<P>();
-    messages_are_settled_by_walks();
+    messages_are_settled_by_dialogues();
 }
 
 /// Where a packet is due its bytes are sent, and are on their way while the filter lives; after the last byte of the
@@ -90,7 +90,7 @@ pub fn sent_bytes_step<P: Policy>()
         ends.state ≡ Linked settled c → want ends.mta ≡ wants.Send → c.sent + sent_count n ends.mta < 2 ^ 128 }
 {
     connections_are_reported();
-    messages_are_settled_by_walks();
+    messages_are_settled_by_dialogues();
     sent_bytes_add_up();
 }
 
@@ -113,13 +113,13 @@ pub fn taken_bytes_step<P: Policy>()
           state = Linked settled (record c { taken = c.taken + length (take n ends.to_filter) });
         }) }
     ensures serves { (p : Scenario) (ends : Ends P) (settled : ℕ) (c : Counts) (core : Core P) → AreEndsOf p ends →
-        ends.state ≡ Linked settled c → ends.filter ≡ Some core → core.standing.state ≡ Serving }
+        ends.state ≡ Linked settled c → ends.filter ≡ Some core → core.order_state.state ≡ Serving }
     ensures same_policy { (p : Scenario) (ends : Ends P) (settled : ℕ) (c : Counts) (core : Core P) →
         AreEndsOf p ends → ends.state ≡ Linked settled c → ends.filter ≡ Some core → core.policy ≡ ends.policy }
     ensures fails_not { (p : Scenario) (ends : Ends P) (settled : ℕ) (c : Counts) (core : Core P) (n : ℕ)
         (fault : Fault) → AreEndsOf p ends → ends.state ≡ Linked settled c → ends.filter ≡ Some core →
         core.pending ≡ [] →
-        ¬ GivesUp p.filter core.standing (received_in (core.unread ++ take n ends.to_filter)) fault }
+        ¬ GivesUp p.filter core.order_state (received_in (core.unread ++ take n ends.to_filter)) fault }
     ensures short { (p : Scenario) (ends : Ends P) (settled : ℕ) (c : Counts) (core : Core P) (n : ℕ) →
         AreEndsOf p ends → ends.state ≡ Linked settled c → ends.filter ≡ Some core →
         c.taken + length (take n ends.to_filter) < 2 ^ 128 }
@@ -152,21 +152,21 @@ pub fn answered_bytes_step<P: Policy>()
 }
 
 /// Bytes that reach the mail server's end are no loss. The count stays within its type.
-pub fn heard_bytes_step<P: Policy>()
-    ensures hears { (p : Scenario) (ends : Ends P) (settled : ℕ) (c : Counts) (n : ℕ) → AreEndsOf p ends →
+pub fn received_bytes_step<P: Policy>()
+    ensures receives_bytes { (p : Scenario) (ends : Ends P) (settled : ℕ) (c : Counts) (n : ℕ) → AreEndsOf p ends →
         ends.state ≡ Linked settled c →
         Steps p ends (ToMta n) (record ends {
-          mta = (heard ends.mta (take n ends.to_mta)).mta;
+          mta = (received ends.mta (take n ends.to_mta)).mta;
           to_mta = drop n ends.to_mta;
-          state = Linked settled (record c { heard = c.heard + length (take n ends.to_mta) });
+          state = Linked settled (record c { received = c.received + length (take n ends.to_mta) });
         }) }
     ensures not_lost { (p : Scenario) (ends : Ends P) (settled : ℕ) (c : Counts) (n : ℕ) → AreEndsOf p ends →
-        ends.state ≡ Linked settled c → (heard ends.mta (take n ends.to_mta)).loss ≡ None }
+        ends.state ≡ Linked settled c → (received ends.mta (take n ends.to_mta)).loss ≡ None }
     ensures short { (p : Scenario) (ends : Ends P) (settled : ℕ) (c : Counts) (n : ℕ) → AreEndsOf p ends →
-        ends.state ≡ Linked settled c → c.heard + length (take n ends.to_mta) < 2 ^ 128 }
+        ends.state ≡ Linked settled c → c.received + length (take n ends.to_mta) < 2 ^ 128 }
 {
     connections_are_reported();
-    messages_are_settled_by_walks();
+    messages_are_settled_by_dialogues();
 }
 
 /// A connection that is lost, or can't be made, leaves what a loss leaves of the mail server's end; it wants another
@@ -184,6 +184,6 @@ pub fn lost_ends_step<P: Policy>()
 {
     connections_are_reported();
     losses_settle_one();
-    messages_are_settled_by_walks();
+    messages_are_settled_by_dialogues();
     sending_settles_nothing();
 }

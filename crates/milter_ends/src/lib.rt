@@ -10,7 +10,7 @@ mod scenarios;
 
 pub use events::{
     answered_bytes_step, dialled_ends_step, events_without_effect, fresh_ends_begin,
-    heard_bytes_step, lost_ends_step, sent_bytes_step, taken_bytes_step,
+    lost_ends_step, received_bytes_step, sent_bytes_step, taken_bytes_step,
 };
 pub use pieces::pieces_move;
 pub use scenarios::scenarios_are_possible;

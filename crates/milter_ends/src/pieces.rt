@@ -6,14 +6,14 @@ ghost use Rattle.milter_exchange.specs.declared.filter_fault.FilterFault.{Filter
 ghost use Rattle.milter_filter.specs.Cores.{Core, GivesUp, Takes};
 ghost use Rattle.milter_filter.specs.Streams.{received_in};
 ghost use Rattle.milter_mta.specs.Mta.{Mta};
-ghost use Rattle.milter_mta.specs.Receiving.{heard};
-ghost use Rattle.milter_mta.specs.Sending.{advanced, pending, sent};
+ghost use Rattle.milter_mta.specs.Replies.{received};
+ghost use Rattle.milter_mta.specs.Output.{advanced, pending, sent};
 ghost use Rattle.milter_walk.specs.Lines.{Line};
 ghost use Rattle.milter_transcript.specs.Answered.{AnswersLines};
 ghost use Rattle.milter_transcript.specs.ByteCounts.{due, to_mta};
 ghost use Rattle.milter_schedule.specs.declared.state.Counts.{Counts};
 ghost use Rattle.milter_schedule.specs.Rounds.{AreCounts};
-ghost use Rattle.milter_progress.specs.Following.{IsMtaAt, SendsLines};
+ghost use Rattle.milter_progress.specs.FollowedLines.{IsMtaAt, SendsLines};
 ghost use Rattle.milter_ends.specs.Ends.{IsFilterAt};
 
 use milter_filter::{Policy, cores_go_on};
@@ -32,7 +32,7 @@ pub fn pieces_move<P: Policy>()
     ensures fails_not { (b : Behavior) (policy : P) (lines : List Line) (c : Counts) (core : Core P)
         (pipe piece rest : List ℕ) (fault : Fault) → AnswersLines b lines → AreCounts lines c →
         IsFilterAt b policy lines c core pipe → piece ++ rest ≡ pipe → core.pending ≡ [] →
-        ¬ GivesUp b core.standing (received_in (core.unread ++ piece)) fault }
+        ¬ GivesUp b core.order_state (received_in (core.unread ++ piece)) fault }
     ensures none_on_way { (b : Behavior) (policy : P) (lines : List Line) (c : Counts) (core : Core P)
         (pipe : List ℕ) → AnswersLines b lines → AreCounts lines c → IsFilterAt b policy lines c core pipe →
         core.pending ≢ [] → pipe ≡ [] }
@@ -40,13 +40,13 @@ pub fn pieces_move<P: Policy>()
         (n : ℕ) → AnswersLines b lines → AreCounts lines c → IsFilterAt b policy lines c core pipe →
         IsFilterAt b policy lines (record c { answered = c.answered + length (take n core.pending) })
         (record core { pending = drop n core.pending }) pipe }
-    ensures hears { (opened m : Mta) (lines : List Line) (c : Counts) (back piece rest : List ℕ) →
+    ensures receives_bytes { (opened m : Mta) (lines : List Line) (c : Counts) (back piece rest : List ℕ) →
         SendsLines opened lines → AreCounts lines c → IsMtaAt opened lines c m →
-        take c.heard (to_mta lines) ++ back ≡ take c.answered (to_mta lines) → piece ++ rest ≡ back →
-        ((heard m piece).loss ≡ None)
-        × IsMtaAt opened lines (record c { heard = c.heard + length piece }) (heard m piece).mta }
+        take c.received (to_mta lines) ++ back ≡ take c.answered (to_mta lines) → piece ++ rest ≡ back →
+        ((received m piece).loss ≡ None)
+        × IsMtaAt opened lines (record c { received = c.received + length piece }) (received m piece).mta }
     ensures sends { (opened m : Mta) (lines : List Line) (c : Counts) (k : ℕ) → SendsLines opened lines →
-        AreCounts lines c → IsMtaAt opened lines c m → c.sent < due lines c.heard →
+        AreCounts lines c → IsMtaAt opened lines c m → c.sent < due lines c.received →
         k ≤ length (pending (advanced m)) →
         IsMtaAt opened lines (record c { sent = c.sent + k }) (sent k (advanced m)) }
 {

@@ -9,9 +9,9 @@ ghost use Rattle.milter_exchange.specs.Lawful.{IsLawful};
 ghost use Rattle.milter_schedule.specs.Schedule.{Scenario};
 ghost use Rattle.milter_ends.specs.Ends.{IsPossible};
 
-use milter_progress::transcripts_are_followed;
-use milter_transcript::{sessions_are_answered, transcripts_of_sessions};
-use milter_walk::lawful_filters_agree;
+use milter_progress::entries_are_followed;
+use milter_transcript::{entries_of_sessions, sessions_are_answered};
+use milter_walk::lawful_filters_negotiate;
 
 /// A lawful filter, a session and an offer of a known version that fits a packet are all that is asked of a scenario,
 /// where the session has fewer than 2^64 messages.
@@ -20,8 +20,8 @@ pub fn scenarios_are_possible()
         p.config.offer.version ≤ VERSION_MAX → Fits (commands.Options p.config.offer) →
         length p.session.messages < 2 ^ 64 → IsPossible p }
 {
-    transcripts_are_followed();
-    transcripts_of_sessions();
+    entries_are_followed();
+    entries_of_sessions();
     sessions_are_answered();
-    lawful_filters_agree();
+    lawful_filters_negotiate();
 }

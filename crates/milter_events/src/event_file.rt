@@ -25,8 +25,8 @@ pub const EVENTS_MAX: usize = 10_000_000;
 /// one to ten decimal digits, of at most 4,294,967,295. There are at most [`EVENTS_MAX`] events in all.
 ///
 /// The fault is at the first line that isn't of this form, or with which there are too many events: out of memory
-/// aside, there is one exactly where the file is no event file. Its line is one of the file. Memory is taken for the
-/// events, for those of many rounds at once, and for the words of one line at a time; a line with too many events
+/// aside, there is one exactly where the file is no event file. Its line is one of the file. Memory is allocated for
+/// the events, for those of many rounds at once, and for the words of one line at a time; a line with too many events
 /// takes none for them.
 pub fn read_events(alloc: Global, bytes: &[u8]) -> Result<Vec<Event>, EventFault>
     // What is read are the events of the file,

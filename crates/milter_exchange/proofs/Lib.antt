@@ -1,11 +1,11 @@
 pub mod Lists
-pub mod Histories
+pub mod Transcripts
 pub mod Seeing
 pub mod Permitting
-pub mod Talking
+pub mod DialogueSteps
 pub mod Sendable
-pub mod WholeTalks
+pub mod WholeDialogues
 pub mod Going
-pub mod HistoryParts
-pub mod Standings
+pub mod TranscriptParts
+pub mod OrderStates
 pub mod Lenient

@@ -8,7 +8,7 @@ use Rattle.std.proofs.lemmas.List.Concat.{flat_map-cons}
 use Rattle.milter_wire.specs.declared.command.Command.{Command}
 use Rattle.milter_wire.specs.declared.command.Command.TheVariants as commands
 use Rattle.milter_fields.specs.declared.pair.Pair.{Pair}
-use Rattle.milter_exchange.specs.Seen.{header_in, pairs_in, piece_in, recipient_in, seen, seen_with, value_in}
+use Rattle.milter_exchange.specs.Seen.{header_in, pairs_in, chunk_in, recipient_in, seen, seen_with, value_in}
 
 reverse-cons : {A : Type 0} (x : A) (xs : List A) → reverse (x ∷ xs) ≡ reverse xs ++ x ∷ []
 reverse-cons x xs = reverse_onto xs x []
@@ -36,9 +36,9 @@ seen-with ls (commands.Rcpt recipient) before =
 seen-with ls (commands.Header header) before =
     ap (λ hs. record (seen ls before) { headers = hs }) (reverse-cons header (filter_map header_in before))
 seen-with ls (commands.Body bytes) before =
-    ap (λ b. record (seen ls before) { body = b }) (body-with bytes (filter_map piece_in before))
+    ap (λ b. record (seen ls before) { body = b }) (body-with bytes (filter_map chunk_in before))
 seen-with ls (commands.Eob bytes) before =
-    ap (λ b. record (seen ls before) { body = b }) (body-with bytes (filter_map piece_in before))
+    ap (λ b. record (seen ls before) { body = b }) (body-with bytes (filter_map chunk_in before))
 seen-with ls (commands.Macro command pairs) before =
     ap (λ ms. record (seen ls before) { macros = ms }) (flat_map-cons pairs_in (commands.Macro command pairs) before)
 seen-with ls other before = refl

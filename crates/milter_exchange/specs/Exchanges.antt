@@ -3,7 +3,7 @@ use Rattle.std.specs.Prelude.{Bool, List, [], ◌∷◌, Option, None, Some, map
 use Rattle.milter_wire.specs.declared.command.Command.{Command}
 use Rattle.milter_exchange.specs.declared.answer.Answer.{Answer}
 
--- A command and the filter's answer as it was sent, if it was asked about the command. A history is a list of these,
+-- A command and the filter's answer as it was sent, if it was asked about the command. A transcript is a list of these,
 -- the latest first.
 pub record Exchange : Type 0 where
   pub command : Command
@@ -12,7 +12,7 @@ pub record Exchange : Type 0 where
 abbrev pub commands_of : List Exchange → List Command
 commands_of exchanges = map (λ exchange. exchange.command) exchanges
 
--- ---- parts of a history, and of what is the latest first
+-- ---- parts of a transcript, and of what is the latest first
 
 abbrev pub latest : {A : Type 0} → List A → Option A
 latest [] = None
@@ -28,7 +28,7 @@ abbrev pub up_to : {A : Type 0} → (A → Bool) → List A → List A
 up_to is_kind [] = []
 up_to is_kind (x ∷ before) = if is_kind x then x ∷ before else up_to is_kind before
 
--- these, one after the other, on a history
+-- these, one after the other, on a transcript
 abbrev pub onto : {A : Type 0} → List A → List A → List A
 onto [] before = before
 onto (x ∷ more) before = onto more (x ∷ before)

@@ -1,7 +1,7 @@
 -- The commands at which a filter gives a connection up.
 use Rattle.std.specs.Prelude.{ℕ, nat_lt, Bool, true, not, ◌&&◌, Option, None, Some, if◌then◌else◌}
 use Rattle.milter_message.specs.declared.message.TheConstants.{WEIGHT_MAX}
-use Rattle.milter_wire.specs.declared.agreement.Agreed.{Agreed}
+use Rattle.milter_wire.specs.declared.negotiation.Negotiated.{Negotiated}
 use Rattle.milter_wire.specs.declared.command.Command.{Command}
 use Rattle.milter_wire.specs.declared.command.Command.TheVariants as commands
 use Rattle.milter_wire.specs.declared.stage.Stage.{Stage}
@@ -24,10 +24,11 @@ fault_in_message last amount command =
     else if is_shown command && nat_lt WEIGHT_MAX amount then Some TooMuch
     else None
 
--- the fault of a command, by what was agreed on before it, the rank of the last stage, and the amount with this command
-abbrev pub fault_of : Option Agreed → ℕ → ℕ → Command → Option FilterFault
+-- the fault of a command, by what was negotiated before it, the rank of the last stage, and the amount with this
+-- command
+abbrev pub fault_of : Option Negotiated → ℕ → ℕ → Command → Option FilterFault
 fault_of None last amount (commands.Options offer) = if nat_lt offer.version VERSION_MIN then Some Version else None
 fault_of None last amount commands.Quit = None
 fault_of None last amount other = Some NotNegotiated
-fault_of (Some agreed) last amount (commands.Options offer) = Some NegotiatedTwice
-fault_of (Some agreed) last amount other = fault_in_message last amount other
+fault_of (Some negotiated) last amount (commands.Options offer) = Some NegotiatedTwice
+fault_of (Some negotiated) last amount other = fault_in_message last amount other

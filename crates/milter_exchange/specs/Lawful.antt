@@ -6,7 +6,7 @@ use Rattle.milter_options.specs.declared.options.TheConstants.Actions.{SETSYMLIS
 use Rattle.milter_wire.specs.declared.reply.Reply.TheVariants as replies
 use Rattle.milter_wire.specs.declared.stage.Stage.{Stage}
 use Rattle.milter_wire.specs.declared.stage.Stage.TheVariants.{Eob}
-use Rattle.milter_wire.specs.Agreement.{has_bit}
+use Rattle.milter_wire.specs.Negotiation.{has_bit}
 use Rattle.milter_wire.specs.Reply.{Fits}
 use Rattle.milter_wire.specs.Verdicts as verdicts
 use Rattle.milter_wire.specs.Verdicts.{given_at}

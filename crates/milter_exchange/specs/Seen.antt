@@ -44,11 +44,11 @@ abbrev pub header_in : Command → Option Header
 header_in (commands.Header header) = Some header
 header_in other = None
 
--- a piece of the body; the end of a message may have the last one
-abbrev pub piece_in : Command → Option (List ℕ)
-piece_in (commands.Body bytes) = Some bytes
-piece_in (commands.Eob bytes) = Some bytes
-piece_in other = None
+-- a chunk of the body; the end of a message may have the last one
+abbrev pub chunk_in : Command → Option (List ℕ)
+chunk_in (commands.Body bytes) = Some bytes
+chunk_in (commands.Eob bytes) = Some bytes
+chunk_in other = None
 
 -- the macros, the last one first
 abbrev pub pairs_in : Command → List Pair
@@ -70,7 +70,7 @@ seen leading_space shown =
       sender = latest (filter_map sender_in shown);
       recipients = reverse (filter_map recipient_in shown);
       headers = reverse (filter_map header_in shown);
-      body = concat (reverse (filter_map piece_in shown));
+      body = concat (reverse (filter_map chunk_in shown));
       macros = flat_map pairs_in shown;
     }
 

@@ -15,7 +15,7 @@ rank_of Eoh = 7
 rank_of Body = 8
 rank_of Eob = 9
 
--- a client may greet again, and a message may have several recipients, header fields and pieces of its body
+-- a client may greet again, and a message may have several recipients, header fields and chunks of its body
 abbrev pub may_repeat : Stage → Bool
 may_repeat Helo = true
 may_repeat Rcpt = true

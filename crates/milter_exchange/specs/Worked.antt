@@ -17,7 +17,7 @@ use Rattle.milter_exchange.specs.Behavior.{Behavior}
 use Rattle.milter_exchange.specs.Seen.{Seen}
 use Rattle.milter_exchange.specs.declared.answer.Answer.{Answer}
 use Rattle.milter_exchange.specs.declared.filter_state.FilterState.{FilterState}
-use Rattle.milter_exchange.specs.Conversations.{after, replies, start}
+use Rattle.milter_exchange.specs.FilterEnds.{after, replies, start}
 
 abbrev pub options : ℕ → ℕ → ℕ → Options
 options version actions protocol =
@@ -46,8 +46,8 @@ abbrev pub field : List ℕ → List ℕ → Command
 field name value = commands.Header (record { name = name; value = value })
 
 -- the reply to options
-abbrev pub agreed : ℕ → ℕ → ℕ → Reply
-agreed version actions protocol = replies_with.Options (options version actions protocol) []
+abbrev pub negotiated : ℕ → ℕ → ℕ → Reply
+negotiated version actions protocol = replies_with.Options (options version actions protocol) []
 
 -- ---- what comes of it
 

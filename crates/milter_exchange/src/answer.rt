@@ -17,7 +17,7 @@ pub struct Answer {
 }
 
 impl Answer {
-    /// The verdict, without edits. No memory is taken.
+    /// The verdict, without edits. Doesn't allocate.
     pub fn of_verdict(alloc: Global, verdict: Verdict) -> Self
         ensures edits { result.edits ≡ [] }
         ensures verdict { result.verdict ≡ verdict }

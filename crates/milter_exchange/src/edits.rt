@@ -22,21 +22,21 @@ impl Model for Edits {
 }
 
 impl Edits {
-    /// These edits. They aren't copied, and no memory is taken.
+    /// These edits. Neither copies nor allocates.
     pub fn new(edits: Vec<Edit>) -> Self
         ensures { result ≡ edits.items }
     {
         Edits { edits }
     }
 
-    /// The edits, in order. No memory is taken.
+    /// The edits, in order. Doesn't allocate.
     pub fn as_slice(&self) -> &[Edit]
         ensures { result.now ≡ self.now }
     {
         self.edits.as_slice()
     }
 
-    /// The edits, in order, each to be taken. No memory is taken.
+    /// The edits, in order, each to be taken. Doesn't allocate.
     pub fn into_vec(self) -> Vec<Edit>
         ensures { result.items ≡ self }
     {

@@ -5,7 +5,7 @@ ghost use Rattle.milter_exchange.specs.StageOrder.{may_follow, may_repeat, rank_
 
 use milter_wire::Stage;
 
-/// The place of a stage among the nine, from 1 for connect to 9 for the end of a message. No memory is taken. Source:
+/// The place of a stage among the nine, from 1 for connect to 9 for the end of a message. Doesn't allocate. Source:
 /// the libmilter callback documentation (order of callbacks).
 pub fn rank_of(stage: Stage) -> u8
     ensures rank { result ≡ rank_of stage }
@@ -25,7 +25,7 @@ pub fn rank_of(stage: Stage) -> u8
 }
 
 /// Whether a stage may come after the stage of this rank, where 0 stands for none: a stage of a higher rank may, and
-/// greetings, recipients, header fields and pieces of a body may follow their own kind. No memory is taken. Source: the
+/// greetings, recipients, header fields and chunks of a body may follow their own kind. Doesn't allocate. Source: the
 /// libmilter callback documentation (order of callbacks).
 pub fn may_follow(last: u8, stage: Stage) -> bool
     ensures { result ≡ may_follow last stage }

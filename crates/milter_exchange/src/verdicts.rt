@@ -6,7 +6,7 @@ ghost use Rattle.milter_exchange.specs.Verdicts.{is_final_at};
 use milter_wire::{Stage, Verdict};
 
 /// Whether nothing more of a message is sent after the verdict at the stage: always at the end of the message, at a
-/// recipient where the message is taken, and else unless the filter goes on. No memory is taken. Source: the libmilter
+/// recipient where the message is taken, and else unless the filter goes on. Doesn't allocate. Source: the libmilter
 /// callback documentation (return values).
 pub fn is_final_at(stage: Stage, verdict: &Verdict) -> bool
     ensures { result ≡ is_final_at stage verdict.now }

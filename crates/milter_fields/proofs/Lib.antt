@@ -5,6 +5,6 @@ pub mod Steps
 pub mod Lanes
 pub mod StringFields
 pub mod SequenceLaws
-pub mod LentLists
+pub mod BorrowedLists
 pub mod PortFields
 pub mod Values

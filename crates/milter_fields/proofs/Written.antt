@@ -1,7 +1,7 @@
 -- What was appended before stays.
 use Rattle.std.proofs.Common.{◌≡◌, ◌≤◌, ℕ, List, ◌++◌, length, take, Result, Ok, Err, refl, sym, ap, ◌∙◌, arith, append_assoc, length-append}
 use Rattle.std.proofs.lemmas.List.{take-take, take_at}
-use Rattle.milter_stream.specs.Appending.{Extends, PutsBytes}
+use Rattle.milter_stream.specs.AppendedBytes.{Extends, PutsBytes}
 
 pub extends_more : (old more middle new : List ℕ) → middle ≡ old ++ more → Extends middle new → Extends old new
 extends_more old more middle new m e =

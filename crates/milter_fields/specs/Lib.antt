@@ -4,4 +4,4 @@ pub mod Layout
 pub mod Pair
 pub mod Decoding
 pub mod Lists
-pub mod Lent
+pub mod Borrowed

@@ -1,4 +1,4 @@
--- Lists that are lent: those of a payload, which are decoded as they are gone over, and those that were made.
+-- Lists that are borrowed: those of a payload, which are decoded as they are gone over, and those that were made.
 use Rattle.std.specs.Prelude.{List, [], ◌∷◌, Option, None, Some}
 
 -- a list that was decoded, or none

@@ -1,7 +1,7 @@
 //! An address with the arguments that may follow it, a string each; no arguments are not the empty ones.
 
 ghost use Rattle.std.specs.Prelude.{◌≡◌, ◌++◌, ◌↔◌, IsTrue, OnOk, length, option_map};
-ghost use Rattle.milter_stream.specs.Appending.{PutsBytes};
+ghost use Rattle.milter_stream.specs.AppendedBytes.{PutsBytes};
 ghost use Rattle.milter_fields.specs.Field.{string};
 ghost use Rattle.milter_fields.specs.Layout.{arguments, ArgumentsFit};
 ghost use Rattle.milter_fields.specs.Decoding.{DecodesOptional, addressed_in, arguments_in};
@@ -21,7 +21,7 @@ pub fn arguments_fit(value: &Option<Text>) -> bool
     }
 }
 
-/// The number of bytes of the arguments in a packet: of one string, or none. No memory is taken.
+/// The number of bytes of the arguments in a packet: of one string, or none. Doesn't allocate.
 pub fn arguments_len(value: &Option<Text>) -> usize
     ensures { result ≡ length (arguments value.now) }
 {

@@ -2,11 +2,11 @@
 //! a known family the port and the address.
 
 ghost use Rattle.std.specs.Prelude.{◌≡◌, ◌-◌, ◌^◌, ◌∷◌, ◌++◌, ◌↔◌, IfOk, IsTrue, length, min, option_map};
-ghost use Rattle.milter_stream.specs.Appending.{PutsBytes};
+ghost use Rattle.milter_stream.specs.AppendedBytes.{PutsBytes};
 ghost use Rattle.milter_fields.specs.Field.{port, string};
 ghost use Rattle.milter_fields.specs.Layout.{client, origin, ClientFits, OriginFits};
 ghost use Rattle.milter_fields.specs.Decoding.{client_in, origin_in, endpoint_in};
-ghost use Rattle.milter_fields.specs.Lent.{client_of, origin_of};
+ghost use Rattle.milter_fields.specs.Borrowed.{client_of, origin_of};
 
 use crate::families::{SMFIA_INET, SMFIA_INET6, SMFIA_UNIX, SMFIA_UNKNOWN};
 use crate::port::{put_port, take_port};
@@ -53,7 +53,8 @@ pub enum Origin {
     },
 }
 
-/// A client that is lent, by a packet or by a [`Client`]. Source: the libmilter callback documentation (xxfi_connect).
+/// A client that is borrowed, from a packet or from a [`Client`]. Source: the libmilter callback documentation
+/// (xxfi_connect).
 #[derive(Clone, Copy, Debug, PartialEq, Eq)]
 pub struct ClientRef<'a> {
     /// The name of the host, or its address in brackets.
@@ -62,7 +63,7 @@ pub struct ClientRef<'a> {
     pub origin: OriginRef<'a>,
 }
 
-/// Where a client that is lent connects from: as [`Origin`].
+/// Where a client that is borrowed connects from: as [`Origin`].
 #[derive(Clone, Copy, Debug, PartialEq, Eq)]
 pub enum OriginRef<'a> {
     /// `U`: nothing is known.
@@ -91,7 +92,7 @@ pub enum OriginRef<'a> {
 }
 
 impl Client {
-    /// The same client, lent. No memory is taken.
+    /// The same client, borrowed. Doesn't allocate.
     pub fn as_ref(&self) -> ClientRef<'_>
         ensures { client_of result ≡ self.now }
     {
@@ -103,7 +104,7 @@ impl Client {
 }
 
 impl Origin {
-    /// The same origin, lent. No memory is taken.
+    /// The same origin, borrowed. Doesn't allocate.
     pub fn as_ref(&self) -> OriginRef<'_>
         ensures { origin_of result ≡ self.now }
     {

@@ -1,11 +1,11 @@
 //! Header fields of a message, and their encoding: the name and the value, a string each.
 
 ghost use Rattle.std.specs.Prelude.{◌≡◌, ◌-◌, ◌^◌, ◌++◌, ◌↔◌, IfOk, IsTrue, OnOk, length, min, option_map};
-ghost use Rattle.milter_stream.specs.Appending.{PutsBytes};
+ghost use Rattle.milter_stream.specs.AppendedBytes.{PutsBytes};
 ghost use Rattle.milter_stream.specs.Number.{number};
 ghost use Rattle.milter_fields.specs.Layout.{header, HeaderFits};
 ghost use Rattle.milter_fields.specs.Decoding.{DecodesOptional, header_in, indexed_in};
-ghost use Rattle.milter_fields.specs.Lent.{header_of};
+ghost use Rattle.milter_fields.specs.Borrowed.{header_of};
 
 use crate::strings::{has_no_nul, put_string, string_len, take_string};
 use crate::text::Text;
@@ -21,7 +21,7 @@ pub struct Header {
     pub value: Text,
 }
 
-/// A header field that is lent, by a packet or by a [`Header`]. Source: the libmilter callback documentation
+/// A header field that is borrowed, from a packet or from a [`Header`]. Source: the libmilter callback documentation
 /// (xxfi_header).
 #[derive(Clone, Copy, Debug, PartialEq, Eq)]
 pub struct HeaderRef<'a> {
@@ -32,7 +32,7 @@ pub struct HeaderRef<'a> {
 }
 
 impl Header {
-    /// The same header field, lent. No memory is taken.
+    /// The same header field, borrowed. Doesn't allocate.
     pub fn as_ref(&self) -> HeaderRef<'_>
         ensures { header_of result ≡ self.now }
     {
@@ -105,8 +105,7 @@ pub fn header_fits(value: &Header) -> bool
     value.as_ref().fits()
 }
 
-/// The number of bytes of the two strings in a packet, or the greatest `usize` where there are more. No memory is
-/// taken.
+/// The number of bytes of the two strings in a packet, or the greatest `usize` where there are more. Doesn't allocate.
 pub fn header_len(value: &Header) -> usize
     ensures { result ≡ min (length (header value.now)) (2 ^ 64 - 1) }
 {

@@ -1,4 +1,4 @@
-//! Lists as packets carry them: each is made of its `Vec`, and lent as a slice.
+//! Lists as packets carry them: each is made of its `Vec`, and borrowed as a slice.
 
 ghost use Rattle.std.specs.Prelude.{◌≡◌, List, ℕ, nat_eq};
 ghost use Rattle.std.specs.Cmp.{partial_equiv_from_equiv};
@@ -23,14 +23,14 @@ impl Model for Params {
 }
 
 impl Params {
-    /// The parameters that these texts are. They aren't copied, and no memory is taken.
+    /// The parameters that these texts are. Neither copies nor allocates.
     pub fn new(texts: Vec<Text>) -> Self
         ensures { result ≡ texts.items }
     {
         Params { texts }
     }
 
-    /// The parameters, in order. No memory is taken.
+    /// The parameters, in order. Doesn't allocate.
     pub fn as_slice(&self) -> &[Text]
         ensures { result.now ≡ self.now }
     {
@@ -77,14 +77,14 @@ impl Model for Pairs {
 }
 
 impl Pairs {
-    /// The macros that these pairs are. They aren't copied, and no memory is taken.
+    /// The macros that these pairs are. Neither copies nor allocates.
     pub fn new(pairs: Vec<Pair>) -> Self
         ensures { result ≡ pairs.items }
     {
         Pairs { pairs }
     }
 
-    /// The macros, in order. No memory is taken.
+    /// The macros, in order. Doesn't allocate.
     pub fn as_slice(&self) -> &[Pair]
         ensures { result.now ≡ self.now }
     {

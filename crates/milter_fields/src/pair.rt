@@ -2,9 +2,9 @@
 
 ghost use Rattle.std.specs.Prelude.{◌≡◌, ◌-◌, ◌^◌, ◌++◌, ◌↔◌, All, IfOk, IsTrue, OnOk, length, min};
 ghost use Rattle.std.specs.List.{flat_map};
-ghost use Rattle.milter_stream.specs.Appending.{PutsBytes};
+ghost use Rattle.milter_stream.specs.AppendedBytes.{PutsBytes};
 ghost use Rattle.milter_fields.specs.Layout.{pair, PairFits};
-ghost use Rattle.milter_fields.specs.Lent.{pair_of};
+ghost use Rattle.milter_fields.specs.Borrowed.{pair_of};
 
 use crate::strings::{has_no_nul, put_string, string_len};
 use crate::text::Text;
@@ -20,7 +20,7 @@ pub struct Pair {
     pub value: Text,
 }
 
-/// A macro that is lent, by a packet or by a [`Pair`].
+/// A macro that is borrowed, from a packet or from a [`Pair`].
 #[derive(Clone, Copy, Debug, PartialEq, Eq)]
 pub struct PairRef<'a> {
     /// The name, in braces where it has more than one letter.
@@ -30,7 +30,7 @@ pub struct PairRef<'a> {
 }
 
 impl Pair {
-    /// The same macro, lent. No memory is taken.
+    /// The same macro, borrowed. Doesn't allocate.
     pub fn as_ref(&self) -> PairRef<'_>
         ensures { pair_of result ≡ self.now }
     {
@@ -81,8 +81,7 @@ pub fn pairs_fit(pairs: &[Pair]) -> bool
     pairs.iter().all(|value| value.as_ref().fits())
 }
 
-/// The number of bytes of the two strings in a packet, or the greatest `usize` where there are more. No memory is
-/// taken.
+/// The number of bytes of the two strings in a packet, or the greatest `usize` where there are more. Doesn't allocate.
 pub fn pair_len(value: &Pair) -> usize
     ensures { result ≡ min (length (pair value.now)) (2 ^ 64 - 1) }
 {

@@ -1,12 +1,12 @@
 //! Senders and recipients, and their encoding: the address and the parameters, a string each.
 
 ghost use Rattle.std.specs.Prelude.{◌≡◌, ◌-◌, ◌^◌, ◌↔◌, IfOk, IsTrue, length, min, option_map};
-ghost use Rattle.milter_stream.specs.Appending.{PutsBytes};
+ghost use Rattle.milter_stream.specs.AppendedBytes.{PutsBytes};
 ghost use Rattle.milter_fields.specs.Layout.{path, PathFits};
 ghost use Rattle.milter_fields.specs.Decoding.{path_in};
-ghost use Rattle.milter_fields.specs.Lent.{path_of};
+ghost use Rattle.milter_fields.specs.Borrowed.{path_of};
 
-use crate::lent_lists::ParamsRef;
+use crate::borrowed_lists::ParamsRef;
 use crate::lists::Params;
 use crate::strings::{has_no_nul, put_string, string_len, take_string};
 use crate::text::Text;
@@ -23,8 +23,8 @@ pub struct Path {
     pub params: Params,
 }
 
-/// A sender or a recipient that is lent, by a packet or by a [`Path`]. Source: the libmilter callback documentation
-/// (xxfi_envfrom, xxfi_envrcpt).
+/// A sender or a recipient that is borrowed, from a packet or from a [`Path`]. Source: the libmilter callback
+/// documentation (xxfi_envfrom, xxfi_envrcpt).
 #[derive(Debug, Drop)]
 pub struct PathRef<'a> {
     /// The address as the client gave it, with or without angle brackets.
@@ -34,7 +34,7 @@ pub struct PathRef<'a> {
 }
 
 impl Path {
-    /// The same sender or recipient, lent. No memory is taken.
+    /// The same sender or recipient, borrowed. Doesn't allocate.
     pub fn as_ref(&self) -> PathRef<'_>
         ensures { path_of result ≡ self.now }
     {

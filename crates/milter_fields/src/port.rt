@@ -1,7 +1,7 @@
 //! Ports in two bytes, the higher first.
 
 ghost use Rattle.std.specs.Prelude.{◌≡◌, ◌++◌, OnOk, option_map};
-ghost use Rattle.milter_stream.specs.Appending.{PutsBytes};
+ghost use Rattle.milter_stream.specs.AppendedBytes.{PutsBytes};
 ghost use Rattle.milter_fields.specs.Field.{port};
 ghost use Rattle.milter_fields.specs.Decoding.{port_at, port_of};
 

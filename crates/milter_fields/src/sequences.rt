@@ -2,7 +2,7 @@
 
 ghost use Rattle.std.specs.Prelude.{◌≡◌, ◌-◌, ◌^◌, ◌++◌, ◌↔◌, All, IsTrue, OnOk, is_some, length, min};
 ghost use Rattle.std.specs.List.{flat_map};
-ghost use Rattle.milter_stream.specs.Appending.{PutsBytes};
+ghost use Rattle.milter_stream.specs.AppendedBytes.{PutsBytes};
 ghost use Rattle.milter_fields.specs.Field.{HasNoNul, string};
 ghost use Rattle.milter_fields.specs.Decoding.{pairs_in, strings_in};
 

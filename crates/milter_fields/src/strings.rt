@@ -1,7 +1,7 @@
 //! Strings: a text, and the NUL that ends it.
 
 ghost use Rattle.std.specs.Prelude.{◌≡◌, ◌++◌, ◌↔◌, IsTrue, OnOk, length, option_map};
-ghost use Rattle.milter_stream.specs.Appending.{PutsBytes};
+ghost use Rattle.milter_stream.specs.AppendedBytes.{PutsBytes};
 ghost use Rattle.milter_fields.specs.Field.{HasNoNul, string};
 ghost use Rattle.milter_fields.specs.Decoding.{DecodesOptional, string_at, string_in};
 
@@ -10,14 +10,14 @@ use crate::text::Text;
 use milter_stream::NoMemory;
 use std::alloc::Global;
 
-/// Whether a string can carry the text: no byte of it is a NUL. No memory is taken.
+/// Whether a string can carry the text: no byte of it is a NUL. Doesn't allocate.
 pub fn has_no_nul(text: &[u8]) -> bool
     ensures { IsTrue result ↔ HasNoNul text.now }
 {
     first_nul(text).is_none()
 }
 
-/// The number of bytes of the string that carries the text: those of the text, and a NUL. No memory is taken.
+/// The number of bytes of the string that carries the text: those of the text, and a NUL. Doesn't allocate.
 pub fn string_len(text: &[u8]) -> usize
     ensures { result ≡ length (string text.now) }
 {

@@ -25,7 +25,7 @@ impl Model for Text {
 }
 
 impl Text {
-    /// The text of these bytes. They aren't copied, and no memory is taken.
+    /// The text of these bytes. Neither copies nor allocates.
     pub fn new(bytes: Vec<u8>) -> Self
         ensures { result ≡ bytes.items }
     {
@@ -52,14 +52,14 @@ impl Text {
         Ok(())
     }
 
-    /// The bytes of the text. No memory is taken.
+    /// The bytes of the text. Doesn't allocate.
     pub fn as_slice(&self) -> &[u8]
         ensures { result.now ≡ self.now }
     {
         self.bytes.as_slice()
     }
 
-    /// Whether a string can carry the text: no byte of it is a NUL. No memory is taken.
+    /// Whether a string can carry the text: no byte of it is a NUL. Doesn't allocate.
     pub fn has_no_nul(&self) -> bool
         ensures { IsTrue result ↔ HasNoNul self.now }
     {

@@ -1,6 +1,6 @@
 pub mod MacroLists
 pub mod EditPackets
-pub mod Agreeing
+pub mod NegotiatedOptions
 pub mod PacketCommands
 pub mod LengthFaults
 pub mod PieceStreams

@@ -9,10 +9,10 @@ use Rattle.milter_wire.specs.declared.command.Command.{Command}
 use Rattle.milter_wire.specs.Command.{IsEncodedAs, command_in, encoding, is_code}
 use Rattle.milter_wire.specs.declared.command_ref.CommandRef.{CommandRef}
 use Rattle.milter_wire.specs.Tables.{map_ok}
-use Rattle.milter_wire.specs.LentCommand.{command_of}
+use Rattle.milter_wire.specs.BorrowedCommand.{command_of}
 use Rattle.milter_wire.specs.Frames.{frame_command, value_or_fault}
 use Rattle.milter_wire.proofs.CommandGrammar.{commands_read}
-use Rattle.milter_wire.specs.declared.agreement.Agreed.{Agreed}
+use Rattle.milter_wire.specs.declared.negotiation.Negotiated.{Negotiated}
 use Rattle.milter_wire.specs.declared.command.Command.TheVariants.{Abort}
 use Rattle.milter_wire.specs.declared.reply.Reply.{Reply}
 use Rattle.milter_exchange.specs.declared.command_order.CommandOrder.{CommandOrder}
@@ -22,9 +22,9 @@ use Rattle.milter_exchange.specs.Behavior.{Behavior}
 use Rattle.milter_exchange.specs.declared.filter_fault.FilterFault.{FilterFault}
 use Rattle.milter_exchange.specs.declared.filter_state.FilterState.TheVariants.{Failed, Quit, Serving}
 use Rattle.milter_exchange.specs.Commands.{is_quit}
-use Rattle.milter_exchange.specs.Conversations.{Received}
+use Rattle.milter_exchange.specs.FilterEnds.{Received}
 use Rattle.milter_exchange.specs.Faults.{fault_of}
-use Rattle.milter_exchange.specs.Standings.{Standing, after_message, nothing_kept, standing_before, standing_by, standing_fault, standing_in, standing_next, standing_replies_at, standing_replies_by, standing_replies_in}
+use Rattle.milter_exchange.specs.OrderStates.{OrderState, after_message, nothing_kept, order_state_before, order_state_by, order_state_fault, order_state_in, order_state_next, order_state_replies_at, order_state_replies_by, order_state_replies_in}
 
 value-found : (code : ℕ) (known : Bool) (read : Option Command) (c : Command) → value_or_fault code known read ≡ Ok c → read ≡ Some c
 value-found code false read c e = absurd cc
@@ -52,72 +52,72 @@ encoded-len f c e = sym (packet-len f.code f.payload) ∙ ap length e.bytes_are
 
 -- ---- the abort that is due before it
 
-abort-ends : (b : Behavior) (s : Standing) (agreed : Agreed) → let t = record s { agreed = Some agreed; state = Serving } in after_message t ≡ standing_in b t (Ok Abort) Serving
-abort-ends b s agreed = refl
+abort-ends : (b : Behavior) (s : OrderState) (negotiated : Negotiated) → let t = record s { negotiated = Some negotiated; state = Serving } in after_message t ≡ order_state_in b t (Ok Abort) Serving
+abort-ends b s negotiated = refl
 
-pub ready-is : (b : Behavior) (s : Standing) (received : Received) → s.state ≡ Serving
-    → (if needs_abort s.order s.agreed s.last_rank received then after_message s else s) ≡ standing_before b s received
-ready-is b s received serving = by_need (needs_abort s.order s.agreed s.last_rank received) refl
+pub ready-is : (b : Behavior) (s : OrderState) (received : Received) → s.state ≡ Serving
+    → (if needs_abort s.order s.negotiated s.last_rank received then after_message s else s) ≡ order_state_before b s received
+ready-is b s received stream_server = by_need (needs_abort s.order s.negotiated s.last_rank received) refl
   where
     none : (order : CommandOrder) → needs_abort order None s.last_rank received ≡ false
     none Strict = refl
     none Lenient = refl
 
-    by_agreed : (agreed : Option Agreed) → s.agreed ≡ agreed → needs_abort s.order s.agreed s.last_rank received ≡ true → after_message s ≡ standing_in b s (Ok Abort) s.state
-    by_agreed None is due =
-        let no : false ≡ true = sym (none s.order) ∙ ap (λ (agreed : Option Agreed). needs_abort s.order agreed s.last_rank received) (sym is) ∙ due in absurd cc
-    by_agreed (Some agreed) is due =
-        let same : s ≡ record s { agreed = Some agreed; state = Serving } = λ i. record s { agreed = is i; state = serving i } in
-        ap after_message same ∙ abort-ends b s agreed ∙ ap (λ (t : Standing). standing_in b t (Ok Abort) t.state) (sym same)
+    by_negotiated : (negotiated : Option Negotiated) → s.negotiated ≡ negotiated → needs_abort s.order s.negotiated s.last_rank received ≡ true → after_message s ≡ order_state_in b s (Ok Abort) s.state
+    by_negotiated None is due =
+        let no : false ≡ true = sym (none s.order) ∙ ap (λ (negotiated : Option Negotiated). needs_abort s.order negotiated s.last_rank received) (sym is) ∙ due in absurd cc
+    by_negotiated (Some negotiated) is due =
+        let same : s ≡ record s { negotiated = Some negotiated; state = Serving } = λ i. record s { negotiated = is i; state = stream_server i } in
+        ap after_message same ∙ abort-ends b s negotiated ∙ ap (λ (t : OrderState). order_state_in b t (Ok Abort) t.state) (sym same)
 
-    by_need : (need : Bool) → needs_abort s.order s.agreed s.last_rank received ≡ need → (if need then after_message s else s) ≡ (if need then standing_in b s (Ok Abort) s.state else s)
-    by_need true due = by_agreed s.agreed refl due
+    by_need : (need : Bool) → needs_abort s.order s.negotiated s.last_rank received ≡ need → (if need then after_message s else s) ≡ (if need then order_state_in b s (Ok Abort) s.state else s)
+    by_need true due = by_negotiated s.negotiated refl due
     by_need false due = refl
 
 -- ---- what it comes to
 
-abbrev next_from : Behavior → Received → Standing → Standing
-next_from b received ready = standing_in b ready received ready.state
+abbrev next_from : Behavior → Received → OrderState → OrderState
+next_from b received ready = order_state_in b ready received ready.state
 
-abbrev replies_from : Behavior → Received → Standing → List Reply
-replies_from b received ready = standing_replies_in b ready received ready.state
+abbrev replies_from : Behavior → Received → OrderState → List Reply
+replies_from b received ready = order_state_replies_in b ready received ready.state
 
-module _ (b : Behavior) (s ready : Standing) (received : Received) (c : Command) (is : ready ≡ standing_before b s received) (read : Ok c ≡ received) (serving : ready.state ≡ Serving) where
-  next-by : (fault : Option FilterFault) → standing_fault ready (Ok c) ≡ fault → standing_by b ready (Ok c) fault ≡ standing_next b s received
+module _ (b : Behavior) (s ready : OrderState) (received : Received) (c : Command) (is : ready ≡ order_state_before b s received) (read : Ok c ≡ received) (stream_server : ready.state ≡ Serving) where
+  next-by : (fault : Option FilterFault) → order_state_fault ready (Ok c) ≡ fault → order_state_by b ready (Ok c) fault ≡ order_state_next b s received
   next-by fault found =
-      ap (standing_by b ready (Ok c)) (sym found)
-      ∙ ap (standing_in b ready (Ok c)) (sym serving)
+      ap (order_state_by b ready (Ok c)) (sym found)
+      ∙ ap (order_state_in b ready (Ok c)) (sym stream_server)
       ∙ ap (λ r. next_from b r ready) read
       ∙ ap (next_from b received) is
 
-  replies-by : (fault : Option FilterFault) → standing_fault ready (Ok c) ≡ fault → standing_replies_by b ready (Ok c) fault ≡ standing_replies_at b s received
+  replies-by : (fault : Option FilterFault) → order_state_fault ready (Ok c) ≡ fault → order_state_replies_by b ready (Ok c) fault ≡ order_state_replies_at b s received
   replies-by fault found =
-      ap (standing_replies_by b ready (Ok c)) (sym found)
-      ∙ ap (standing_replies_in b ready (Ok c)) (sym serving)
+      ap (order_state_replies_by b ready (Ok c)) (sym found)
+      ∙ ap (order_state_replies_in b ready (Ok c)) (sym stream_server)
       ∙ ap (λ r. replies_from b r ready) read
       ∙ ap (replies_from b received) is
 
-  pub next-in_order : standing_fault ready (Ok c) ≡ None → standing_by b ready (Ok c) None ≡ standing_next b s received
+  pub next-in_order : order_state_fault ready (Ok c) ≡ None → order_state_by b ready (Ok c) None ≡ order_state_next b s received
   next-in_order none = next-by None none
 
-  pub replies-in_order : standing_fault ready (Ok c) ≡ None → standing_replies_by b ready (Ok c) None ≡ standing_replies_at b s received
+  pub replies-in_order : order_state_fault ready (Ok c) ≡ None → order_state_replies_by b ready (Ok c) None ≡ order_state_replies_at b s received
   replies-in_order none = replies-by None none
 
-  pub next-fault : (fault : FilterFault) → standing_fault ready (Ok c) ≡ Some fault → standing_next b s received ≡ nothing_kept (Failed fault)
+  pub next-fault : (fault : FilterFault) → order_state_fault ready (Ok c) ≡ Some fault → order_state_next b s received ≡ nothing_kept (Failed fault)
   next-fault fault some = sym (next-by (Some fault) some)
 
-  pub silent-fault : (fault : FilterFault) → standing_fault ready (Ok c) ≡ Some fault → standing_replies_at b s received ≡ []
+  pub silent-fault : (fault : FilterFault) → order_state_fault ready (Ok c) ≡ Some fault → order_state_replies_at b s received ≡ []
   silent-fault fault some = sym (replies-by (Some fault) some)
 
 still-going : (quits : Bool) (fault : FilterFault) → (if quits then Quit else Serving) ≢ Failed fault
 still-going true fault e = absurd cc
 still-going false fault e = absurd cc
 
-pub goes-on : (b : Behavior) (s new : Standing) (c : Command) → new ≡ standing_by b s (Ok c) None → (fault : FilterFault) → new.state ≢ Failed fault
-goes-on b s new c is fault failed = still-going (is_quit c) fault (sym (ap (λ (x : Standing). x.state) is) ∙ failed)
+pub goes-on : (b : Behavior) (s new : OrderState) (c : Command) → new ≡ order_state_by b s (Ok c) None → (fault : FilterFault) → new.state ≢ Failed fault
+goes-on b s new c is fault failed = still-going (is_quit c) fault (sym (ap (λ (x : OrderState). x.state) is) ∙ failed)
 
 -- the fault of the command, by the bytes of its packet
-pub fault-by_len : (s : Standing) (f : Frame) (c : Command) (result : Option FilterFault) → IsEncodedAs c (packet f.code f.payload)
-    → result ≡ fault_of s.agreed s.last_rank (length f.payload + 5 + s.shown.bytes) c → standing_fault s (Ok c) ≡ result
+pub fault-by_len : (s : OrderState) (f : Frame) (c : Command) (result : Option FilterFault) → IsEncodedAs c (packet f.code f.payload)
+    → result ≡ fault_of s.negotiated s.last_rank (length f.payload + 5 + s.shown.bytes) c → order_state_fault s (Ok c) ≡ result
 fault-by_len s f c result e is =
-    ap (λ n. fault_of s.agreed s.last_rank (n + s.shown.bytes) c) (sym (encoded-len f c e)) ∙ sym is
+    ap (λ n. fault_of s.negotiated s.last_rank (n + s.shown.bytes) c) (sym (encoded-len f c e)) ∙ sym is

@@ -6,7 +6,7 @@ use Rattle.milter_stream.proofs.Division.{divide-first}
 use Rattle.milter_stream.proofs.Frames.{first_frame-packet}
 use Rattle.milter_stream.proofs.StreamLaws.{divide-fault, divide-handed, divide-nil, divide-unfinished, length_fault-fed}
 use Rattle.milter_wire.specs.Frames.{frame_command}
-use Rattle.milter_wire.specs.declared.agreement.Agreed.{Agreed}
+use Rattle.milter_wire.specs.declared.negotiation.Negotiated.{Negotiated}
 use Rattle.milter_wire.specs.declared.command.Command.TheVariants.{Abort}
 use Rattle.milter_exchange.specs.declared.command_order.CommandOrder.{CommandOrder}
 use Rattle.milter_exchange.specs.declared.command_order.CommandOrder.TheVariants.{Lenient, Strict}
@@ -15,10 +15,10 @@ use Rattle.milter_exchange.specs.Behavior.{Behavior}
 use Rattle.milter_exchange.specs.declared.filter_fault.FilterFault.{FilterFault}
 use Rattle.milter_exchange.specs.declared.filter_fault.FilterFault.TheVariants.{Wire}
 use Rattle.milter_exchange.specs.declared.filter_state.FilterState.TheVariants.{Failed, Serving}
-use Rattle.milter_exchange.specs.Conversations.{Received}
-use Rattle.milter_exchange.specs.Standings.{Standing, nothing_kept, standing_after, standing_before, standing_in, standing_next, standing_replies, standing_replies_at, standing_replies_in}
+use Rattle.milter_exchange.specs.FilterEnds.{Received}
+use Rattle.milter_exchange.specs.OrderStates.{OrderState, nothing_kept, order_state_after, order_state_before, order_state_in, order_state_next, order_state_replies, order_state_replies_at, order_state_replies_in}
 use Rattle.milter_filter.specs.Cores.{GivesUp}
-use Rattle.milter_filter.specs.Replying.{Replying, replying_after, replying_next}
+use Rattle.milter_filter.specs.AnswerPackets.{Replying, replying_after, replying_next}
 use Rattle.milter_filter.specs.Streams.{IsOnePacketAtMost, fault_after, read_in, received_in}
 
 -- ---- one packet
@@ -35,7 +35,7 @@ module _ (b : Behavior) {P : Type 0} (old : Replying P) where
 
   -- no packet yet
   pub replied-unfinished : (bytes : List ℕ) → IsUnfinished bytes → old ≡ replying_after b old (read_in bytes)
-  replied-unfinished bytes unfinished = rw (divide-unfinished bytes unfinished) (ap (λ pending. record { policy = old.policy; standing = old.standing; pending = pending }) (sym (append-nil old.pending)))
+  replied-unfinished bytes unfinished = rw (divide-unfinished bytes unfinished) (ap (λ pending. record { policy = old.policy; order_state = old.order_state; pending = pending }) (sym (append-nil old.pending)))
 
 pub rest-packet : (f : Frame) (bytes : List ℕ) → IsFrame f → bytes ≡ frame_bytes f → [] ≡ (divide bytes).rest
 rest-packet f bytes fits is = rw (is, divide-one f fits) refl
@@ -53,50 +53,50 @@ one-unfinished bytes unfinished = inl (ap (λ (x : Division). map frame_command 
 
 -- ---- faults
 
-failed-stays : (b : Behavior) (fault : FilterFault) (received : List Received) → standing_after b (nothing_kept (Failed fault)) received ≡ nothing_kept (Failed fault)
+failed-stays : (b : Behavior) (fault : FilterFault) (received : List Received) → order_state_after b (nothing_kept (Failed fault)) received ≡ nothing_kept (Failed fault)
 failed-stays b fault [] = refl
 failed-stays b fault (first ∷ more) = failed-stays b fault more
 
-failed-silent : (b : Behavior) (fault : FilterFault) (received : List Received) → standing_replies b (nothing_kept (Failed fault)) received ≡ []
+failed-silent : (b : Behavior) (fault : FilterFault) (received : List Received) → order_state_replies b (nothing_kept (Failed fault)) received ≡ []
 failed-silent b fault [] = refl
 failed-silent b fault (first ∷ more) = failed-silent b fault more
 
-module _ (b : Behavior) (s : Standing) (unread piece new : List ℕ) (n : ℕ) (fed : new ≡ unread ++ take n piece) where
-  pub packet-gives_up : (f : Frame) (fault : FilterFault) → new ≡ frame_bytes f → IsFrame f → standing_next b s (frame_command f) ≡ nothing_kept (Failed fault)
-      → standing_replies_at b s (frame_command f) ≡ [] → GivesUp b s (received_in (unread ++ piece)) fault
+module _ (b : Behavior) (s : OrderState) (unread piece new : List ℕ) (n : ℕ) (fed : new ≡ unread ++ take n piece) where
+  pub packet-gives_up : (f : Frame) (fault : FilterFault) → new ≡ frame_bytes f → IsFrame f → order_state_next b s (frame_command f) ≡ nothing_kept (Failed fault)
+      → order_state_replies_at b s (frame_command f) ≡ [] → GivesUp b s (received_in (unread ++ piece)) fault
   packet-gives_up f fault is fits at_fault silent =
       let more = divide (drop n piece) in
       let others = map frame_command more.frames ++ fault_after (length_fault more.rest) in
       let handed : received_in (unread ++ piece) ≡ frame_command f ∷ others =
       ap (λ (d : Division). map frame_command d.frames ++ fault_after (length_fault d.rest)) (divide-handed unread piece new n f fed is fits) in
       record {
-        failed = ap (standing_after b s) handed ∙ ap (λ (x : Standing). standing_after b x others) at_fault ∙ failed-stays b fault others;
+        failed = ap (order_state_after b s) handed ∙ ap (λ (x : OrderState). order_state_after b x others) at_fault ∙ failed-stays b fault others;
         silent =
-            ap (standing_replies b s) handed
-            ∙ ap (λ rs. rs ++ standing_replies b (standing_next b s (frame_command f)) others) silent
-            ∙ ap (λ (x : Standing). standing_replies b x others) at_fault
+            ap (order_state_replies b s) handed
+            ∙ ap (λ rs. rs ++ order_state_replies b (order_state_next b s (frame_command f)) others) silent
+            ∙ ap (λ (x : OrderState). order_state_replies b x others) at_fault
             ∙ failed-silent b fault others;
       }
 
   -- a fault is no greeting
-  no-abort : (order : CommandOrder) (agreed : Option Agreed) (last : ℕ) (fault : WireFault) → needs_abort order agreed last (Err fault) ≡ false
-  no-abort Strict agreed last fault = refl
+  no-abort : (order : CommandOrder) (negotiated : Option Negotiated) (last : ℕ) (fault : WireFault) → needs_abort order negotiated last (Err fault) ≡ false
+  no-abort Strict negotiated last fault = refl
   no-abort Lenient None last fault = refl
-  no-abort Lenient (Some agreed) last fault = refl
+  no-abort Lenient (Some negotiated) last fault = refl
 
-  ready-fault : (fault : WireFault) → standing_before b s (Err fault) ≡ s
-  ready-fault fault = ap (λ aborts. if aborts then standing_in b s (Ok Abort) s.state else s) (no-abort s.order s.agreed s.last_rank fault)
+  ready-fault : (fault : WireFault) → order_state_before b s (Err fault) ≡ s
+  ready-fault fault = ap (λ aborts. if aborts then order_state_in b s (Ok Abort) s.state else s) (no-abort s.order s.negotiated s.last_rank fault)
 
   pub length-gives_up : (fault : WireFault) → s.state ≡ Serving → length_fault new ≡ Some fault → GivesUp b s (received_in (unread ++ piece)) (Wire fault)
-  length-gives_up fault serving is =
+  length-gives_up fault stream_server is =
       let received : received_in (unread ++ piece) ≡ Err fault ∷ [] = rw (divide-fault unread piece new n fault fed is, length_fault-fed unread piece new n fault fed is) refl in
       record {
         failed =
-            ap (standing_after b s) received
-            ∙ ap (λ (ready : Standing). standing_in b ready (Err fault) ready.state) (ready-fault fault)
-            ∙ ap (standing_in b s (Err fault)) serving;
+            ap (order_state_after b s) received
+            ∙ ap (λ (ready : OrderState). order_state_in b ready (Err fault) ready.state) (ready-fault fault)
+            ∙ ap (order_state_in b s (Err fault)) stream_server;
         silent =
-            ap (standing_replies b s) received
-            ∙ ap (λ (ready : Standing). standing_replies_in b ready (Err fault) ready.state ++ []) (ready-fault fault)
-            ∙ ap (λ state. standing_replies_in b s (Err fault) state ++ []) serving;
+            ap (order_state_replies b s) received
+            ∙ ap (λ (ready : OrderState). order_state_replies_in b ready (Err fault) ready.state ++ []) (ready-fault fault)
+            ∙ ap (λ state. order_state_replies_in b s (Err fault) state ++ []) stream_server;
       }

@@ -8,19 +8,19 @@ use Rattle.milter_exchange.specs.declared.command_order.CommandOrder.{CommandOrd
 use Rattle.milter_exchange.specs.declared.filter_fault.FilterFault.{FilterFault}
 use Rattle.milter_exchange.specs.declared.filter_state.FilterState.{FilterState}
 use Rattle.milter_exchange.specs.declared.filter_state.FilterState.TheVariants.{Failed, Quit, Serving}
-use Rattle.milter_exchange.specs.Standings.{Standing}
+use Rattle.milter_exchange.specs.OrderStates.{OrderState}
 use Rattle.milter_filter.specs.declared.served.Served.{Served}
 use Rattle.milter_filter.specs.declared.served.Served.TheVariants as ends
 use Rattle.milter_filter.specs.Cores.{Core, GivesUp, GoesOn, Takes, fresh_core_in, given_up}
-use Rattle.milter_filter.specs.PieceServing.{CutOff, Goes, PieceCut, PieceServed, Sends}
-use Rattle.milter_filter.specs.Serving.{RepliedAs, RepliedInPart, RepliedToPart, Serves}
-use Rattle.milter_filter.specs.Streams.{conversation_of, received_in, reply_bytes}
+use Rattle.milter_filter.specs.ServedPieces.{CutOff, Goes, PieceCut, PieceServed, Sends}
+use Rattle.milter_filter.specs.ServedConnections.{RepliedAs, RepliedInPart, RepliedToPart, Serves}
+use Rattle.milter_filter.specs.Streams.{filter_end_of, received_in, reply_bytes}
 use Rattle.milter_filter.proofs.Cutting.{goes_on-gives_up, goes_on-joins, goes_on-takes, replies-add, replies-from, state-from, stays}
 
 -- ---- the states of a connection
 
-pub serving-or-quit : (s : Standing) → ((fault : FilterFault) → s.state ≢ Failed fault) → s.state ≢ Quit → s.state ≡ Serving
-serving-or-quit s going on = by_state s.state refl
+pub stream_server-or-quit : (s : OrderState) → ((fault : FilterFault) → s.state ≢ Failed fault) → s.state ≢ Quit → s.state ≡ Serving
+stream_server-or-quit s going on = by_state s.state refl
   where
     by_state : (state : FilterState) → s.state ≡ state → s.state ≡ Serving
     by_state Serving is = is
@@ -69,7 +69,7 @@ module _ {P : Type 0} where
       → part ++ new.pending ≡ core.pending → GoesOn b old input (sent ++ part) new
   goes_on-written b old core new input sent part p is whole = subst (GoesOn b old input (sent ++ part)) (sym is) (record {
     policy = p.policy;
-    standing = p.standing;
+    order_state = p.order_state;
     replied = append_assoc sent part new.pending ∙ ap (λ xs. sent ++ xs) whole ∙ p.replied;
     unread = p.unread;
     unfinished = p.unfinished;
@@ -77,10 +77,10 @@ module _ {P : Type 0} where
     at_fault = p.at_fault;
   })
 
-  pub goes-none : (b : Behavior) (core : Core P) (a : Option (List ℕ)) → IsUnfinished core.unread → core.standing.state ≡ Serving → Goes b core [] core a a
-  goes-none b core a unfinished serving = record {
+  pub goes-none : (b : Behavior) (core : Core P) (a : Option (List ℕ)) → IsUnfinished core.unread → core.order_state.state ≡ Serving → Goes b core [] core a a
+  goes-none b core a unfinished stream_server = record {
     sent = [];
-    goes_on = stays b core unfinished serving;
+    goes_on = stays b core unfinished stream_server;
     was_written = Appends-nil a;
   }
 
@@ -101,7 +101,7 @@ module _ {P : Type 0} where
       was_written = Appends-trans w v u _ _ p.was_written s.was_written;
     }
 
-    pub goes-failed : (rest : List ℕ) (fault : FilterFault) → GivesUp b core.standing (received_in (core.unread ++ rest)) fault → Goes b old (taken ++ rest) (given_up old fault) w v
+    pub goes-failed : (rest : List ℕ) (fault : FilterFault) → GivesUp b core.order_state (received_in (core.unread ++ rest)) fault → Goes b old (taken ++ rest) (given_up old fault) w v
     goes-failed rest fault g = record {
       sent = p.sent;
       goes_on =
@@ -111,12 +111,12 @@ module _ {P : Type 0} where
     }
 
   -- before the end of a piece the mail server has not quit
-  pub still-serving : (b : Behavior) (core mid : Core P) (rest : List ℕ) (n : ℕ) → Takes b core rest n mid → n ≢ length rest → mid.standing.state ≡ Serving
-  still-serving b core mid rest n t within = by_state mid.standing.state refl
+  pub still-stream_server : (b : Behavior) (core mid : Core P) (rest : List ℕ) (n : ℕ) → Takes b core rest n mid → n ≢ length rest → mid.order_state.state ≡ Serving
+  still-stream_server b core mid rest n t within = by_state mid.order_state.state refl
     where
-      by_state : (state : FilterState) → mid.standing.state ≡ state → mid.standing.state ≡ Serving
+      by_state : (state : FilterState) → mid.order_state.state ≡ state → mid.order_state.state ≡ Serving
       by_state Serving is = is
-      by_state Quit is = absurd (within (t.quit (λ serving. quit_serving (sym is ∙ serving))))
+      by_state Quit is = absurd (within (t.quit (λ stream_server. quit_serving (sym is ∙ stream_server))))
         where
           quit_serving : Quit ≡ Serving → ⊥
           quit_serving e = absurd cc
@@ -130,7 +130,7 @@ module _ {P : Type 0} where
     pub was_read : Consumes unread left input
     pub goes : Goes b (fresh_core_in order policy) input new written all
     pub nothing_pending : new.pending ≡ []
-    pub serving : new.standing.state ≡ Serving
+    pub stream_server : new.order_state.state ≡ Serving
 
   pub served-none : (order : CommandOrder) (b : Behavior) (policy : P) (a w : Option (List ℕ)) → ServedSoFar order b policy (fresh_core_in order policy) a a w w
   served-none order b policy a w = record {
@@ -138,23 +138,23 @@ module _ {P : Type 0} where
     was_read = Consumes-nil a;
     goes = goes-none b (fresh_core_in order policy) w tt refl;
     nothing_pending = refl;
-    serving = refl;
+    stream_server = refl;
   }
 
   pub served-more : (order : CommandOrder) (b : Behavior) (policy : P) (core new : Core P) (a c d w v u : Option (List ℕ)) (piece : List ℕ) → ServedSoFar order b policy core a c w v → Consumes c d piece
-      → PieceServed b core piece new v u → new.standing.state ≢ Quit → ServedSoFar order b policy new a d w u
+      → PieceServed b core piece new v u → new.order_state.state ≢ Quit → ServedSoFar order b policy new a d w u
   served-more order b policy core new a c d w v u piece s read p on = record {
     input = s.input ++ piece;
     was_read = Consumes-trans a c d _ _ s.was_read read;
     goes = goes-joins b (fresh_core_in order policy) core new s.input piece w v u s.goes p.goes;
     nothing_pending = p.nothing_pending;
-    serving = serving-or-quit new.standing p.going on;
+    stream_server = stream_server-or-quit new.order_state p.going on;
   }
 
   -- ---- what it comes to
 
   module _ (order : CommandOrder) (b : Behavior) (policy : P) (input : List ℕ) (core : Core P) (w v : Option (List ℕ)) (p : Goes b (fresh_core_in order policy) input core w v) where
-    pub state-is : (conversation_of order b input).state ≡ core.standing.state
+    pub state-is : (filter_end_of order b input).state ≡ core.order_state.state
     state-is = state-from b order policy core input p.sent p.goes_on
 
     pub replies-are : p.sent ++ core.pending ≡ reply_bytes order b input
@@ -163,7 +163,7 @@ module _ {P : Type 0} where
     pub all-written : core.pending ≡ [] → Appends w v (reply_bytes order b input)
     all-written none = subst (Appends w v) (sym (append-nil p.sent) ∙ ap (λ xs. p.sent ++ xs) (sym none) ∙ replies-are) p.was_written
 
-    pub replied-as : (a c : Option (List ℕ)) (state : FilterState) → Consumes a c input → core.pending ≡ [] → core.standing.state ≡ state → RepliedAs state order b a c w v
+    pub replied-as : (a c : Option (List ℕ)) (state : FilterState) → Consumes a c input → core.pending ≡ [] → core.order_state.state ≡ state → RepliedAs state order b a c w v
     replied-as a c state read none is = (record { input = input; was_read = read; was_written = all-written none }, state-is ∙ is)
 
     pub replied-in_part : (a c : Option (List ℕ)) (others : List ℕ) → Consumes a c (input ++ others) → RepliedInPart order b a c w v
@@ -185,15 +185,15 @@ module _ {P : Type 0} where
   module _ (order : CommandOrder) (b : Behavior) (policy : P) (core : Core P) (a c w v : Option (List ℕ)) (s : ServedSoFar order b policy core a c w v) where
     -- no more was read
     pub served-kept : (d : Option (List ℕ)) → Keeps c d → RepliedAs Serving order b a d w v
-    served-kept d kept = replied-as order b policy s.input core w v s.goes a d Serving (Consumes-kept a c d _ s.was_read kept) s.nothing_pending s.serving
+    served-kept d kept = replied-as order b policy s.input core w v s.goes a d Serving (Consumes-kept a c d _ s.was_read kept) s.nothing_pending s.stream_server
 
     pub served-end : (d : Option (List ℕ)) (count : ℕ) → Consumes c d [] → IsAtEnd d → count ≡ length core.unread
         → (x : RepliedAs Serving order b a d w v) × (length (divide x.0.input).rest ≡ count) × IsAtEnd d
     unfolding replied-as
     served-end d count none end is =
         let read = subst (Consumes a d) (append-nil s.input) (Consumes-trans a c d _ _ s.was_read none) in (
-          replied-as order b policy s.input core w v s.goes a d Serving read s.nothing_pending s.serving,
-          ap length (sym (s.goes.goes_on.unread s.serving)) ∙ sym is,
+          replied-as order b policy s.input core w v s.goes a d Serving read s.nothing_pending s.stream_server,
+          ap length (sym (s.goes.goes_on.unread s.stream_server)) ∙ sym is,
           end,
         )
 
@@ -201,7 +201,7 @@ module _ {P : Type 0} where
       all-read : Consumes a d (s.input ++ piece)
       all-read = Consumes-trans a c d _ _ s.was_read read
 
-      pub served-quit : (new : Core P) → PieceServed b core piece new v u → new.standing.state ≡ Quit → RepliedAs Quit order b a d w u
+      pub served-quit : (new : Core P) → PieceServed b core piece new v u → new.order_state.state ≡ Quit → RepliedAs Quit order b a d w u
       served-quit new p quit =
           let goes = goes-joins b (fresh_core_in order policy) core new s.input piece w v u s.goes p.goes in
           replied-as order b policy (s.input ++ piece) new w u goes a d Quit all-read p.nothing_pending quit

@@ -11,38 +11,38 @@ use Rattle.milter_exchange.specs.declared.command_order.CommandOrder.{CommandOrd
 use Rattle.milter_exchange.specs.declared.filter_fault.FilterFault.{FilterFault}
 use Rattle.milter_exchange.specs.declared.filter_fault.FilterFault.TheVariants.{Wire}
 use Rattle.milter_exchange.specs.declared.filter_state.FilterState.TheVariants.{Failed, Quit, Serving}
-use Rattle.milter_exchange.specs.Conversations.{Received}
-use Rattle.milter_exchange.specs.Standings.{Standing, fresh, fresh_in, nothing_kept, standing_after, standing_replies}
+use Rattle.milter_exchange.specs.FilterEnds.{Received}
+use Rattle.milter_exchange.specs.OrderStates.{OrderState, fresh, fresh_in, nothing_kept, order_state_after, order_state_replies}
 use Rattle.milter_filter.specs.Streams.{read_in, received_in}
 
 -- its policy, what is kept of the connection, the bytes that were taken and not handed out, and those that wait to be
 -- sent
 pub record Core (P : Type 0) : Type 0 where
   pub policy : P
-  pub standing : Standing
+  pub order_state : OrderState
   pub unread : List ℕ
   pub pending : List ℕ
 
 abbrev pub fresh_core : {P : Type 0} → P → Core P
-fresh_core policy = record { policy = policy; standing = fresh; unread = []; pending = [] }
+fresh_core policy = record { policy = policy; order_state = fresh; unread = []; pending = [] }
 
 -- one that takes commands in this order
 abbrev pub fresh_core_in : {P : Type 0} → CommandOrder → P → Core P
-fresh_core_in order policy = record (fresh_core policy) { standing = fresh_in order }
+fresh_core_in order policy = record (fresh_core policy) { order_state = fresh_in order }
 
 -- the last packet of these bytes is the first that has replies, and nothing follows it
-pub record EndsAtReplies (b : Behavior) (s : Standing) (bytes : List ℕ) : Type 0 where
+pub record EndsAtReplies (b : Behavior) (s : OrderState) (bytes : List ℕ) : Type 0 where
   pub before : List Received
   pub last : Received
   pub commands : read_in bytes ≡ before ++ last ∷ []
-  pub silent : standing_replies b s before ≡ []
+  pub silent : order_state_replies b s before ≡ []
   pub nothing_left : (divide bytes).rest ≡ []
 
 -- The fault is found in these packets, and none of them has replies: those before it have none, and nothing is replied
 -- to what is at fault and after it.
-pub record GivesUp (b : Behavior) (s : Standing) (received : List Received) (fault : FilterFault) : Type 0 where
-  pub failed : standing_after b s received ≡ nothing_kept (Failed fault)
-  pub silent : standing_replies b s received ≡ []
+pub record GivesUp (b : Behavior) (s : OrderState) (received : List Received) (fault : FilterFault) : Type 0 where
+  pub failed : order_state_after b s received ≡ nothing_kept (Failed fault)
+  pub silent : order_state_replies b s received ≡ []
 
 -- What a core that serves and has nothing to send makes of the first bytes of a piece: it goes on by the commands of
 -- the packets that are whole with these, the replies to them wait to be sent, and the rest stays unread. It takes the
@@ -52,15 +52,16 @@ pub record Takes {P : Type 0} (b : Behavior) (old : Core P) (piece : List ℕ) (
   pub policy : new.policy ≡ old.policy
   pub within : n ≤ length piece
   pub progress : piece ≢ [] → 0 < n
-  pub standing : new.standing ≡ standing_after b old.standing (read_in (old.unread ++ take n piece))
-  pub pending : new.pending ≡ flat_map encoding (standing_replies b old.standing (read_in (old.unread ++ take n piece)))
-  pub going : (fault : FilterFault) → new.standing.state ≢ Failed fault
-  pub unread : new.standing.state ≡ Serving → new.unread ≡ (divide (old.unread ++ take n piece)).rest
+  pub order_state : new.order_state ≡ order_state_after b old.order_state (read_in (old.unread ++ take n piece))
+  pub pending : new.pending
+      ≡ flat_map encoding (order_state_replies b old.order_state (read_in (old.unread ++ take n piece)))
+  pub going : (fault : FilterFault) → new.order_state.state ≢ Failed fault
+  pub unread : new.order_state.state ≡ Serving → new.unread ≡ (divide (old.unread ++ take n piece)).rest
   pub unfinished : IsUnfinished new.unread
-  pub nothing_unread : new.standing.state ≢ Serving → new.unread ≡ []
-  pub quit : new.standing.state ≢ Serving → n ≡ length piece
-  pub silent : new.standing.state ≢ Serving → new.pending ≡ []
-  pub first : new.pending ≢ [] → EndsAtReplies b old.standing (old.unread ++ take n piece)
+  pub nothing_unread : new.order_state.state ≢ Serving → new.unread ≡ []
+  pub quit : new.order_state.state ≢ Serving → n ≡ length piece
+  pub silent : new.order_state.state ≢ Serving → new.pending ≡ []
+  pub first : new.pending ≢ [] → EndsAtReplies b old.order_state (old.unread ++ take n piece)
   pub all : new.pending ≡ [] → n ≡ length piece
 
 -- the four bytes of a length that no packet has, where that is the fault
@@ -80,7 +81,7 @@ abbrev pub given_up : {P : Type 0} → Core P → FilterFault → Core P
 given_up core fault =
     record {
       policy = core.policy;
-      standing = nothing_kept (Failed fault);
+      order_state = nothing_kept (Failed fault);
       unread = unread_after fault;
       pending = [];
     }
@@ -90,11 +91,11 @@ given_up core fault =
 -- waits.
 pub record GoesOn {P : Type 0} (b : Behavior) (old : Core P) (input sent : List ℕ) (new : Core P) : Type 0 where
   pub policy : new.policy ≡ old.policy
-  pub standing : new.standing ≡ standing_after b old.standing (received_in (old.unread ++ input))
+  pub order_state : new.order_state ≡ order_state_after b old.order_state (received_in (old.unread ++ input))
   pub replied :
       sent ++ new.pending
-      ≡ old.pending ++ flat_map encoding (standing_replies b old.standing (received_in (old.unread ++ input)))
-  pub unread : new.standing.state ≡ Serving → new.unread ≡ (divide (old.unread ++ input)).rest
-  pub unfinished : new.standing.state ≡ Serving → IsUnfinished new.unread
-  pub nothing_unread : new.standing.state ≡ Quit → new.unread ≡ []
-  pub at_fault : (fault : FilterFault) → new.standing.state ≡ Failed fault → new.unread ≡ unread_after fault
+      ≡ old.pending ++ flat_map encoding (order_state_replies b old.order_state (received_in (old.unread ++ input)))
+  pub unread : new.order_state.state ≡ Serving → new.unread ≡ (divide (old.unread ++ input)).rest
+  pub unfinished : new.order_state.state ≡ Serving → IsUnfinished new.unread
+  pub nothing_unread : new.order_state.state ≡ Quit → new.unread ≡ []
+  pub at_fault : (fault : FilterFault) → new.order_state.state ≡ Failed fault → new.unread ≡ unread_after fault

@@ -3,7 +3,7 @@ pub mod SeenParts
 pub mod PassLaw
 pub mod Streams
 pub mod Cores
-pub mod Asking
-pub mod Serving
-pub mod PieceServing
-pub mod Replying
+pub mod AskedPolicy
+pub mod ServedConnections
+pub mod ServedPieces
+pub mod AnswerPackets

@@ -8,7 +8,7 @@ use Rattle.milter_wire.specs.Reply.{encoding}
 use Rattle.milter_exchange.specs.Behavior.{Behavior}
 use Rattle.milter_exchange.specs.declared.command_order.CommandOrder.{CommandOrder}
 use Rattle.milter_exchange.specs.Aborts.{taken_by}
-use Rattle.milter_exchange.specs.Conversations.{Conversation, Received, after, replies, start}
+use Rattle.milter_exchange.specs.FilterEnds.{FilterEnd, Received, after, replies, start}
 
 -- of its whole packets
 abbrev pub read_in : List ℕ → List Received
@@ -31,8 +31,8 @@ received_in bytes = read_in bytes ++ fault_after (length_fault (divide bytes).re
 -- ---- what a filter makes of a stream
 
 -- which takes commands in this order
-abbrev pub conversation_of : CommandOrder → Behavior → List ℕ → Conversation
-conversation_of order b input = after b start (taken_by order b (received_in input))
+abbrev pub filter_end_of : CommandOrder → Behavior → List ℕ → FilterEnd
+filter_end_of order b input = after b start (taken_by order b (received_in input))
 
 -- the bytes of all its replies
 abbrev pub reply_bytes : CommandOrder → Behavior → List ℕ → List ℕ

@@ -1,7 +1,7 @@
 //! What each command is to a filter.
 
 ghost use Rattle.std.specs.Prelude.{◌≡◌};
-ghost use Rattle.milter_wire.specs.LentCommand.{command_of};
+ghost use Rattle.milter_wire.specs.BorrowedCommand.{command_of};
 ghost use Rattle.milter_exchange.specs.Aborts.{is_greeting_or_sender};
 ghost use Rattle.milter_exchange.specs.Commands.{is_of_connection, is_shown};
 

@@ -3,19 +3,19 @@
 ghost use Rattle.std.specs.Prelude.{◌≡◌, ◌≤◌, ◌+◌, ◌↔◌, [], IfSome, IsTrue, Ok, OnOk, length, true, if◌then◌else◌};
 ghost use Rattle.std.specs.Option.{option_copied};
 ghost use Rattle.milter_wire.specs.Command.{encoding};
-ghost use Rattle.milter_wire.specs.LentCommand.{command_of};
+ghost use Rattle.milter_wire.specs.BorrowedCommand.{command_of};
 ghost use Rattle.milter_exchange.specs.Commands.{is_shown};
 ghost use Rattle.milter_exchange.specs.Faults.{fault_in_message, fault_of};
 ghost use Rattle.milter_exchange.specs.Aborts.{needs_abort};
 ghost use Rattle.milter_filter.specs.Cores.{unread_after};
-ghost use Rattle.milter_exchange.specs.Standings.{after_client, after_message, after_options, fresh_in, nothing_kept, with_shown};
+ghost use Rattle.milter_exchange.specs.OrderStates.{after_client, after_message, after_options, fresh_in, nothing_kept, with_shown};
 
 use crate::commands::{is_greeting_or_sender, is_of_connection, is_shown};
 use crate::policy::Policy;
 use crate::seen::Seen;
 use milter_exchange::{CommandOrder, FilterFault, FilterState, VERSION_MIN, may_follow, rank_of};
 use milter_message::WEIGHT_MAX;
-use milter_wire::{Agreed, CommandRef, NoMemory, Stage};
+use milter_wire::{CommandRef, Negotiated, NoMemory, Stage};
 use std::alloc::Global;
 use std::marker::Model;
 
@@ -26,7 +26,7 @@ const RANK_OF_GREETING: u8 = 2;
 #[derive(Debug, Drop)]
 pub(crate) struct Connection {
     order: CommandOrder,
-    agreed: Option<Agreed>,
+    negotiated: Option<Negotiated>,
     last_rank: u8,
     seen: Seen,
     shown_bytes: usize,
@@ -37,13 +37,13 @@ pub(crate) struct Connection {
 impl Model for Connection {
     ghost use Rattle.std.specs.Prelude.{◌≤◌};
     ghost use Rattle.milter_message.specs.declared.message.TheConstants.{WEIGHT_MAX};
-    ghost use Rattle.milter_exchange.specs.Standings.{Standing};
+    ghost use Rattle.milter_exchange.specs.OrderStates.{OrderState};
 
-    ghost Value = { Standing };
+    ghost Value = { OrderState };
 
     ghost view = { λ c. record {
       order = c.order;
-      agreed = c.agreed;
+      negotiated = c.negotiated;
       last_rank = c.last_rank;
       shown = record { seen = c.seen.shown; bytes = c.shown_bytes };
       connection = record { seen = c.seen.connection; bytes = c.connection_bytes };
@@ -54,13 +54,13 @@ impl Model for Connection {
 }
 
 impl Connection {
-    /// A connection of which nothing has come. No memory is taken.
+    /// A connection of which nothing has come. Doesn't allocate.
     pub(crate) fn new(alloc: Global, order: CommandOrder) -> Self
         ensures { result ≡ fresh_in order }
     {
         Connection {
             order,
-            agreed: None,
+            negotiated: None,
             last_rank: 0,
             seen: Seen::new(alloc),
             shown_bytes: 0,
@@ -69,13 +69,13 @@ impl Connection {
         }
     }
 
-    /// A connection that was given up: nothing is kept but the fault. No memory is taken.
+    /// A connection that was given up: nothing is kept but the fault. Doesn't allocate.
     pub(crate) fn failed(alloc: Global, fault: FilterFault) -> Self
         ensures { result ≡ nothing_kept (FilterState.Failed fault) }
     {
         Connection {
             order: CommandOrder::Strict,
-            agreed: None,
+            negotiated: None,
             last_rank: 0,
             seen: Seen::new(alloc),
             shown_bytes: 0,
@@ -100,12 +100,13 @@ impl Connection {
 
     /// Whether an abort is due before the command.
     fn needs_abort(&self, command: &CommandRef<'_>) -> bool
-        ensures { result ≡ needs_abort self.now.order self.now.agreed self.now.last_rank (Ok (command_of command.now)) }
+        ensures { result
+            ≡ needs_abort self.now.order self.now.negotiated self.now.last_rank (Ok (command_of command.now)) }
     {
         match self.order {
             CommandOrder::Strict => false,
             CommandOrder::Lenient => {
-                self.agreed.is_some()
+                self.negotiated.is_some()
                     && is_greeting_or_sender(command)
                     && self.last_rank > RANK_OF_GREETING
             }
@@ -116,11 +117,11 @@ impl Connection {
     pub(crate) fn fault_of(&self, command: &CommandRef<'_>, len: usize) -> Option<FilterFault>
         requires { len ≤ WEIGHT_MAX }
         ensures fault { result
-            ≡ fault_of self.now.agreed self.now.last_rank (len + self.now.shown.bytes) (command_of command.now) }
+            ≡ fault_of self.now.negotiated self.now.last_rank (len + self.now.shown.bytes) (command_of command.now) }
         // No such fault is one of a length.
         ensures no_length { IfSome result (λ fault. unread_after fault ≡ []) }
     {
-        match (&self.agreed, command) {
+        match (&self.negotiated, command) {
             (None, CommandRef::Options(offer)) => {
                 (offer.version < VERSION_MIN).then_some(FilterFault::Version)
             }
@@ -147,11 +148,11 @@ impl Connection {
         is_too_much.then_some(FilterFault::TooMuch)
     }
 
-    /// What was agreed on.
-    pub(crate) fn agreed(&self) -> Option<&Agreed>
-        ensures { option_copied result ≡ self.now.agreed }
+    /// What was negotiated.
+    pub(crate) fn negotiated(&self) -> Option<&Negotiated>
+        ensures { option_copied result ≡ self.now.negotiated }
     {
-        self.agreed.as_ref()
+        self.negotiated.as_ref()
     }
 
     /// What is shown.
@@ -214,8 +215,8 @@ impl Connection {
 
     /// Ends the message that is under way, where an abort is due before the command.
     pub(crate) fn end_message_before(&mut self, command: &CommandRef<'_>)
-        ensures serving { self.new.state ≡ self.old.state }
-        ensures new { self.new ≡ (if needs_abort self.old.order self.old.agreed self.old.last_rank
+        ensures stream_server { self.new.state ≡ self.old.state }
+        ensures new { self.new ≡ (if needs_abort self.old.order self.old.negotiated self.old.last_rank
             (Ok (command_of command.now)) then after_message self.old else self.old) }
     {
         if self.needs_abort(command) {
@@ -223,12 +224,12 @@ impl Connection {
         }
     }
 
-    /// Notes what was agreed on.
-    pub(crate) fn set_agreed(&mut self, agreed: Agreed)
-        ensures { self.new ≡ after_options self.old agreed }
+    /// Notes what was negotiated.
+    pub(crate) fn set_negotiated(&mut self, negotiated: Negotiated)
+        ensures { self.new ≡ after_options self.old negotiated }
     {
-        self.seen.set_leading_space(agreed.has_leading_space());
-        self.agreed = Some(agreed);
+        self.seen.set_leading_space(negotiated.has_leading_space());
+        self.negotiated = Some(negotiated);
     }
 
     /// Notes that the mail server has quit.

@@ -6,7 +6,7 @@ ghost use Rattle.milter_exchange.specs.declared.command_order.CommandOrder.{Comm
 ghost use Rattle.milter_exchange.specs.declared.filter_fault.FilterFault.{FilterFault as Fault};
 ghost use Rattle.milter_exchange.specs.declared.filter_state.FilterState.TheVariants.{Serving};
 ghost use Rattle.milter_filter.specs.Cores.{Core, GivesUp, GoesOn, Takes, fresh_core_in, given_up};
-ghost use Rattle.milter_filter.specs.Streams.{conversation_of, received_in, reply_bytes};
+ghost use Rattle.milter_filter.specs.Streams.{filter_end_of, received_in, reply_bytes};
 
 use crate::policy::Policy;
 
@@ -29,21 +29,21 @@ pub fn cores_go_on<P: Policy>()
         GoesOn b old input (sent ++ take n core.pending) (record core { pending = drop n core.pending }) }
     // After the end nothing more is done.
     ensures ended { (b : Behavior) (old core : Core P) (input sent more : List ℕ) →
-        GoesOn b old input sent core → core.standing.state ≢ Serving → GoesOn b old (input ++ more) sent core }
+        GoesOn b old input sent core → core.order_state.state ≢ Serving → GoesOn b old (input ++ more) sent core }
     ensures gives_up { (b : Behavior) (old core : Core P) (input sent piece : List ℕ) (fault : Fault) →
         GoesOn b old input sent core → core.pending ≡ [] →
-        GivesUp b core.standing (received_in (core.unread ++ piece)) fault →
+        GivesUp b core.order_state (received_in (core.unread ++ piece)) fault →
         GoesOn b old (input ++ piece) sent (given_up core fault) }
 {}
 
 /// What a core comes to from its beginning: what was sent and what waits are the replies to what has come, and it goes
-/// on where their conversation does. More input adds to the replies.
+/// on where their connection does. More input adds to the replies.
 pub fn cores_reply<P: Policy>()
     ensures replies { (b : Behavior) (order : Order) (policy : P) (core : Core P) (input sent : List ℕ) →
         GoesOn b (fresh_core_in order policy) input sent core → sent ++ core.pending ≡ reply_bytes order b input }
     ensures state { (b : Behavior) (order : Order) (policy : P) (core : Core P) (input sent : List ℕ) →
         GoesOn b (fresh_core_in order policy) input sent core →
-        (conversation_of order b input).state ≡ core.standing.state }
+        (filter_end_of order b input).state ≡ core.order_state.state }
     ensures adds { (b : Behavior) (order : Order) (input more : List ℕ) →
         (others : List ℕ) × (reply_bytes order b (input ++ more) ≡ reply_bytes order b input ++ others) }
 {}

@@ -15,7 +15,7 @@ use std::alloc::Global;
 use std::marker::Model;
 
 /// A filter's end of one connection. It takes the bytes of a mail server in any pieces, and has the bytes of the
-/// replies that its policy calls for, by what was agreed on. It neither reads nor writes.
+/// replies that its policy calls for, by what was negotiated. It neither reads nor writes.
 #[derive(Drop)]
 pub struct FilterCore<'p, P: Policy> {
     splitter: Splitter,
@@ -28,18 +28,18 @@ impl<'p, P: Policy> Model for FilterCore<'p, P> {
     ghost use Rattle.std.specs.Prelude.{◌≡◌, ◌≤◌, drop, length};
     ghost use Rattle.milter_exchange.specs.declared.filter_state.FilterState.TheVariants.{Serving};
     ghost use Rattle.milter_filter.specs.Cores.{Core};
-    ghost use Rattle.milter_filter.specs.Replying.{IsUnread};
+    ghost use Rattle.milter_filter.specs.AnswerPackets.{IsUnread};
 
     ghost Value = { Core P };
 
     ghost view = { λ c. record {
       policy = c.replier.policy;
-      standing = c.replier.standing;
+      order_state = c.replier.order_state;
       unread = c.splitter;
       pending = drop c.sent c.replier.pending;
     } };
 
-    ghost invariant = { λ c. (c.replier.standing.state ≡ Serving → IsUnread c.splitter)
+    ghost invariant = { λ c. (c.replier.order_state.state ≡ Serving → IsUnread c.splitter)
         × (c.sent ≤ length c.replier.pending) };
 }
 
@@ -68,14 +68,14 @@ impl<'p, P: Policy> FilterCore<'p, P> {
         })
     }
 
-    /// The bytes of replies that wait to be sent. No memory is taken.
+    /// The bytes of replies that wait to be sent. Doesn't allocate.
     pub fn pending(&self) -> &[u8]
         ensures { result.now ≡ self.now.pending }
     {
         &self.replier.pending()[self.sent..]
     }
 
-    /// Notes that the first `count` bytes of what waits were sent. No memory is taken.
+    /// Notes that the first `count` bytes of what waits were sent. Doesn't allocate.
     pub fn sent(&mut self, count: usize)
         requires { count ≤ length self.old.pending }
         ensures { self.new ≡ record self.old { pending = drop count self.old.pending } }
@@ -86,16 +86,16 @@ impl<'p, P: Policy> FilterCore<'p, P> {
     }
 
     /// How many bytes were taken and not handed out: those of a packet that isn't whole yet, or after a length at fault
-    /// its four bytes; none after the mail server has quit, and none after any other fault. No memory is taken.
+    /// its four bytes; none after the mail server has quit, and none after any other fault. Doesn't allocate.
     pub fn unread(&self) -> usize
         ensures { result ≡ length self.now.unread }
     {
         self.splitter.unread()
     }
 
-    /// Whether it goes on. No memory is taken.
+    /// Whether it goes on. Doesn't allocate.
     pub fn state(&self) -> FilterState
-        ensures { result ≡ self.now.standing.state }
+        ensures { result ≡ self.now.order_state.state }
     {
         self.replier.state()
     }
@@ -106,18 +106,19 @@ impl<'p, P: Policy> FilterCore<'p, P> {
     /// but that and the four bytes of a length at fault, and every later call answers it again and takes nothing.
     /// Source: mfdef.h, and the libmilter callback documentation.
     pub fn feed(&mut self, piece: &[u8]) -> Result<usize, FilterFault>
-        ensures failed { (fault : Fault) → self.old.standing.state ≡ Failed fault →
+        ensures failed { (fault : Fault) → self.old.order_state.state ≡ Failed fault →
             (result ≡ Err fault) × (self.new ≡ self.old) }
-        ensures quit { self.old.standing.state ≡ Quit → (result ≡ Ok (length piece.now)) × (self.new ≡ self.old) }
-        ensures waits { self.old.standing.state ≡ Serving → self.old.pending ≢ [] →
+        ensures quit { self.old.order_state.state ≡ Quit → (result ≡ Ok (length piece.now)) × (self.new ≡ self.old) }
+        ensures waits { self.old.order_state.state ≡ Serving → self.old.pending ≢ [] →
             (result ≡ Ok 0) × (self.new ≡ self.old) }
-        ensures takes { self.old.standing.state ≡ Serving → self.old.pending ≡ [] →
+        ensures takes { self.old.order_state.state ≡ Serving → self.old.pending ≡ [] →
             IfOk result (λ n. Takes (P.behavior self.old.policy) self.old piece.now n self.new) }
-        ensures gives_up { self.old.standing.state ≡ Serving →
+        ensures gives_up { self.old.order_state.state ≡ Serving →
             IfErr result (λ fault. self.new ≡ given_up self.old fault) }
-        ensures cause { self.old.standing.state ≡ Serving → self.old.pending ≡ [] →
+        ensures cause { self.old.order_state.state ≡ Serving → self.old.pending ≡ [] →
             IfErr result (λ fault. fault ≢ faults.NoMemory →
-            GivesUp (P.behavior self.old.policy) self.old.standing (received_in (self.old.unread ++ piece.now)) fault) }
+            GivesUp (P.behavior self.old.policy) self.old.order_state (received_in (self.old.unread ++ piece.now))
+            fault) }
     {
         match self.replier.state() {
             FilterState::Failed(fault) => Err(fault),
@@ -133,12 +134,13 @@ impl<'p, P: Policy> FilterCore<'p, P> {
 
     /// Takes bytes of a piece where it serves and nothing waits to be sent.
     fn take(&mut self, piece: &[u8]) -> Result<usize, FilterFault>
-        requires serving { self.old.standing.state ≡ Serving }
+        requires stream_server { self.old.order_state.state ≡ Serving }
         requires nothing_pending { self.old.pending ≡ [] }
         ensures takes { IfOk result (λ n. Takes (P.behavior self.old.policy) self.old piece.now n self.new) }
         ensures gives_up { IfErr result (λ fault. self.new ≡ given_up self.old fault) }
         ensures cause { IfErr result (λ fault. fault ≢ faults.NoMemory →
-            GivesUp (P.behavior self.old.policy) self.old.standing (received_in (self.old.unread ++ piece.now)) fault) }
+            GivesUp (P.behavior self.old.policy) self.old.order_state (received_in (self.old.unread ++ piece.now))
+            fault) }
     {
         let FilterCore {
             splitter,

@@ -1,9 +1,10 @@
 //! The filter's end of the Sendmail milter protocol, version 6: what it replies to the commands of any mail server, by
-//! a policy and by what was agreed on.
+//! a policy and by what was negotiated.
 //!
 //! [`FilterCore`] neither reads, writes nor waits; [`serve`] does, over any reader and writer.
 #![tactic(auto)]
 
+mod answer_packets;
 mod commands;
 mod connection;
 mod cutting_laws;
@@ -13,10 +14,9 @@ mod pass;
 mod pieces;
 mod policy;
 mod replier;
-mod replying;
 mod seen;
 mod served;
-mod serving;
+mod stream_server;
 
 pub use cutting_laws::{cores_go_on, cores_reply};
 pub use filter_core::FilterCore;
@@ -28,4 +28,4 @@ pub use pass::Pass;
 pub use policy::Policy;
 pub use seen::Seen;
 pub use served::Served;
-pub use serving::{read_buffer, serve, serve_in_order, serving_limits};
+pub use stream_server::{read_buffer, serve, serve_in_order, serving_limits};

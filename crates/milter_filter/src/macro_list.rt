@@ -33,7 +33,7 @@ impl Model for MacroList {
 impl MacroList {
     ghost use Rattle.milter_filter.specs.MacroLists.{macros_with};
 
-    /// No macros. No memory is taken.
+    /// No macros. Doesn't allocate.
     pub(crate) fn new(alloc: Global) -> Self
         ensures shown { result.shown ≡ [] }
         ensures connection { result.connection ≡ [] }
@@ -61,7 +61,7 @@ impl MacroList {
         Ok(())
     }
 
-    /// Gives up all macros but those of the connection. No memory is taken.
+    /// Gives up all macros but those of the connection. Doesn't allocate.
     pub(crate) fn end_message(&mut self)
         ensures shown { self.new.shown ≡ self.old.connection }
         ensures connection { self.new.connection ≡ self.old.connection }
@@ -69,7 +69,7 @@ impl MacroList {
         keep_connection(&mut self.groups);
     }
 
-    /// Gives up all macros. No memory is taken.
+    /// Gives up all macros. Doesn't allocate.
     pub(crate) fn clear(&mut self)
         ensures shown { self.new.shown ≡ [] }
         ensures connection { self.new.connection ≡ [] }
@@ -77,7 +77,7 @@ impl MacroList {
         self.groups.clear();
     }
 
-    /// The value that was last given to a name. No memory is taken.
+    /// The value that was last given to a name. Doesn't allocate.
     pub(crate) fn value(&self, name: &[u8]) -> Option<&[u8]>
         ensures { option_map (λ value. value.now) result ≡ value_in self.now.shown name.now }
     {

@@ -2,7 +2,7 @@
 
 ghost use Rattle.std.specs.Prelude.{◌≡◌, ◌++◌, [], IfErr, IfOk, take};
 ghost use Rattle.milter_exchange.specs.declared.filter_state.FilterState.TheVariants.{Serving};
-ghost use Rattle.milter_filter.specs.Replying.{FailsIn, IsUnread, StopsAt, TakesBytes};
+ghost use Rattle.milter_filter.specs.AnswerPackets.{FailsIn, IsUnread, StopsAt, TakesBytes};
 ghost use Rattle.milter_filter.specs.Streams.{IsOnePacketAtMost};
 
 use crate::policy::Policy;
@@ -18,11 +18,11 @@ fn take_packet<P: Policy>(
     piece: &[u8],
 ) -> Result<usize, FilterFault>
     requires unread { IsUnread splitter.old }
-    requires serving { replier.old.standing.state ≡ Serving }
+    requires stream_server { replier.old.order_state.state ≡ Serving }
     ensures takes { IfOk result (λ n. TakesBytes (P.behavior replier.old.policy) replier.old splitter.old piece.now n
         replier.new splitter.new) }
     ensures one { IfOk result (λ n. IsOnePacketAtMost (splitter.old ++ take n piece.now)) }
-    ensures fails { IfErr result (λ fault. FailsIn (P.behavior replier.old.policy) replier.old.standing splitter.old
+    ensures fails { IfErr result (λ fault. FailsIn (P.behavior replier.old.policy) replier.old.order_state splitter.old
         piece.now fault splitter.new) }
 {
     let taken = splitter.feed(piece)?;
@@ -46,13 +46,13 @@ pub(crate) fn take_piece<P: Policy>(
     piece: &[u8],
 ) -> Result<usize, FilterFault>
     requires unread { IsUnread splitter.old }
-    requires serving { replier.old.standing.state ≡ Serving }
+    requires stream_server { replier.old.order_state.state ≡ Serving }
     requires nothing_pending { replier.old.pending ≡ [] }
     ensures takes { IfOk result (λ n. TakesBytes (P.behavior replier.old.policy) replier.old splitter.old piece.now n
         replier.new splitter.new) }
     ensures stops { IfOk result (λ n. StopsAt (P.behavior replier.old.policy) replier.old splitter.old piece.now n
         replier.new) }
-    ensures fails { IfErr result (λ fault. FailsIn (P.behavior replier.old.policy) replier.old.standing splitter.old
+    ensures fails { IfErr result (λ fault. FailsIn (P.behavior replier.old.policy) replier.old.order_state splitter.old
         piece.now fault splitter.new) }
 {
     let mut taken = 0;

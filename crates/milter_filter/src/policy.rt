@@ -14,7 +14,7 @@ use std::alloc::Global;
 ///
 /// What it wants is of version 2 to 6 and has known bits alone, and symbol lists only with [`Actions::SETSYMLIST`];
 /// the packet with all of it has room for it. It answers with edits at the end of a message alone, with `Skip` to a
-/// piece of a body alone, and not with `Discard` before there is a message. Each edit and each code fits a packet, and
+/// chunk of a body alone, and not with `Discard` before there is a message. Each edit and each code fits a packet, and
 /// the packets of all edits have at most 16,777,216 bytes.
 ///
 /// [`Actions::SETSYMLIST`]: milter_wire::Actions::SETSYMLIST
@@ -22,12 +22,12 @@ pub trait Policy {
     /// What it does, apart from its code.
     ghost behavior: { Self → Behavior };
 
-    /// The version, the actions and the protocol bits that the filter wants. No memory is taken. Source: the libmilter
+    /// The version, the actions and the protocol bits that the filter wants. Doesn't allocate. Source: the libmilter
     /// callback documentation (xxfi_negotiate).
     fn wants(&self) -> Options
         ensures { result ≡ (behavior self.now).wants };
 
-    /// The macros that the filter wants. No memory is taken. Source: mfapi.h (smfi_setsymlist).
+    /// The macros that the filter wants. Doesn't allocate. Source: mfapi.h (smfi_setsymlist).
     fn lists(&self) -> &[SymList]
         ensures { result.now ≡ (behavior self.now).lists };
 

@@ -9,22 +9,22 @@ ghost use Rattle.milter_message.specs.declared.message.TheConstants.{WEIGHT_MAX}
 ghost use Rattle.milter_options.specs.Payload.{OptionsFit};
 ghost use Rattle.milter_wire.specs.Command.{Fits, IsEncodedAs, encoding};
 ghost use Rattle.milter_wire.specs.Frames.{frame_command};
-ghost use Rattle.milter_wire.specs.LentCommand.{command_of};
+ghost use Rattle.milter_wire.specs.BorrowedCommand.{command_of};
 ghost use Rattle.milter_wire.specs.Stages.{stage_of};
 ghost use Rattle.milter_wire.specs.Tables.{map_ok};
-ghost use Rattle.milter_wire.specs.Agreement.{agree};
+ghost use Rattle.milter_wire.specs.Negotiation.{negotiate};
 ghost use Rattle.milter_exchange.specs.declared.filter_state.FilterState.TheVariants.{Serving};
 ghost use Rattle.milter_exchange.specs.Commands.{is_end_at, is_end_by, is_shown};
-ghost use Rattle.milter_exchange.specs.Standings.{standing_fault};
-ghost use Rattle.milter_filter.specs.Asking.{answer_at};
+ghost use Rattle.milter_exchange.specs.OrderStates.{order_state_fault};
+ghost use Rattle.milter_filter.specs.AskedPolicy.{answer_at};
 
+use crate::answer_packets::{put_answer, put_continue};
 use crate::connection::Connection;
 use crate::policy::Policy;
-use crate::replying::{put_answer, put_continue};
 use milter_exchange::{CommandOrder, FilterFault, FilterState, is_final_at};
 use milter_wire::{
-    Agreed, CommandRef, HEAD_LEN, NoMemory, Options, Packet, Protocol, Reply, Stage, SymList,
-    SymLists, Text, Verdict, WireFault, agree,
+    CommandRef, HEAD_LEN, Negotiated, NoMemory, Options, Packet, Protocol, Reply, Stage, SymList,
+    SymLists, Text, Verdict, WireFault, negotiate,
 };
 use std::alloc::Global;
 use std::marker::Model;
@@ -40,18 +40,18 @@ pub(crate) struct Replier<'p, P: Policy> {
 }
 
 impl<'p, P: Policy> Model for Replier<'p, P> {
-    ghost use Rattle.milter_filter.specs.Replying.{Replying};
+    ghost use Rattle.milter_filter.specs.AnswerPackets.{Replying};
 
     ghost Value = { Replying P };
 
-    ghost view = { λ r. record { policy = r.policy.now; standing = r.connection; pending = r.pending.items } };
+    ghost view = { λ r. record { policy = r.policy.now; order_state = r.connection; pending = r.pending.items } };
 }
 
 impl<'p, P: Policy> Replier<'p, P> {
     ghost use Rattle.milter_exchange.specs.Replies.{options_reply, replies_of_answer, replies_to_unknown};
-    ghost use Rattle.milter_exchange.specs.Standings.{after_options, with_shown};
-    ghost use Rattle.milter_filter.specs.Asking.{shown_after_answer, stage_answer};
-    ghost use Rattle.milter_filter.specs.Replying.{FailsAt, GoesOn, failed_replying, fresh_replying, replying_by, replying_next, replying_with};
+    ghost use Rattle.milter_exchange.specs.OrderStates.{after_options, with_shown};
+    ghost use Rattle.milter_filter.specs.AskedPolicy.{shown_after_answer, stage_answer};
+    ghost use Rattle.milter_filter.specs.AnswerPackets.{FailsAt, GoesOn, failed_replying, fresh_replying, replying_by, replying_next, replying_with};
 
     /// For a connection of which nothing has come.
     pub(crate) fn new(alloc: Global, policy: &'p P, order: CommandOrder) -> Self
@@ -83,14 +83,14 @@ impl<'p, P: Policy> Replier<'p, P> {
 
     /// Whether the connection goes on.
     pub(crate) fn state(&self) -> FilterState
-        ensures { result ≡ self.now.standing.state }
+        ensures { result ≡ self.now.order_state.state }
     {
         self.connection.state()
     }
 
     /// Whether commands are taken.
     pub(crate) fn is_serving(&self) -> bool
-        ensures { IsTrue result ↔ (self.now.standing.state ≡ FilterState.Serving) }
+        ensures { IsTrue result ↔ (self.now.order_state.state ≡ FilterState.Serving) }
     {
         self.connection.is_serving()
     }
@@ -112,11 +112,11 @@ impl<'p, P: Policy> Replier<'p, P> {
     /// Replies to a packet, or answers the fault of its command.
     pub(crate) fn reply_to_packet(&mut self, packet: &Packet<'_>) -> Result<(), FilterFault>
         requires payload { IsFrame (frame_of packet.now) }
-        requires serving { self.old.standing.state ≡ Serving }
+        requires stream_server { self.old.order_state.state ≡ Serving }
         ensures replied { OnOk result
             (self.new ≡ replying_next (P.behavior self.old.policy) self.old (frame_command (frame_of packet.now))) }
-        ensures going { OnOk result (GoesOn self.new.standing) }
-        ensures fails { IfErr result (λ fault. FailsAt (P.behavior self.old.policy) self.old.standing
+        ensures going { OnOk result (GoesOn self.new.order_state) }
+        ensures fails { IfErr result (λ fault. FailsAt (P.behavior self.old.policy) self.old.order_state
             (frame_command (frame_of packet.now)) fault) }
     {
         let command = match read_command(packet.code, packet.payload) {
@@ -136,12 +136,12 @@ impl<'p, P: Policy> Replier<'p, P> {
     fn reply_to(&mut self, command: &CommandRef<'_>, len: usize) -> Result<(), NoMemory>
         requires fits { Fits (command_of command.now) }
         requires len { len ≡ length (encoding (command_of command.now)) }
-        requires serving { self.old.standing.state ≡ Serving }
-        requires no_fault { standing_fault self.old.standing (Ok (command_of command.now)) ≡ None }
+        requires stream_server { self.old.order_state.state ≡ Serving }
+        requires no_fault { order_state_fault self.old.order_state (Ok (command_of command.now)) ≡ None }
         ensures { OnOk result (self.new ≡ replying_by (P.behavior self.old.policy) self.old (command_of command.now)) }
     {
         match command {
-            CommandRef::Options(offer) => self.agree_on(*offer)?,
+            CommandRef::Options(offer) => self.negotiate_on(*offer)?,
             CommandRef::Unknown(_) => self.reply_to_unknown()?,
             CommandRef::Abort => self.connection.end_message(),
             CommandRef::QuitNew => self.connection.end_client(),
@@ -152,29 +152,30 @@ impl<'p, P: Policy> Replier<'p, P> {
     }
 
     /// Agrees with a mail server that offers this.
-    fn agree_on(&mut self, offer: Options) -> Result<(), NoMemory>
+    fn negotiate_on(&mut self, offer: Options) -> Result<(), NoMemory>
         requires { OptionsFit offer }
-        ensures { let agreed = agree offer (P.behavior self.old.policy).wants (P.behavior self.old.policy).lists in
+        ensures { let negotiated = negotiate offer (P.behavior self.old.policy).wants
+            (P.behavior self.old.policy).lists in
             OnOk result (self.new
-            ≡ replying_with self.old (after_options self.old.standing agreed) (options_reply agreed ∷ [])) }
+            ≡ replying_with self.old (after_options self.old.order_state negotiated) (options_reply negotiated ∷ [])) }
     {
-        let Agreed { options, lists } = agreed_with(self.alloc, self.policy, offer)?;
+        let Negotiated { options, lists } = negotiated_with(self.alloc, self.policy, offer)?;
         let reply = Reply::Options { options, lists };
         let encoded = reply.encode(self.alloc, &mut self.pending);
         drop(reply);
         encoded?;
         self.connection
-            .set_agreed(agreed_with(self.alloc, self.policy, offer)?);
+            .set_negotiated(negotiated_with(self.alloc, self.policy, offer)?);
         Ok(())
     }
 
     /// Lets an unknown command of the client go on, unless such commands aren't answered.
     fn reply_to_unknown(&mut self) -> Result<(), NoMemory>
         ensures { OnOk result (self.new
-            ≡ replying_with self.old self.old.standing (replies_to_unknown self.old.standing.agreed)) }
+            ≡ replying_with self.old self.old.order_state (replies_to_unknown self.old.order_state.negotiated)) }
     {
-        match self.connection.agreed() {
-            Some(agreed) if agreed.options.protocol.0 & Protocol::NR_UNKN.0 == 0 => {
+        match self.connection.negotiated() {
+            Some(negotiated) if negotiated.options.protocol.0 & Protocol::NR_UNKN.0 == 0 => {
                 put_continue(&mut self.pending)
             }
             _ => Ok(()),
@@ -184,9 +185,10 @@ impl<'p, P: Policy> Replier<'p, P> {
     /// Shows a command of a stage, or macros, to the policy, and replies what it answers.
     fn show(&mut self, command: &CommandRef<'_>, len: usize) -> Result<(), NoMemory>
         requires len { len ≡ length (encoding (command_of command.now)) }
-        requires amount { is_shown (command_of command.now) ≡ true → len + self.old.standing.shown.bytes ≤ WEIGHT_MAX }
+        requires amount { is_shown (command_of command.now) ≡ true →
+            len + self.old.order_state.shown.bytes ≤ WEIGHT_MAX }
         ensures { let stage = stage_of (command_of command.now) in
-            let shown = with_shown self.old.standing (command_of command.now) in
+            let shown = with_shown self.old.order_state (command_of command.now) in
             let answer = stage_answer (P.behavior self.old.policy) shown stage in
             OnOk result (self.new
             ≡ replying_with self.old (shown_after_answer shown answer stage) (replies_of_answer answer)) }
@@ -205,24 +207,24 @@ impl<'p, P: Policy> Replier<'p, P> {
     /// Asks the policy at the stage, where it is to be asked, and replies what it answers; answers whether a message
     /// ends at it.
     fn ask(&mut self, stage: Stage) -> Result<bool, NoMemory>
-        ensures ends { let answer = answer_at (P.behavior self.old.policy) self.old.standing.agreed stage
-            self.old.standing.shown.seen in
+        ensures ends { let answer = answer_at (P.behavior self.old.policy) self.old.order_state.negotiated stage
+            self.old.order_state.shown.seen in
             IfOk result (λ ends. ends ≡ is_end_at (Some stage) answer) }
-        ensures replied { let answer = answer_at (P.behavior self.old.policy) self.old.standing.agreed stage
-            self.old.standing.shown.seen in
-            OnOk result (self.new ≡ replying_with self.old self.old.standing (replies_of_answer answer)) }
+        ensures replied { let answer = answer_at (P.behavior self.old.policy) self.old.order_state.negotiated stage
+            self.old.order_state.shown.seen in
+            OnOk result (self.new ≡ replying_with self.old self.old.order_state (replies_of_answer answer)) }
     {
-        let Some(agreed) = self.connection.agreed() else {
+        let Some(negotiated) = self.connection.negotiated() else {
             return Ok(false);
         };
-        if !agreed.is_answered(stage) {
+        if !negotiated.is_answered(stage) {
             return Ok(false);
         }
         let answer = self
             .policy
             .decide(self.alloc, stage, self.connection.seen())?;
         let ends = is_end_by(stage, &answer.verdict);
-        put_answer(self.alloc, agreed, answer, &mut self.pending)?;
+        put_answer(self.alloc, negotiated, answer, &mut self.pending)?;
         Ok(ends)
     }
 }
@@ -236,13 +238,17 @@ fn read_command(code: u8, payload: &[u8]) -> Result<CommandRef<'_>, WireFault>
     CommandRef::decode(code, payload)
 }
 
-/// What is agreed on with a mail server that offers this.
-fn agreed_with<P: Policy>(alloc: Global, policy: &P, offer: Options) -> Result<Agreed, NoMemory>
-    ensures { IfOk result (λ agreed.
-        agreed ≡ agree offer (P.behavior policy.now).wants (P.behavior policy.now).lists) }
+/// What is negotiated with a mail server that offers this.
+fn negotiated_with<P: Policy>(
+    alloc: Global,
+    policy: &P,
+    offer: Options,
+) -> Result<Negotiated, NoMemory>
+    ensures { IfOk result (λ negotiated.
+        negotiated ≡ negotiate offer (P.behavior policy.now).wants (P.behavior policy.now).lists) }
 {
     let lists = copy_lists(alloc, policy.lists())?;
-    Ok(agree(offer, policy.wants(), lists))
+    Ok(negotiate(offer, policy.wants(), lists))
 }
 
 /// A copy of the symbol lists.

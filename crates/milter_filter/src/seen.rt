@@ -2,7 +2,7 @@
 
 ghost use Rattle.std.specs.Prelude.{◌≡◌, [], OnErr, OnOk, false, option_map};
 ghost use Rattle.std.specs.Option.{option_copied};
-ghost use Rattle.milter_wire.specs.LentCommand.{command_of};
+ghost use Rattle.milter_wire.specs.BorrowedCommand.{command_of};
 ghost use Rattle.milter_exchange.specs.Seen.{seen, value_in};
 ghost use Rattle.milter_filter.specs.SeenParts.{nothing_seen, parts_with};
 ghost use Rattle.milter_search.specs.Texts.{finds, finds_named};
@@ -60,14 +60,14 @@ impl Model for Seen {
 }
 
 impl Seen {
-    /// The client that has connected, where its stage is sent. No memory is taken. Source: xxfi_connect.
+    /// The client that has connected, where its stage is sent. Doesn't allocate. Source: xxfi_connect.
     pub fn client(&self) -> Option<&Client>
         ensures { option_copied result ≡ self.now.shown.client }
     {
         self.client.as_ref()
     }
 
-    /// The name that the client last greeted with. No memory is taken. Source: xxfi_helo.
+    /// The name that the client last greeted with. Doesn't allocate. Source: xxfi_helo.
     pub fn helo(&self) -> Option<&[u8]>
         ensures { option_map (λ name. name.now) result ≡ self.now.shown.helo }
     {
@@ -77,21 +77,21 @@ impl Seen {
         }
     }
 
-    /// The sender of the message. No memory is taken. Source: xxfi_envfrom.
+    /// The sender of the message. Doesn't allocate. Source: xxfi_envfrom.
     pub fn sender(&self) -> Option<&Path>
         ensures { option_copied result ≡ self.now.shown.sender }
     {
         self.sender.as_ref()
     }
 
-    /// The recipients of the message, in order, refused ones too. No memory is taken. Source: xxfi_envrcpt.
+    /// The recipients of the message, in order, refused ones too. Doesn't allocate. Source: xxfi_envrcpt.
     pub fn recipients(&self) -> &[Path]
         ensures { result.now ≡ self.now.shown.recipients }
     {
         &self.recipients
     }
 
-    /// The header fields of the message, in order, with values as they were sent. No memory is taken. Source:
+    /// The header fields of the message, in order, with values as they were sent. Doesn't allocate. Source:
     /// xxfi_header.
     pub fn headers(&self) -> &[Header]
         ensures { result.now ≡ self.now.shown.headers }
@@ -99,7 +99,7 @@ impl Seen {
         self.headers.as_slice()
     }
 
-    /// The body of the message, as far as it has come. No memory is taken. Source: xxfi_body.
+    /// The body of the message, as far as it has come. Doesn't allocate. Source: xxfi_body.
     pub fn body(&self) -> &[u8]
         ensures { result.now ≡ self.now.shown.body }
     {
@@ -147,14 +147,14 @@ impl Seen {
         self.body.search(alloc, place, pattern);
     }
 
-    /// The value that was last given to a macro of this name. No memory is taken. Source: smfi_getsymval.
+    /// The value that was last given to a macro of this name. Doesn't allocate. Source: smfi_getsymval.
     pub fn macro_value(&self, name: &[u8]) -> Option<&[u8]>
         ensures { option_map (λ value. value.now) result ≡ value_in self.now.shown.macros name.now }
     {
         self.macros.value(name)
     }
 
-    /// Whether values of header fields come with the blank that they begin with. No memory is taken. Source: mfdef.h
+    /// Whether values of header fields come with the blank that they begin with. Doesn't allocate. Source: mfdef.h
     /// (SMFIP_HDR_LEADSPC).
     pub fn leading_space(&self) -> bool
         ensures { result ≡ self.now.shown.leading_space }
@@ -162,7 +162,7 @@ impl Seen {
         self.leading_space
     }
 
-    /// Nothing yet. No memory is taken.
+    /// Nothing yet. Doesn't allocate.
     pub(crate) fn new(alloc: Global) -> Self
         ensures { result ≡ nothing_seen false }
     {
@@ -201,7 +201,7 @@ impl Seen {
         Ok(())
     }
 
-    /// Gives up all but what stays for the whole connection. No memory is taken.
+    /// Gives up all but what stays for the whole connection. Doesn't allocate.
     pub(crate) fn end_message(&mut self)
         ensures shown { self.new.shown ≡ self.old.connection }
         ensures connection { self.new.connection ≡ self.old.connection }
@@ -213,7 +213,7 @@ impl Seen {
         self.macros.end_message();
     }
 
-    /// Gives up all. No memory is taken.
+    /// Gives up all. Doesn't allocate.
     pub(crate) fn clear(&mut self)
         ensures shown { self.new.shown ≡ seen self.old.connection.leading_space [] }
         ensures connection { self.new.connection ≡ seen self.old.connection.leading_space [] }

@@ -4,9 +4,9 @@
 //! error.
 #![tactic(auto)]
 
-mod guarding;
+mod policy;
 
-use crate::guarding::LoopGuard;
+use crate::policy::LoopGuard;
 use anyhow::bail;
 use milter_filter::{Served, serve};
 use std::io;

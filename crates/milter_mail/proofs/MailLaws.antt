@@ -4,7 +4,7 @@ use Rattle.milter_fields.specs.declared.client.Client.{Client}
 use Rattle.milter_mail.specs.declared.macros.Macros.{Macros}
 use Rattle.milter_mail.specs.declared.weight.Overhead.{Overhead}
 use Rattle.milter_message.specs.MailObject.{MailObject}
-use Rattle.milter_wire.specs.declared.agreement.Agreed.{Agreed}
+use Rattle.milter_wire.specs.declared.negotiation.Negotiated.{Negotiated}
 use Rattle.milter_wire.specs.declared.command.Command.TheVariants as commands
 use Rattle.milter_wire.specs.Command.{Fits, bytes_of}
 use Rattle.milter_mail.specs.MailSession.{IsSendable, MacrosFit, MailSession}
@@ -23,11 +23,11 @@ pub all_sendable : (client : Client) (helo : List ℕ) (macros : Macros) (o : Ov
     → All (IsSendableWith o) messages → All (IsSendable client helo macros) messages
 all_sendable = weights.all_sendable
 
-pub plan_weight : (agreed : Agreed) (session : MailSession) (m : MailObject)
-    → bytes_of (plan agreed session m) ≤ weight session.client session.helo session.macros m
+pub plan_weight : (negotiated : Negotiated) (session : MailSession) (m : MailObject)
+    → bytes_of (plan negotiated session m) ≤ weight session.client session.helo session.macros m
 plan_weight = plan_weights.plan_weight
 
-pub plan_fits : (agreed : Agreed) (session : MailSession) (m : MailObject) → Fits (commands.Connect session.client)
+pub plan_fits : (negotiated : Negotiated) (session : MailSession) (m : MailObject) → Fits (commands.Connect session.client)
     → Fits (commands.Helo session.helo) → MacrosFit session.macros
-    → IsSendable session.client session.helo session.macros m → All Fits (plan agreed session m)
+    → IsSendable session.client session.helo session.macros m → All Fits (plan negotiated session m)
 plan_fits = plan_fit.plan_fits

@@ -7,16 +7,16 @@ use Rattle.std.proofs.lemmas.List.Elements.{All-append, All-cons, All-head, All-
 use Rattle.milter_wire.specs.declared.codes.TheConstants.{SMFIC_BODYEOB, SMFIC_CONNECT, SMFIC_DATA, SMFIC_EOH, SMFIC_HELO, SMFIC_MAIL, SMFIC_RCPT}
 use Rattle.milter_fields.specs.declared.header.Header.{Header}
 use Rattle.milter_fields.specs.declared.pair.Pair.{Pair}
-use Rattle.milter_wire.specs.declared.agreement.Agreed.{Agreed}
+use Rattle.milter_wire.specs.declared.negotiation.Negotiated.{Negotiated}
 use Rattle.milter_wire.specs.declared.command.Command.{Command}
 use Rattle.milter_wire.specs.declared.command.Command.TheVariants as commands
 use Rattle.milter_wire.specs.declared.stage.Stage.TheVariants as stages
-use Rattle.milter_wire.specs.Agreement.{has_leading_space, is_sent}
+use Rattle.milter_wire.specs.Negotiation.{has_leading_space, is_sent}
 use Rattle.milter_wire.specs.Command.{Fits}
-use Rattle.milter_message.specs.declared.message.TheConstants.{PIECE_LEN}
+use Rattle.milter_message.specs.declared.message.TheConstants.{CHUNK_LEN}
 use Rattle.milter_message.specs.LeadingSpace.{FieldFits, WholeFieldFits, sent_header}
 use Rattle.milter_message.specs.MailObject.{MailObject}
-use Rattle.milter_message.specs.Pieces.{piece_at, piece_count, pieces_of}
+use Rattle.milter_message.specs.Chunks.{chunk_at, chunk_count, chunks_of}
 use Rattle.milter_mail.specs.MailSession.{IsSendable, MacrosFit, MailSession}
 use Rattle.milter_mail.specs.Plan.{macros_of, plan}
 use Rattle.milter_mail.specs.Steps.{macro_step, step}
@@ -68,58 +68,58 @@ fields_fit false headers without whole = without
 
 -- ---- a body
 
--- a piece has at most as many bytes as a payload
-piece_fits : (body : List ℕ) (k : ℕ) → Fits (commands.Body (piece_at body k))
-piece_fits body k = record {
+-- a chunk has at most as many bytes as a payload
+chunk_fits : (body : List ℕ) (k : ℕ) → Fits (commands.Body (chunk_at body k))
+chunk_fits body k = record {
   fields = tt;
-  payload = let taken = length-take PIECE_LEN (drop (PIECE_LEN * k) body) in omega (arith, taken);
+  payload = let taken = length-take CHUNK_LEN (drop (CHUNK_LEN * k) body) in omega (arith, taken);
 }
 
-pieces_fit : (body : List ℕ) → All (λ piece. Fits (commands.Body piece)) (pieces_of body)
-pieces_fit body =
-    All-map (λ piece. Fits (commands.Body piece)) (piece_at body) (range_with_len 0 (piece_count (length body)))
-    (all_by_each (λ k. Fits (commands.Body (piece_at body k))) (piece_fits body) (range_with_len 0 (piece_count (length body))))
+chunks_fit : (body : List ℕ) → All (λ chunk. Fits (commands.Body chunk)) (chunks_of body)
+chunks_fit body =
+    All-map (λ chunk. Fits (commands.Body chunk)) (chunk_at body) (range_with_len 0 (chunk_count (length body)))
+    (all_by_each (λ k. Fits (commands.Body (chunk_at body k))) (chunk_fits body) (range_with_len 0 (chunk_count (length body))))
 
 -- ---- the plan
 
-pub plan_fits : (agreed : Agreed) (session : MailSession) (m : MailObject) → Fits (commands.Connect session.client)
+pub plan_fits : (negotiated : Negotiated) (session : MailSession) (m : MailObject) → Fits (commands.Connect session.client)
     → Fits (commands.Helo session.helo) → MacrosFit session.macros → IsSendable session.client session.helo session.macros m
-    → All Fits (plan agreed session m)
-plan_fits agreed session m client helo macros sendable =
-    let chosen = macros_of agreed session in
-    let fit : MacrosFit chosen = chosen_macros_fit agreed.lists session.macros macros in
+    → All Fits (plan negotiated session m)
+plan_fits negotiated session m client helo macros sendable =
+    let chosen = macros_of negotiated session in
+    let fit : MacrosFit chosen = chosen_macros_fit negotiated.lists session.macros macros in
     let data_cmd : Fits commands.DataCmd = record { fields = tt; payload = omega arith } in
     let eoh : Fits commands.Eoh = record { fields = tt; payload = omega arith } in
     let eob : Fits (commands.Eob []) = record { fields = tt; payload = omega arith } in
-    let c = step_fits (is_sent agreed stages.Connect) SMFIC_CONNECT chosen.connect (commands.Connect session.client) fit.connect client in
-    let h = step_fits (is_sent agreed stages.Helo) SMFIC_HELO chosen.helo (commands.Helo session.helo) fit.helo helo in
-    let s = step_fits (is_sent agreed stages.Mail) SMFIC_MAIL chosen.mail (commands.Mail m.sender) fit.mail sendable.whole.sender in
+    let c = step_fits (is_sent negotiated stages.Connect) SMFIC_CONNECT chosen.connect (commands.Connect session.client) fit.connect client in
+    let h = step_fits (is_sent negotiated stages.Helo) SMFIC_HELO chosen.helo (commands.Helo session.helo) fit.helo helo in
+    let s = step_fits (is_sent negotiated stages.Mail) SMFIC_MAIL chosen.mail (commands.Mail m.sender) fit.mail sendable.whole.sender in
     let r = each_fits (λ recipient. Fits (commands.Rcpt recipient))
-    (λ recipient. step agreed chosen stages.Rcpt (commands.Rcpt recipient))
-    (λ recipient fits. step_fits (is_sent agreed stages.Rcpt) SMFIC_RCPT chosen.rcpt (commands.Rcpt recipient) fit.rcpt fits)
+    (λ recipient. step negotiated chosen stages.Rcpt (commands.Rcpt recipient))
+    (λ recipient fits. step_fits (is_sent negotiated stages.Rcpt) SMFIC_RCPT chosen.rcpt (commands.Rcpt recipient) fit.rcpt fits)
     m.recipients
     sendable.whole.recipients in
-    let d = step_fits (is_sent agreed stages.DataCmd) SMFIC_DATA chosen.data_cmd commands.DataCmd fit.data_cmd data_cmd in
-    let l = each_fits (λ header. Fits (commands.Header (sent_header (has_leading_space agreed) header)))
-    (λ header. step agreed chosen stages.Header (commands.Header (sent_header (has_leading_space agreed) header)))
-    (λ header fits. if_sent (is_sent agreed stages.Header) [] (commands.Header (sent_header (has_leading_space agreed) header)) (All-nil Fits) fits)
+    let d = step_fits (is_sent negotiated stages.DataCmd) SMFIC_DATA chosen.data_cmd commands.DataCmd fit.data_cmd data_cmd in
+    let l = each_fits (λ header. Fits (commands.Header (sent_header (has_leading_space negotiated) header)))
+    (λ header. step negotiated chosen stages.Header (commands.Header (sent_header (has_leading_space negotiated) header)))
+    (λ header fits. if_sent (is_sent negotiated stages.Header) [] (commands.Header (sent_header (has_leading_space negotiated) header)) (All-nil Fits) fits)
     m.headers
-    (fields_fit (has_leading_space agreed) m.headers sendable.whole.headers sendable.whole_fields) in
-    let n = step_fits (is_sent agreed stages.Eoh) SMFIC_EOH chosen.eoh commands.Eoh fit.eoh eoh in
-    let b = each_fits (λ piece. Fits (commands.Body piece))
-    (λ piece. step agreed chosen stages.Body (commands.Body piece))
-    (λ piece fits. if_sent (is_sent agreed stages.Body) [] (commands.Body piece) (All-nil Fits) fits)
-    (pieces_of m.body)
-    (pieces_fit m.body) in
-    let e = step_fits (is_sent agreed stages.Eob) SMFIC_BODYEOB chosen.eom (commands.Eob []) fit.eom eob in
+    (fields_fit (has_leading_space negotiated) m.headers sendable.whole.headers sendable.whole_fields) in
+    let n = step_fits (is_sent negotiated stages.Eoh) SMFIC_EOH chosen.eoh commands.Eoh fit.eoh eoh in
+    let b = each_fits (λ chunk. Fits (commands.Body chunk))
+    (λ chunk. step negotiated chosen stages.Body (commands.Body chunk))
+    (λ chunk fits. if_sent (is_sent negotiated stages.Body) [] (commands.Body chunk) (All-nil Fits) fits)
+    (chunks_of m.body)
+    (chunks_fit m.body) in
+    let e = step_fits (is_sent negotiated stages.Eob) SMFIC_BODYEOB chosen.eom (commands.Eob []) fit.eom eob in
     all-in_turn
-    (step agreed chosen stages.Connect (commands.Connect session.client))
-    (step agreed chosen stages.Helo (commands.Helo session.helo))
-    (step agreed chosen stages.Mail (commands.Mail m.sender))
-    (flat_map (λ recipient. step agreed chosen stages.Rcpt (commands.Rcpt recipient)) m.recipients)
-    (step agreed chosen stages.DataCmd commands.DataCmd)
-    (flat_map (λ header. step agreed chosen stages.Header (commands.Header (sent_header (has_leading_space agreed) header))) m.headers)
-    (step agreed chosen stages.Eoh commands.Eoh)
-    (flat_map (λ piece. step agreed chosen stages.Body (commands.Body piece)) (pieces_of m.body))
-    (step agreed chosen stages.Eob (commands.Eob []))
+    (step negotiated chosen stages.Connect (commands.Connect session.client))
+    (step negotiated chosen stages.Helo (commands.Helo session.helo))
+    (step negotiated chosen stages.Mail (commands.Mail m.sender))
+    (flat_map (λ recipient. step negotiated chosen stages.Rcpt (commands.Rcpt recipient)) m.recipients)
+    (step negotiated chosen stages.DataCmd commands.DataCmd)
+    (flat_map (λ header. step negotiated chosen stages.Header (commands.Header (sent_header (has_leading_space negotiated) header))) m.headers)
+    (step negotiated chosen stages.Eoh commands.Eoh)
+    (flat_map (λ chunk. step negotiated chosen stages.Body (commands.Body chunk)) (chunks_of m.body))
+    (step negotiated chosen stages.Eob (commands.Eob []))
     c h s r d l n b e

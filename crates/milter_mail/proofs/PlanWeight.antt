@@ -1,4 +1,4 @@
--- Whatever was agreed on, no more is sent of a message than it weighs.
+-- Whatever was negotiated, no more is sent of a message than it weighs.
 use Rattle.std.proofs.Common.{◌≡◌, ◌≤◌, ℕ, ◌+◌, Bool, true, false, List, [], ◌∷◌, ◌++◌, length, map, Option, None, Some, refl, sym, ap, ◌∙◌, arith, length-append, if◌then◌else◌}
 use Rattle.std.specs.List.{flat_map, sum_by}
 use Rattle.std.proofs.lemmas.List.Concat.{flat_map-cons}
@@ -10,17 +10,17 @@ use Rattle.milter_fields.specs.declared.header.Header.{Header}
 use Rattle.milter_fields.specs.declared.pair.Pair.{Pair}
 use Rattle.milter_fields.specs.declared.path.Path.{Path}
 use Rattle.milter_fields.specs.Layout.{pair}
-use Rattle.milter_wire.specs.declared.agreement.Agreed.{Agreed}
+use Rattle.milter_wire.specs.declared.negotiation.Negotiated.{Negotiated}
 use Rattle.milter_wire.specs.declared.command.Command.{Command}
 use Rattle.milter_wire.specs.declared.command.Command.TheVariants as commands
 use Rattle.milter_wire.specs.declared.stage.Stage.{Stage}
 use Rattle.milter_wire.specs.declared.stage.Stage.TheVariants as stages
-use Rattle.milter_wire.specs.Agreement.{has_leading_space, is_sent}
+use Rattle.milter_wire.specs.Negotiation.{has_leading_space, is_sent}
 use Rattle.milter_wire.specs.Command.{bytes_of, encoding}
 use Rattle.milter_wire.specs.Stages.{macro_command_of}
 use Rattle.milter_message.specs.LeadingSpace.{sent_header, without_leading_space}
 use Rattle.milter_message.specs.MailObject.{MailObject}
-use Rattle.milter_message.specs.Pieces.{pieces_of}
+use Rattle.milter_message.specs.Chunks.{chunks_of}
 use Rattle.milter_mail.specs.declared.macros.Macros.{Macros}
 use Rattle.milter_mail.specs.ChosenMacros.{chosen_macros, list_of, names_of, pairs_by}
 use Rattle.milter_mail.specs.MailSession.{MailSession}
@@ -128,49 +128,49 @@ header_step sent leading_space header =
     let whole = bytes-one (commands.Header header) in
     omega (arith, one, less, whole)
 
-piece_step : (sent : Bool) (piece : List ℕ)
-    → bytes_of (if sent then [] ++ commands.Body piece ∷ [] else []) ≤ bytes_of (commands.Body piece ∷ [])
-piece_step sent piece =
-    let one = if_sent sent [] (commands.Body piece) in
-    let whole = bytes-one (commands.Body piece) in
+chunk_step : (sent : Bool) (chunk : List ℕ)
+    → bytes_of (if sent then [] ++ commands.Body chunk ∷ [] else []) ≤ bytes_of (commands.Body chunk ∷ [])
+chunk_step sent chunk =
+    let one = if_sent sent [] (commands.Body chunk) in
+    let whole = bytes-one (commands.Body chunk) in
     omega (arith, one, whole)
 
 -- ---- the plan
 
-pub plan_weight : (agreed : Agreed) (session : MailSession) (m : MailObject)
-    → bytes_of (plan agreed session m) ≤ weight session.client session.helo session.macros m
-plan_weight agreed session m =
+pub plan_weight : (negotiated : Negotiated) (session : MailSession) (m : MailObject)
+    → bytes_of (plan negotiated session m) ≤ weight session.client session.helo session.macros m
+plan_weight negotiated session m =
     let macros = session.macros in
-    let chosen = macros_of agreed session in
-    let lists = agreed.lists in
-    let c = at_most (is_sent agreed stages.Connect) SMFIC_CONNECT (list_of SMFIM_CONNECT lists) macros.connect (commands.Connect session.client) in
-    let h = at_most (is_sent agreed stages.Helo) SMFIC_HELO (list_of SMFIM_HELO lists) macros.helo (commands.Helo session.helo) in
-    let s = at_most (is_sent agreed stages.Mail) SMFIC_MAIL (list_of SMFIM_ENVFROM lists) macros.mail (commands.Mail m.sender) in
-    let r = each_at_most (λ recipient. step agreed chosen stages.Rcpt (commands.Rcpt recipient))
+    let chosen = macros_of negotiated session in
+    let lists = negotiated.lists in
+    let c = at_most (is_sent negotiated stages.Connect) SMFIC_CONNECT (list_of SMFIM_CONNECT lists) macros.connect (commands.Connect session.client) in
+    let h = at_most (is_sent negotiated stages.Helo) SMFIC_HELO (list_of SMFIM_HELO lists) macros.helo (commands.Helo session.helo) in
+    let s = at_most (is_sent negotiated stages.Mail) SMFIC_MAIL (list_of SMFIM_ENVFROM lists) macros.mail (commands.Mail m.sender) in
+    let r = each_at_most (λ recipient. step negotiated chosen stages.Rcpt (commands.Rcpt recipient))
     (λ recipient. macro_step (Some SMFIC_RCPT) macros.rcpt ++ commands.Rcpt recipient ∷ [])
-    (λ recipient. at_most (is_sent agreed stages.Rcpt) SMFIC_RCPT (list_of SMFIM_ENVRCPT lists) macros.rcpt (commands.Rcpt recipient))
+    (λ recipient. at_most (is_sent negotiated stages.Rcpt) SMFIC_RCPT (list_of SMFIM_ENVRCPT lists) macros.rcpt (commands.Rcpt recipient))
     m.recipients in
-    let d = at_most (is_sent agreed stages.DataCmd) SMFIC_DATA (list_of SMFIM_DATA lists) macros.data_cmd commands.DataCmd in
-    let l = each_at_most (λ header. step agreed chosen stages.Header (commands.Header (sent_header (has_leading_space agreed) header)))
+    let d = at_most (is_sent negotiated stages.DataCmd) SMFIC_DATA (list_of SMFIM_DATA lists) macros.data_cmd commands.DataCmd in
+    let l = each_at_most (λ header. step negotiated chosen stages.Header (commands.Header (sent_header (has_leading_space negotiated) header)))
     (λ header. commands.Header header ∷ [])
-    (λ header. header_step (is_sent agreed stages.Header) (has_leading_space agreed) header)
+    (λ header. header_step (is_sent negotiated stages.Header) (has_leading_space negotiated) header)
     m.headers in
-    let n = at_most (is_sent agreed stages.Eoh) SMFIC_EOH (list_of SMFIM_EOH lists) macros.eoh commands.Eoh in
-    let b = each_at_most (λ piece. step agreed chosen stages.Body (commands.Body piece))
-    (λ piece. commands.Body piece ∷ [])
-    (λ piece. piece_step (is_sent agreed stages.Body) piece)
-    (pieces_of m.body) in
-    let e = at_most (is_sent agreed stages.Eob) SMFIC_BODYEOB (list_of SMFIM_EOM lists) macros.eom (commands.Eob []) in
+    let n = at_most (is_sent negotiated stages.Eoh) SMFIC_EOH (list_of SMFIM_EOH lists) macros.eoh commands.Eoh in
+    let b = each_at_most (λ chunk. step negotiated chosen stages.Body (commands.Body chunk))
+    (λ chunk. commands.Body chunk ∷ [])
+    (λ chunk. chunk_step (is_sent negotiated stages.Body) chunk)
+    (chunks_of m.body) in
+    let e = at_most (is_sent negotiated stages.Eob) SMFIC_BODYEOB (list_of SMFIM_EOM lists) macros.eom (commands.Eob []) in
     let sent = bytes-in_turn
-    (step agreed chosen stages.Connect (commands.Connect session.client))
-    (step agreed chosen stages.Helo (commands.Helo session.helo))
-    (step agreed chosen stages.Mail (commands.Mail m.sender))
-    (flat_map (λ recipient. step agreed chosen stages.Rcpt (commands.Rcpt recipient)) m.recipients)
-    (step agreed chosen stages.DataCmd commands.DataCmd)
-    (flat_map (λ header. step agreed chosen stages.Header (commands.Header (sent_header (has_leading_space agreed) header))) m.headers)
-    (step agreed chosen stages.Eoh commands.Eoh)
-    (flat_map (λ piece. step agreed chosen stages.Body (commands.Body piece)) (pieces_of m.body))
-    (step agreed chosen stages.Eob (commands.Eob [])) in
+    (step negotiated chosen stages.Connect (commands.Connect session.client))
+    (step negotiated chosen stages.Helo (commands.Helo session.helo))
+    (step negotiated chosen stages.Mail (commands.Mail m.sender))
+    (flat_map (λ recipient. step negotiated chosen stages.Rcpt (commands.Rcpt recipient)) m.recipients)
+    (step negotiated chosen stages.DataCmd commands.DataCmd)
+    (flat_map (λ header. step negotiated chosen stages.Header (commands.Header (sent_header (has_leading_space negotiated) header))) m.headers)
+    (step negotiated chosen stages.Eoh commands.Eoh)
+    (flat_map (λ chunk. step negotiated chosen stages.Body (commands.Body chunk)) (chunks_of m.body))
+    (step negotiated chosen stages.Eob (commands.Eob [])) in
     let all = bytes-in_turn
     (macro_step (Some SMFIC_CONNECT) macros.connect ++ commands.Connect session.client ∷ [])
     (macro_step (Some SMFIC_HELO) macros.helo ++ commands.Helo session.helo ∷ [])
@@ -179,6 +179,6 @@ plan_weight agreed session m =
     (macro_step (Some SMFIC_DATA) macros.data_cmd ++ commands.DataCmd ∷ [])
     (flat_map (λ header. commands.Header header ∷ []) m.headers)
     (macro_step (Some SMFIC_EOH) macros.eoh ++ commands.Eoh ∷ [])
-    (flat_map (λ piece. commands.Body piece ∷ []) (pieces_of m.body))
+    (flat_map (λ chunk. commands.Body chunk ∷ []) (chunks_of m.body))
     (macro_step (Some SMFIC_BODYEOB) macros.eom ++ commands.Eob [] ∷ []) in
     omega (arith, c, h, s, r, d, l, n, b, e, sent, all)

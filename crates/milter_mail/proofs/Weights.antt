@@ -6,7 +6,7 @@ use Rattle.std.proofs.lemmas.List.Concat.{flat_map-cons}
 use Rattle.std.proofs.lemmas.List.Elements.{All-weaker}
 use Rattle.std.proofs.lemmas.List.FromFn.{sum_by-map-range_with_len_more}
 use Rattle.std.proofs.lemmas.List.Sums.{sum_by-append, sum_by-cons, sum_by_push}
-use Rattle.milter_message.specs.declared.message.TheConstants.{PIECE_LEN}
+use Rattle.milter_message.specs.declared.message.TheConstants.{CHUNK_LEN}
 use Rattle.milter_message.specs.declared.message.TheConstants.{WEIGHT_MAX}
 use Rattle.milter_wire.specs.declared.codes.TheConstants.{SMFIC_BODYEOB, SMFIC_CONNECT, SMFIC_DATA, SMFIC_EOH, SMFIC_HELO, SMFIC_MAIL, SMFIC_RCPT}
 use Rattle.milter_fields.specs.declared.client.Client.{Client}
@@ -20,7 +20,7 @@ use Rattle.milter_stream.specs.Number.{number}
 use Rattle.milter_mail.specs.declared.macros.Macros.{Macros}
 use Rattle.milter_message.specs.MailObject.{MailObject}
 use Rattle.milter_mail.specs.MailSession.{IsSendable}
-use Rattle.milter_message.specs.Pieces.{piece_at, piece_count, pieces_of}
+use Rattle.milter_message.specs.Chunks.{chunk_at, chunk_count, chunks_of}
 use Rattle.milter_mail.specs.Steps.{macro_step}
 use Rattle.milter_mail.specs.Weight.{weight}
 use Rattle.milter_mail.specs.declared.weight.Overhead.{Overhead}
@@ -49,25 +49,25 @@ bytes-one command = omega arith
 bytes-step : (code : ℕ) (pairs : List Pair) (command : Command) → bytes_of (macro_step (Some code) pairs ++ command ∷ []) ≡ macros_weight code pairs + length (encoding command)
 bytes-step code pairs command = sum_by_push (λ c. length (encoding c)) (macro_step (Some code) pairs) command
 
--- ---- the pieces of a body
+-- ---- the chunks of a body
 
-first_pieces : (body : List ℕ) (n : ℕ) → sum_by (λ piece. length (encoding (commands.Body piece))) (map (piece_at body) (range_with_len 0 n)) ≡ min (PIECE_LEN * n) (length body) + 5 * n
-first_pieces body zero = omega arith
-first_pieces body (suc n) =
-    let more = sum_by-map-range_with_len_more (λ piece. length (encoding (commands.Body piece))) (piece_at body) 0 n n (omega arith) in
-    let before = first_pieces body n in
-    let one = len_of (commands.Body (piece_at body n)) in
-    let taken = length-take PIECE_LEN (drop (PIECE_LEN * n) body) in
-    let dropped = length-drop (PIECE_LEN * n) body in
+first_chunks : (body : List ℕ) (n : ℕ) → sum_by (λ chunk. length (encoding (commands.Body chunk))) (map (chunk_at body) (range_with_len 0 n)) ≡ min (CHUNK_LEN * n) (length body) + 5 * n
+first_chunks body zero = omega arith
+first_chunks body (suc n) =
+    let more = sum_by-map-range_with_len_more (λ chunk. length (encoding (commands.Body chunk))) (chunk_at body) 0 n n (omega arith) in
+    let before = first_chunks body n in
+    let one = len_of (commands.Body (chunk_at body n)) in
+    let taken = length-take CHUNK_LEN (drop (CHUNK_LEN * n) body) in
+    let dropped = length-drop (CHUNK_LEN * n) body in
     let next : suc n ≡ n + 1 = omega arith in
-    subst (λ k. sum_by (λ piece. length (encoding (commands.Body piece))) (map (piece_at body) (range_with_len 0 k)) ≡ min (PIECE_LEN * k) (length body) + 5 * k)
+    subst (λ k. sum_by (λ chunk. length (encoding (commands.Body chunk))) (map (chunk_at body) (range_with_len 0 k)) ≡ min (CHUNK_LEN * k) (length body) + 5 * k)
     (sym next)
     (omega (arith, more, before, one, taken, dropped))
 
-body-bytes : (body : List ℕ) → bytes_of (flat_map (λ piece. commands.Body piece ∷ []) (pieces_of body)) ≡ body_weight (length body)
+body-bytes : (body : List ℕ) → bytes_of (flat_map (λ chunk. commands.Body chunk ∷ []) (chunks_of body)) ≡ body_weight (length body)
 body-bytes body =
-    let each = bytes-each (λ piece. commands.Body piece ∷ []) (λ piece. length (encoding (commands.Body piece))) (λ piece. bytes-one (commands.Body piece)) (pieces_of body) in
-    each ∙ first_pieces body (piece_count (length body)) ∙ omega arith
+    let each = bytes-each (λ chunk. commands.Body chunk ∷ []) (λ chunk. length (encoding (commands.Body chunk))) (λ chunk. bytes-one (commands.Body chunk)) (chunks_of body) in
+    each ∙ first_chunks body (chunk_count (length body)) ∙ omega arith
 
 -- ---- the whole
 
@@ -112,7 +112,7 @@ weight-sum client helo macros m =
     (macro_step (Some SMFIC_DATA) macros.data_cmd ++ commands.DataCmd ∷ [])
     (flat_map (λ header. commands.Header header ∷ []) m.headers)
     (macro_step (Some SMFIC_EOH) macros.eoh ++ commands.Eoh ∷ [])
-    (flat_map (λ piece. commands.Body piece ∷ []) (pieces_of m.body))
+    (flat_map (λ chunk. commands.Body chunk ∷ []) (chunks_of m.body))
     (macro_step (Some SMFIC_BODYEOB) macros.eom ++ commands.Eob [] ∷ [])
     ∙ omega (arith, step1, step2, step3, step4, step5, step6, step7, step8, step9, data_cmd, eoh, eom)
 

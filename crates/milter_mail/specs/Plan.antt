@@ -1,6 +1,6 @@
--- What is sent of a session, by what both ends agreed on: the commands of its opening, and those of each message.
+-- What is sent of a session, by what both ends negotiated: the commands of its opening, and those of each message.
 use Rattle.std.specs.Prelude.{List, ◌++◌}
-use Rattle.milter_wire.specs.declared.agreement.Agreed.{Agreed}
+use Rattle.milter_wire.specs.declared.negotiation.Negotiated.{Negotiated}
 use Rattle.milter_wire.specs.declared.command.Command.{Command}
 use Rattle.milter_mail.specs.declared.macros.Macros.{Macros}
 use Rattle.milter_mail.specs.ChosenMacros.{chosen_macros}
@@ -9,13 +9,14 @@ use Rattle.milter_mail.specs.MailSession.{MailSession}
 use Rattle.milter_mail.specs.Steps.{message_steps, opening_steps}
 
 -- the macros that the filter asked for
-abbrev pub macros_of : Agreed → MailSession → Macros
-macros_of agreed session = chosen_macros agreed.lists session.macros
+abbrev pub macros_of : Negotiated → MailSession → Macros
+macros_of negotiated session = chosen_macros negotiated.lists session.macros
 
 -- what is sent before the first message
-abbrev pub opening : Agreed → MailSession → List Command
-opening agreed session = opening_steps agreed (macros_of agreed session) session.client session.helo
+abbrev pub opening : Negotiated → MailSession → List Command
+opening negotiated session = opening_steps negotiated (macros_of negotiated session) session.client session.helo
 
 -- the opening, and what is sent of one message
-abbrev pub plan : Agreed → MailSession → MailObject → List Command
-plan agreed session message = opening agreed session ++ message_steps agreed (macros_of agreed session) message
+abbrev pub plan : Negotiated → MailSession → MailObject → List Command
+plan negotiated session message =
+    opening negotiated session ++ message_steps negotiated (macros_of negotiated session) message

@@ -1,6 +1,6 @@
 -- How many bytes the packets of one message are, with those of the connection that it comes on.
 use Rattle.std.specs.Prelude.{ℕ, List, [], ◌++◌}
-use Rattle.milter_wire.specs.declared.agreement.Agreed.{Agreed}
+use Rattle.milter_wire.specs.declared.negotiation.Negotiated.{Negotiated}
 use Rattle.milter_fields.specs.declared.client.Client.{Client}
 use Rattle.milter_options.specs.declared.options.TheConstants.Protocol.{HDR_LEADSPC}
 use Rattle.milter_wire.specs.Command.{bytes_of}
@@ -10,7 +10,7 @@ use Rattle.milter_mail.specs.Steps.{message_steps, opening_steps}
 
 -- version 6 with no bit but that for leading spaces, and no symbol list: all is sent, with whole values of header
 -- fields and all macros
-abbrev pub all_is_sent : Agreed
+abbrev pub all_is_sent : Negotiated
 all_is_sent =
     record {
       options = record { version = 6; actions = record { 0 = 0 }; protocol = HDR_LEADSPC };

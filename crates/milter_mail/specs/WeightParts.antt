@@ -14,7 +14,7 @@ use Rattle.milter_mail.specs.declared.weight.Overhead.{Overhead}
 use Rattle.milter_message.specs.LeadingSpace.{WholeFieldFits}
 use Rattle.milter_message.specs.MailObject.{IsMessage, MailObject}
 use Rattle.milter_mail.specs.MailSession.{MacrosFit}
-use Rattle.milter_message.specs.Pieces.{piece_count}
+use Rattle.milter_message.specs.Chunks.{chunk_count}
 use Rattle.milter_mail.specs.Steps.{macro_step}
 
 -- the bytes of the packet with these macros, where there are some
@@ -62,9 +62,9 @@ abbrev pub CommonWeighs : Macros → Option ℕ → Type 0
 CommonWeighs macros None = ¬ CommonFits macros
 CommonWeighs macros (Some n) = CommonFits macros × (n ≡ min (common_weight macros) (2 ^ 64 - 1))
 
--- the bytes of a body, and of the five before each of its pieces
+-- the bytes of a body, and of the five before each of its chunks
 abbrev pub body_weight : ℕ → ℕ
-body_weight len = len + HEAD_LEN * piece_count len
+body_weight len = len + HEAD_LEN * chunk_count len
 
 -- the bytes of the packets of header fields with their whole values
 abbrev pub fields_weight : List Header → ℕ

@@ -4,7 +4,7 @@ ghost use Rattle.std.specs.Prelude.{OnOk, OnErr};
 ghost use Rattle.std.specs.Io.KnownBytes.{Appends};
 ghost use Rattle.milter_mail.specs.HeldText.{held_text, reason_line};
 ghost use Rattle.milter_text.specs.TextWriter.{Puts};
-ghost use Rattle.milter_text.specs.Writing.{WritesPrefix};
+ghost use Rattle.milter_text.specs.WrittenText.{WritesPrefix};
 
 use crate::message_lines::{put_line, put_message};
 use milter_message::Held;

@@ -1,7 +1,7 @@
 //! Laws of weights, of chosen macros and of plans, each the contract of a function that does nothing.
 
 ghost use Rattle.std.specs.Prelude.{◌≡◌, ◌≤◌, ◌+◌, All, List, ℕ};
-ghost use Rattle.milter_wire.specs.declared.agreement.Agreed.{Agreed};
+ghost use Rattle.milter_wire.specs.declared.negotiation.Negotiated.{Negotiated};
 ghost use Rattle.milter_fields.specs.declared.client.Client.{Client};
 ghost use Rattle.milter_options.specs.declared.symbol_lists.SymList.{SymList};
 ghost use Rattle.milter_wire.specs.Command.{bytes_of, Fits};
@@ -27,17 +27,17 @@ pub fn weight_of_plan()
         weight session.client session.helo session.macros m ≡ bytes_of (plan all_is_sent session m) }
 {}
 
-/// Whatever was agreed on, the packets of a message's plan have no more bytes than it weighs.
+/// Whatever was negotiated, the packets of a message's plan have no more bytes than it weighs.
 pub fn weight_of_any_plan()
-    ensures { (agreed : Agreed) (session : MailSession) (m : MailObject) →
-        bytes_of (plan agreed session m) ≤ weight session.client session.helo session.macros m }
+    ensures { (negotiated : Negotiated) (session : MailSession) (m : MailObject) →
+        bytes_of (plan negotiated session m) ≤ weight session.client session.helo session.macros m }
 {}
 
-/// Each command of a message's plan fits a packet, whatever was agreed on.
+/// Each command of a message's plan fits a packet, whatever was negotiated.
 pub fn plans_fit()
-    ensures { (agreed : Agreed) (session : MailSession) (m : MailObject) →
+    ensures { (negotiated : Negotiated) (session : MailSession) (m : MailObject) →
         Fits (commands.Connect session.client) → Fits (commands.Helo session.helo) → MacrosFit session.macros →
-        IsSendable session.client session.helo session.macros m → All Fits (plan agreed session m) }
+        IsSendable session.client session.helo session.macros m → All Fits (plan negotiated session m) }
 {}
 
 /// What a message weighs is the sum of what its parts weigh, and of what each message of the session weighs beside

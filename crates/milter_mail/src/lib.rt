@@ -21,7 +21,7 @@ pub use laws::{
 pub use macros::Macros;
 pub use message_lines::{put_line, put_message, put_text};
 pub use milter_message::{
-    Edit, Held, Message, MessageParts, PIECE_LEN, WEIGHT_MAX, apply, changed_fields, edits_in_turn,
+    CHUNK_LEN, Edit, Held, Message, MessageParts, WEIGHT_MAX, apply, changed_fields, edits_in_turn,
     edits_of_replies, leading_spaces, sent_value,
 };
 pub use milter_text::{TextFault, Word, WordFault, quote, words};

@@ -26,7 +26,7 @@ pub struct Macros {
 }
 
 impl Macros {
-    /// The macros of a stage. A header field and a piece of the body have none. No memory is taken.
+    /// The macros of a stage. A header field and a chunk of the body have none. Doesn't allocate.
     pub fn at(&self, stage: Stage) -> &[Pair]
         ensures { result.now ≡ macros_at self.now stage }
     {

@@ -61,7 +61,7 @@ impl Model for Session {
 impl Session {
     /// The session of these parts; or none, where the client, the greeting or the macros of a stage fit no packet, or
     /// where a message has no recipient, a header field that fits no packet with its whole value, or weighs more than
-    /// 16,777,216 bytes. There may be no message. No memory is taken.
+    /// 16,777,216 bytes. There may be no message. Doesn't allocate.
     pub fn new(client: Client, helo: Text, macros: Macros, messages: Vec<Message>) -> Option<Self>
         ensures parts { IfSome result (λ s. s ≡ record {
           client = client;
@@ -87,7 +87,7 @@ impl Session {
         })
     }
 
-    /// The session of these parts, which must make one. No memory is taken.
+    /// The session of these parts, which must make one. Doesn't allocate.
     pub fn from_parts(client: Client, helo: Text, macros: Macros, messages: Vec<Message>) -> Self
         requires { IsSession (record {
           client = client;
@@ -110,7 +110,7 @@ impl Session {
         }
     }
 
-    /// The parts of the session. They are moved, and no memory is taken.
+    /// The parts of the session. Moves them; doesn't allocate.
     pub fn into_parts(self) -> SessionParts
         ensures client { result.client ≡ self.client }
         ensures helo { result.helo ≡ self.helo }
@@ -126,7 +126,7 @@ impl Session {
         }
     }
 
-    /// The client, which fits a packet. No memory is taken.
+    /// The client, which fits a packet. Doesn't allocate.
     pub fn client(&self) -> &Client
         ensures client { result.now ≡ self.now.client }
         ensures fits { Fits (commands.Connect result.now) }
@@ -134,7 +134,7 @@ impl Session {
         &self.client
     }
 
-    /// The name with which the client greets, which fits a packet. No memory is taken.
+    /// The name with which the client greets, which fits a packet. Doesn't allocate.
     pub fn helo(&self) -> &Text
         ensures helo { result.now ≡ self.now.helo }
         ensures fits { Fits (commands.Helo result.now) }
@@ -142,7 +142,7 @@ impl Session {
         &self.helo
     }
 
-    /// The macros of each stage; those of a stage fit a packet. No memory is taken.
+    /// The macros of each stage; those of a stage fit a packet. Doesn't allocate.
     pub fn macros(&self) -> &Macros
         ensures macros { result.now ≡ self.now.macros }
         ensures fit { MacrosFit result.now }
@@ -150,7 +150,7 @@ impl Session {
         &self.macros
     }
 
-    /// The messages, in order; each has a recipient and weighs at most 16,777,216 bytes. No memory is taken.
+    /// The messages, in order; each has a recipient and weighs at most 16,777,216 bytes. Doesn't allocate.
     pub fn messages(&self) -> &[Message]
         ensures messages { result.now ≡ self.now.messages }
         ensures sendable { All (IsSendable self.now.client self.now.helo self.now.macros) result.now }

@@ -9,7 +9,7 @@ ghost use Rattle.milter_mail.specs.MailSession.{IsSession};
 ghost use Rattle.milter_mail.specs.WeightParts.{body_weight, CommonWeighs, FieldsWeigh, IsOverhead, IsSendableWith, MacrosWeigh, OpeningAndMacrosFit, OpeningWeighs, PartsWeigh};
 
 use crate::macros::Macros;
-use milter_message::{Message, PIECE_LEN, WEIGHT_MAX};
+use milter_message::{CHUNK_LEN, Message, WEIGHT_MAX};
 use milter_wire::codes::{
     SMFIC_BODYEOB, SMFIC_CONNECT, SMFIC_DATA, SMFIC_EOH, SMFIC_HELO, SMFIC_MAIL, SMFIC_RCPT,
 };
@@ -30,7 +30,7 @@ pub struct Overhead {
 
 impl Overhead {
     /// What each message of a session weighs beside its own parts; or none, where the client, its greeting or the
-    /// macros of a stage fit no packet. No memory is taken.
+    /// macros of a stage fit no packet. Doesn't allocate.
     pub fn new(client: &Client, helo: &Text, macros: &Macros) -> Option<Self>
         ensures fits { IfSome result (λ _. OpeningAndMacrosFit client.now helo.now macros.now) }
         ensures none { OpeningAndMacrosFit client.now helo.now macros.now → IsSome result }
@@ -46,7 +46,7 @@ impl Overhead {
     }
 
     /// Whether the message has a recipient, each of its header fields fits a packet with its whole value, and it weighs
-    /// at most 16,777,216 bytes in a session with this overhead. No memory is taken.
+    /// at most 16,777,216 bytes in a session with this overhead. Doesn't allocate.
     pub fn allows(&self, message: &Message) -> bool
         ensures { IsTrue result ↔ IsSendableWith self.now message.now }
     {
@@ -185,6 +185,6 @@ fn headers_len(headers: &[Header]) -> Option<usize>
 fn body_len(body: &[u8]) -> usize
     ensures { result ≡ min (body_weight (length body.now)) (2 ^ 64 - 1) }
 {
-    let pieces = body.len().div_ceil(PIECE_LEN);
-    body.len().saturating_add(pieces * HEAD_LEN)
+    let chunks = body.len().div_ceil(CHUNK_LEN);
+    body.len().saturating_add(chunks * HEAD_LEN)
 }

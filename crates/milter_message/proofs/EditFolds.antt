@@ -10,57 +10,57 @@ use Rattle.std.proofs.lemmas.Option.{none-some, same_Some}
 use Rattle.milter_fields.specs.declared.header.Header.{Header}
 use Rattle.milter_message.specs.declared.edit.Edit.{Edit}
 use Rattle.milter_message.specs.declared.edit.Edit.TheVariants.{ReplaceBody}
-use Rattle.milter_message.specs.EditedMessage.{body_of, changed_field, occurrence, new_piece, positions_from}
+use Rattle.milter_message.specs.EditedMessage.{body_of, changed_field, occurrence, new_chunk, positions_from}
 
--- ---- a body: the pieces of the edits below an index, and whether there is one
+-- ---- a body: the chunks of the edits below an index, and whether there is one
 
 abbrev pub is_any : List (List ℕ) → Bool
 is_any [] = false
-is_any (piece ∷ pieces) = true
+is_any (chunk ∷ chunks) = true
 
-is_any-append : (pieces : List (List ℕ)) (piece : List ℕ) → is_any (pieces ++ piece ∷ []) ≡ true
-is_any-append [] piece = refl
-is_any-append (other ∷ pieces) piece = refl
+is_any-append : (chunks : List (List ℕ)) (chunk : List ℕ) → is_any (chunks ++ chunk ∷ []) ≡ true
+is_any-append [] chunk = refl
+is_any-append (other ∷ chunks) chunk = refl
 
-pub record IsPieced (replaced : Bool) (body : List ℕ) (position : ℕ) (edits : List Edit) : Type 0 where
-  pub joined : body ≡ concat (filter_map new_piece (take position edits))
-  pub known : replaced ≡ is_any (filter_map new_piece (take position edits))
+pub record IsChunked (replaced : Bool) (body : List ℕ) (position : ℕ) (edits : List Edit) : Type 0 where
+  pub joined : body ≡ concat (filter_map new_chunk (take position edits))
+  pub known : replaced ≡ is_any (filter_map new_chunk (take position edits))
 
-concat_more : (pieces : List (List ℕ)) (piece : List ℕ) → concat (pieces ++ piece ∷ []) ≡ concat pieces ++ piece
-concat_more [] piece = append-nil piece
-concat_more (other ∷ pieces) piece = rw (concat_more pieces piece, append_assoc) refl
+concat_more : (chunks : List (List ℕ)) (chunk : List ℕ) → concat (chunks ++ chunk ∷ []) ≡ concat chunks ++ chunk
+concat_more [] chunk = append-nil chunk
+concat_more (other ∷ chunks) chunk = rw (concat_more chunks chunk, append_assoc) refl
 
-new_pieces : (edits : List Edit) (position : ℕ) (edit : Edit) → position < length edits → edit ≡ get_or edits position edit → filter_map new_piece (take (position + 1) edits) ≡ filter_map new_piece (take position edits) ++ cons_option (new_piece edit) []
-new_pieces edits position edit within here =
-    rw (add-one, take-suc edits position edit within, ← here) (filter_map-append new_piece (take position edits) (edit ∷ []))
+new_chunks : (edits : List Edit) (position : ℕ) (edit : Edit) → position < length edits → edit ≡ get_or edits position edit → filter_map new_chunk (take (position + 1) edits) ≡ filter_map new_chunk (take position edits) ++ cons_option (new_chunk edit) []
+new_chunks edits position edit within here =
+    rw (add-one, take-suc edits position edit within, ← here) (filter_map-append new_chunk (take position edits) (edit ∷ []))
 
-pub pieced_more : (replaced : Bool) (body piece : List ℕ) (position : ℕ) (edits : List Edit) (edit : Edit) → IsPieced replaced body position edits → position < length edits → edit ≡ get_or edits position edit → edit ≡ ReplaceBody piece → IsPieced true (body ++ piece) (position + 1) edits
-pieced_more replaced body piece position edits edit h within here is =
-    let pieces = filter_map new_piece (take position edits) in
-    let more = new_pieces edits position edit within here ∙ ap (λ (e : Edit). pieces ++ cons_option (new_piece e) []) is in
+pub chunked_more : (replaced : Bool) (body chunk : List ℕ) (position : ℕ) (edits : List Edit) (edit : Edit) → IsChunked replaced body position edits → position < length edits → edit ≡ get_or edits position edit → edit ≡ ReplaceBody chunk → IsChunked true (body ++ chunk) (position + 1) edits
+chunked_more replaced body chunk position edits edit h within here is =
+    let chunks = filter_map new_chunk (take position edits) in
+    let more = new_chunks edits position edit within here ∙ ap (λ (e : Edit). chunks ++ cons_option (new_chunk e) []) is in
     record {
-      joined = rw (more, h.joined) (sym (concat_more pieces piece));
-      known = rw more (sym (is_any-append pieces piece));
+      joined = rw (more, h.joined) (sym (concat_more chunks chunk));
+      known = rw more (sym (is_any-append chunks chunk));
     }
 
-pub pieced_same : (replaced : Bool) (body : List ℕ) (position : ℕ) (edits : List Edit) (edit : Edit) → IsPieced replaced body position edits → position < length edits → edit ≡ get_or edits position edit → new_piece edit ≡ None → IsPieced replaced body (position + 1) edits
-pieced_same replaced body position edits edit h within here none =
-    let pieces = filter_map new_piece (take position edits) in
-    let same = new_pieces edits position edit within here ∙ ap (λ (o : Option (List ℕ)). pieces ++ cons_option o []) none ∙ append-nil pieces in
+pub chunked_same : (replaced : Bool) (body : List ℕ) (position : ℕ) (edits : List Edit) (edit : Edit) → IsChunked replaced body position edits → position < length edits → edit ≡ get_or edits position edit → new_chunk edit ≡ None → IsChunked replaced body (position + 1) edits
+chunked_same replaced body position edits edit h within here none =
+    let chunks = filter_map new_chunk (take position edits) in
+    let same = new_chunks edits position edit within here ∙ ap (λ (o : Option (List ℕ)). chunks ++ cons_option o []) none ∙ append-nil chunks in
     record { joined = rw same h.joined; known = rw same h.known }
 
--- the body that is left, where the pieces are all
-pub all_pieced : (body old : List ℕ) (pieces : List (List ℕ)) → body ≡ concat pieces → is_any pieces ≡ true → body ≡ body_of old pieces
-all_pieced body old [] joined known = absurd (false≢true known)
-all_pieced body old (piece ∷ pieces) joined known = joined
+-- the body that is left, where the chunks are all
+pub all_chunked : (body old : List ℕ) (chunks : List (List ℕ)) → body ≡ concat chunks → is_any chunks ≡ true → body ≡ body_of old chunks
+all_chunked body old [] joined known = absurd (false≢true known)
+all_chunked body old (chunk ∷ chunks) joined known = joined
 
-pub none_pieced : (body old : List ℕ) (pieces : List (List ℕ)) → body ≡ concat pieces → is_any pieces ≡ false → body ++ old ≡ body_of old pieces
-none_pieced body old [] joined known = rw joined refl
-none_pieced body old (piece ∷ pieces) joined known = absurd (false≢true (sym known))
+pub none_chunked : (body old : List ℕ) (chunks : List (List ℕ)) → body ≡ concat chunks → is_any chunks ≡ false → body ++ old ≡ body_of old chunks
+none_chunked body old [] joined known = rw joined refl
+none_chunked body old (chunk ∷ chunks) joined known = absurd (false≢true (sym known))
 
-pub no_piece : (edit : Edit) → ((piece : List ℕ) → edit ≡ ReplaceBody piece → ⊥) → new_piece edit ≡ None
-no_piece (ReplaceBody piece) h = absurd (h piece refl)
-no_piece other h = refl
+pub no_chunk : (edit : Edit) → ((chunk : List ℕ) → edit ≡ ReplaceBody chunk → ⊥) → new_chunk edit ≡ None
+no_chunk (ReplaceBody chunk) h = absurd (h chunk refl)
+no_chunk other h = refl
 
 -- ---- another value for a field at an index
 

@@ -7,7 +7,7 @@ use Rattle.milter_fields.specs.declared.header.Header.{Header}
 use Rattle.milter_fields.specs.declared.path.Path.{Path}
 use Rattle.milter_message.specs.declared.edit.Edit.{Edit}
 use Rattle.milter_message.specs.declared.edit.Edit.TheVariants.{AddHeader, InsertHeader, ChangeHeader, AddRcpt, AddRcptPar, DelRcpt, ChangeFrom, ReplaceBody, Quarantine, Progress}
-use Rattle.milter_message.specs.EditedMessage.{body_of, edit_headers, edit_recipients, headers_after, new_piece, new_reason, new_sender, or_as_it_was, recipients_after}
+use Rattle.milter_message.specs.EditedMessage.{body_of, edit_headers, edit_recipients, headers_after, new_chunk, new_reason, new_sender, or_as_it_was, recipients_after}
 use Rattle.milter_message.specs.EditReplies.{edit_of, reply_of}
 
 pub headers_in_turn : (leading_space : Bool) (headers : List Header) (first second : List Edit) → headers_after leading_space headers (first ++ second) ≡ headers_after leading_space (headers_after leading_space headers first) second
@@ -55,9 +55,9 @@ body-append : (old : List ℕ) (xs ys : List (List ℕ)) → xs ≢ [] → body_
 body-append old [] ys some = absurd (some refl)
 body-append old (x ∷ xs) ys some = concat-append (x ∷ xs) ys
 
-pub body_in_turn : (old : List ℕ) (first second : List Edit) → filter_map new_piece first ≢ [] → body_of old (filter_map new_piece (first ++ second)) ≡ body_of old (filter_map new_piece first) ++ concat (filter_map new_piece second)
+pub body_in_turn : (old : List ℕ) (first second : List Edit) → filter_map new_chunk first ≢ [] → body_of old (filter_map new_chunk (first ++ second)) ≡ body_of old (filter_map new_chunk first) ++ concat (filter_map new_chunk second)
 body_in_turn old first second some =
-    ap (body_of old) (filter_map-append new_piece first second) ∙ body-append old (filter_map new_piece first) (filter_map new_piece second) some
+    ap (body_of old) (filter_map-append new_chunk first second) ∙ body-append old (filter_map new_chunk first) (filter_map new_chunk second) some
 
 pub last_reason : (edits : List Edit) (reason : List ℕ) → last_or None (filter_map new_reason (edits ++ Quarantine reason ∷ [])) ≡ Some reason
 last_reason edits reason =

@@ -1,4 +1,4 @@
-pub mod BodyPieces
+pub mod BodyChunks
 pub mod EditFolds
 pub mod LeadingSpaces
 pub mod EditsFit

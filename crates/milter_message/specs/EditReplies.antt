@@ -1,4 +1,4 @@
--- What a filter may ask to change of a message: which reply asks it, and which action has to be agreed on for it.
+-- What a filter may ask to change of a message: which reply asks it, and which action has to be negotiated for it.
 use Rattle.std.specs.Prelude.{ℕ, length, Result, Ok, Err}
 use Rattle.milter_wire.specs.declared.reply.Reply.{Reply}
 use Rattle.milter_wire.specs.declared.reply.Reply.TheVariants as replies

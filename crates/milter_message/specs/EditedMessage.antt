@@ -94,9 +94,9 @@ abbrev pub new_sender : Edit → Option Path
 new_sender (ChangeFrom address arguments) = Some (record { address = address; params = params_of arguments })
 new_sender other = None
 
-abbrev pub new_piece : Edit → Option (List ℕ)
-new_piece (ReplaceBody bytes) = Some bytes
-new_piece other = None
+abbrev pub new_chunk : Edit → Option (List ℕ)
+new_chunk (ReplaceBody bytes) = Some bytes
+new_chunk other = None
 
 abbrev pub new_reason : Edit → Option (List ℕ)
 new_reason (Quarantine reason) = Some reason
@@ -106,10 +106,10 @@ abbrev pub or_as_it_was : {X : Type 0} → X → Option X → X
 or_as_it_was old None = old
 or_as_it_was old (Some new) = new
 
--- the pieces one after the other, where there is one
+-- the chunks one after the other, where there is one
 abbrev pub body_of : List ℕ → List (List ℕ) → List ℕ
 body_of old [] = old
-body_of old (piece ∷ pieces) = concat (piece ∷ pieces)
+body_of old (chunk ∷ chunks) = concat (chunk ∷ chunks)
 
 -- ---- the whole
 
@@ -123,7 +123,7 @@ edited_message leading_space message edits =
             sender = or_as_it_was message.sender (last_or None (filter_map new_sender edits));
             recipients = recipients_after message.recipients edits;
             headers = headers_after leading_space message.headers edits;
-            body = body_of message.body (filter_map new_piece edits);
+            body = body_of message.body (filter_map new_chunk edits);
           };
       quarantine = last_or None (filter_map new_reason edits);
     }

@@ -3,4 +3,4 @@ pub mod MailObject
 pub mod EditReplies
 pub mod EditedMessage
 pub mod Occurrences
-pub mod Pieces
+pub mod Chunks

@@ -4,7 +4,7 @@ ghost use Rattle.std.specs.Prelude.{◌≡◌, All, IfOk, None, option_map};
 ghost use Rattle.std.specs.List.{filter_map, last_or};
 ghost use Rattle.milter_wire.specs.Reply.{Fits};
 ghost use Rattle.milter_message.specs.EditReplies.{reply_of};
-ghost use Rattle.milter_message.specs.EditedMessage.{body_of, edited_message, new_piece, new_reason};
+ghost use Rattle.milter_message.specs.EditedMessage.{body_of, edited_message, new_chunk, new_reason};
 
 use crate::edit::Edit;
 use crate::header_edits::headers_after;
@@ -21,13 +21,13 @@ use std::alloc::Global;
 /// name, counted from 1; 0 is taken as 1. Its name stays as it was, and an empty value deletes it; where there
 /// are fewer, a value that isn't empty is added as the last. An added recipient comes last, and a deleted one goes
 /// wherever this very address is, with any parameters. The last sender counts, with its own parameters or none, and
-/// so does the last reason. The pieces of a body, one after the other, replace the old body.
+/// so does the last reason. The chunks of a body, one after the other, replace the old body.
 ///
 /// Where leading spaces aren't sent, each value that is put gets the blank that a value begins with in a message, an
 /// empty added one too.
 ///
 /// An edit looks at each header field or recipient at most once. No text is copied twice, and a new body is appended to
-/// as its pieces come. The given message stays as it was, and after `NoMemory` nothing is left. Source: the libmilter
+/// as its chunks come. The given message stays as it was, and after `NoMemory` nothing is left. Source: the libmilter
 /// callback documentation (message modification functions).
 pub fn apply(
     alloc: Global,
@@ -63,15 +63,15 @@ fn message_after(
     Ok(Message::from_parts(sender, recipients, headers, body))
 }
 
-/// The body after the edits: the pieces that they ask for, one after the other, or the old body where there is none.
+/// The body after the edits: the chunks that they ask for, one after the other, or the old body where there is none.
 fn body_after(alloc: Global, old: &[u8], edits: &[Edit]) -> Result<Vec<u8>, NoMemory>
-    ensures { IfOk result (λ body. body.items ≡ body_of old.now (filter_map new_piece edits.now)) }
+    ensures { IfOk result (λ body. body.items ≡ body_of old.now (filter_map new_chunk edits.now)) }
 {
     let mut body = Vec::new(alloc);
     let mut replaced = false;
     for edit in edits {
-        if let Edit::ReplaceBody(piece) = edit {
-            body.extend_from_slice(piece.as_slice())?;
+        if let Edit::ReplaceBody(chunk) = edit {
+            body.extend_from_slice(chunk.as_slice())?;
             replaced = true;
         }
     }

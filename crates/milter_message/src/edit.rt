@@ -51,7 +51,7 @@ pub enum Edit {
         /// The ESMTP parameters, as one text.
         arguments: Option<Text>,
     },
-    /// A piece of another body. The first one replaces the body, each later one is appended. Source: smfi_replacebody.
+    /// A chunk of another body. The first one replaces the body, each later one is appended. Source: smfi_replacebody.
     ReplaceBody(Text),
     /// The message goes into quarantine, for this reason. Source: smfi_quarantine.
     Quarantine(Text),
@@ -60,8 +60,8 @@ pub enum Edit {
 }
 
 impl Edit {
-    /// The edit that a reply asks for, or progress. A reply that asks for none comes back: options or a verdict. No
-    /// memory is taken. Source: mfdef.h.
+    /// The edit that a reply asks for, or progress. A reply that asks for none comes back: options or a verdict.
+    /// Doesn't allocate. Source: mfdef.h.
     pub fn from_reply(reply: Reply) -> Result<Edit, Reply>
         ensures { result ≡ edit_of reply }
     {
@@ -80,7 +80,7 @@ impl Edit {
         }
     }
 
-    /// The reply that asks for the edit. No memory is taken. Source: mfdef.h.
+    /// The reply that asks for the edit. Doesn't allocate. Source: mfdef.h.
     pub fn into_reply(self) -> Reply
         ensures { result ≡ reply_of self }
     {
@@ -98,7 +98,7 @@ impl Edit {
         }
     }
 
-    /// The action that the two ends have to agree on for this edit; progress needs none. No memory is taken. Source:
+    /// The action that the two ends have to negotiate for this edit; progress needs none. Doesn't allocate. Source:
     /// mfapi.h (SMFIF_).
     pub fn needs(&self) -> Actions
         ensures { result.0 ≡ needed_by self.now }
@@ -117,7 +117,7 @@ impl Edit {
     }
 
     /// The number of bytes of the packet that asks for the edit, its length field among them; or the greatest `usize`,
-    /// where there are more. No memory is taken.
+    /// where there are more. Doesn't allocate.
     #[tactic(auto, unfolding(milter_stream::specs::Number::number))]
     pub fn weight(&self) -> usize
         ensures { result ≡ min (weight_of self.now) (2 ^ 64 - 1) }

@@ -6,19 +6,19 @@ ghost use Rattle.milter_fields.specs.declared.header.Header.{Header};
 ghost use Rattle.milter_fields.specs.declared.path.Path.{Path};
 ghost use Rattle.milter_wire.specs.declared.reply.Reply.{Reply};
 ghost use Rattle.milter_message.specs.declared.leading_space.TheConstants.{LEADING_SPACE};
-ghost use Rattle.milter_message.specs.declared.message.TheConstants.{PIECE_LEN, WEIGHT_MAX};
+ghost use Rattle.milter_message.specs.declared.message.TheConstants.{CHUNK_LEN, WEIGHT_MAX};
 ghost use Rattle.milter_message.specs.declared.edit.Edit.{Edit};
 ghost use Rattle.milter_message.specs.declared.edit.Edit.TheVariants.{Quarantine};
-ghost use Rattle.milter_message.specs.EditedMessage.{change, edited_message, headers_after, new_piece, recipients_after};
+ghost use Rattle.milter_message.specs.EditedMessage.{change, edited_message, headers_after, new_chunk, recipients_after};
 ghost use Rattle.milter_message.specs.EditReplies.{edit_of, reply_of};
 ghost use Rattle.milter_message.specs.LeadingSpace.{FieldFits, WholeFieldFits, put_header, sent_header};
 ghost use Rattle.milter_message.specs.MailObject.{MailObject};
 ghost use Rattle.milter_message.specs.Occurrences.{others_than, value_if_any, values_of};
 
-/// The numbers that the definitions name: the bytes of a whole piece of a body, the most bytes of the packets of a
+/// The numbers that the definitions name: the bytes of a whole chunk of a body, the most bytes of the packets of a
 /// message with those of its connection, and the blank that begins the value of a header field.
 pub fn message_limits()
-    ensures piece { PIECE_LEN ≡ 65535 }
+    ensures chunk { CHUNK_LEN ≡ 65535 }
     ensures weight { WEIGHT_MAX ≡ 16777216 }
     ensures leading_space { LEADING_SPACE ≡ 32 }
 {}
@@ -42,9 +42,9 @@ pub fn edits_in_turn()
         ≡ (edited_message leading_space (edited_message leading_space message first).message second).message.sender }
     // A body is replaced once; what comes later is appended.
     ensures body { (leading_space : Bool) (message : MailObject) (first second : List Edit) →
-        filter_map new_piece first ≢ [] →
+        filter_map new_chunk first ≢ [] →
         (edited_message leading_space message (first ++ second)).message.body
-        ≡ (edited_message leading_space message first).message.body ++ concat (filter_map new_piece second) }
+        ≡ (edited_message leading_space message first).message.body ++ concat (filter_map new_chunk second) }
     // The last reason counts.
     ensures quarantine { (leading_space : Bool) (message : MailObject) (edits : List Edit) (reason : List ℕ) →
         (edited_message leading_space message (edits ++ Quarantine reason ∷ [])).quarantine ≡ Some reason }

@@ -1,5 +1,5 @@
 //! The blank that the value of a header field begins with: a message has it in its values, and peers send it only where
-//! they agreed to.
+//! they negotiated.
 
 ghost use Rattle.std.specs.Prelude.{◌≡◌, ◌-◌, ◌^◌, ◌↔◌, All, IfOk, IsTrue, false, length, min};
 ghost use Rattle.milter_fields.specs.Layout.{header};
@@ -12,7 +12,7 @@ use std::alloc::Global;
 const LEADING_SPACE: u8 = b' ';
 
 /// The value of a header field as it is sent: the whole value where leading spaces are sent, else without the one blank
-/// that it begins with, if it does. No memory is taken. Source: mfdef.h (SMFIP_HDR_LEADSPC).
+/// that it begins with, if it does. Doesn't allocate. Source: mfdef.h (SMFIP_HDR_LEADSPC).
 pub fn sent_value(header: &Header, leading_space: bool) -> &[u8]
     ensures { result.now ≡ (sent_header leading_space header.now).value }
 {

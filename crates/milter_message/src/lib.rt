@@ -17,4 +17,4 @@ pub use application::apply;
 pub use edit::Edit;
 pub use laws::{changed_fields, edits_in_turn, edits_of_replies, leading_spaces, message_limits};
 pub use leading_space::sent_value;
-pub use message::{Held, Message, MessageParts, PIECE_LEN, WEIGHT_MAX};
+pub use message::{CHUNK_LEN, Held, Message, MessageParts, WEIGHT_MAX};

@@ -6,15 +6,15 @@ ghost use Rattle.milter_wire.specs.declared.command.Command.TheVariants as comma
 ghost use Rattle.milter_wire.specs.Command.{Fits};
 ghost use Rattle.milter_message.specs.LeadingSpace.{FieldFits};
 ghost use Rattle.milter_message.specs.MailObject.{IsMessage};
-ghost use Rattle.milter_message.specs.Pieces.{pieces_of};
+ghost use Rattle.milter_message.specs.Chunks.{chunks_of};
 
 use crate::leading_space::fields_fit;
 use milter_wire::{Header, Path, Text, path_packet_len};
 use std::marker::Model;
 
-/// The most bytes of a body that one packet carries: each piece but the last one has as many. Source: mfdef.h
+/// The most bytes of a body that one packet carries: each chunk but the last one has as many. Source: mfdef.h
 /// (MILTER_CHUNK_SIZE).
-pub const PIECE_LEN: usize = 65_535;
+pub const CHUNK_LEN: usize = 65_535;
 
 /// The most bytes that the packets of one message have, with those of the connection that it comes on: 16 MiB.
 pub const WEIGHT_MAX: usize = 16_777_216;
@@ -52,7 +52,7 @@ impl Model for Message {
 
 impl Message {
     /// The message of these parts; or none, where the sender, a recipient or a header field without the blank that its
-    /// value begins with fits no packet. The body may be any bytes, and there may be no recipient. No memory is taken.
+    /// value begins with fits no packet. The body may be any bytes, and there may be no recipient. Doesn't allocate.
     pub fn new(
         sender: Path,
         recipients: Vec<Path>,
@@ -86,7 +86,7 @@ impl Message {
         })
     }
 
-    /// The message of these parts, each of which must fit a packet. No memory is taken.
+    /// The message of these parts, each of which must fit a packet. Doesn't allocate.
     pub fn from_parts(
         sender: Path,
         recipients: Vec<Path>,
@@ -114,7 +114,7 @@ impl Message {
         }
     }
 
-    /// The sender, which fits a packet. No memory is taken.
+    /// The sender, which fits a packet. Doesn't allocate.
     pub fn sender(&self) -> &Path
         ensures sender { result.now ≡ self.now.sender }
         ensures fits { Fits (commands.Mail result.now) }
@@ -122,7 +122,7 @@ impl Message {
         &self.sender
     }
 
-    /// The recipients, in order; each fits a packet. No memory is taken.
+    /// The recipients, in order; each fits a packet. Doesn't allocate.
     pub fn recipients(&self) -> &[Path]
         ensures recipients { result.now ≡ self.now.recipients }
         ensures fit { All (λ path. Fits (commands.Rcpt path)) result.now }
@@ -130,8 +130,7 @@ impl Message {
         self.recipients.as_slice()
     }
 
-    /// The header fields, in order; each fits a packet without the blank that its value begins with. No memory is
-    /// taken.
+    /// The header fields, in order; each fits a packet without the blank that its value begins with. Doesn't allocate.
     pub fn headers(&self) -> &[Header]
         ensures headers { result.now ≡ self.now.headers }
         ensures fit { All FieldFits result.now }
@@ -139,14 +138,14 @@ impl Message {
         self.headers.as_slice()
     }
 
-    /// The bytes of the body. No memory is taken.
+    /// The bytes of the body. Doesn't allocate.
     pub fn body(&self) -> &[u8]
         ensures { result.now ≡ self.now.body }
     {
         self.body.as_slice()
     }
 
-    /// The parts of the message. They are moved, and no memory is taken.
+    /// The parts of the message. Moves them; doesn't allocate.
     pub fn into_parts(self) -> MessageParts
         ensures sender { result.sender ≡ self.sender }
         ensures recipients { result.recipients.items ≡ self.recipients }
@@ -162,8 +161,8 @@ impl Message {
         }
     }
 
-    /// The message without the recipient at this position, counted from 0; the others stay in their order. No memory is
-    /// taken.
+    /// The message without the recipient at this position, counted from 0; the others stay in their order. Doesn't
+    /// allocate.
     pub fn without_recipient(self, position: usize) -> Self
         requires { position < length self.recipients }
         ensures { result ≡ record {
@@ -178,12 +177,12 @@ impl Message {
         Message::from_parts(parts.sender, parts.recipients, parts.headers, parts.body)
     }
 
-    /// The piece of the body with this number, counted from 0: the bytes from 65,535 times the number on, at most
-    /// 65,535; or none, where the body has no byte there, as an empty one has nowhere. No memory is taken.
+    /// The chunk of the body with this number, counted from 0: the bytes from 65,535 times the number on, at most
+    /// 65,535; or none, where the body has no byte there, as an empty one has nowhere. Doesn't allocate.
     pub fn piece(&self, k: usize) -> Option<&[u8]>
-        ensures { option_copied result ≡ slice_get (pieces_of self.now.body) k }
+        ensures { option_copied result ≡ slice_get (chunks_of self.now.body) k }
     {
-        piece_at(self.body(), k)
+        chunk_at(self.body(), k)
     }
 }
 
@@ -209,15 +208,15 @@ pub struct Held {
     pub quarantine: Option<Text>,
 }
 
-/// The piece of the body with this number, counted from 0; or none, where the body has no byte there.
-fn piece_at(body: &[u8], k: usize) -> Option<&[u8]>
-    ensures { option_copied result ≡ slice_get (pieces_of body.now) k }
+/// The chunk of the body with this number, counted from 0; or none, where the body has no byte there.
+fn chunk_at(body: &[u8], k: usize) -> Option<&[u8]>
+    ensures { option_copied result ≡ slice_get (chunks_of body.now) k }
 {
-    let start = k.saturating_mul(PIECE_LEN);
+    let start = k.saturating_mul(CHUNK_LEN);
     if start >= body.len() {
         return None;
     }
-    let end = body.len().min(start.saturating_add(PIECE_LEN));
+    let end = body.len().min(start.saturating_add(CHUNK_LEN));
     Some(&body[start..end])
 }
 

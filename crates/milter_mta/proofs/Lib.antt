@@ -1,7 +1,7 @@
-mod Standings
+mod Consistency
 mod Begun
 mod FedPieces
-mod HeardFrames
+mod ReceivedFrames
 mod Keeping
 mod Reported
 mod Settled

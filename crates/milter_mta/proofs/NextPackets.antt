@@ -9,12 +9,12 @@ use Rattle.milter_options.specs.Payload.{OptionsFit}
 use Rattle.milter_wire.specs.declared.command.Command.{Command}
 use Rattle.milter_wire.specs.declared.command.Command.TheVariants as commands
 use Rattle.milter_wire.specs.Command.{Fits}
-use Rattle.milter_plan.specs.declared.cursor.Opening.{Opening}
-use Rattle.milter_plan.specs.Talks.{first_of, left_of}
-use Rattle.milter_mta.specs.declared.link.Next.{Next}
-use Rattle.milter_mta.specs.declared.link.Next.TheVariants as nexts
-use Rattle.milter_mta.specs.Conversations.{CanSend, position_of}
-use Rattle.milter_mta.specs.Sending.{command_at}
+use Rattle.milter_plan.specs.declared.cursor.ClientInfo.{ClientInfo}
+use Rattle.milter_plan.specs.Transactions.{first_of, left_of}
+use Rattle.milter_mta.specs.declared.filter_connection.Next.{Next}
+use Rattle.milter_mta.specs.declared.filter_connection.Next.TheVariants as nexts
+use Rattle.milter_mta.specs.CoreParts.{CanSend, position_of}
+use Rattle.milter_mta.specs.Output.{command_at}
 
 first_fits : (left : List Command) (command : Command) → All Fits left → first_of left ≡ Some command → Fits command
 first_fits [] command fit e = absurd cc
@@ -30,14 +30,14 @@ options_fit o fit =
     let p = length-number o.protocol.0 in
     record { fields = fit; payload = omega (arith, a, b, v, x, p) }
 
-pub next_fits : (offer : Options) (opening : Opening) (aborts : Bool) (next : Next) (command : Command) → OptionsFit offer
-    → CanSend opening next → command_at offer aborts (position_of opening next) ≡ Some command → Fits command
-next_fits offer opening true next command offered can e =
+pub next_fits : (offer : Options) (client_info : ClientInfo) (aborts : Bool) (next : Next) (command : Command) → OptionsFit offer
+    → CanSend client_info next → command_at offer aborts (position_of client_info next) ≡ Some command → Fits command
+next_fits offer client_info true next command offered can e =
     subst Fits (same_Some commands.Abort command e) (record { fields = tt; payload = omega arith })
-next_fits offer opening false nexts.Offer command offered can e =
+next_fits offer client_info false nexts.Offer command offered can e =
     subst Fits (same_Some (commands.Options offer) command e) (options_fit offer offered)
-next_fits offer opening false (nexts.Command talk) command offered can e =
-    first_fits (left_of opening talk) command can.sends.fits e
-next_fits offer opening false nexts.Quit command offered can e =
+next_fits offer client_info false (nexts.Command transaction) command offered can e =
+    first_fits (left_of client_info transaction) command can.sends.fits e
+next_fits offer client_info false nexts.Quit command offered can e =
     subst Fits (same_Some commands.Quit command e) (record { fields = tt; payload = omega arith })
-next_fits offer opening false nexts.Nothing command offered can e = absurd cc
+next_fits offer client_info false nexts.Nothing command offered can e = absurd cc

@@ -10,48 +10,48 @@ use Rattle.milter_outcome.specs.declared.report.Report.{Report}
 use Rattle.milter_outcome.specs.Outcomes.{at_connection}
 use Rattle.milter_mta.specs.declared.session_state.SessionState.{SessionState}
 use Rattle.milter_mail.specs.MailSession.{IsSendable}
-use Rattle.milter_plan.specs.declared.talk.Talk.{Talk}
-use Rattle.milter_mta.specs.declared.link.Link.{Link as Connected}
-use Rattle.milter_mta.specs.declared.link.Next.TheVariants as nexts
+use Rattle.milter_plan.specs.declared.transaction.Transaction.{Transaction}
+use Rattle.milter_mta.specs.declared.filter_connection.FilterConnection.{FilterConnection as Connected}
+use Rattle.milter_mta.specs.declared.filter_connection.Next.TheVariants as nexts
 use Rattle.milter_mta.specs.Mta.{Mta}
 use Rattle.milter_mta.specs.Accounts.{Accounts}
-use Rattle.milter_mta.specs.Conversations.{IsStanding, awaiting, mta_of, with_all_reports, with_state_report}
-use Rattle.milter_mta.specs.Settling.{report, settled_all}
+use Rattle.milter_mta.specs.CoreParts.{IsConsistent, awaiting, mta_of, with_all_reports, with_state_report}
+use Rattle.milter_mta.specs.Dispositions.{report, settled_all}
 
 -- none waits
-pub none_left : (acted : List Acted) (verdict : Verdict) (state : SessionState) → state.ledger.waiting ≡ []
+pub none_left : (acted : List Acted) (verdict : Verdict) (state : SessionState) → state.queue.waiting ≡ []
     → with_all_reports acted verdict state ≡ state
 none_left acted verdict state e =
-    let all_spare : state.ledger.spare - 0 ≡ state.ledger.spare = omega arith in
+    let all_spare : state.queue.spare - 0 ≡ state.queue.spare = omega arith in
     ap (λ (waiting : List MailObject). record state {
-      ledger = record {
+      queue = record {
         waiting = [];
-        reports = state.ledger.reports ++ map (λ message. report acted (at_connection verdict message) Connection) waiting;
-        spare = state.ledger.spare - length waiting;
+        reports = state.queue.reports ++ map (λ message. report acted (at_connection verdict message) Connection) waiting;
+        spare = state.queue.spare - length waiting;
       };
     }) e
-    ∙ ap (λ (l : Accounts). record state { ledger = l })
-    (ap (λ (n : ℕ). record { waiting = []; reports = state.ledger.reports ++ []; spare = n }) all_spare
-    ∙ ap (λ (reports : List Report). record { waiting = []; reports = reports; spare = state.ledger.spare }) (append-nil state.ledger.reports)
-    ∙ ap (λ (waiting : List MailObject). record state.ledger { waiting = waiting }) (sym e))
+    ∙ ap (λ (l : Accounts). record state { queue = l })
+    (ap (λ (n : ℕ). record { waiting = []; reports = state.queue.reports ++ []; spare = n }) all_spare
+    ∙ ap (λ (reports : List Report). record { waiting = []; reports = reports; spare = state.queue.spare }) (append-nil state.queue.reports)
+    ∙ ap (λ (waiting : List MailObject). record state.queue { waiting = waiting }) (sym e))
 
 -- one is reported, and then the others
-pub one_more : (acted : List Acted) (verdict : Verdict) (state : SessionState) (ledger : Accounts) (message : MailObject)
-    → state.ledger.waiting ≡ message ∷ ledger.waiting → ledger.reports ≡ state.ledger.reports → ledger.spare ≡ state.ledger.spare
-    → with_all_reports acted verdict (with_state_report (report acted (at_connection verdict message) Connection) (record state { ledger = ledger }))
+pub one_more : (acted : List Acted) (verdict : Verdict) (state : SessionState) (queue : Accounts) (message : MailObject)
+    → state.queue.waiting ≡ message ∷ queue.waiting → queue.reports ≡ state.queue.reports → queue.spare ≡ state.queue.spare
+    → with_all_reports acted verdict (with_state_report (report acted (at_connection verdict message) Connection) (record state { queue = queue }))
     ≡ with_all_reports acted verdict state
-one_more acted verdict state ledger message e reports spare =
+one_more acted verdict state queue message e reports spare =
     let f : MailObject → Report = λ m. report acted (at_connection verdict m) Connection in
-    let at : List Report → ℕ → SessionState = λ rs n. record state { ledger = record { waiting = []; reports = rs; spare = n } } in
+    let at : List Report → ℕ → SessionState = λ rs n. record state { queue = record { waiting = []; reports = rs; spare = n } } in
     let longer = ap (λ (l : List MailObject). length l) e in
-    let same : (ledger.reports ++ f message ∷ []) ++ map f ledger.waiting ≡ state.ledger.reports ++ map f state.ledger.waiting =
-    append_assoc ledger.reports (f message ∷ []) (map f ledger.waiting)
-    ∙ ap (λ (rs : List Report). rs ++ map f (message ∷ ledger.waiting)) reports
-    ∙ ap (λ (ms : List MailObject). state.ledger.reports ++ map f ms) (sym e) in
-    let less : ledger.spare - 1 - length ledger.waiting ≡ state.ledger.spare - length state.ledger.waiting =
+    let same : (queue.reports ++ f message ∷ []) ++ map f queue.waiting ≡ state.queue.reports ++ map f state.queue.waiting =
+    append_assoc queue.reports (f message ∷ []) (map f queue.waiting)
+    ∙ ap (λ (rs : List Report). rs ++ map f (message ∷ queue.waiting)) reports
+    ∙ ap (λ (ms : List MailObject). state.queue.reports ++ map f ms) (sym e) in
+    let less : queue.spare - 1 - length queue.waiting ≡ state.queue.spare - length state.queue.waiting =
     omega (arith, longer, spare) in
-    ap (λ (rs : List Report). at rs (ledger.spare - 1 - length ledger.waiting)) same
-    ∙ ap (λ (n : ℕ). at (state.ledger.reports ++ map f state.ledger.waiting) n) less
+    ap (λ (rs : List Report). at rs (queue.spare - 1 - length queue.waiting)) same
+    ∙ ap (λ (n : ℕ). at (state.queue.reports ++ map f state.queue.waiting) n) less
 
 -- the last of equal copies was taken
 pub popped : (acted : List Acted) (copies : List (List Acted)) (last : List Acted) → All (λ copy. copy ≡ acted) (copies ++ last ∷ [])
@@ -70,32 +70,32 @@ quitting = record { aborts = false; next = nexts.Quit; owed = false }
 abbrev ended_by : Verdict → SessionState → SessionState
 ended_by verdict state = record state { connection = Some verdict }
 
-module _ (old first new : SessionState) (talk : Talk) (verdict : Verdict) (one : first ≡ with_state_report (report talk.acted (at_connection verdict talk.message) Connection) old)
-    (others : new ≡ with_all_reports talk.acted verdict first) where
+module _ (old first new : SessionState) (transaction : Transaction) (verdict : Verdict) (one : first ≡ with_state_report (report transaction.acted (at_connection verdict transaction.message) Connection) old)
+    (others : new ≡ with_all_reports transaction.acted verdict first) where
   abbrev f : MailObject → Report
-  f message = report talk.acted (at_connection verdict message) Connection
+  f message = report transaction.acted (at_connection verdict message) Connection
 
-  all_is : new ≡ with_all_reports talk.acted verdict (with_state_report (f talk.message) old)
-  all_is = others ∙ ap (with_all_reports talk.acted verdict) one
+  all_is : new ≡ with_all_reports transaction.acted verdict (with_state_report (f transaction.message) old)
+  all_is = others ∙ ap (with_all_reports transaction.acted verdict) one
 
   abbrev before : Mta
-  before = mta_of old (Some (awaiting (nexts.Command talk))) [] []
+  before = mta_of old (Some (awaiting (nexts.Command transaction))) [] []
 
-  pub all_settled : mta_of (ended_by verdict new) (Some quitting) [] [] ≡ settled_all verdict talk.acted before
+  pub all_settled : mta_of (ended_by verdict new) (Some quitting) [] [] ≡ settled_all verdict transaction.acted before
   all_settled =
       ap (λ (s : SessionState). mta_of (ended_by verdict s) (Some quitting) [] []) all_is
-      ∙ ap (λ (rs : List Report). record (settled_all verdict talk.acted before) { reports = rs })
-      (append_assoc old.ledger.reports (f talk.message ∷ []) (map f old.ledger.waiting))
+      ∙ ap (λ (rs : List Report). record (settled_all verdict transaction.acted before) { reports = rs })
+      (append_assoc old.queue.reports (f transaction.message ∷ []) (map f old.queue.waiting))
 
-  pub all_stand : IsStanding old (Some (awaiting (nexts.Command talk))) → IsStanding (ended_by verdict new) (Some quitting)
-  all_stand standing =
-      subst (λ (s : SessionState). IsStanding (ended_by verdict s) (Some quitting)) (sym all_is)
+  pub all_stand : IsConsistent old (Some (awaiting (nexts.Command transaction))) → IsConsistent (ended_by verdict new) (Some quitting)
+  all_stand consistent =
+      subst (λ (s : SessionState). IsConsistent (ended_by verdict s) (Some quitting)) (sym all_is)
       (record {
         whole = record {
-          client_fits = standing.whole.client_fits;
-          helo_fits = standing.whole.helo_fits;
-          macros_fit = standing.whole.macros_fit;
-          are_sendable = All-nil (IsSendable old.opening.client old.opening.helo old.opening.macros);
+          client_fits = consistent.whole.client_fits;
+          helo_fits = consistent.whole.helo_fits;
+          macros_fit = consistent.whole.macros_fit;
+          are_sendable = All-nil (IsSendable old.client_info.client old.client_info.helo old.client_info.macros);
         };
         room = omega arith;
         can_send = tt;

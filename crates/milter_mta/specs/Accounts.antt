@@ -12,7 +12,7 @@ pub record Accounts : Type 0 where
   pub spare : ℕ
 
 -- what became of a session's messages
-pub record Settlement : Type 0 where
+pub record Disposition : Type 0 where
   -- the verdict that ended the client's connection
   pub connection : Option Verdict
   pub messages : List Report

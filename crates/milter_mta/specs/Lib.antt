@@ -1,9 +1,9 @@
 pub mod Mta
-pub mod Sending
-pub mod Settling
-pub mod Receiving
+pub mod Output
+pub mod Dispositions
+pub mod Replies
 pub mod Accounts
-pub mod Conversations
+pub mod CoreParts
 pub mod Cores
-pub mod Taking
+pub mod TakenReplies
 pub mod Worked

@@ -1,7 +1,7 @@
 -- A mail server's end of a connection to a filter: what is known of it at any time.
 use Rattle.std.specs.Prelude.{ℕ, Bool, false, List, [], Option, None}
 use Rattle.milter_options.specs.declared.options.Options.{Options}
-use Rattle.milter_wire.specs.declared.agreement.Agreed.{Agreed}
+use Rattle.milter_wire.specs.declared.negotiation.Negotiated.{Negotiated}
 use Rattle.milter_wire.specs.declared.command.Command.{Command}
 use Rattle.milter_wire.specs.declared.verdict.Verdict.{Verdict}
 use Rattle.milter_message.specs.declared.edit.Edit.{Edit}
@@ -20,15 +20,15 @@ pub data Position : Type 0 where
   -- the options that are offered
   Offering : Position
   -- the first of these commands of a message; the verdicts that were acted on, and the edits that came since the last
-  Sending : Agreed → List Acted → List Edit → List Command → Position
+  Sending : Negotiated → List Acted → List Edit → List Command → Position
   -- the end of the connection
   Quitting : Position
   -- none: it was sent
   Ended : Position
 
 -- a connection to a filter
-pub record Link : Type 0 where
-  -- whether the last message ended before its last command, and the filter has yet to know
+pub record FilterConnection : Type 0 where
+  -- whether an abort must still be sent
   pub aborts : Bool
   -- the next packet after that
   pub position : Position
@@ -47,14 +47,15 @@ pub record Mta : Type 0 where
   pub reports : List Report
   -- the verdict that ended the client's connection
   pub connection : Option Verdict
-  pub link : Option Link
+  pub filter_connection : Option FilterConnection
 
--- a link at the start of this packet, perhaps after the end of a message
-abbrev pub link_at : Bool → Position → Link
-link_at aborts position = record { aborts = aborts; position = position; pending = []; owed = false; unread = [] }
+-- a connection at the start of this packet, perhaps after the end of a message
+abbrev pub connection_at : Bool → Position → FilterConnection
+connection_at aborts position = record { aborts = aborts; position = position; pending = []; owed = false; unread = [] }
 
-abbrev pub at_packet : Position → Link
-at_packet position = link_at false position
+abbrev pub at_packet : Position → FilterConnection
+at_packet position = connection_at false position
 
 abbrev pub fresh : Configuration → MailSession → Mta
-fresh config session = record { config = config; session = session; reports = []; connection = None; link = None }
+fresh config session =
+    record { config = config; session = session; reports = []; connection = None; filter_connection = None }

@@ -14,9 +14,9 @@ use Rattle.milter_mail.specs.MailSession.{MailSession}
 use Rattle.milter_message.specs.MailObject.{MailObject}
 use Rattle.milter_outcome.specs.declared.fallback.OnLoss.{OnLoss}
 use Rattle.milter_outcome.specs.declared.outcome.Outcome.{Outcome}
-use Rattle.milter_mta.specs.Mta.{Configuration, Link, Mta, fresh}
-use Rattle.milter_mta.specs.Receiving.{replied}
-use Rattle.milter_mta.specs.Sending.{command_at, dialled, finished}
+use Rattle.milter_mta.specs.Mta.{Configuration, FilterConnection, Mta, fresh}
+use Rattle.milter_mta.specs.Replies.{replied}
+use Rattle.milter_mta.specs.Output.{command_at, dialled, finished}
 
 abbrev pub at : List ℕ → Path
 at address = record { address = address; params = [] }
@@ -45,21 +45,21 @@ greatest on_loss = record { offer = options VERSION_MAX ACTIONS_MAX PROTOCOL_MAX
 
 -- ---- a filter that is played by hand
 
-abbrev pub next_in : Configuration → Option Link → Option Command
+abbrev pub next_in : Configuration → Option FilterConnection → Option Command
 next_in config None = None
-next_in config (Some link) = command_at config.offer link.aborts link.position
+next_in config (Some filter_connection) = command_at config.offer filter_connection.aborts filter_connection.position
 
-abbrev pub packet_sent_in : Option Link → Mta → Mta
+abbrev pub packet_sent_in : Option FilterConnection → Mta → Mta
 packet_sent_in None m = m
-packet_sent_in (Some link) m = record m { link = Some (finished link) }
+packet_sent_in (Some filter_connection) m = record m { filter_connection = Some (finished filter_connection) }
 
-abbrev pub answered_in : Option Link → Option Reply → Mta → Mta
-answered_in (Some link) (Some reply) m = (replied link.position reply m).mta
-answered_in link reply m = m
+abbrev pub answered_in : Option FilterConnection → Option Reply → Mta → Mta
+answered_in (Some filter_connection) (Some reply) m = (replied filter_connection.position reply m).mta
+answered_in filter_connection reply m = m
 
 -- the next packet is sent, and then this reply comes, if one does
 abbrev pub after_turn : Mta → Option Reply → Mta
-after_turn m reply = let sent = packet_sent_in m.link m in answered_in sent.link reply sent
+after_turn m reply = let sent = packet_sent_in m.filter_connection m in answered_in sent.filter_connection reply sent
 
 abbrev pub after_turns : Mta → List (Option Reply) → Mta
 after_turns m [] = m
@@ -69,15 +69,15 @@ after_turns m (reply ∷ replies) = after_turns (after_turn m reply) replies
 abbrev pub commands_sent : Mta → List (Option Reply) → List Command
 commands_sent m [] = []
 commands_sent m (reply ∷ replies) =
-    option_to_list (next_in m.config m.link) ++ commands_sent (after_turn m reply) replies
+    option_to_list (next_in m.config m.filter_connection) ++ commands_sent (after_turn m reply) replies
 
 abbrev pub begun : OnLoss → List MailObject → Mta
 begun on_loss messages = dialled (fresh (greatest on_loss) (session messages))
 
 -- ---- replies
 
-abbrev pub agreed : ℕ → ℕ → ℕ → Option Reply
-agreed version actions protocol = Some (replies.Options (options version actions protocol) [])
+abbrev pub negotiated : ℕ → ℕ → ℕ → Option Reply
+negotiated version actions protocol = Some (replies.Options (options version actions protocol) [])
 
 abbrev pub continue : Option Reply
 continue = Some replies.Continue
@@ -95,7 +95,7 @@ acted_on m = map (λ r. map (λ a. a.verdict) r.acted) m.reports
 
 -- all is answered up to the sender, and this is
 abbrev pub to_sender : List (Option Reply) → List (Option Reply)
-to_sender turns = agreed 6 0 0 ∷ continue ∷ continue ∷ continue ∷ turns
+to_sender turns = negotiated 6 0 0 ∷ continue ∷ continue ∷ continue ∷ turns
 
 abbrev pub two_recipients : MailObject
 two_recipients = record message { recipients = at (codes "b@y") ∷ at (codes "c@y") ∷ [] }

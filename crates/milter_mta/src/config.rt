@@ -2,7 +2,7 @@
 
 ghost use Rattle.std.specs.Prelude.{◌≡◌, ◌↔◌, IfSome, IsSome, true};
 ghost use Rattle.milter_exchange.specs.declared.limits.TheConstants.{ACTIONS_MAX, PROTOCOL_MAX, VERSION_MAX};
-ghost use Rattle.milter_outcome.specs.Hearing.{is_offered};
+ghost use Rattle.milter_outcome.specs.ReceivedReplies.{is_offered};
 
 use milter_exchange::{ACTIONS_MAX, PROTOCOL_MAX, VERSION_MAX};
 use milter_outcome::OnLoss;
@@ -30,7 +30,7 @@ impl Model for Config {
 
 impl Config {
     /// Version 6 with these bits is offered; none where one of them is outside of the greatest offer: actions 0x1FF
-    /// and protocol 0x1FF7FF. No memory is taken.
+    /// and protocol 0x1FF7FF. Doesn't allocate.
     pub fn new(actions: Actions, protocol: Protocol, on_loss: OnLoss) -> Option<Self>
         ensures parts { IfSome result (λ config. config ≡ record {
           offer = record { version = VERSION_MAX; actions = actions; protocol = protocol };
@@ -50,7 +50,7 @@ impl Config {
         Some(Config { offer, on_loss })
     }
 
-    /// What is offered: version 6, and the bits. No memory is taken.
+    /// What is offered: version 6, and the bits. Doesn't allocate.
     pub fn offer(&self) -> Options
         ensures offer { result ≡ self.now.offer }
         ensures version { result.version ≡ VERSION_MAX }
@@ -58,7 +58,7 @@ impl Config {
         self.offer
     }
 
-    /// What a lost filter leaves. No memory is taken.
+    /// What a lost filter leaves. Doesn't allocate.
     pub fn on_loss(&self) -> OnLoss
         ensures { result ≡ self.now.on_loss }
     {

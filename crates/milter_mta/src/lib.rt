@@ -13,23 +13,24 @@
 #![tactic(auto)]
 
 mod config;
-mod feeding;
+mod disposition;
+mod filter_connection;
+mod filter_reply;
 mod laws;
-mod ledger;
-mod link;
+mod message_start;
 mod mta_core;
 mod pending;
-mod receiving;
+mod queue;
+mod received_input;
 mod reports;
 mod rows;
 mod session_state;
-mod settlement;
-mod starting;
 mod want;
 
 pub use config::Config;
 pub use laws::{
-    faults_are_heard, losses_settle_one, pieces_go_on, replies_are_heard, reply_prefixes_are_kept,
+    faults_are_received, losses_settle_one, pieces_go_on, replies_are_received,
+    reply_prefixes_are_kept,
 };
 pub use milter_outcome::{
     Acted, ActedVerdicts, By, Loss, MtaFault, OnLoss, Outcome, Refusal, Report,

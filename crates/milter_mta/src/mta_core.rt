@@ -1,21 +1,21 @@
 //! A mail server's end of a connection to a filter.
 
 ghost use Rattle.std.specs.Prelude.{◌≡◌, ◌≤◌, IfErr, IfOk, OnErr, OnOk, length};
-ghost use Rattle.milter_mta.specs.Cores.{Hears};
+ghost use Rattle.milter_mta.specs.Cores.{ReceivesBytes};
 ghost use Rattle.milter_mta.specs.Mta.{fresh};
-ghost use Rattle.milter_mta.specs.Sending as sending;
-ghost use Rattle.milter_mta.specs.Settling.{lost};
+ghost use Rattle.milter_mta.specs.Output as output;
+ghost use Rattle.milter_mta.specs.Dispositions.{lost};
 
 use crate::config::Config;
-use crate::ledger::Ledger;
-use crate::link::{Link, Next};
+use crate::filter_connection::{FilterConnection, Next};
 use crate::pending::Pending;
+use crate::queue::Queue;
 use crate::reports::Reports;
 use crate::session_state::SessionState;
 use crate::want::Want;
 use milter_mail::{Session, SessionParts};
 use milter_outcome::{Loss, MtaFault};
-use milter_plan::Opening;
+use milter_plan::ClientInfo;
 use milter_wire::{NoMemory, Splitter};
 use std::alloc::Global;
 use std::marker::Model;
@@ -26,25 +26,25 @@ use std::marker::Model;
 #[derive(Drop)]
 pub struct MtaCore {
     state: SessionState,
-    link: Option<Link>,
+    filter_connection: Option<FilterConnection>,
     splitter: Splitter,
     pending: Pending,
 }
 
 impl Model for MtaCore {
-    ghost use Rattle.milter_mta.specs.Conversations.{mta_of};
+    ghost use Rattle.milter_mta.specs.CoreParts.{mta_of};
     ghost use Rattle.milter_mta.specs.Cores.{IsCore};
     ghost use Rattle.milter_mta.specs.Mta.{Mta};
 
     ghost Value = { Mta };
 
-    ghost view = { λ c. mta_of c.state c.link c.pending c.splitter };
+    ghost view = { λ c. mta_of c.state c.filter_connection c.pending c.splitter };
 
-    ghost invariant = { λ c. IsCore c.state c.link c.pending c.splitter };
+    ghost invariant = { λ c. IsCore c.state c.filter_connection c.pending c.splitter };
 }
 
 impl MtaCore {
-    /// The end before its first connection. It takes the memory for all reports, with room for two verdicts each, and
+    /// A core that isn't connected yet. Allocates all reports up front, with room for two verdicts each, and the memory
     /// for one packet, 65,540 bytes. Where memory is refused the session comes back.
     pub fn new(alloc: Global, config: Config, session: Session) -> Result<Self, Session>
         ensures ok { IfOk result (λ core. core ≡ fresh config session) }
@@ -59,58 +59,61 @@ impl MtaCore {
             macros,
             messages,
         } = session.into_parts();
-        let ledger = match Ledger::new(alloc, messages) {
-            Ok(ledger) => ledger,
+        let queue = match Queue::new(alloc, messages) {
+            Ok(queue) => queue,
             Err(messages) => return Err(Session::from_parts(client, helo, macros, messages)),
         };
         let state = SessionState {
             alloc,
             config,
-            opening: Opening {
+            client_info: ClientInfo {
                 client,
                 helo,
                 macros,
             },
-            ledger,
+            queue,
             connection: None,
         };
         Ok(MtaCore {
             state,
-            link: None,
+            filter_connection: None,
             splitter,
             pending: Pending::new(alloc),
         })
     }
 
-    /// What is to be done next. No memory is taken.
+    /// What is to be done next. Doesn't allocate.
     pub fn want(&self) -> Want
-        ensures { result ≡ sending.want self.now }
+        ensures { result ≡ output.want self.now }
     {
-        match &self.link {
-            Some(link) => link.want(&self.state.opening),
-            None if self.state.ledger.len() == 0 => Want::Done,
+        match &self.filter_connection {
+            Some(filter_connection) => filter_connection.want(&self.state.client_info),
+            None if self.state.queue.len() == 0 => Want::Done,
             None => Want::Dial,
         }
     }
 
-    /// Notes that a connection to a filter was made, where [`Want::Dial`] is wanted; else nothing changes. No memory is
-    /// taken.
+    /// Notes that a connection to a filter was made, where [`Want::Dial`] is wanted; else nothing changes. Doesn't
+    /// allocate.
     pub fn dialled(&mut self)
-        ensures { self.new ≡ sending.dialled self.old }
+        ensures { self.new ≡ output.dialled self.old }
     {
         if self.want() != Want::Dial {
             return;
         }
         self.splitter.clear();
         self.pending.clear();
-        drop(self.link.replace(Link::at(Next::Offer)));
+        drop(
+            self.filter_connection
+                .replace(FilterConnection::at(Next::Offer)),
+        );
     }
 
-    /// The bytes that wait to be sent. No memory is taken.
+    /// The bytes that wait to be sent. Doesn't allocate.
     pub fn pending(&self) -> &[u8]
-        ensures { result.now ≡ sending.pending self.now }
+        ensures { result.now ≡ output.pending self.now }
     {
-        match &self.link {
+        match &self.filter_connection {
             Some(_) => self.pending.as_slice(),
             None => &[],
         }
@@ -119,27 +122,29 @@ impl MtaCore {
     /// Makes the next packet, where [`Want::Send`] is wanted and nothing is pending; else nothing changes. After
     /// `NoMemory` nothing has changed.
     pub fn advance(&mut self) -> Result<(), NoMemory>
-        ensures ok { OnOk result (self.new ≡ sending.advanced self.old) }
+        ensures ok { OnOk result (self.new ≡ output.advanced self.old) }
         ensures err { OnErr result (self.new ≡ self.old) }
     {
-        let Some(link) = &self.link else {
+        let Some(filter_connection) = &self.filter_connection else {
             return Ok(());
         };
-        let opening = &self.state.opening;
-        if link.want(opening) != Want::Send || !self.pending.as_slice().is_empty() {
+        let client_info = &self.state.client_info;
+        if filter_connection.want(client_info) != Want::Send
+            || !self.pending.as_slice().is_empty()
+        {
             return Ok(());
         }
-        match link.command(self.state.config.offer(), opening) {
+        match filter_connection.command(self.state.config.offer(), client_info) {
             Some(command) => self.pending.encode(self.state.alloc, &command),
             None => Ok(()),
         }
     }
 
     /// Notes that the first `count` bytes of what is pending were sent. With the last byte of the offer, or of a
-    /// command that is answered, its reply is owed. No memory is taken.
+    /// command that is answered, its reply is owed. Doesn't allocate.
     pub fn sent(&mut self, count: usize)
-        requires { count ≤ length (sending.pending self.old) }
-        ensures { self.new ≡ sending.sent count self.old }
+        requires { count ≤ length (output.pending self.old) }
+        ensures { self.new ≡ output.sent count self.old }
     {
         if self.pending().is_empty() {
             return;
@@ -148,8 +153,8 @@ impl MtaCore {
         if !self.pending.as_slice().is_empty() {
             return;
         }
-        if let Some(link) = &mut self.link {
-            link.finish(&self.state.opening);
+        if let Some(filter_connection) = &mut self.filter_connection {
+            filter_connection.finish(&self.state.client_info);
         }
     }
 
@@ -157,26 +162,29 @@ impl MtaCore {
     /// [`MtaCore::lost`]: what came before is acted on. Where memory is refused a reply is still owed, so no verdict in
     /// the piece is acted on. Source: the libmilter callback documentation.
     pub fn feed(&mut self, piece: &[u8]) -> Result<(), Loss>
-        ensures { Hears self.old piece.now self.new result }
+        ensures { ReceivesBytes self.old piece.now self.new result }
     {
         if piece.is_empty() {
             return Ok(());
         }
-        let Some(link) = &mut self.link else {
+        let Some(filter_connection) = &mut self.filter_connection else {
             let loss = Loss::Fault(MtaFault::Early);
             self.state.lose_waiting(loss);
             return Err(loss);
         };
-        if !link.owed {
+        if !filter_connection.owed {
             let loss = Loss::Fault(MtaFault::Early);
-            self.state.lose(link, loss);
-            self.link = None;
+            self.state.lose(filter_connection, loss);
+            self.filter_connection = None;
             return Err(loss);
         }
-        match self.state.feed_piece(&mut self.splitter, link, piece) {
+        match self
+            .state
+            .feed_piece(&mut self.splitter, filter_connection, piece)
+        {
             Ok(()) => Ok(()),
             Err(loss) => {
-                self.link = None;
+                self.filter_connection = None;
                 self.splitter.clear();
                 Err(loss)
             }
@@ -184,31 +192,31 @@ impl MtaCore {
     }
 
     /// Gives up the connection, or the dial, with what is pending. The first message that isn't settled is settled by
-    /// default; where none is left nothing is reported. No memory is taken.
+    /// default; where none is left nothing is reported. Doesn't allocate.
     pub fn lost(&mut self, loss: Loss)
         ensures { self.new ≡ lost loss self.old }
     {
-        match &mut self.link {
-            Some(link) => {
-                self.state.lose(link, loss);
-                self.link = None;
+        match &mut self.filter_connection {
+            Some(filter_connection) => {
+                self.state.lose(filter_connection, loss);
+                self.filter_connection = None;
             }
             None => self.state.lose_waiting(loss),
         }
     }
 
-    /// How many messages are settled. No memory is taken.
+    /// How many messages are settled. Doesn't allocate.
     pub fn settled(&self) -> usize
         ensures { result ≡ length self.now.reports }
     {
-        self.state.ledger.count()
+        self.state.queue.count()
     }
 
-    /// What became of the messages that were settled. No memory is taken.
+    /// What became of the messages that were settled. Doesn't allocate.
     pub fn finish(self) -> Reports
         ensures connection { result.connection ≡ self.connection }
         ensures messages { result.messages ≡ self.reports }
     {
-        Reports::new(self.state.connection, self.state.ledger.into_reports())
+        Reports::new(self.state.connection, self.state.queue.into_reports())
     }
 }

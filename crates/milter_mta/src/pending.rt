@@ -2,7 +2,7 @@
 
 ghost use Rattle.std.specs.Prelude.{◌≡◌, ◌≤◌, [], OnErr, OnOk, drop, length};
 ghost use Rattle.milter_wire.specs.Command.{Fits, encoding};
-ghost use Rattle.milter_wire.specs.LentCommand.{command_of};
+ghost use Rattle.milter_wire.specs.BorrowedCommand.{command_of};
 
 use milter_wire::{CommandRef, NoMemory};
 use std::alloc::Global;
@@ -27,7 +27,7 @@ impl Model for Pending {
 }
 
 impl Pending {
-    /// None. No memory is taken.
+    /// An empty buffer.
     pub(crate) fn new(alloc: Global) -> Self
         ensures { result ≡ [] }
     {
@@ -37,14 +37,14 @@ impl Pending {
         }
     }
 
-    /// The bytes. No memory is taken.
+    /// The bytes. Doesn't allocate.
     pub(crate) fn as_slice(&self) -> &[u8]
         ensures { result.now ≡ self.now }
     {
         &self.bytes[self.sent..]
     }
 
-    /// Notes that the first `count` bytes were sent. No memory is taken.
+    /// Notes that the first `count` bytes were sent. Doesn't allocate.
     pub(crate) fn sent(&mut self, count: usize)
         requires { count ≤ length self.old }
         ensures { self.new ≡ drop count self.old }
@@ -52,7 +52,7 @@ impl Pending {
         self.sent += count;
     }
 
-    /// No bytes wait then. No memory is taken.
+    /// No bytes wait then. Doesn't allocate.
     pub(crate) fn clear(&mut self)
         ensures { self.new ≡ [] }
     {
@@ -60,7 +60,7 @@ impl Pending {
         self.sent = 0;
     }
 
-    /// The packet of a command waits then, where none did. After `NoMemory` none waits.
+    /// Encodes the command as the pending packet. After `NoMemory` none waits.
     pub(crate) fn encode(&mut self, alloc: Global, command: &CommandRef<'_>) -> Result<(), NoMemory>
         requires empty { self.old ≡ [] }
         requires fits { Fits (command_of command.now) }

@@ -15,9 +15,9 @@ pub struct Reports {
 }
 
 impl Model for Reports {
-    ghost use Rattle.milter_mta.specs.Accounts.{Settlement};
+    ghost use Rattle.milter_mta.specs.Accounts.{Disposition};
 
-    ghost Value = { Settlement };
+    ghost Value = { Disposition };
 
     ghost view = { λ r. record { connection = r.connection; messages = r.messages.items } };
 }
@@ -33,15 +33,14 @@ impl Reports {
         }
     }
 
-    /// The verdict on the client or its greeting that ended its connection, where one did. No memory is taken.
+    /// The verdict on the client or its greeting that ended its connection, where one did. Doesn't allocate.
     pub fn connection(&self) -> Option<&Verdict>
         ensures { option_copied result ≡ self.now.connection }
     {
         self.connection.as_ref()
     }
 
-    /// A report for each message that was settled, in the session's order, from the first message on. No memory is
-    /// taken.
+    /// A report for each message that was settled, in the session's order, from the first message on. Doesn't allocate.
     pub fn messages(&self) -> &[Report]
         ensures { result.now ≡ self.now.messages }
     {

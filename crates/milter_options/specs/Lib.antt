@@ -1,5 +1,5 @@
 pub mod Bits
-pub mod Agreement
+pub mod Negotiation
 pub mod Payload
 pub mod SymLists
 pub mod MacroStages

@@ -2,7 +2,7 @@
 
 ghost use Rattle.std.specs.Prelude.{◌≡◌, ◌==◌, ◌∷◌, ⊤, if◌then◌else◌, option_map};
 ghost use Rattle.std.specs.Int.RustNames.{bit_and};
-ghost use Rattle.milter_stream.specs.Appending.{PutsBytes};
+ghost use Rattle.milter_stream.specs.AppendedBytes.{PutsBytes};
 ghost use Rattle.milter_options.specs.Bits.{actions_table, bits_named, names_text, protocol_table};
 
 use crate::options::{Actions, Protocol};
@@ -70,7 +70,7 @@ bitflag_items! {
         const NR_UNKN = 0x2_0000;
         /// The end of headers isn't answered. Source: mfdef.h (SMFIP_NR_EOH).
         const NR_EOH = 0x4_0000;
-        /// Pieces of a body aren't answered. Source: mfdef.h (SMFIP_NR_BODY).
+        /// Chunks of a body aren't answered. Source: mfdef.h (SMFIP_NR_BODY).
         const NR_BODY = 0x8_0000;
         /// Values of header fields are sent with the blank that they begin with. Source: mfdef.h (SMFIP_HDR_LEADSPC).
         const HDR_LEADSPC = 0x10_0000;

@@ -55,7 +55,7 @@ impl MacroStage {
         MacroStage::Eom,
     ];
 
-    /// The word of the stage in text files. No memory is taken.
+    /// The word of the stage in text files. Doesn't allocate.
     pub fn name(self) -> &'static [u8]
         ensures { result.now ≡ macro_stage_name self }
     {
@@ -70,7 +70,7 @@ impl MacroStage {
         }
     }
 
-    /// The stage with this name, matched exactly; none where no stage has it. No memory is taken.
+    /// The stage with this name, matched exactly; none where no stage has it. Doesn't allocate.
     pub fn from_name(name: &[u8]) -> Option<MacroStage>
         ensures { result ≡ macro_stage_named name.now }
     {
@@ -80,7 +80,7 @@ impl MacroStage {
             .find(|stage| name == stage.name())
     }
 
-    /// The number of the stage in a symbol list. No memory is taken. Source: mfapi.h (SMFIM_CONNECT and those after
+    /// The number of the stage in a symbol list. Doesn't allocate. Source: mfapi.h (SMFIM_CONNECT and those after
     /// it).
     pub fn number(self) -> u32
         ensures { result ≡ macro_stage_number self }

@@ -1,7 +1,7 @@
 //! Options as payloads: three numbers.
 
 ghost use Rattle.std.specs.Prelude.{◌≡◌, ◌++◌, ◌↔◌, IsTrue, OnOk, option_map};
-ghost use Rattle.milter_stream.specs.Appending.{PutsBytes};
+ghost use Rattle.milter_stream.specs.AppendedBytes.{PutsBytes};
 ghost use Rattle.milter_options.specs.Payload.{options, OptionsFit, options_at, options_in};
 
 use crate::options::{Actions, Options, Protocol};
@@ -10,7 +10,7 @@ use milter_stream::{NoMemory, put_number, take_number};
 /// The number of bytes that options have in a packet.
 pub const OPTIONS_LEN: usize = 12;
 
-/// Whether each number is in its range: it is, by its type. No memory is taken.
+/// Whether each number is in its range: it is, by its type. Doesn't allocate.
 pub fn options_fit(value: &Options) -> bool
     ensures { IsTrue result ↔ OptionsFit value.now }
 {
@@ -29,7 +29,7 @@ pub fn put_options(out: &mut Vec<u8>, value: &Options) -> Result<(), NoMemory>
     put_number(out, value.protocol.0)
 }
 
-/// The options that the bytes begin with, and the bytes after them. No memory is taken.
+/// The options that the bytes begin with, and the bytes after them. Doesn't allocate.
 #[tactic(auto, unfolding(crate::specs::Payload::options_at))]
 pub fn take_options_first(bytes: &[u8]) -> Option<(Options, &[u8])>
     ensures { option_map (λ x. (x.0, x.1.now)) result ≡ options_at bytes.now }
@@ -45,7 +45,7 @@ pub fn take_options_first(bytes: &[u8]) -> Option<(Options, &[u8])>
     Some((options, rest))
 }
 
-/// The options that these bytes encode, all of the bytes. No memory is taken.
+/// The options that these bytes encode, all of the bytes. Doesn't allocate.
 #[tactic(auto, unfolding(crate::specs::Payload::options_in))]
 pub fn take_options(bytes: &[u8]) -> Option<Options>
     ensures { result ≡ options_in bytes.now }

@@ -4,7 +4,7 @@ ghost use Rattle.std.specs.Prelude.{◌≡◌, ◌-◌, ◌^◌, ◌++◌, ◌�
 ghost use Rattle.std.specs.List.{flat_map};
 ghost use Rattle.std.specs.Cmp.{partial_equiv_from_equiv};
 ghost use Rattle.std.specs.Cmp.Lexicographic.{pointwise, lists_equiv};
-ghost use Rattle.milter_stream.specs.Appending.{PutsBytes};
+ghost use Rattle.milter_stream.specs.AppendedBytes.{PutsBytes};
 ghost use Rattle.milter_options.specs.Payload.{options_with_lists, OptionsWithListsFit, sym_list, SymListFits, options_with_lists_in, sym_list_at, sym_lists_in};
 ghost use Rattle.milter_fields.specs.Decoding.{DecodesOptional};
 ghost use Rattle.milter_options.specs.SymLists.{same_list, same_list_equiv};
@@ -45,14 +45,14 @@ impl Model for SymLists {
 }
 
 impl SymLists {
-    /// These symbol lists. They aren't copied, and no memory is taken.
+    /// These symbol lists. Neither copies nor allocates.
     pub fn new(lists: Vec<SymList>) -> Self
         ensures { result ≡ lists.items }
     {
         SymLists { lists }
     }
 
-    /// The symbol lists, in order. No memory is taken.
+    /// The symbol lists, in order. Doesn't allocate.
     pub fn as_slice(&self) -> &[SymList]
         ensures { result.now ≡ self.now }
     {
@@ -68,7 +68,7 @@ impl SymLists {
         Ok(())
     }
 
-    /// No symbol list: those that were there are dropped. No memory is taken.
+    /// No symbol list: those that were there are dropped. Doesn't allocate.
     pub fn cleared(self) -> Self
         ensures { result ≡ [] }
     {
@@ -108,7 +108,7 @@ fn sym_list_fits(list: &SymList) -> bool
     has_no_nul(list.names.as_slice())
 }
 
-/// The number of bytes of the list in a packet, or the greatest `usize` where there are more. No memory is taken.
+/// The number of bytes of the list in a packet, or the greatest `usize` where there are more. Doesn't allocate.
 #[tactic(auto, unfolding(milter_stream::specs::Number::number))]
 pub fn sym_list_len(list: &SymList) -> usize
     ensures { result ≡ min (length (sym_list list.now)) (2 ^ 64 - 1) }
@@ -116,7 +116,7 @@ pub fn sym_list_len(list: &SymList) -> usize
     string_len(list.names.as_slice()).saturating_add(STAGE_LEN)
 }
 
-/// The number of bytes of the lists in a packet, or the greatest `usize` where there are more. No memory is taken.
+/// The number of bytes of the lists in a packet, or the greatest `usize` where there are more. Doesn't allocate.
 pub fn sym_lists_len(lists: &[SymList]) -> usize
     ensures { result ≡ min (length (flat_map sym_list lists.now)) (2 ^ 64 - 1) }
 {
@@ -189,15 +189,15 @@ fn take_sym_lists(alloc: Global, bytes: &[u8]) -> Result<Option<SymLists>, NoMem
     Ok(Some(SymLists::new(lists)))
 }
 
-/// Whether the options and each list have an encoding: no list's names have a NUL. No memory is taken.
+/// Whether the options and each list have an encoding: no list's names have a NUL. Doesn't allocate.
 pub fn options_with_lists_fit(options: &Options, lists: &SymLists) -> bool
     ensures { IsTrue result ↔ OptionsWithListsFit options.now lists.now }
 {
     options_fit(options) && lists.as_slice().iter().all(|list| sym_list_fits(list))
 }
 
-/// The number of bytes of the options and the lists in a packet, or the greatest `usize` where there are more. No
-/// memory is taken.
+/// The number of bytes of the options and the lists in a packet, or the greatest `usize` where there are more. Doesn't
+/// allocate.
 #[tactic(auto, unfolding(milter_stream::specs::Number::number))]
 pub fn options_with_lists_len(options: &Options, lists: &SymLists) -> usize
     ensures { result ≡ min (length (options_with_lists options.now lists.now)) (2 ^ 64 - 1) }

@@ -6,7 +6,7 @@ use Rattle.std.specs.List.Retain.{IsFiltered, ReturnsInTurn}
 use Rattle.milter_fields.specs.declared.path.Path.{Path}
 use Rattle.milter_wire.specs.declared.verdict.Verdict.{Verdict}
 use Rattle.milter_exchange.specs.Verdicts.{is_refusal}
-use Rattle.milter_outcome.specs.Acting.{is_refused_first, kept_recipients}
+use Rattle.milter_outcome.specs.ActedVerdicts.{is_refused_first, kept_recipients}
 
 -- without verdicts all are kept
 kept_all : (paths : List Path) → kept_recipients paths [] ≡ paths

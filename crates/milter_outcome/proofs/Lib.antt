@@ -1,3 +1,3 @@
 mod Keeping
-mod HeardReplies
-mod HeardOptions
+mod ReceivedReplies
+mod ReceivedOptions

@@ -1,6 +1,6 @@
-pub mod Acting
-pub mod Hearing
+pub mod ActedVerdicts
+pub mod ReceivedReplies
 pub mod Losses
 pub mod Outcomes
 pub mod Refusals
-pub mod Walks
+pub mod Dialogues

@@ -32,21 +32,21 @@ impl Model for ActedVerdicts {
 }
 
 impl ActedVerdicts {
-    /// These verdicts. They aren't copied, and no memory is taken.
+    /// These verdicts. Neither copies nor allocates.
     pub fn new(verdicts: Vec<Acted>) -> Self
         ensures { result ≡ verdicts.items }
     {
         ActedVerdicts { verdicts }
     }
 
-    /// The verdicts, in order. No memory is taken.
+    /// The verdicts, in order. Doesn't allocate.
     pub fn as_slice(&self) -> &[Acted]
         ensures { result.now ≡ self.now }
     {
         self.verdicts.as_slice()
     }
 
-    /// The verdicts, in order, each to be taken. No memory is taken.
+    /// The verdicts, in order, each to be taken. Doesn't allocate.
     pub fn into_vec(self) -> Vec<Acted>
         ensures { result.items ≡ self }
     {

@@ -1,13 +1,13 @@
 //! What becomes of a message whose filter is lost.
 
 ghost use Rattle.std.specs.Prelude.{◌≡◌};
-ghost use Rattle.milter_outcome.specs.Acting.{kept};
+ghost use Rattle.milter_outcome.specs.ActedVerdicts.{kept};
 ghost use Rattle.milter_outcome.specs.Outcomes.{fallback};
 
 use crate::acted::Acted;
+use crate::disposition::{kept_message, released};
 use crate::outcome::Outcome;
 use crate::refusal::Refusal;
-use crate::settling::{kept_message, released};
 use milter_message::Message;
 
 /// What becomes of a message whose filter is lost. Source: Sendmail's flags of an `INPUT_MAIL_FILTER`, and Postfix's
@@ -22,7 +22,7 @@ pub enum OnLoss {
     Reject,
 }
 
-/// What becomes of the message by default, after these verdicts. No memory is taken.
+/// What becomes of the message by default, after these verdicts. Doesn't allocate.
 pub fn fall_back(on_loss: OnLoss, message: Message, acted: &[Acted]) -> Outcome
     ensures { result ≡ fallback on_loss (kept message acted.now) }
 {

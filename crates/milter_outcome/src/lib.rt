@@ -5,21 +5,21 @@
 #![tactic(auto)]
 
 mod acted;
+mod disposition;
 mod fallback;
-mod hearing;
 mod laws;
 mod loss;
 mod outcome;
+mod received_reply;
 mod refusal;
 mod report;
-mod settling;
 
 pub use acted::{Acted, ActedVerdicts};
+pub use disposition::{finish, finish_at_connection, is_refusal, kept_message};
 pub use fallback::{OnLoss, fall_back};
-pub use hearing::{Heard, hear_options, hear_reply};
-pub use laws::{heard_options, heard_replies};
+pub use laws::{received_options, received_replies};
 pub use loss::{By, Loss, MtaFault};
 pub use outcome::Outcome;
+pub use received_reply::{ReceivedReply, on_options, on_reply};
 pub use refusal::Refusal;
 pub use report::Report;
-pub use settling::{is_refusal, kept_message, settle, settle_at_connection};

@@ -24,7 +24,7 @@ pub enum MtaFault {
     /// The reply is none to what was sent.
     #[error("reply not at this stage")]
     NotAtThisStage,
-    /// The filter asks for an edit that was not agreed on.
+    /// The filter asks for an edit that was not negotiated.
     #[error("edit that was not agreed on")]
     EditNotNegotiated,
     /// The packets of a message's edits have more than 16,777,216 bytes.

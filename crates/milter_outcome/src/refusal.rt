@@ -23,7 +23,7 @@ pub enum Refusal {
 
 impl Refusal {
     /// The reply for the client: `550 5.7.1 Command rejected`, `451 4.3.2 Please try again later`, or the text of the
-    /// code. No memory is taken.
+    /// code. Doesn't allocate.
     pub fn text(&self) -> &[u8]
         ensures { result.now ≡ refusal_text self.now }
     {
@@ -34,7 +34,7 @@ impl Refusal {
         }
     }
 
-    /// The refusal by a verdict that refuses; by any other it is `Reject`. No memory is taken.
+    /// The refusal by a verdict that refuses; by any other it is `Reject`. Doesn't allocate.
     pub(crate) fn of_verdict(verdict: Verdict) -> Self
         ensures { result ≡ refusal_of verdict }
     {

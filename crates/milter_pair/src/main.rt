@@ -5,9 +5,9 @@
 //! with `play` it is played over one connection, and the number of messages that were settled is printed.
 #![tactic(auto)]
 
-mod playing;
+mod session_run;
 
-use crate::playing::play;
+use crate::session_run::play;
 use anyhow::{Context, bail};
 use milter_filter::{FilterCore, Pass};
 use milter_mta::{Config, MtaCore};

@@ -1,4 +1,4 @@
--- What is left of a plan after a command, after the pieces of its body, and of its recipients.
+-- What is left of a plan after a command, after the chunks of its body, and of its recipients.
 use Rattle.std.proofs.Common.{◌≡◌, ℕ, zero, suc, ◌+◌, Bool, true, false, not, ◌||◌, List, [], ◌∷◌, ◌++◌, Option, None, Some, IsSome, All, slice_get, drop, map, is_some, option_map, refl, sym, ap, ◌∙◌, arith, if◌then◌else◌, flat_map}
 use Rattle.std.specs.List.{list_any}
 use Rattle.std.proofs.lemmas.List.Elements.{All-append, All-cons, All-drop, All-head, All-nil, All-tail, filter-append}
@@ -9,10 +9,10 @@ use Rattle.milter_wire.specs.declared.command.Command.{Command}
 use Rattle.milter_wire.specs.declared.command.Command.TheVariants as commands
 use Rattle.milter_wire.specs.declared.stage.Stage.{Stage}
 use Rattle.milter_wire.specs.declared.stage.Stage.TheVariants as stages
-use Rattle.milter_wire.specs.Agreement.{has_leading_space, is_sent}
+use Rattle.milter_wire.specs.Negotiation.{has_leading_space, is_sent}
 use Rattle.milter_message.specs.LeadingSpace.{sent_header}
-use Rattle.milter_message.specs.Pieces.{pieces_of}
-use Rattle.milter_exchange.specs.Talk.{is_body, is_rcpt}
+use Rattle.milter_message.specs.Chunks.{chunks_of}
+use Rattle.milter_exchange.specs.Dialogue.{is_body, is_rcpt}
 use Rattle.milter_mail.specs.Steps.{macro_step, macros_at}
 use Rattle.milter_wire.specs.Stages.{macro_command_of}
 use Rattle.milter_plan.specs.PlanCursor.{Outgoing, stages_after, steps_at, steps_from, without_body}
@@ -74,14 +74,14 @@ all_kept (x ∷ xs) h =
 module _ (o : Outgoing) where
   body_steps : All (λ command. is_body command ≡ true) (steps_at o stages.Body)
   body_steps =
-      each_all (λ command. is_body command ≡ true) (is_sent o.agreed stages.Body) [] (λ piece. commands.Body piece)
-      (pieces_of o.message.body) (All-nil (λ command. is_body command ≡ true)) (λ piece. refl)
+      each_all (λ command. is_body command ≡ true) (is_sent o.negotiated stages.Body) [] (λ chunk. commands.Body chunk)
+      (chunks_of o.message.body) (All-nil (λ command. is_body command ≡ true)) (λ chunk. refl)
 
   end_steps : All (λ command. is_body command ≡ false) (steps_at o stages.Eob ++ [])
   end_steps =
       let Q : Command → Type 0 = λ command. is_body command ≡ false in
       All-append Q (steps_at o stages.Eob) []
-      (single_all Q (is_sent o.agreed stages.Eob) (macro_step (macro_command_of stages.Eob) (macros_at o.macros stages.Eob)) (commands.Eob [])
+      (single_all Q (is_sent o.negotiated stages.Eob) (macro_step (macro_command_of stages.Eob) (macros_at o.macros stages.Eob)) (commands.Eob [])
       (macros_all Q (λ code pairs. refl) (macro_command_of stages.Eob) (macros_at o.macros stages.Eob)) refl)
       (All-nil Q)
 
@@ -123,13 +123,13 @@ module _ (o : Outgoing) where
 
   later_no : All IsNoRcpt (flat_map (steps_at o) (stages_after stages.Rcpt))
   later_no =
-      All-append IsNoRcpt (steps_at o stages.DataCmd) _ (single_all IsNoRcpt (is_sent o.agreed stages.DataCmd) _ commands.DataCmd (macros_no stages.DataCmd) refl)
+      All-append IsNoRcpt (steps_at o stages.DataCmd) _ (single_all IsNoRcpt (is_sent o.negotiated stages.DataCmd) _ commands.DataCmd (macros_no stages.DataCmd) refl)
       (All-append IsNoRcpt (steps_at o stages.Header) _
-      (each_all IsNoRcpt (is_sent o.agreed stages.Header) [] (λ header. commands.Header (sent_header (has_leading_space o.agreed) header)) o.message.headers (All-nil IsNoRcpt) (λ header. refl))
-      (All-append IsNoRcpt (steps_at o stages.Eoh) _ (single_all IsNoRcpt (is_sent o.agreed stages.Eoh) _ commands.Eoh (macros_no stages.Eoh) refl)
+      (each_all IsNoRcpt (is_sent o.negotiated stages.Header) [] (λ header. commands.Header (sent_header (has_leading_space o.negotiated) header)) o.message.headers (All-nil IsNoRcpt) (λ header. refl))
+      (All-append IsNoRcpt (steps_at o stages.Eoh) _ (single_all IsNoRcpt (is_sent o.negotiated stages.Eoh) _ commands.Eoh (macros_no stages.Eoh) refl)
       (All-append IsNoRcpt (steps_at o stages.Body) _
-      (each_all IsNoRcpt (is_sent o.agreed stages.Body) [] (λ piece. commands.Body piece) (pieces_of o.message.body) (All-nil IsNoRcpt) (λ piece. refl))
-      (All-append IsNoRcpt (steps_at o stages.Eob) _ (single_all IsNoRcpt (is_sent o.agreed stages.Eob) _ (commands.Eob []) (macros_no stages.Eob) refl)
+      (each_all IsNoRcpt (is_sent o.negotiated stages.Body) [] (λ chunk. commands.Body chunk) (chunks_of o.message.body) (All-nil IsNoRcpt) (λ chunk. refl))
+      (All-append IsNoRcpt (steps_at o stages.Eob) _ (single_all IsNoRcpt (is_sent o.negotiated stages.Eob) _ (commands.Eob []) (macros_no stages.Eob) refl)
       (All-nil IsNoRcpt)))))
 
   or_false : (b : Bool) → (b || false) ≡ b
@@ -141,7 +141,7 @@ module _ (o : Outgoing) where
       sym (list_any-append is_rcpt (drop n (steps_at o stages.Rcpt)) (flat_map (steps_at o) (stages_after stages.Rcpt))
       ∙ ap (λ (b : Bool). list_any is_rcpt (drop n (steps_at o stages.Rcpt)) || b) (no_rcpt (flat_map (steps_at o) (stages_after stages.Rcpt)) later_no)
       ∙ or_false (list_any is_rcpt (drop n (steps_at o stages.Rcpt)))
-      ∙ some_rcpt (is_sent o.agreed stages.Rcpt) (macro_command_of stages.Rcpt) (macros_at o.macros stages.Rcpt) o.message.recipients n)
+      ∙ some_rcpt (is_sent o.negotiated stages.Rcpt) (macro_command_of stages.Rcpt) (macros_at o.macros stages.Rcpt) o.message.recipients n)
 
 pub as_found : {A : Type 0} (f : A → Command) (r : Option A) (s : Option Command) → option_map f r ≡ s
     → is_some r ≡ is_some s

@@ -1,7 +1,7 @@
 mod Stepping
 mod PlanStages
 mod CursorSteps
-mod TalkStages
-mod TalkSteps
+mod TransactionStages
+mod TransactionSteps
 pub mod PlanLaws
 pub mod PlanOrders

@@ -6,18 +6,18 @@ use Rattle.std.proofs.lemmas.List.Concat.{flat_map-cons}
 use Rattle.std.proofs.lemmas.List.Elements.{filter-append}
 use Rattle.milter_fields.specs.declared.client.Client.{Client}
 use Rattle.milter_fields.specs.declared.pair.Pair.{Pair}
-use Rattle.milter_wire.specs.declared.agreement.Agreed.{Agreed}
+use Rattle.milter_wire.specs.declared.negotiation.Negotiated.{Negotiated}
 use Rattle.milter_wire.specs.declared.codes.TheConstants.{SMFIC_BODYEOB, SMFIC_CONNECT, SMFIC_DATA, SMFIC_EOH, SMFIC_HELO, SMFIC_MAIL, SMFIC_RCPT}
 use Rattle.milter_wire.specs.declared.command.Command.{Command}
 use Rattle.milter_wire.specs.declared.command.Command.TheVariants as commands
 use Rattle.milter_wire.specs.declared.stage.Stage.{Stage}
 use Rattle.milter_wire.specs.declared.stage.Stage.TheVariants.{Connect, Helo, Mail, Rcpt, DataCmd, Header, Eoh, Body, Eob}
-use Rattle.milter_wire.specs.Agreement.{has_leading_space, is_sent}
+use Rattle.milter_wire.specs.Negotiation.{has_leading_space, is_sent}
 use Rattle.milter_wire.specs.Command.{bytes_of, encoding}
 use Rattle.milter_wire.specs.Stages.{macro_command_of, stage_of}
 use Rattle.milter_message.specs.LeadingSpace.{sent_header}
 use Rattle.milter_message.specs.MailObject.{MailObject}
-use Rattle.milter_message.specs.Pieces.{pieces_of}
+use Rattle.milter_message.specs.Chunks.{chunks_of}
 use Rattle.milter_mail.specs.declared.macros.Macros.{Macros}
 use Rattle.milter_mail.specs.MailSession.{MailSession}
 use Rattle.milter_mail.specs.Plan.{macros_of, opening, plan}
@@ -25,7 +25,7 @@ use Rattle.milter_mail.specs.Steps.{macro_step, macros_at, message_steps, openin
 use Rattle.milter_exchange.specs.Commands.{is_of_connection, is_shown}
 use Rattle.milter_exchange.specs.Faults.{is_in_order}
 use Rattle.milter_exchange.specs.StageOrder.{may_repeat, rank_of}
-use Rattle.milter_exchange.specs.Standings.{rank_by}
+use Rattle.milter_exchange.specs.OrderStates.{rank_by}
 use Rattle.milter_plan.specs.PlanOrder.{AreInTurn, IsWithinRanks, rank_after}
 
 -- ---- lower ranks
@@ -77,7 +77,7 @@ within-macros last None pairs = within-none last last (omega arith)
 within-macros last (Some command) [] = within-none last last (omega arith)
 within-macros last (Some command) (pair ∷ pairs) = record { in_turn = (refl, refl, tt); up_to = omega arith }
 
-module _ (g : Agreed) (macros : Macros) where
+module _ (g : Negotiated) (macros : Macros) where
   within-step : (last : ℕ) (stage : Stage) (command : Command) → stage_of command ≡ Some stage → is_shown command ≡ true
       → is_in_order last (Some stage) ≡ true → last ≤ rank_of stage → IsWithinRanks last (rank_of stage) (step g macros stage command)
   within-step last stage command at is order le = by_sent (is_sent g stage)
@@ -108,7 +108,7 @@ module _ (g : Agreed) (macros : Macros) where
       (within-step 4 DataCmd commands.DataCmd refl refl refl (omega arith)))
       (within-raised 5 6 6 _ (omega arith) (within-steps 6 _ (λ h. within-step 6 Header (commands.Header (sent_header (has_leading_space g) h)) refl refl refl (omega arith)) m.headers)))
       (within-step 6 Eoh commands.Eoh refl refl refl (omega arith)))
-      (within-raised 7 8 8 _ (omega arith) (within-steps 8 _ (λ p. within-step 8 Body (commands.Body p) refl refl refl (omega arith)) (pieces_of m.body))))
+      (within-raised 7 8 8 _ (omega arith) (within-steps 8 _ (λ p. within-step 8 Body (commands.Body p) refl refl refl (omega arith)) (chunks_of m.body))))
       (within-step 8 Eob (commands.Eob []) refl refl refl (omega arith))
 
   pub within-opening : (client : Client) (helo : List ℕ) → IsWithinRanks 0 2 (opening_steps g macros client helo)
@@ -156,7 +156,7 @@ module _ (g : Agreed) (macros : Macros) where
       (each-step IsInner DataCmd commands.DataCmd (each-macros IsInner SMFIC_DATA macros.data_cmd (λ pairs. refl)) refl))
       (each-steps IsInner _ (λ h. each-step IsInner Header (commands.Header (sent_header (has_leading_space g) h)) tt refl) m.headers))
       (each-step IsInner Eoh commands.Eoh (each-macros IsInner SMFIC_EOH macros.eoh (λ pairs. refl)) refl))
-      (each-steps IsInner _ (λ p. each-step IsInner Body (commands.Body p) tt refl) (pieces_of m.body)))
+      (each-steps IsInner _ (λ p. each-step IsInner Body (commands.Body p) tt refl) (chunks_of m.body)))
       (each-step IsInner Eob (commands.Eob []) (each-macros IsInner SMFIC_BODYEOB macros.eom (λ pairs. refl)) refl)
 
   outer-opening : (client : Client) (helo : List ℕ) → Each IsOuter (opening_steps g macros client helo)
@@ -180,17 +180,17 @@ module _ (g : Agreed) (macros : Macros) where
 
 -- ---- of a plan
 
-module _ (agreed : Agreed) (s : MailSession) (m : MailObject) where
-  pub plan-of : filter is_of_connection (plan agreed s m) ≡ opening agreed s
+module _ (negotiated : Negotiated) (s : MailSession) (m : MailObject) where
+  pub plan-of : filter is_of_connection (plan negotiated s m) ≡ opening negotiated s
   plan-of =
-      filter-append is_of_connection (opening agreed s) (message_steps agreed (macros_of agreed s) m)
-      ∙ ap (λ (l : List Command). l ++ filter is_of_connection (message_steps agreed (macros_of agreed s) m)) (opening-of agreed (macros_of agreed s) s.client s.helo)
-      ∙ ap (λ (l : List Command). opening agreed s ++ l) (message-of agreed (macros_of agreed s) m)
-      ∙ append-nil (opening agreed s)
+      filter-append is_of_connection (opening negotiated s) (message_steps negotiated (macros_of negotiated s) m)
+      ∙ ap (λ (l : List Command). l ++ filter is_of_connection (message_steps negotiated (macros_of negotiated s) m)) (opening-of negotiated (macros_of negotiated s) s.client s.helo)
+      ∙ ap (λ (l : List Command). opening negotiated s ++ l) (message-of negotiated (macros_of negotiated s) m)
+      ∙ append-nil (opening negotiated s)
 
-  pub plan-bytes : bytes_of (plan agreed s m) ≡ bytes_of (opening agreed s) + bytes_of (message_steps agreed (macros_of agreed s) m)
-  plan-bytes = sum_by-append (λ command. length (encoding command)) (opening agreed s) (message_steps agreed (macros_of agreed s) m)
+  pub plan-bytes : bytes_of (plan negotiated s m) ≡ bytes_of (opening negotiated s) + bytes_of (message_steps negotiated (macros_of negotiated s) m)
+  plan-bytes = sum_by-append (λ command. length (encoding command)) (opening negotiated s) (message_steps negotiated (macros_of negotiated s) m)
 
-  pub plan-within : IsWithinRanks 0 9 (plan agreed s m)
-  plan-within = within-append 0 2 9 (opening agreed s) (message_steps agreed (macros_of agreed s) m)
-      (within-opening agreed (macros_of agreed s) s.client s.helo) (within-message agreed (macros_of agreed s) m)
+  pub plan-within : IsWithinRanks 0 9 (plan negotiated s m)
+  plan-within = within-append 0 2 9 (opening negotiated s) (message_steps negotiated (macros_of negotiated s) m)
+      (within-opening negotiated (macros_of negotiated s) s.client s.helo) (within-message negotiated (macros_of negotiated s) m)

@@ -5,9 +5,9 @@ use Rattle.milter_wire.specs.declared.command.Command.{Command}
 use Rattle.milter_wire.specs.declared.command.Command.TheVariants as commands
 use Rattle.milter_wire.specs.declared.stage.Stage.{Stage}
 use Rattle.milter_wire.specs.declared.stage.Stage.TheVariants.{Connect, Helo, Mail, Rcpt, DataCmd, Header, Eoh, Body, Eob}
-use Rattle.milter_wire.specs.Agreement.{has_leading_space}
+use Rattle.milter_wire.specs.Negotiation.{has_leading_space}
 use Rattle.milter_message.specs.LeadingSpace.{sent_header}
-use Rattle.milter_message.specs.Pieces.{pieces_of}
+use Rattle.milter_message.specs.Chunks.{chunks_of}
 use Rattle.milter_mail.specs.Steps.{message_steps, step}
 use Rattle.milter_plan.specs.PlanCursor.{Outgoing, steps_at, steps_from}
 
@@ -39,26 +39,26 @@ same a a' b b' c c' d d' e e' f f' g g' p q r s t u v =
     ∙ ap (λ (l : List Command). a' ++ b' ++ c' ++ d' ++ e' ++ f' ++ l) v
 
 module _ (o : Outgoing) where
-  single : (stage : Stage) (command : Command) → step o.agreed o.macros stage command ++ [] ≡ step o.agreed o.macros stage command
-  single stage command = append-nil (step o.agreed o.macros stage command)
+  single : (stage : Stage) (command : Command) → step o.negotiated o.macros stage command ++ [] ≡ step o.negotiated o.macros stage command
+  single stage command = append-nil (step o.negotiated o.macros stage command)
 
-  pub message_by_stages : steps_from o Mail 0 ≡ message_steps o.agreed o.macros o.message
+  pub message_by_stages : steps_from o Mail 0 ≡ message_steps o.negotiated o.macros o.message
   message_by_stages =
       in_a_row (steps_at o Mail) (steps_at o Rcpt) (steps_at o DataCmd) (steps_at o Header) (steps_at o Eoh) (steps_at o Body) (steps_at o Eob)
       ∙ same _ _ _ _ _ _ _ _ _ _ _ _ _ _
       (single Mail (commands.Mail o.message.sender))
-      (each_of (step o.agreed o.macros Rcpt) (λ recipient. commands.Rcpt recipient) o.message.recipients)
+      (each_of (step o.negotiated o.macros Rcpt) (λ recipient. commands.Rcpt recipient) o.message.recipients)
       (single DataCmd commands.DataCmd)
-      (each_of (step o.agreed o.macros Header) (λ header. commands.Header (sent_header (has_leading_space o.agreed) header)) o.message.headers)
+      (each_of (step o.negotiated o.macros Header) (λ header. commands.Header (sent_header (has_leading_space o.negotiated) header)) o.message.headers)
       (single Eoh commands.Eoh)
-      (each_of (step o.agreed o.macros Body) (λ piece. commands.Body piece) (pieces_of o.message.body))
+      (each_of (step o.negotiated o.macros Body) (λ chunk. commands.Body chunk) (chunks_of o.message.body))
       (single Eob (commands.Eob []))
 
   pub plan_by_stages : steps_from o Connect 0
-      ≡ step o.agreed o.macros Connect (commands.Connect o.client) ++ step o.agreed o.macros Helo (commands.Helo o.helo)
-      ++ message_steps o.agreed o.macros o.message
+      ≡ step o.negotiated o.macros Connect (commands.Connect o.client) ++ step o.negotiated o.macros Helo (commands.Helo o.helo)
+      ++ message_steps o.negotiated o.macros o.message
   plan_by_stages =
       ap (λ (l : List Command). l ++ (steps_at o Helo ++ steps_from o Mail 0)) (single Connect (commands.Connect o.client))
-      ∙ ap (λ (l : List Command). step o.agreed o.macros Connect (commands.Connect o.client) ++ (l ++ steps_from o Mail 0)) (single Helo (commands.Helo o.helo))
-      ∙ ap (λ (l : List Command). step o.agreed o.macros Connect (commands.Connect o.client) ++ (step o.agreed o.macros Helo (commands.Helo o.helo) ++ l)) message_by_stages
-      ∙ sym (append_assoc (step o.agreed o.macros Connect (commands.Connect o.client)) (step o.agreed o.macros Helo (commands.Helo o.helo)) (message_steps o.agreed o.macros o.message))
+      ∙ ap (λ (l : List Command). step o.negotiated o.macros Connect (commands.Connect o.client) ++ (l ++ steps_from o Mail 0)) (single Helo (commands.Helo o.helo))
+      ∙ ap (λ (l : List Command). step o.negotiated o.macros Connect (commands.Connect o.client) ++ (step o.negotiated o.macros Helo (commands.Helo o.helo) ++ l)) message_by_stages
+      ∙ sym (append_assoc (step o.negotiated o.macros Connect (commands.Connect o.client)) (step o.negotiated o.macros Helo (commands.Helo o.helo)) (message_steps o.negotiated o.macros o.message))

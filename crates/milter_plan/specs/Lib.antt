@@ -1,6 +1,6 @@
 pub mod PlanCursor
 pub mod OutgoingValue
 pub mod EditWeights
-pub mod TalkVerdicts
-pub mod Talks
+pub mod TransactionVerdicts
+pub mod Transactions
 pub mod PlanOrder

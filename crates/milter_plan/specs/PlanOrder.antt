@@ -4,7 +4,7 @@ use Rattle.milter_wire.specs.declared.command.Command.{Command}
 use Rattle.milter_wire.specs.Stages.{stage_of}
 use Rattle.milter_exchange.specs.Commands.{is_shown}
 use Rattle.milter_exchange.specs.Faults.{is_in_order}
-use Rattle.milter_exchange.specs.Standings.{rank_by}
+use Rattle.milter_exchange.specs.OrderStates.{rank_by}
 
 -- commands that are shown to a filter, each of which may come where the last stage had this rank
 abbrev pub AreInTurn : ℕ → List Command → Type 0

@@ -5,7 +5,7 @@ use milter_wire::{Client, Stage, Text};
 
 /// What is sent of a client before its messages, and the macros before each command.
 #[derive(Debug, Drop)]
-pub struct Opening {
+pub struct ClientInfo {
     /// The client.
     pub client: Client,
     /// The name with which it greets.

@@ -4,23 +4,23 @@ ghost use Rattle.std.specs.Prelude.{◌≡◌, ◌<◌, ◌≤◌, ◌+◌, ◌-
 ghost use Rattle.std.specs.List.{list_any};
 ghost use Rattle.std.specs.Option.{option_to_list};
 ghost use Rattle.milter_wire.specs.declared.command.Command.TheVariants as commands;
-ghost use Rattle.milter_wire.specs.LentCommand.{command_of};
+ghost use Rattle.milter_wire.specs.BorrowedCommand.{command_of};
 ghost use Rattle.milter_wire.specs.Stages.{macro_command_of};
 ghost use Rattle.milter_message.specs.LeadingSpace.{sent_header};
-ghost use Rattle.milter_message.specs.Pieces.{pieces_of};
-ghost use Rattle.milter_exchange.specs.Talk.{is_rcpt};
+ghost use Rattle.milter_message.specs.Chunks.{chunks_of};
+ghost use Rattle.milter_exchange.specs.Dialogue.{is_rcpt};
 ghost use Rattle.milter_mail.specs.Steps.{macro_step, macros_at};
 ghost use Rattle.milter_plan.specs.PlanCursor.{commands_of, one_of_two, stages_after, steps_at, steps_from, without_body};
 ghost use Rattle.milter_plan.specs.OutgoingValue.{outgoing};
 
 use crate::cursor::Cursor;
 use milter_mail::{Macros, Message, sent_value};
-use milter_wire::{Agreed, Client, CommandRef, Header, HeaderRef, PairsRef, Path, Stage, Text};
+use milter_wire::{Client, CommandRef, Header, HeaderRef, Negotiated, PairsRef, Path, Stage, Text};
 
-/// What is sent of a message and its client, by what was agreed on.
+/// What is sent of a message and its client, by what was negotiated.
 #[derive(Clone, Copy)]
 pub(crate) struct OutgoingRef<'a> {
-    pub(crate) agreed: &'a Agreed,
+    pub(crate) negotiated: &'a Negotiated,
     /// Those that the filter asked for.
     pub(crate) macros: &'a Macros,
     pub(crate) client: &'a Client,
@@ -34,8 +34,8 @@ fn command_at<'a>(of: &OutgoingRef<'a>, stage: Stage, n: usize) -> Option<Comman
 {
     match stage {
         Stage::Rcpt => recipient_at(of.message.recipients(), n),
-        Stage::Header => header_at(of.message.headers(), of.agreed.has_leading_space(), n),
-        Stage::Body => piece_at(of.message, n),
+        Stage::Header => header_at(of.message.headers(), of.negotiated.has_leading_space(), n),
+        Stage::Body => chunk_at(of.message, n),
         _ if n > 0 => None,
         Stage::Connect => Some(CommandRef::Connect(of.client.as_ref())),
         Stage::Helo => Some(CommandRef::Helo(of.helo.as_slice())),
@@ -67,13 +67,13 @@ fn header_at(headers: &[Header], leading_space: bool, n: usize) -> Option<Comman
     }))
 }
 
-/// The piece of the body with this number.
-fn piece_at(message: &Message, n: usize) -> Option<CommandRef<'_>>
+/// The chunk of the body with this number.
+fn chunk_at(message: &Message, n: usize) -> Option<CommandRef<'_>>
     ensures { option_map command_of result
-        ≡ slice_get (map (λ piece. commands.Body piece) (pieces_of message.now.body)) n }
+        ≡ slice_get (map (λ chunk. commands.Body chunk) (chunks_of message.now.body)) n }
 {
-    let piece = message.piece(n)?;
-    Some(CommandRef::Body(piece))
+    let chunk = message.piece(n)?;
+    Some(CommandRef::Body(chunk))
 }
 
 /// The packet with the macros of the stage, where there are some.
@@ -96,7 +96,7 @@ fn macro_packet<'a>(macros: &'a Macros, stage: Stage) -> Option<CommandRef<'a>>
 pub(crate) fn step_at<'a>(of: &OutgoingRef<'a>, stage: Stage, n: usize) -> Option<CommandRef<'a>>
     ensures { option_map command_of result ≡ slice_get (steps_at (outgoing of.now) stage) n }
 {
-    if !of.agreed.is_sent(stage) {
+    if !of.negotiated.is_sent(stage) {
         return None;
     }
     match macro_packet(of.macros, stage) {
@@ -167,7 +167,7 @@ pub(crate) fn next(of: &OutgoingRef<'_>, cursor: Cursor) -> Cursor
     }
 }
 
-/// The first command that is no piece of the body, from a piece of it on.
+/// The first command that is no chunk of the body, from a chunk of it on.
 pub(crate) fn after_body(of: &OutgoingRef<'_>, cursor: Cursor) -> Cursor
     requires { cursor.stage ≡ Stage.Body }
     ensures left { steps_from (outgoing of.now) result.stage result.step

@@ -1,5 +1,5 @@
 pub mod Steps
 pub mod Pieces
-pub mod TalkFollowed
+pub mod DialogueFollowed
 pub mod Opened
 pub mod Reported

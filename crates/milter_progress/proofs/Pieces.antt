@@ -8,19 +8,19 @@ use Rattle.std.proofs.Math.Seq.{take-add, drop-append-add}
 use Rattle.milter_outcome.specs.declared.loss.Loss.{Loss}
 use Rattle.milter_mta.specs.declared.want.Want.TheVariants as wants
 use Rattle.milter_mta.specs.Mta.{Mta}
-use Rattle.milter_mta.specs.Receiving.{After, goes_on, heard, heard_byte, heard_on}
-use Rattle.milter_mta.specs.Sending.{advanced, pending, sent, want}
+use Rattle.milter_mta.specs.Replies.{After, goes_on, received, received_byte, received_on}
+use Rattle.milter_mta.specs.Output.{advanced, pending, sent, want}
 use Rattle.milter_walk.specs.Lines.{Line, after_line, next_packet, sent_whole}
 use Rattle.milter_transcript.specs.ByteCounts.{due, owed, packet_end, to_filter, to_mta}
-use Rattle.milter_progress.specs.Following.{IsWaiting, SendsLine, SendsLines, after_at, begun}
+use Rattle.milter_progress.specs.FollowedLines.{IsWaiting, SendsLine, SendsLines, after_at, begun}
 use Rattle.milter_transcript.proofs.ByteCounting.{by_lt, due-past, due-wait, lt-ltb, owed-part, owed-whole, packet_end-part, packet_end-past, positive}
 use Rattle.milter_progress.proofs.Steps.{advanced-full, pending-sent, sent-nothing, want-advanced, want-sent}
 
 pub goes-on : (after : After) → after.loss ≡ None → after ≡ goes_on after.mta
 goes-on after e = ap (λ (l : Option Loss). record { mta = after.mta; loss = l }) e
 
-pub heard-more : (m : Mta) (first second : List ℕ) → heard_on (heard m first) second ≡ heard m (first ++ second)
-heard-more m first second = sym (fold-append heard_byte (goes_on m) first second)
+pub received-more : (m : Mta) (first second : List ℕ) → received_on (received m first) second ≡ received m (first ++ second)
+received-more m first second = sym (fold-append received_byte (goes_on m) first second)
 
 abbrev pub AddsUp : Type 0
 AddsUp = (m : Mta) (count more : ℕ) → sent more (sent count m) ≡ sent (count + more) m
@@ -68,18 +68,18 @@ not_lost (line ∷ lines) m s h f =
     (λ past. ap (λ (a : After). a.loss) (at-past m line lines s h whole past)
     ∙ not_lost lines (after_line line.back m).mta (s - length line.out) (h - length line.back) f.1))
 
--- ---- bytes heard
+-- ---- bytes received
 
--- the answer's bytes that come next, where so many of it were heard
-abbrev pub Hears : List Line → Type 0
-Hears lines = (m : Mta) (s h k : ℕ) → SendsLines m lines → s ≤ due lines h → h + k ≤ owed lines s
-    → heard_on (after_at m lines s h) (take k (drop h (to_mta lines))) ≡ after_at m lines s (h + k)
+-- the answer's bytes that come next, where so many of it were received
+abbrev pub ReceivesBytes : List Line → Type 0
+ReceivesBytes lines = (m : Mta) (s h k : ℕ) → SendsLines m lines → s ≤ due lines h → h + k ≤ owed lines s
+    → received_on (after_at m lines s h) (take k (drop h (to_mta lines))) ≡ after_at m lines s (h + k)
 
-hears-nothing : (m : Mta) (lines : List Line) (s h k : ℕ) → k ≡ 0
-    → heard_on (after_at m lines s h) (take k (drop h (to_mta lines))) ≡ after_at m lines s (h + k)
-hears-nothing m lines s h k none = rw none (ap (after_at m lines s) (let e : h ≡ h + 0 = omega arith in e))
+receives_bytes-nothing : (m : Mta) (lines : List Line) (s h k : ℕ) → k ≡ 0
+    → received_on (after_at m lines s h) (take k (drop h (to_mta lines))) ≡ after_at m lines s (h + k)
+receives_bytes-nothing m lines s h k none = rw none (ap (after_at m lines s) (let e : h ≡ h + 0 = omega arith in e))
 
-module _ (line : Line) (lines : List Line) (rest : Hears lines) (m : Mta) (s h k : ℕ) (f : SendsLines m (line ∷ lines))
+module _ (line : Line) (lines : List Line) (rest : ReceivesBytes lines) (m : Mta) (s h k : ℕ) (f : SendsLines m (line ∷ lines))
     (early : s ≤ due (line ∷ lines) h) (answers_owed : h + k ≤ owed (line ∷ lines) s) (whole : length line.out ≤ s) where
   bytes-are : to_mta (line ∷ lines) ≡ line.back ++ to_mta lines
   bytes-are = flat_map-cons (λ l. l.back) line lines
@@ -92,17 +92,17 @@ module _ (line : Line) (lines : List Line) (rest : Hears lines) (m : Mta) (s h k
       let t = take-append-le k (drop h line.back) (to_mta lines) (omega arith) in
       rw (bytes-are, d) t
 
-  hears-part : h < length line.back → h + k < length line.back
-      → heard_on (after_at m (line ∷ lines) s h) (take k (drop h (to_mta (line ∷ lines)))) ≡ after_at m (line ∷ lines) s (h + k)
-  hears-part less still =
+  receives_bytes-part : h < length line.back → h + k < length line.back
+      → received_on (after_at m (line ∷ lines) s h) (take k (drop h (to_mta (line ∷ lines)))) ≡ after_at m (line ∷ lines) s (h + k)
+  receives_bytes-part less still =
       rw (at-wait m line lines s h whole less, piece-is less 0 (omega arith))
-      (heard-more (sent_whole m) (take h line.back) (take k (drop h line.back))
-      ∙ ap (heard (sent_whole m)) (sym (take-add h k line.back))
+      (received-more (sent_whole m) (take h line.back) (take k (drop h line.back))
+      ∙ ap (received (sent_whole m)) (sym (take-add h k line.back))
       ∙ sym (at-wait m line lines s (h + k) whole still))
 
-  hears-last : h < length line.back → length line.back ≤ h + k
-      → heard_on (after_at m (line ∷ lines) s h) (take k (drop h (to_mta (line ∷ lines)))) ≡ after_at m (line ∷ lines) s (h + k)
-  hears-last less last =
+  receives_bytes-last : h < length line.back → length line.back ≤ h + k
+      → received_on (after_at m (line ∷ lines) s h) (take k (drop h (to_mta (line ∷ lines)))) ≡ after_at m (line ∷ lines) s (h + k)
+  receives_bytes-last less last =
       let w = due-wait line lines h less in
       let o = owed-whole line lines s whole in
       let out : s - length line.out ≡ 0 = omega arith in
@@ -112,17 +112,17 @@ module _ (line : Line) (lines : List Line) (rest : Hears lines) (m : Mta) (s h k
       let within : h + k ≤ length line.back = omega arith in
       let n = take_all (h + k) line.back last in
       rw (at-wait m line lines s h whole less, piece-is less 0 within)
-      (heard-more (sent_whole m) (take h line.back) (take k (drop h line.back))
-      ∙ ap (heard (sent_whole m)) (sym (take-add h k line.back) ∙ n)
+      (received-more (sent_whole m) (take h line.back) (take k (drop h line.back))
+      ∙ ap (received (sent_whole m)) (sym (take-add h k line.back) ∙ n)
       ∙ goes-on (after_line line.back m) f.0.whole
       ∙ sym (at-nothing (after_line line.back m).mta lines f.1)
       ∙ ap (λ (z : ℕ). after_at (after_line line.back m).mta lines z 0) (sym out)
       ∙ ap (λ (z : ℕ). after_at (after_line line.back m).mta lines (s - length line.out) z) (sym all)
       ∙ sym (at-past m line lines s (h + k) whole last))
 
-  hears-later : length line.back ≤ h
-      → heard_on (after_at m (line ∷ lines) s h) (take k (drop h (to_mta (line ∷ lines)))) ≡ after_at m (line ∷ lines) s (h + k)
-  hears-later past =
+  receives_bytes-later : length line.back ≤ h
+      → received_on (after_at m (line ∷ lines) s h) (take k (drop h (to_mta (line ∷ lines)))) ≡ after_at m (line ∷ lines) s (h + k)
+  receives_bytes-later past =
       let w = due-past line lines h past in
       let o = owed-whole line lines s whole in
       let i : h ≡ length line.back + (h - length line.back) = omega arith in
@@ -132,16 +132,16 @@ module _ (line : Line) (lines : List Line) (rest : Hears lines) (m : Mta) (s h k
       rw (at-past m line lines s h whole past, at-past m line lines s (h + k) whole (omega arith), bytes-are, d, j)
       (rest (after_line line.back m).mta (s - length line.out) (h - length line.back) k f.1 (omega arith) (omega arith))
 
-pub hears : (lines : List Line) → Hears lines
-hears [] m s h k f early each = hears-nothing m [] s h k (omega arith)
-hears (line ∷ lines) m s h k f early answers_owed =
+pub receives_bytes : (lines : List Line) → ReceivesBytes lines
+receives_bytes [] m s h k f early each = receives_bytes-nothing m [] s h k (omega arith)
+receives_bytes (line ∷ lines) m s h k f early answers_owed =
     by_lt s (length line.out)
-    (λ less. hears-nothing m (line ∷ lines) s h k (let o = owed-part line lines s less in omega arith))
+    (λ less. receives_bytes-nothing m (line ∷ lines) s h k (let o = owed-part line lines s less in omega arith))
     (λ whole. by_lt h (length line.back)
     (λ less. by_lt (h + k) (length line.back)
-    (hears-part line lines (hears lines) m s h k f early answers_owed whole less)
-    (hears-last line lines (hears lines) m s h k f early answers_owed whole less))
-    (hears-later line lines (hears lines) m s h k f early answers_owed whole))
+    (receives_bytes-part line lines (receives_bytes lines) m s h k f early answers_owed whole less)
+    (receives_bytes-last line lines (receives_bytes lines) m s h k f early answers_owed whole less))
+    (receives_bytes-later line lines (receives_bytes lines) m s h k f early answers_owed whole))
 
 -- ---- bytes sent
 
@@ -181,18 +181,18 @@ module _ (adds : AddsUp) where
     empty [] h = refl
     empty (y ∷ ys) h = absurd (let g : suc (length ys) ≤ 0 = h in omega arith)
 
-    -- nothing of the answer was heard
+    -- nothing of the answer was received
     sends-last : s < length line.out → length line.out ≤ s + k → goes_on (sent (s + k) (advanced m)) ≡ after_at m (line ∷ lines) (s + k) h
     sends-last less last =
         let o = owed-part line lines s less in
         let p = packet_end-part line lines s less in
-        let zero_told : h ≡ 0 = omega arith in
+        let zero_received : h ≡ 0 = omega arith in
         let all : s + k ≡ length (next_packet m) = let e = ap length f.0.packet in omega arith in
         let is_whole : sent (s + k) (advanced m) ≡ sent_whole m = ap (λ (n : ℕ). sent n (advanced m)) all in
         by_lt h (length line.back)
         (λ wait.
         ap goes_on is_whole
-        ∙ ap (λ (n : ℕ). after_line (take n line.back) m) (sym zero_told)
+        ∙ ap (λ (n : ℕ). after_line (take n line.back) m) (sym zero_received)
         ∙ sym (at-wait m line lines (s + k) h last wait))
         (λ past.
         let out : s + k - length line.out ≡ 0 = omega arith in
@@ -304,8 +304,8 @@ wants-receive (line ∷ lines) m s h f is some =
 -- until all is sent
 pub wants-nothing : (lines : List Line) (m : Mta) (s h : ℕ) → SendsLines m lines → s ≡ due lines h → s ≡ length (to_filter lines)
     → h ≡ length (to_mta lines) → want (after_at m lines s h).mta ≡ wants.Done
-wants-nothing [] m s h f is all heard_all = f
-wants-nothing (line ∷ lines) m s h f is all heard_all =
+wants-nothing [] m s h f is all received_all = f
+wants-nothing (line ∷ lines) m s h f is all received_all =
     let n = ap length (flat_map-cons (λ l. l.out) line lines) in
     let a = length-append line.out (to_filter lines) in
     let n2 = ap length (flat_map-cons (λ l. l.back) line lines) in

@@ -1,4 +1,4 @@
--- What is settled when so many bytes were heard, and what a loss settles then.
+-- What is settled when so many bytes were received, and what a loss settles then.
 use Rattle.std.proofs.Common.{◌≡◌, inl, inr, ℕ, zero, suc, ◌-◌, ◌≤◌, ◌<◌, List, [], ◌∷◌, ◌++◌, Option, None, Some, refl, sym, ◌∙◌, ap, arith, length, append_assoc, append-nil}
 use Rattle.std.proofs.lemmas.Bool.{le-leb, lt-leb}
 use Rattle.std.proofs.lemmas.List.{append_cancel_left}
@@ -8,16 +8,16 @@ use Rattle.milter_outcome.specs.declared.loss.Loss.{Loss}
 use Rattle.milter_outcome.specs.declared.report.Report.{Report}
 use Rattle.milter_mta.specs.declared.want.Want.{Want}
 use Rattle.milter_mta.specs.declared.want.Want.TheVariants as wants
-use Rattle.milter_mta.specs.Mta.{Link, Mta}
-use Rattle.milter_mta.specs.Receiving.{After}
-use Rattle.milter_mta.specs.Sending.{advanced, advanced_in, sent, sent_in, want}
-use Rattle.milter_mta.specs.Settling.{acted_in, defaulted, lost}
+use Rattle.milter_mta.specs.Mta.{FilterConnection, Mta}
+use Rattle.milter_mta.specs.Replies.{After}
+use Rattle.milter_mta.specs.Output.{advanced, advanced_in, sent, sent_in, want}
+use Rattle.milter_mta.specs.Dispositions.{acted_in, defaulted, lost}
 use Rattle.milter_walk.specs.Lines.{after_line, next_packet, sent_whole}
 use Rattle.milter_transcript.specs.ByteCounts.{owed}
-use Rattle.milter_progress.specs.Following.{Follows, SendsLines, TakesEntry, after_at, begun}
-use Rattle.milter_progress.specs.Following.{IsMtaAt}
+use Rattle.milter_progress.specs.FollowedLines.{Follows, SendsLines, TakesEntry, after_at, begun}
+use Rattle.milter_progress.specs.FollowedLines.{IsMtaAt}
 use Rattle.milter_schedule.specs.declared.state.Counts.{Counts}
-use Rattle.milter_transcript.specs.Transcript.{Entry, default_reports, lines_of, default_within, reports_within}
+use Rattle.milter_transcript.specs.ConnectionEntries.{Entry, default_reports, lines_of, default_within, reports_within}
 use Rattle.milter_transcript.proofs.ByteCounting.{by_lt, owed-part, owed-whole}
 use Rattle.milter_progress.proofs.Pieces.{at-part, at-past, at-wait, part-at}
 use Rattle.milter_progress.proofs.Steps.{sent-nothing}
@@ -25,24 +25,24 @@ use Rattle.milter_progress.proofs.Steps.{sent-nothing}
 -- ---- what sending leaves as it is
 
 pub reports-sent : (count : ℕ) (m : Mta) → (sent count m).reports ≡ m.reports
-reports-sent count m = by_link m.link
+reports-sent count m = by_connection m.filter_connection
   where
-    by_link : (link : Option Link) → (sent_in count link (record m { link = link })).reports ≡ m.reports
-    by_link None = refl
-    by_link (Some l) = refl
+    by_connection : (filter_connection : Option FilterConnection) → (sent_in count filter_connection (record m { filter_connection = filter_connection })).reports ≡ m.reports
+    by_connection None = refl
+    by_connection (Some l) = refl
 
 pub reports-advanced : (m : Mta) → (advanced m).reports ≡ m.reports
-reports-advanced m = by_link m.link
+reports-advanced m = by_connection m.filter_connection
   where
-    by_want : (l : Link) (w : Want) → (advanced_in (Some l) w (record m { link = Some l })).reports ≡ m.reports
+    by_want : (l : FilterConnection) (w : Want) → (advanced_in (Some l) w (record m { filter_connection = Some l })).reports ≡ m.reports
     by_want l wants.Send = refl
     by_want l wants.Dial = refl
     by_want l wants.Receive = refl
     by_want l wants.Done = refl
 
-    by_link : (link : Option Link) → (advanced_in link (want (record m { link = link })) (record m { link = link })).reports ≡ m.reports
-    by_link None = refl
-    by_link (Some l) = by_want l (want (record m { link = Some l }))
+    by_connection : (filter_connection : Option FilterConnection) → (advanced_in filter_connection (want (record m { filter_connection = filter_connection })) (record m { filter_connection = filter_connection })).reports ≡ m.reports
+    by_connection None = refl
+    by_connection (Some l) = by_want l (want (record m { filter_connection = Some l }))
 
 abbrev pub SendingSettlesNothing : Type 0
 SendingSettlesNothing = (m : Mta) (count : ℕ) (loss : Loss) → lost loss (sent count (advanced m)) ≡ lost loss m
@@ -72,7 +72,7 @@ within-past : (entry : Entry) (entries : List Entry) (h : ℕ) → length entry.
 within-past entry entries h le = rw (le-leb (length entry.line.back) h le) refl
 
 lost-wait : (on_loss : OnLoss) (loss : Loss) (entry : Entry) (entries : List Entry) (h : ℕ) → h < length entry.line.back
-    → default_within on_loss loss (entry ∷ entries) h ≡ default_reports on_loss loss entry.left entry.walk
+    → default_within on_loss loss (entry ∷ entries) h ≡ default_reports on_loss loss entry.left entry.dialogue
 lost-wait on_loss loss entry entries h less = rw (lt-leb (length entry.line.back) h less) refl
 
 lost-past : (on_loss : OnLoss) (loss : Loss) (entry : Entry) (entries : List Entry) (h : ℕ) → length entry.line.back ≤ h
@@ -106,7 +106,7 @@ module _ (on_loss : OnLoss) where
   pub reports-at : (entries : List Entry) (m : Mta) (s h : ℕ) → Follows on_loss m entries → h ≤ owed (lines_of entries) s
       → (after_at m (lines_of entries) s h).mta.reports ≡ m.reports ++ reports_within entries h
   reports-at [] m s h f each = sym (append-nil m.reports)
-  reports-at (entry ∷ entries) m s h f told =
+  reports-at (entry ∷ entries) m s h f by_received =
       by_lt s (length entry.line.out)
       (λ less.
       let o = owed-part entry.line (lines_of entries) s less in
@@ -140,7 +140,7 @@ module _ (on_loss : OnLoss) where
     lost-advanced m = ap (lost loss) (sym (sent-nothing (advanced m))) ∙ settles_nothing m 0 loss
 
     none-left : (m : Mta) → m.session.messages ≡ [] → (lost loss m).reports ≡ m.reports
-    none-left m e = ap (λ (l : List MailObject). (record (defaulted loss (acted_in m.link) l m) { link = None }).reports) e
+    none-left m e = ap (λ (l : List MailObject). (record (defaulted loss (acted_in m.filter_connection) l m) { filter_connection = None }).reports) e
 
     -- before any of it
     pub lost-start : (entries : List Entry) (m : Mta) → Follows on_loss m entries → (lost loss m).reports ≡ m.reports ++ default_within on_loss loss entries 0
@@ -162,7 +162,7 @@ module _ (on_loss : OnLoss) where
     pub lost-at : (entries : List Entry) (m : Mta) (s h : ℕ) → Follows on_loss m entries → h ≤ owed (lines_of entries) s
         → (lost loss (after_at m (lines_of entries) s h).mta).reports ≡ (m.reports ++ reports_within entries h) ++ default_within on_loss loss entries h
     lost-at [] m s h f each = none-left m f.1 ∙ sym (append-nil (m.reports ++ []) ∙ append-nil m.reports)
-    lost-at (entry ∷ entries) m s h f told =
+    lost-at (entry ∷ entries) m s h f by_received =
         by_lt s (length entry.line.out)
         (λ less.
         let o = owed-part entry.line (lines_of entries) s less in
@@ -178,7 +178,7 @@ module _ (on_loss : OnLoss) where
         ap (λ (a : After). (lost loss a.mta).reports) (at-wait m entry.line (lines_of entries) s h whole wait)
         ∙ ap (λ (x : Mta). x.reports) ((part-at m entry.line f.0.sends h wait).settles loss)
         ∙ f.0.gives_up loss
-        ∙ ap (λ (l : List Report). l ++ default_reports on_loss loss entry.left entry.walk)
+        ∙ ap (λ (l : List Report). l ++ default_reports on_loss loss entry.left entry.dialogue)
         (sym (append-nil m.reports) ∙ ap (λ (l : List Report). m.reports ++ l) (sym (within-wait entry entries h wait)))
         ∙ ap (λ (l : List Report). (m.reports ++ reports_within (entry ∷ entries) h) ++ l) (sym (lost-wait on_loss loss entry entries h wait)))
         (λ past.
@@ -192,19 +192,19 @@ module _ (on_loss : OnLoss) where
         ∙ ap (λ (l : List Report). (m.reports ++ reports_within (entry ∷ entries) h) ++ l) (sym (lost-past on_loss loss entry entries h past))))
 
     -- wherever it is
-    pub lost-place : (entries : List Entry) (opened : Mta) (c : Counts) (m : Mta) → Follows on_loss opened entries → c.heard ≤ owed (lines_of entries) c.sent
+    pub lost-place : (entries : List Entry) (opened : Mta) (c : Counts) (m : Mta) → Follows on_loss opened entries → c.received ≤ owed (lines_of entries) c.sent
         → IsMtaAt opened (lines_of entries) c m
-        → (lost loss m).reports ≡ (opened.reports ++ reports_within entries c.heard) ++ default_within on_loss loss entries c.heard
-    lost-place entries opened c m f told (inl e) = ap (λ (x : Mta). (lost loss x).reports) e ∙ lost-at entries opened c.sent c.heard f told
-    lost-place entries opened c m f told (inr e) =
+        → (lost loss m).reports ≡ (opened.reports ++ reports_within entries c.received) ++ default_within on_loss loss entries c.received
+    lost-place entries opened c m f by_received (inl e) = ap (λ (x : Mta). (lost loss x).reports) e ∙ lost-at entries opened c.sent c.received f by_received
+    lost-place entries opened c m f by_received (inr e) =
         ap (λ (x : Mta). (lost loss x).reports) e.1
-        ∙ ap (λ (x : Mta). x.reports) (lost-advanced (after_at opened (lines_of entries) c.sent c.heard).mta)
-        ∙ lost-at entries opened c.sent c.heard f told
+        ∙ ap (λ (x : Mta). x.reports) (lost-advanced (after_at opened (lines_of entries) c.sent c.received).mta)
+        ∙ lost-at entries opened c.sent c.received f by_received
 
-  pub reports-place : (entries : List Entry) (opened : Mta) (c : Counts) (m : Mta) → Follows on_loss opened entries → c.heard ≤ owed (lines_of entries) c.sent
-      → IsMtaAt opened (lines_of entries) c m → m.reports ≡ opened.reports ++ reports_within entries c.heard
-  reports-place entries opened c m f told (inl e) = ap (λ (x : Mta). x.reports) e ∙ reports-at entries opened c.sent c.heard f told
-  reports-place entries opened c m f told (inr e) =
+  pub reports-place : (entries : List Entry) (opened : Mta) (c : Counts) (m : Mta) → Follows on_loss opened entries → c.received ≤ owed (lines_of entries) c.sent
+      → IsMtaAt opened (lines_of entries) c m → m.reports ≡ opened.reports ++ reports_within entries c.received
+  reports-place entries opened c m f by_received (inl e) = ap (λ (x : Mta). x.reports) e ∙ reports-at entries opened c.sent c.received f by_received
+  reports-place entries opened c m f by_received (inr e) =
       ap (λ (x : Mta). x.reports) e.1
-      ∙ reports-advanced (after_at opened (lines_of entries) c.sent c.heard).mta
-      ∙ reports-at entries opened c.sent c.heard f told
+      ∙ reports-advanced (after_at opened (lines_of entries) c.sent c.received).mta
+      ∙ reports-at entries opened c.sent c.received f by_received

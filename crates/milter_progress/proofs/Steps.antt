@@ -3,15 +3,15 @@ use Rattle.std.proofs.Common.{◌≡◌, ◌≢◌, ◌<◌, ℕ, zero, suc, Boo
 use Rattle.milter_wire.specs.declared.command.Command.{Command}
 use Rattle.milter_mta.specs.declared.want.Want.{Want}
 use Rattle.milter_mta.specs.declared.want.Want.TheVariants as wants
-use Rattle.milter_mta.specs.Mta.{Link, Mta}
-use Rattle.milter_mta.specs.Sending.{after_packet, advanced, advanced_in, asks_at, bytes_at, finished, made, pending, pending_in, pending_or, sent, sent_from, sent_in, sent_of, want}
+use Rattle.milter_mta.specs.Mta.{FilterConnection, Mta}
+use Rattle.milter_mta.specs.Output.{after_packet, advanced, advanced_in, asks_at, bytes_at, finished, made, pending, pending_in, pending_or, sent, sent_from, sent_in, sent_of, want}
 
-abbrev with_link : Option Link → Mta → Mta
-with_link link m = record m { link = link }
+abbrev with_connection : Option FilterConnection → Mta → Mta
+with_connection filter_connection m = record m { filter_connection = filter_connection }
 
 -- ---- what is pending
 
-none_pending : (l : Link) → (finished l).pending ≡ []
+none_pending : (l : FilterConnection) → (finished l).pending ≡ []
 none_pending l = by_tests l.aborts (asks_at l.position)
   where
     by_tests : (aborts asks : Bool) → (if aborts then record l { aborts = false; pending = []; owed = false }
@@ -21,11 +21,11 @@ none_pending l = by_tests l.aborts (asks_at l.position)
     by_tests false true = refl
     by_tests false false = refl
 
-pending-from : (l : Link) (left : List ℕ) → (sent_from l left).pending ≡ left
+pending-from : (l : FilterConnection) (left : List ℕ) → (sent_from l left).pending ≡ left
 pending-from l [] = none_pending l
 pending-from l (byte ∷ bytes) = refl
 
-pending-of : (count : ℕ) (bytes : List ℕ) (l : Link) → l.pending ≡ bytes → (sent_of count bytes l).pending ≡ drop count bytes
+pending-of : (count : ℕ) (bytes : List ℕ) (l : FilterConnection) → l.pending ≡ bytes → (sent_of count bytes l).pending ≡ drop count bytes
 pending-of count [] l e = e ∙ drop-nothing count
   where
     drop-nothing : (n : ℕ) → ◌≡◌ {A = List ℕ} [] (drop n [])
@@ -34,30 +34,30 @@ pending-of count [] l e = e ∙ drop-nothing count
 pending-of count (byte ∷ bytes) l e = pending-from l (drop count (byte ∷ bytes))
 
 pub pending-sent : (count : ℕ) (m : Mta) → pending (sent count m) ≡ drop count (pending m)
-pending-sent count m = by_link m.link
+pending-sent count m = by_connection m.filter_connection
   where
-    by_link : (link : Option Link) → pending (sent_in count link (with_link link m)) ≡ drop count (pending_in link)
-    by_link None = drop-nothing count
+    by_connection : (filter_connection : Option FilterConnection) → pending (sent_in count filter_connection (with_connection filter_connection m)) ≡ drop count (pending_in filter_connection)
+    by_connection None = drop-nothing count
       where
         drop-nothing : (n : ℕ) → ◌≡◌ {A = List ℕ} [] (drop n [])
         drop-nothing zero = refl
         drop-nothing (suc n) = refl
-    by_link (Some l) = pending-of count l.pending l refl
+    by_connection (Some l) = pending-of count l.pending l refl
 
-sent_of-nothing : (bytes : List ℕ) (l : Link) → l.pending ≡ bytes → sent_of 0 bytes l ≡ l
+sent_of-nothing : (bytes : List ℕ) (l : FilterConnection) → l.pending ≡ bytes → sent_of 0 bytes l ≡ l
 sent_of-nothing [] l e = refl
 sent_of-nothing (byte ∷ bytes) l e = ap (λ (p : List ℕ). record l { pending = p }) (sym e)
 
 pub sent-nothing : (m : Mta) → sent 0 m ≡ m
-sent-nothing m = by_link m.link
+sent-nothing m = by_connection m.filter_connection
   where
-    by_link : (link : Option Link) → sent_in 0 link (with_link link m) ≡ with_link link m
-    by_link None = refl
-    by_link (Some l) = ap (λ (k : Link). with_link (Some k) m) (sent_of-nothing l.pending l refl)
+    by_connection : (filter_connection : Option FilterConnection) → sent_in 0 filter_connection (with_connection filter_connection m) ≡ with_connection filter_connection m
+    by_connection None = refl
+    by_connection (Some l) = ap (λ (k : FilterConnection). with_connection (Some k) m) (sent_of-nothing l.pending l refl)
 
 -- ---- the next packet
 
-advanced_in-some : (l : Link) (w : Want) (m : Mta) → w ≡ wants.Send → advanced_in (Some l) w m ≡ record m { link = Some (made m.config l) }
+advanced_in-some : (l : FilterConnection) (w : Want) (m : Mta) → w ≡ wants.Send → advanced_in (Some l) w m ≡ record m { filter_connection = Some (made m.config l) }
 advanced_in-some l wants.Send m e = refl
 advanced_in-some l wants.Dial m e = absurd cc
 advanced_in-some l wants.Receive m e = absurd cc
@@ -65,17 +65,17 @@ advanced_in-some l wants.Done m e = absurd cc
 
 -- it wants what it wanted
 pub want-advanced : (m : Mta) → want (advanced m) ≡ want m
-want-advanced m = by_link m.link
+want-advanced m = by_connection m.filter_connection
   where
-    by_want : (l : Link) (w : Want) → want (advanced_in (Some l) w (with_link (Some l) m)) ≡ want (with_link (Some l) m)
+    by_want : (l : FilterConnection) (w : Want) → want (advanced_in (Some l) w (with_connection (Some l) m)) ≡ want (with_connection (Some l) m)
     by_want l wants.Send = refl
     by_want l wants.Dial = refl
     by_want l wants.Receive = refl
     by_want l wants.Done = refl
 
-    by_link : (link : Option Link) → want (advanced_in link (want (with_link link m)) (with_link link m)) ≡ want (with_link link m)
-    by_link None = refl
-    by_link (Some l) = by_want l (want (with_link (Some l) m))
+    by_connection : (filter_connection : Option FilterConnection) → want (advanced_in filter_connection (want (with_connection filter_connection m)) (with_connection filter_connection m)) ≡ want (with_connection filter_connection m)
+    by_connection None = refl
+    by_connection (Some l) = by_want l (want (with_connection (Some l) m))
 
 pending_or-full : (p : List ℕ) (c : Option Command) → p ≢ [] → pending_or p c ≡ p
 pending_or-full [] c some = absurd (some refl)
@@ -83,17 +83,17 @@ pending_or-full (byte ∷ bytes) c some = refl
 
 -- where some of a packet is pending no other is made
 pub advanced-full : (m : Mta) → pending m ≢ [] → advanced m ≡ m
-advanced-full m some = by_link m.link some
+advanced-full m some = by_connection m.filter_connection some
   where
-    by_want : (l : Link) (w : Want) → l.pending ≢ [] → advanced_in (Some l) w (with_link (Some l) m) ≡ with_link (Some l) m
-    by_want l wants.Send some = ap (λ (p : List ℕ). with_link (Some (record l { pending = p })) m) (pending_or-full l.pending _ some)
+    by_want : (l : FilterConnection) (w : Want) → l.pending ≢ [] → advanced_in (Some l) w (with_connection (Some l) m) ≡ with_connection (Some l) m
+    by_want l wants.Send some = ap (λ (p : List ℕ). with_connection (Some (record l { pending = p })) m) (pending_or-full l.pending _ some)
     by_want l wants.Dial some = refl
     by_want l wants.Receive some = refl
     by_want l wants.Done some = refl
 
-    by_link : (link : Option Link) → pending_in link ≢ [] → advanced_in link (want (with_link link m)) (with_link link m) ≡ with_link link m
-    by_link None some = refl
-    by_link (Some l) some = by_want l (want (with_link (Some l) m)) some
+    by_connection : (filter_connection : Option FilterConnection) → pending_in filter_connection ≢ [] → advanced_in filter_connection (want (with_connection filter_connection m)) (with_connection filter_connection m) ≡ with_connection filter_connection m
+    by_connection None some = refl
+    by_connection (Some l) some = by_want l (want (with_connection (Some l) m)) some
 
 pending_or-again : (p : List ℕ) (c : Option Command) → pending_or (pending_or p c) c ≡ pending_or p c
 pending_or-again [] c = by_bytes (bytes_at c) refl
@@ -104,34 +104,34 @@ pending_or-again [] c = by_bytes (bytes_at c) refl
 pending_or-again (byte ∷ bytes) c = refl
 
 pub advanced-again : (m : Mta) → advanced (advanced m) ≡ advanced m
-advanced-again m = by_link m.link
+advanced-again m = by_connection m.filter_connection
   where
-    by_want : (l : Link) (w : Want) → want (with_link (Some l) m) ≡ w → advanced (advanced_in (Some l) w (with_link (Some l) m)) ≡ advanced_in (Some l) w (with_link (Some l) m)
+    by_want : (l : FilterConnection) (w : Want) → want (with_connection (Some l) m) ≡ w → advanced (advanced_in (Some l) w (with_connection (Some l) m)) ≡ advanced_in (Some l) w (with_connection (Some l) m)
     by_want l wants.Send e =
-        advanced_in-some (made m.config l) (want (with_link (Some l) m)) (with_link (Some (made m.config l)) m) e
-        ∙ ap (λ (p : List ℕ). with_link (Some (record l { pending = p })) m) (pending_or-again l.pending _)
-    by_want l wants.Dial e = ap (λ (w : Want). advanced_in (Some l) w (with_link (Some l) m)) e
-    by_want l wants.Receive e = ap (λ (w : Want). advanced_in (Some l) w (with_link (Some l) m)) e
-    by_want l wants.Done e = ap (λ (w : Want). advanced_in (Some l) w (with_link (Some l) m)) e
+        advanced_in-some (made m.config l) (want (with_connection (Some l) m)) (with_connection (Some (made m.config l)) m) e
+        ∙ ap (λ (p : List ℕ). with_connection (Some (record l { pending = p })) m) (pending_or-again l.pending _)
+    by_want l wants.Dial e = ap (λ (w : Want). advanced_in (Some l) w (with_connection (Some l) m)) e
+    by_want l wants.Receive e = ap (λ (w : Want). advanced_in (Some l) w (with_connection (Some l) m)) e
+    by_want l wants.Done e = ap (λ (w : Want). advanced_in (Some l) w (with_connection (Some l) m)) e
 
-    by_link : (link : Option Link) → advanced (advanced_in link (want (with_link link m)) (with_link link m)) ≡ advanced_in link (want (with_link link m)) (with_link link m)
-    by_link None = refl
-    by_link (Some l) = by_want l (want (with_link (Some l) m)) refl
+    by_connection : (filter_connection : Option FilterConnection) → advanced (advanced_in filter_connection (want (with_connection filter_connection m)) (with_connection filter_connection m)) ≡ advanced_in filter_connection (want (with_connection filter_connection m)) (with_connection filter_connection m)
+    by_connection None = refl
+    by_connection (Some l) = by_want l (want (with_connection (Some l) m)) refl
 
 -- ---- in the midst of a packet
 
 -- where some of it is left nothing else changes
 pub want-sent : (count : ℕ) (m : Mta) → count < length (pending m) → want (sent count m) ≡ want m
-want-sent count m less = by_link m.link less
+want-sent count m less = by_connection m.filter_connection less
   where
-    by_left : (l : Link) (left : List ℕ) → 0 < length left → want (with_link (Some (sent_from l left)) m) ≡ want (with_link (Some l) m)
+    by_left : (l : FilterConnection) (left : List ℕ) → 0 < length left → want (with_connection (Some (sent_from l left)) m) ≡ want (with_connection (Some l) m)
     by_left l [] some = absurd (let h : 0 < 0 = some in omega arith)
     by_left l (byte ∷ bytes) some = refl
 
-    by_bytes : (l : Link) (bytes : List ℕ) → count < length bytes → want (with_link (Some (sent_of count bytes l)) m) ≡ want (with_link (Some l) m)
+    by_bytes : (l : FilterConnection) (bytes : List ℕ) → count < length bytes → want (with_connection (Some (sent_of count bytes l)) m) ≡ want (with_connection (Some l) m)
     by_bytes l [] less = refl
     by_bytes l (byte ∷ bytes) less = by_left l (drop count (byte ∷ bytes)) (let d = length-drop count (byte ∷ bytes) in omega arith)
 
-    by_link : (link : Option Link) → count < length (pending_in link) → want (sent_in count link (with_link link m)) ≡ want (with_link link m)
-    by_link None less = refl
-    by_link (Some l) less = by_bytes l l.pending less
+    by_connection : (filter_connection : Option FilterConnection) → count < length (pending_in filter_connection) → want (sent_in count filter_connection (with_connection filter_connection m)) ≡ want (with_connection filter_connection m)
+    by_connection None less = refl
+    by_connection (Some l) less = by_bytes l l.pending less

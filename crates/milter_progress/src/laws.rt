@@ -1,7 +1,7 @@
-//! Laws of a mail server's end that follows a transcript, each the contract of a function that does nothing.
+//! Laws of a mail server's end that follows a list of entries, each the contract of a function that does nothing.
 
 ghost use Rattle.std.specs.Prelude.{◌≡◌, ◌≤◌, ◌<◌, ◌+◌, ◌-◌, ◌++◌, ◌∷◌, List, None, drop, length, take, ℕ};
-ghost use Rattle.milter_wire.specs.declared.agreement.Agreed.{Agreed};
+ghost use Rattle.milter_wire.specs.declared.negotiation.Negotiated.{Negotiated};
 ghost use Rattle.milter_wire.specs.declared.command.Command.{Command};
 ghost use Rattle.milter_message.specs.MailObject.{MailObject};
 ghost use Rattle.milter_mail.specs.MailSession.{MailSession};
@@ -13,22 +13,22 @@ ghost use Rattle.milter_outcome.specs.declared.fallback.OnLoss.{OnLoss};
 ghost use Rattle.milter_outcome.specs.declared.loss.Loss.{Loss};
 ghost use Rattle.milter_mta.specs.declared.want.Want.TheVariants as wants;
 ghost use Rattle.milter_mta.specs.Mta.{Configuration, Mta};
-ghost use Rattle.milter_mta.specs.Receiving.{goes_on, heard_on};
-ghost use Rattle.milter_mta.specs.Sending.{advanced, dialled, pending, sent, want};
-ghost use Rattle.milter_mta.specs.Settling.{lost};
+ghost use Rattle.milter_mta.specs.Replies.{goes_on, received_on};
+ghost use Rattle.milter_mta.specs.Output.{advanced, dialled, pending, sent, want};
+ghost use Rattle.milter_mta.specs.Dispositions.{lost};
 ghost use Rattle.milter_walk.specs.Lines.{Line};
-ghost use Rattle.milter_walk.specs.Order.{IsWalk};
-ghost use Rattle.milter_walk.specs.Walks.{at_walk};
+ghost use Rattle.milter_walk.specs.Order.{IsDialogue};
+ghost use Rattle.milter_walk.specs.Dialogues.{at_dialogue};
 ghost use Rattle.milter_transcript.specs.ByteCounts.{due, owed, packet_end, to_filter, to_mta};
-ghost use Rattle.milter_transcript.specs.Transcript.{Entry, default_within, entries_from, lines_of, reports_within, transcript};
+ghost use Rattle.milter_transcript.specs.ConnectionEntries.{Entry, default_within, entries_from, lines_of, reports_within, connection_entries};
 ghost use Rattle.milter_schedule.specs.declared.state.Counts.{Counts};
-ghost use Rattle.milter_progress.specs.Following.{Follows, IsMtaAt, SendsLines, after_at};
+ghost use Rattle.milter_progress.specs.FollowedLines.{Follows, IsMtaAt, SendsLines, after_at};
 
 use milter_walk::{
-    closed_walks_rule, exchanges_are_played, lawful_filters_agree, lines_without_answers,
-    losses_depend_on_verdicts, offers_open_sessions, part_answers_are_heard,
-    part_answers_settle_nothing, plans_are_walked, sending_settles_nothing, sent_bytes_add_up,
-    talks_are_played, walks_go_on, walks_settle_all, walks_settle_one,
+    closed_dialogues_rule, dialogues_are_played, dialogues_go_on, dialogues_settle_all,
+    dialogues_settle_one, exchanges_are_played, lawful_filters_negotiate, lines_without_answers,
+    losses_depend_on_verdicts, offers_open_sessions, part_answers_are_received,
+    part_answers_settle_nothing, plans_are_sent, sending_settles_nothing, sent_bytes_add_up,
 };
 
 /// A packet that was made isn't made again; and while bytes of it are left, what is wanted stays.
@@ -37,12 +37,12 @@ pub fn ends_in_steps()
     ensures want { (count : ℕ) (m : Mta) → count < length (pending m) → want (sent count m) ≡ want m }
 {}
 
-/// A mail server's end that sends some lines is at any byte where the counts say: what it hears and sends brings it
+/// A mail server's end that sends some lines is at any byte where the counts say: what it receives and sends brings it
 /// there, whatever the pieces; and what it wants and has to send is what is due.
 pub fn pieces_are_followed()
-    ensures hears { (lines : List Line) (m : Mta) (s h k : ℕ) → SendsLines m lines → s ≤ due lines h →
+    ensures receives_bytes { (lines : List Line) (m : Mta) (s h k : ℕ) → SendsLines m lines → s ≤ due lines h →
         h + k ≤ owed lines s →
-        heard_on (after_at m lines s h) (take k (drop h (to_mta lines))) ≡ after_at m lines s (h + k) }
+        received_on (after_at m lines s h) (take k (drop h (to_mta lines))) ≡ after_at m lines s (h + k) }
     ensures sends { (lines : List Line) (m : Mta) (s h k : ℕ) → SendsLines m lines → s < due lines h →
         h ≤ owed lines s → 0 < k → s + k ≤ packet_end lines s →
         goes_on (sent k (advanced (after_at m lines s h).mta)) ≡ after_at m lines (s + k) h }
@@ -58,60 +58,60 @@ pub fn pieces_are_followed()
     sent_bytes_add_up();
 }
 
-/// Its reports, and what a loss adds to them, are those of the transcript by the bytes that it has heard.
+/// Its reports, and what a loss adds to them, are those of the list of entries by the bytes that it has received.
 pub fn places_are_reported()
     ensures reports { (on_loss : OnLoss) (entries : List Entry) (opened m : Mta) (c : Counts) →
-        Follows on_loss opened entries → c.heard ≤ owed (lines_of entries) c.sent →
-        IsMtaAt opened (lines_of entries) c m → m.reports ≡ opened.reports ++ reports_within entries c.heard }
+        Follows on_loss opened entries → c.received ≤ owed (lines_of entries) c.sent →
+        IsMtaAt opened (lines_of entries) c m → m.reports ≡ opened.reports ++ reports_within entries c.received }
     ensures losses { (on_loss : OnLoss) (loss : Loss) (entries : List Entry) (opened m : Mta) (c : Counts) →
-        Follows on_loss opened entries → c.heard ≤ owed (lines_of entries) c.sent →
+        Follows on_loss opened entries → c.received ≤ owed (lines_of entries) c.sent →
         IsMtaAt opened (lines_of entries) c m →
         (lost loss m).reports
-        ≡ (opened.reports ++ reports_within entries c.heard) ++ default_within on_loss loss entries c.heard }
+        ≡ (opened.reports ++ reports_within entries c.received) ++ default_within on_loss loss entries c.received }
 {
     sending_settles_nothing();
 }
 
-/// From the midst of a message on, a mail server's end follows the transcript with a lawful filter.
-pub fn talks_are_followed()
-    ensures { (b : Behavior) (agreed : Agreed) (session : MailSession) (m : Mta) (message : MailObject)
-        (messages : List MailObject) (walk : List Exchange) (left : List Command) → IsLawful b →
-        m.session ≡ record session { messages = message ∷ messages } → IsWalk agreed walk left →
-        Follows m.config.on_loss (at_walk agreed walk left m)
-        (entries_from b agreed session message messages walk left) }
+/// From the midst of a message on, a mail server's end follows the list of entries with a lawful filter.
+pub fn dialogues_are_followed()
+    ensures { (b : Behavior) (negotiated : Negotiated) (session : MailSession) (m : Mta) (message : MailObject)
+        (messages : List MailObject) (dialogue : List Exchange) (left : List Command) → IsLawful b →
+        m.session ≡ record session { messages = message ∷ messages } → IsDialogue negotiated dialogue left →
+        Follows m.config.on_loss (at_dialogue negotiated dialogue left m)
+        (entries_from b negotiated session message messages dialogue left) }
 {
-    closed_walks_rule();
+    closed_dialogues_rule();
     exchanges_are_played();
     lines_without_answers();
-    part_answers_are_heard();
+    part_answers_are_received();
     part_answers_settle_nothing();
-    plans_are_walked();
-    talks_are_played();
-    walks_go_on();
-    walks_settle_all();
-    walks_settle_one();
+    plans_are_sent();
+    dialogues_are_played();
+    dialogues_go_on();
+    dialogues_settle_all();
+    dialogues_settle_one();
 }
 
 /// A mail server's end that has these messages left follows their transcript with a lawful filter from the moment that
-/// a connection is made: a reopened connection has the same talk.
-pub fn transcripts_are_followed()
+/// a connection is made: a reopened connection has the same dialogue.
+pub fn entries_are_followed()
     ensures { (b : Behavior) (session : MailSession) (config : Configuration) (m : Mta) (message : MailObject)
         (messages : List MailObject) → IsLawful b → VERSION_MIN ≤ config.offer.version →
-        config.offer.version ≤ VERSION_MAX → m.link ≡ None → m.config ≡ config →
+        config.offer.version ≤ VERSION_MAX → m.filter_connection ≡ None → m.config ≡ config →
         m.session ≡ record session { messages = message ∷ messages } →
-        Follows config.on_loss (dialled m) (transcript b config.offer session (message ∷ messages)) }
+        Follows config.on_loss (dialled m) (connection_entries b config.offer session (message ∷ messages)) }
 {
-    closed_walks_rule();
+    closed_dialogues_rule();
     exchanges_are_played();
-    lawful_filters_agree();
+    lawful_filters_negotiate();
     lines_without_answers();
     losses_depend_on_verdicts();
     offers_open_sessions();
-    part_answers_are_heard();
+    part_answers_are_received();
     part_answers_settle_nothing();
-    plans_are_walked();
-    talks_are_played();
-    walks_go_on();
-    walks_settle_all();
-    walks_settle_one();
+    plans_are_sent();
+    dialogues_are_played();
+    dialogues_go_on();
+    dialogues_settle_all();
+    dialogues_settle_one();
 }

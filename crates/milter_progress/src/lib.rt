@@ -1,5 +1,5 @@
-//! A mail server's end at any byte of a transcript: it follows the transcript of a session with a lawful filter,
-//! however the bytes are cut.
+//! A mail server's end at any byte of a list of entries: it follows the list of the entries of a session with a lawful
+//! filter, however the bytes are cut.
 //!
 //! Nothing here is run: each law is the contract of a function that does nothing.
 #![tactic(auto)]
@@ -7,6 +7,6 @@
 mod laws;
 
 pub use laws::{
-    ends_in_steps, pieces_are_followed, places_are_reported, talks_are_followed,
-    transcripts_are_followed,
+    dialogues_are_followed, ends_in_steps, entries_are_followed, pieces_are_followed,
+    places_are_reported,
 };

@@ -11,7 +11,7 @@ use Rattle.milter_message.specs.declared.message.Held.{Held}
 use Rattle.milter_outcome.specs.declared.outcome.Outcome.{Outcome}
 use Rattle.milter_outcome.specs.declared.outcome.Outcome.TheVariants.{Released, Discarded, Refused, NoRecipients, RefusedAtConnection}
 use Rattle.milter_reports.specs.ReportsText.{released_text}
-use Rattle.milter_text.specs.Writing.{WritesPrefix, WritesText}
+use Rattle.milter_text.specs.WrittenText.{WritesPrefix, WritesText}
 use Rattle.milter_text.specs.TextWriter.{Puts, WritesAllBut, buffered, written_bytes}
 use Rattle.milter_text.specs.declared.text_fault.TextFault.{TextFault}
 use Rattle.milter_text.specs.declared.text_writer.TextWriter.{TextWriter}

@@ -16,7 +16,7 @@ use Rattle.milter_outcome.specs.declared.outcome.Outcome.TheVariants.{Released, 
 use Rattle.milter_outcome.specs.declared.report.Report.{Report}
 use Rattle.milter_outcome.specs.Losses.{mta_fault_number}
 use Rattle.milter_outcome.specs.Refusals.{refusal_text}
-use Rattle.milter_mta.specs.Accounts.{Settlement}
+use Rattle.milter_mta.specs.Accounts.{Disposition}
 
 -- a word and a number in decimal, and a blank after each
 abbrev pub numbered : List ℕ → ℕ → List ℕ
@@ -69,5 +69,5 @@ unfoldable pub report_text : ℕ × Report → List ℕ
 report_text (number, report) = report_lines number report ++ released_text report.outcome
 
 -- the messages are numbered from 1
-unfoldable pub reports_text : Settlement → List ℕ
+unfoldable pub reports_text : Disposition → List ℕ
 reports_text s = connection_line s.connection ++ flat_map report_text (enumerate_from 1 s.messages)

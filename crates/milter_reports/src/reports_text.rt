@@ -4,7 +4,7 @@ ghost use Rattle.std.specs.Prelude.{OnErr, OnOk, ◌+◌};
 ghost use Rattle.std.specs.Io.KnownBytes.{Appends};
 ghost use Rattle.std.specs.List.{enumerate_from, flat_map};
 ghost use Rattle.std.specs.Option.{option_copied};
-ghost use Rattle.milter_text.specs.Writing.{WritesPrefix, WritesText};
+ghost use Rattle.milter_text.specs.WrittenText.{WritesPrefix, WritesText};
 ghost use Rattle.milter_reports.specs.ReportsText.{connection_line, report_lines, report_text, reports_text};
 
 use crate::PlayFault;

@@ -9,7 +9,7 @@ ghost use Rattle.milter_outcome.specs.declared.loss.MtaFault.TheVariants.{Early}
 ghost use Rattle.milter_outcome.specs.declared.outcome.Outcome.TheVariants.{Discarded, NoRecipients, Refused, RefusedAtConnection, Released};
 ghost use Rattle.milter_outcome.specs.declared.refusal.Refusal.TheVariants as refusals;
 ghost use Rattle.milter_outcome.specs.Outcomes.{released};
-ghost use Rattle.milter_mta.specs.Settling.{report};
+ghost use Rattle.milter_mta.specs.Dispositions.{report};
 ghost use Rattle.milter_mta.specs.Worked.{message};
 ghost use Rattle.milter_reports.specs.Worked.{acted, text_with};
 

@@ -9,7 +9,7 @@ use Rattle.clap.specs.Words.{Text}
 use Rattle.milter_exchange.specs.declared.limits.TheConstants.{ACTIONS_MAX, PROTOCOL_MAX}
 use Rattle.milter_options.specs.Bits.{is_within}
 use Rattle.milter_options.proofs.NamedSets.{actions_named, protocol_named}
-use Rattle.milter_outcome.specs.Hearing.{is_offered}
+use Rattle.milter_outcome.specs.ReceivedReplies.{is_offered}
 use Rattle.milter_request.specs.Target.{actions_given, protocol_given}
 
 offered_by : (all set : ℕ) → is_within all set ≡ true → is_offered all set ≡ true

@@ -2,7 +2,7 @@
 
 ghost use Rattle.std.specs.Prelude.{◌≡◌, IfOk, option_map, true};
 ghost use Rattle.milter_exchange.specs.declared.limits.TheConstants.{ACTIONS_MAX, PROTOCOL_MAX};
-ghost use Rattle.milter_outcome.specs.Hearing.{is_offered};
+ghost use Rattle.milter_outcome.specs.ReceivedReplies.{is_offered};
 ghost use Rattle.milter_request.specs.CommandLine.{text_of};
 ghost use Rattle.milter_request.specs.Target.{IsOffer, IsTarget, actions_given, protocol_given};
 

@@ -1,6 +1,6 @@
 //! What is said of the conditions of a rule.
 
-use crate::sending::bit_among;
+use crate::sent_stages::bit_among;
 use milter_exchange::rank_of;
 use milter_rule_faults::{Notes, Piece};
 use milter_ruleset::{Condition, Field, Test};

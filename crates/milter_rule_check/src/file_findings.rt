@@ -1,7 +1,7 @@
 //! What is said of a rule file as a whole.
 
 use crate::condition_findings::first_stage;
-use crate::sending::has_stage;
+use crate::sent_stages::has_stage;
 use milter_rule_faults::{Notes, Piece};
 use milter_ruleset::{Condition, Rule, Rules};
 use milter_wire::{NoMemory, Options, Protocol, Stage};

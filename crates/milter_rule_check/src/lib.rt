@@ -5,11 +5,11 @@
 #![tactic(auto)]
 
 mod action_findings;
-mod checking;
 mod condition_findings;
+mod file_check;
 mod file_findings;
 mod rule_findings;
-mod sending;
+mod sent_stages;
 
-pub use checking::check_rules;
+pub use file_check::check_rules;
 pub use milter_text::TextFault;

@@ -3,7 +3,7 @@
 use crate::action_findings::say_action;
 use crate::condition_findings::{say_condition_names, say_conditions};
 use crate::file_findings::say_stages;
-use crate::sending::{bit_among, has_stage};
+use crate::sent_stages::{bit_among, has_stage};
 use milter_exchange::rank_of;
 use milter_rule_faults::{Notes, Piece, RuleLine, rule_lines};
 use milter_ruleset::{Action, Rule, Rules};

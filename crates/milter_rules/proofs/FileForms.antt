@@ -16,12 +16,12 @@ use Rattle.milter_wire.specs.declared.stage.Stage.TheVariants.{Eob}
 use Rattle.milter_message.specs.declared.message.TheConstants.{WEIGHT_MAX}
 use Rattle.milter_message.specs.EditReplies.{weight_of}
 use Rattle.milter_ruleset.specs.declared.rule.Rule.{Rule}
-use Rattle.milter_rules.specs.declared.rule_draft.TheConstants.{RULES_MAX}
+use Rattle.milter_rules.specs.declared.rule_builder.TheConstants.{RULES_MAX}
 use Rattle.milter_rules.specs.declared.rule_line.RuleLine.{RuleLine}
 use Rattle.milter_rules.specs.declared.rule_line.RuleLine.TheVariants as lines
-use Rattle.milter_rules.specs.declared.rule_line.Wish.TheVariants as wishes
+use Rattle.milter_rules.specs.declared.rule_line.Setting.TheVariants as settings
 use Rattle.milter_ruleset.specs.ActionFits.{edit_in, edits_weight}
-use Rattle.milter_rules.specs.RuleDraft.{LineFollows, ListFollows, RuleFollows, with_line}
+use Rattle.milter_rules.specs.RuleBuilder.{LineFollows, ListFollows, RuleFollows, with_line}
 use Rattle.milter_rules.specs.RuleFile.{CanBeFile, FileParts, actions_in, is_rule, list_in, lists_of, parts_of, protocol_in, rule_in, version_in}
 use Rattle.milter_rules.proofs.FileParts.{none_there, one, other_line, parts_more, rule_rules, rules_by, this_line}
 
@@ -94,44 +94,44 @@ InBounds p =
 
 bounds_more : (before : List RuleLine) (line : RuleLine) → CanBeFile before → LineFollows line (parts_of before)
     → InBounds (with_line line (parts_of before))
-bounds_more before (lines.Wish (wishes.Version version)) can follows = (can.rules, can.edits, can.reply)
-bounds_more before (lines.Wish (wishes.Actions actions)) can follows = (can.rules, can.edits, can.reply)
-bounds_more before (lines.Wish (wishes.Protocol protocol)) can follows = (can.rules, can.edits, can.reply)
-bounds_more before (lines.Wish (wishes.Symbols list)) can follows = (can.rules, can.edits, follows.room)
+bounds_more before (lines.Setting (settings.Version version)) can follows = (can.rules, can.edits, can.reply)
+bounds_more before (lines.Setting (settings.Actions actions)) can follows = (can.rules, can.edits, can.reply)
+bounds_more before (lines.Setting (settings.Protocol protocol)) can follows = (can.rules, can.edits, can.reply)
+bounds_more before (lines.Setting (settings.Symbols list)) can follows = (can.rules, can.edits, follows.room)
 bounds_more before (lines.At stage rule) can follows = (omega (arith, follows.count), follows.weight, can.reply)
 
 lists_more : (before : List RuleLine) (line : RuleLine) (stage : ℕ) → CanBeFile before
     → LineFollows line (parts_of before) → length (lists_of stage (filter_map list_in (before ++ one line))) ≤ 1
-lists_more before (lines.Wish (wishes.Version version)) stage can follows = other_lists before _ stage refl (can.lists stage)
-lists_more before (lines.Wish (wishes.Actions actions)) stage can follows = other_lists before _ stage refl (can.lists stage)
-lists_more before (lines.Wish (wishes.Protocol protocol)) stage can follows = other_lists before _ stage refl (can.lists stage)
-lists_more before (lines.Wish (wishes.Symbols list)) stage can follows =
-    subst (λ ls. length (lists_of stage ls) ≤ 1) (sym (this_line list_in before (lines.Wish (wishes.Symbols list)) list refl))
+lists_more before (lines.Setting (settings.Version version)) stage can follows = other_lists before _ stage refl (can.lists stage)
+lists_more before (lines.Setting (settings.Actions actions)) stage can follows = other_lists before _ stage refl (can.lists stage)
+lists_more before (lines.Setting (settings.Protocol protocol)) stage can follows = other_lists before _ stage refl (can.lists stage)
+lists_more before (lines.Setting (settings.Symbols list)) stage can follows =
+    subst (λ ls. length (lists_of stage ls) ≤ 1) (sym (this_line list_in before (lines.Setting (settings.Symbols list)) list refl))
     (one_of_stage stage list (filter_map list_in before) follows.apart (can.lists stage))
 lists_more before (lines.At at rule) stage can follows = other_lists before _ stage refl (can.lists stage)
 
 version_more : (before : List RuleLine) (line : RuleLine) → CanBeFile before → LineFollows line (parts_of before)
     → length (filter_map version_in (before ++ one line)) ≤ 1
-version_more before (lines.Wish (wishes.Version version)) can follows = now_one version_in before _ version refl follows
-version_more before (lines.Wish (wishes.Actions actions)) can follows = still_one version_in before _ refl can.version
-version_more before (lines.Wish (wishes.Protocol protocol)) can follows = still_one version_in before _ refl can.version
-version_more before (lines.Wish (wishes.Symbols list)) can follows = still_one version_in before _ refl can.version
+version_more before (lines.Setting (settings.Version version)) can follows = now_one version_in before _ version refl follows
+version_more before (lines.Setting (settings.Actions actions)) can follows = still_one version_in before _ refl can.version
+version_more before (lines.Setting (settings.Protocol protocol)) can follows = still_one version_in before _ refl can.version
+version_more before (lines.Setting (settings.Symbols list)) can follows = still_one version_in before _ refl can.version
 version_more before (lines.At stage rule) can follows = still_one version_in before _ refl can.version
 
 actions_more : (before : List RuleLine) (line : RuleLine) → CanBeFile before → LineFollows line (parts_of before)
     → length (filter_map actions_in (before ++ one line)) ≤ 1
-actions_more before (lines.Wish (wishes.Version version)) can follows = still_one actions_in before _ refl can.actions
-actions_more before (lines.Wish (wishes.Actions actions)) can follows = now_one actions_in before _ actions refl follows
-actions_more before (lines.Wish (wishes.Protocol protocol)) can follows = still_one actions_in before _ refl can.actions
-actions_more before (lines.Wish (wishes.Symbols list)) can follows = still_one actions_in before _ refl can.actions
+actions_more before (lines.Setting (settings.Version version)) can follows = still_one actions_in before _ refl can.actions
+actions_more before (lines.Setting (settings.Actions actions)) can follows = now_one actions_in before _ actions refl follows
+actions_more before (lines.Setting (settings.Protocol protocol)) can follows = still_one actions_in before _ refl can.actions
+actions_more before (lines.Setting (settings.Symbols list)) can follows = still_one actions_in before _ refl can.actions
 actions_more before (lines.At stage rule) can follows = still_one actions_in before _ refl can.actions
 
 protocol_more : (before : List RuleLine) (line : RuleLine) → CanBeFile before → LineFollows line (parts_of before)
     → length (filter_map protocol_in (before ++ one line)) ≤ 1
-protocol_more before (lines.Wish (wishes.Version version)) can follows = still_one protocol_in before _ refl can.protocol
-protocol_more before (lines.Wish (wishes.Actions actions)) can follows = still_one protocol_in before _ refl can.protocol
-protocol_more before (lines.Wish (wishes.Protocol protocol)) can follows = now_one protocol_in before _ protocol refl follows
-protocol_more before (lines.Wish (wishes.Symbols list)) can follows = still_one protocol_in before _ refl can.protocol
+protocol_more before (lines.Setting (settings.Version version)) can follows = still_one protocol_in before _ refl can.protocol
+protocol_more before (lines.Setting (settings.Actions actions)) can follows = still_one protocol_in before _ refl can.protocol
+protocol_more before (lines.Setting (settings.Protocol protocol)) can follows = now_one protocol_in before _ protocol refl follows
+protocol_more before (lines.Setting (settings.Symbols list)) can follows = still_one protocol_in before _ refl can.protocol
 protocol_more before (lines.At stage rule) can follows = still_one protocol_in before _ refl can.protocol
 
 pub can_be_more : (before : List RuleLine) (line : RuleLine) → CanBeFile before → LineFollows line (parts_of before)
@@ -195,9 +195,9 @@ list_room list lists more most le =
     omega (arith, le, whole, parts, len)
 
 list_follows : (before after : List RuleLine) (list : SymList)
-    → CanBeFile (before ++ lines.Wish (wishes.Symbols list) ∷ after) → ListFollows list (filter_map list_in before)
+    → CanBeFile (before ++ lines.Setting (settings.Symbols list) ∷ after) → ListFollows list (filter_map list_in before)
 list_follows before after list can =
-    let line = lines.Wish (wishes.Symbols list) in
+    let line = lines.Setting (settings.Symbols list) in
     let whole = filter_map-append list_in before (line ∷ after) in
     record {
       apart = list_apart list (filter_map list_in before) (filter_map list_in after)
@@ -229,11 +229,11 @@ rule_follows before after stage rule can =
 
 pub line_follows : (before after : List RuleLine) (line : RuleLine) → CanBeFile (before ++ line ∷ after)
     → LineFollows line (parts_of before)
-line_follows before after (lines.Wish (wishes.Version version)) can =
-    shorter version_in before after (lines.Wish (wishes.Version version)) version refl can.version
-line_follows before after (lines.Wish (wishes.Actions actions)) can =
-    shorter actions_in before after (lines.Wish (wishes.Actions actions)) actions refl can.actions
-line_follows before after (lines.Wish (wishes.Protocol protocol)) can =
-    shorter protocol_in before after (lines.Wish (wishes.Protocol protocol)) protocol refl can.protocol
-line_follows before after (lines.Wish (wishes.Symbols list)) can = list_follows before after list can
+line_follows before after (lines.Setting (settings.Version version)) can =
+    shorter version_in before after (lines.Setting (settings.Version version)) version refl can.version
+line_follows before after (lines.Setting (settings.Actions actions)) can =
+    shorter actions_in before after (lines.Setting (settings.Actions actions)) actions refl can.actions
+line_follows before after (lines.Setting (settings.Protocol protocol)) can =
+    shorter protocol_in before after (lines.Setting (settings.Protocol protocol)) protocol refl can.protocol
+line_follows before after (lines.Setting (settings.Symbols list)) can = list_follows before after list can
 line_follows before after (lines.At stage rule) can = rule_follows before after stage rule can

@@ -6,7 +6,7 @@ use Rattle.milter_text.specs.LineCursor.{IsNextLine, LinesAhead, NextHasWords}
 use Rattle.milter_text.specs.Words.{HasWords}
 use Rattle.milter_text.proofs.WordLaws.{words_same}
 use Rattle.milter_rules.specs.declared.rule_line.RuleLine.{RuleLine}
-use Rattle.milter_rules.specs.RuleDraft.{LineFollows, with_line}
+use Rattle.milter_rules.specs.RuleBuilder.{LineFollows, with_line}
 use Rattle.milter_rules.specs.RuleFile.{AllGive, CanBeFile, FileParts, FoundAll, LineGives, parts_of}
 use Rattle.milter_rules.specs.RuleLines.{Gives}
 use Rattle.milter_rules.proofs.FileForms.{can_be_more, line_follows, no_lines}

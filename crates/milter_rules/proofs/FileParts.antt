@@ -9,9 +9,9 @@ use Rattle.milter_wire.specs.declared.stage.Stage.TheVariants.{Connect, Helo, Ma
 use Rattle.milter_ruleset.specs.declared.rule.Rule.{Rule}
 use Rattle.milter_rules.specs.declared.rule_line.RuleLine.{RuleLine}
 use Rattle.milter_rules.specs.declared.rule_line.RuleLine.TheVariants as lines
-use Rattle.milter_rules.specs.declared.rule_line.Wish.{Wish}
-use Rattle.milter_rules.specs.declared.rule_line.Wish.TheVariants as wishes
-use Rattle.milter_rules.specs.RuleDraft.{LineFollows, with_line}
+use Rattle.milter_rules.specs.declared.rule_line.Setting.{Setting}
+use Rattle.milter_rules.specs.declared.rule_line.Setting.TheVariants as settings
+use Rattle.milter_rules.specs.RuleBuilder.{LineFollows, with_line}
 use Rattle.milter_rules.specs.RuleFile.{actions_in, is_rule, list_in, parts_of, protocol_in, rule_in, version_in}
 use Rattle.milter_ruleset.specs.StageRules.{by_stage, is_stage, rules_at, with_rule}
 
@@ -66,11 +66,11 @@ rules_at-by f Eob = refl
 abbrev pub rules_by : List RuleLine → Stage → List Rule
 rules_by before stage = filter_map (rule_in stage) before
 
-wish_rules : (before : List RuleLine) (wish : Wish)
-    → by_stage (rules_by (before ++ one (lines.Wish wish))) ≡ by_stage (rules_by before)
-wish_rules before wish =
-    by_stage-same (rules_by (before ++ one (lines.Wish wish))) (rules_by before)
-    (λ stage. other_line (rule_in stage) before (lines.Wish wish) refl)
+setting_rules : (before : List RuleLine) (setting : Setting)
+    → by_stage (rules_by (before ++ one (lines.Setting setting))) ≡ by_stage (rules_by before)
+setting_rules before setting =
+    by_stage-same (rules_by (before ++ one (lines.Setting setting))) (rules_by before)
+    (λ stage. other_line (rule_in stage) before (lines.Setting setting) refl)
 
 more_if : (stage other : Stage) (before : List RuleLine) (rule : Rule) (same : Bool) → is_stage stage other ≡ same
     → rules_by (before ++ one (lines.At stage rule)) other
@@ -99,50 +99,50 @@ rule_rules stage before rule =
 
 pub parts_more : (before : List RuleLine) (line : RuleLine) → LineFollows line (parts_of before)
     → parts_of (before ++ one line) ≡ with_line line (parts_of before)
-parts_more before (lines.Wish (wishes.Version version)) follows =
-    let line = lines.Wish (wishes.Version version) in
+parts_more before (lines.Setting (settings.Version version)) follows =
+    let line = lines.Setting (settings.Version version) in
     rw (
       this_line version_in before line version refl,
       first_there (filter_map version_in before) version follows,
       other_line actions_in before line refl,
       other_line protocol_in before line refl,
       other_line list_in before line refl,
-      wish_rules before (wishes.Version version),
+      setting_rules before (settings.Version version),
       other_rule before line refl,
     )
     refl
-parts_more before (lines.Wish (wishes.Actions actions)) follows =
-    let line = lines.Wish (wishes.Actions actions) in
+parts_more before (lines.Setting (settings.Actions actions)) follows =
+    let line = lines.Setting (settings.Actions actions) in
     rw (
       other_line version_in before line refl,
       this_line actions_in before line actions refl,
       first_there (filter_map actions_in before) actions follows,
       other_line protocol_in before line refl,
       other_line list_in before line refl,
-      wish_rules before (wishes.Actions actions),
+      setting_rules before (settings.Actions actions),
       other_rule before line refl,
     )
     refl
-parts_more before (lines.Wish (wishes.Protocol protocol)) follows =
-    let line = lines.Wish (wishes.Protocol protocol) in
+parts_more before (lines.Setting (settings.Protocol protocol)) follows =
+    let line = lines.Setting (settings.Protocol protocol) in
     rw (
       other_line version_in before line refl,
       other_line actions_in before line refl,
       this_line protocol_in before line protocol refl,
       first_there (filter_map protocol_in before) protocol follows,
       other_line list_in before line refl,
-      wish_rules before (wishes.Protocol protocol),
+      setting_rules before (settings.Protocol protocol),
       other_rule before line refl,
     )
     refl
-parts_more before (lines.Wish (wishes.Symbols list)) follows =
-    let line = lines.Wish (wishes.Symbols list) in
+parts_more before (lines.Setting (settings.Symbols list)) follows =
+    let line = lines.Setting (settings.Symbols list) in
     rw (
       other_line version_in before line refl,
       other_line actions_in before line refl,
       other_line protocol_in before line refl,
       this_line list_in before line list refl,
-      wish_rules before (wishes.Symbols list),
+      setting_rules before (settings.Symbols list),
       other_rule before line refl,
     )
     refl

@@ -22,12 +22,12 @@ use Rattle.milter_exchange.specs.declared.limits.TheConstants.{ACTIONS_MAX, PROT
 use Rattle.milter_ruleset.specs.declared.rule.Rule.{Rule}
 use Rattle.milter_rules.specs.declared.rule_line.RuleLine.{RuleLine}
 use Rattle.milter_rules.specs.declared.rule_line.RuleLine.TheVariants as lines
-use Rattle.milter_rules.specs.declared.rule_line.Wish.TheVariants as wishes
+use Rattle.milter_rules.specs.declared.rule_line.Setting.TheVariants as settings
 use Rattle.milter_ruleset.specs.declared.rule_list.StageRules.{StageRules}
 use Rattle.milter_ruleset.specs.ActionFits.{allowed_at, are_lawful_at, fields_fit, has_room, is_string, may_act}
 use Rattle.milter_rules.specs.ActionText.{action_words}
 use Rattle.milter_rules.specs.RuleFile.{AllGive}
-use Rattle.milter_rules.specs.RuleLines.{Gives, wish_of}
+use Rattle.milter_rules.specs.RuleLines.{Gives, setting_of}
 use Rattle.milter_ruleset.specs.RuleSet.{RuleSet, is_lawful, list_fits, lists_wanted, options_have_room, options_known}
 use Rattle.milter_ruleset.specs.RuleSet.{rules_lawful, wants_within}
 use Rattle.milter_rules.specs.RulesGiven.{CanBeText, list_given, rules_given, stage_count, stage_given}
@@ -63,18 +63,18 @@ lines_give (x ∷ lines) (w ∷ words) (y ∷ values) p q =
 -- ---- options
 
 version_given : (version : ℕ) → nat_le VERSION_MIN version ≡ true → nat_le version VERSION_MAX ≡ true
-    → wish_of (version_words version) ≡ Some (wishes.Version version)
+    → setting_of (version_words version) ≡ Some (settings.Version version)
 version_given version low high =
     let le = leb-true version VERSION_MAX high in
     let few : version < 10 ^ 10 = omega (arith, le) in
     rw (number_read version few, low, high) refl
 
 actions_given : (bits : ℕ) (text : List ℕ) → bits_named actions_table text ≡ Some bits
-    → wish_of (keyword (codes "actions") ∷ keyword text ∷ []) ≡ Some (wishes.Actions (record { 0 = bits }))
+    → setting_of (keyword (codes "actions") ∷ keyword text ∷ []) ≡ Some (settings.Actions (record { 0 = bits }))
 actions_given bits text named = rw named refl
 
 protocol_given : (bits : ℕ) (text : List ℕ) → bits_named protocol_table text ≡ Some bits
-    → wish_of (keyword (codes "protocol") ∷ keyword text ∷ []) ≡ Some (wishes.Protocol (record { 0 = bits }))
+    → setting_of (keyword (codes "protocol") ∷ keyword text ∷ []) ≡ Some (settings.Protocol (record { 0 = bits }))
 protocol_given bits text named = rw named refl
 
 within_all : (all bits : ℕ) → is_within all bits ≡ true → bit_and bits all ≡ bits
@@ -98,8 +98,8 @@ stage_of_number (suc (suc (suc (suc (suc (suc zero)))))) lt = record { stage = m
 stage_of_number (suc (suc (suc (suc (suc (suc (suc n))))))) lt = absurd (omega (arith, lt))
 
 symbols_given : (stage : MacroStage) (names : List ℕ) → is_string names ≡ true
-    → wish_of (symbols_words stage names)
-    ≡ Some (wishes.Symbols (record { stage = macro_stage_number stage; names = names }))
+    → setting_of (symbols_words stage names)
+    ≡ Some (settings.Symbols (record { stage = macro_stage_number stage; names = names }))
 symbols_given macro_stages.Connect names fits = rw fits refl
 symbols_given macro_stages.Helo names fits = rw fits refl
 symbols_given macro_stages.Mail names fits = rw fits refl
@@ -109,10 +109,10 @@ symbols_given macro_stages.Eom names fits = rw fits refl
 symbols_given macro_stages.Eoh names fits = rw fits refl
 
 list_gives : (list : SymList) (n : NumberOf list.stage) → is_string list.names ≡ true
-    → wish_of (symbols_words n.stage list.names) ≡ Some (wishes.Symbols list)
+    → setting_of (symbols_words n.stage list.names) ≡ Some (settings.Symbols list)
 list_gives list n fits =
     symbols_given n.stage list.names fits
-    ∙ ap (λ number. Some (wishes.Symbols (record { stage = number; names = list.names }))) n.back
+    ∙ ap (λ number. Some (settings.Symbols (record { stage = number; names = list.names }))) n.back
 
 lists_give : (lists : List SymList) → list_all list_fits lists ≡ true → All (λ list. list.stage < stage_count) lists
     → AllGiven (filter_map symbols_line lists) (map list_given lists)

@@ -1,7 +1,7 @@
 pub mod ConditionGrammar
 pub mod ConditionRuns
 pub mod LineForms
-pub mod Drafts
+pub mod Builders
 pub mod FileParts
 pub mod FileForms
 pub mod FileLines

@@ -15,11 +15,11 @@ use Rattle.milter_options.proofs.NamedSets.{actions_named, protocol_named}
 use Rattle.milter_exchange.specs.declared.limits.TheConstants.{VERSION_MAX, VERSION_MIN}
 use Rattle.milter_rules.specs.declared.rule_line.RuleLine.{RuleLine}
 use Rattle.milter_rules.specs.declared.rule_line.RuleLine.TheVariants as lines
-use Rattle.milter_rules.specs.declared.rule_line.Wish.{Wish}
-use Rattle.milter_rules.specs.declared.rule_line.Wish.TheVariants as wishes
+use Rattle.milter_rules.specs.declared.rule_line.Setting.{Setting}
+use Rattle.milter_rules.specs.declared.rule_line.Setting.TheVariants as settings
 use Rattle.milter_ruleset.specs.ActionFits.{is_string}
-use Rattle.milter_rules.specs.RuleDraft.{LineFits, WishFits}
-use Rattle.milter_rules.specs.RuleLines.{Gives, actions_of, if_known, if_string, macro_stage_of, option_line, protocol_of, symbols_at, symbols_line, symbols_of, symbols_with, version_of, wish_of}
+use Rattle.milter_rules.specs.RuleBuilder.{LineFits, SettingFits}
+use Rattle.milter_rules.specs.RuleLines.{Gives, actions_of, if_known, if_string, macro_stage_of, option_line, protocol_of, symbols_at, symbols_line, symbols_of, symbols_with, version_of, setting_of}
 use Rattle.milter_ruleset.specs.RuleSet.{list_fits}
 use Rattle.milter_rules.proofs.ConditionGrammar.{bind_some, map_some, some_same}
 
@@ -39,36 +39,36 @@ known_again n v e =
     let kept = kept_if (nat_le VERSION_MIN n && nat_le n VERSION_MAX) n v e in
     subst (λ m. if_known m ≡ Some v) kept.1 e
 
-version_fits : (word : Word) (version : ℕ) → version_of word ≡ Some version → WishFits (wishes.Version version)
+version_fits : (word : Word) (version : ℕ) → version_of word ≡ Some version → SettingFits (settings.Version version)
 version_fits word version e =
     let found = bind_some (number_of word) if_known version e in
     known_again found.0 version found.2
 
-actions_fit : (word : Word) (actions : Actions) → actions_of word ≡ Some actions → WishFits (wishes.Actions actions)
+actions_fit : (word : Word) (actions : Actions) → actions_of word ≡ Some actions → SettingFits (settings.Actions actions)
 actions_fit word actions e =
     let made = map_some (plain_text word >>= bits_named actions_table) (λ bits. record { 0 = bits }) actions e in
     let found = bind_some (plain_text word) (bits_named actions_table) made.0 made.1 in
-    subst (λ a. WishFits (wishes.Actions a)) made.2 (actions_named found.0 made.0 found.2).within
+    subst (λ a. SettingFits (settings.Actions a)) made.2 (actions_named found.0 made.0 found.2).within
 
 protocol_fits : (word : Word) (protocol : Protocol) → protocol_of word ≡ Some protocol
-    → WishFits (wishes.Protocol protocol)
+    → SettingFits (settings.Protocol protocol)
 protocol_fits word protocol e =
     let made = map_some (plain_text word >>= bits_named protocol_table) (λ bits. record { 0 = bits }) protocol e in
     let found = bind_some (plain_text word) (bits_named protocol_table) made.0 made.1 in
-    subst (λ p. WishFits (wishes.Protocol p)) made.2 (protocol_named found.0 made.0 found.2).within
+    subst (λ p. SettingFits (settings.Protocol p)) made.2 (protocol_named found.0 made.0 found.2).within
 
-wish_made : {X : Type 0} (make : X → Wish) (value : Option X) (wish : Wish)
-    → ((x : X) → value ≡ Some x → WishFits (make x)) → option_map make value ≡ Some wish → WishFits wish
-wish_made make value wish fits e = let made = map_some value make wish e in subst WishFits made.2 (fits made.0 made.1)
+setting_made : {X : Type 0} (make : X → Setting) (value : Option X) (setting : Setting)
+    → ((x : X) → value ≡ Some x → SettingFits (make x)) → option_map make value ≡ Some setting → SettingFits setting
+setting_made make value setting fits e = let made = map_some value make setting e in subst SettingFits made.2 (fits made.0 made.1)
 
-option_fits : (first value : Word) (wish : Wish) → option_line first value ≡ Some wish → WishFits wish
-option_fits first value wish e =
-    either (WishFits wish) (is_keyword (codes "version") first) _ _ wish e
-    (wish_made wishes.Version (version_of value) wish (version_fits value)) (λ e.
-    either (WishFits wish) (is_keyword (codes "actions") first) _ _ wish e
-    (wish_made wishes.Actions (actions_of value) wish (actions_fit value)) (λ e.
-    either (WishFits wish) (is_keyword (codes "protocol") first) _ _ wish e
-    (wish_made wishes.Protocol (protocol_of value) wish (protocol_fits value)) (λ e. absurd cc)))
+option_fits : (first value : Word) (setting : Setting) → option_line first value ≡ Some setting → SettingFits setting
+option_fits first value setting e =
+    either (SettingFits setting) (is_keyword (codes "version") first) _ _ setting e
+    (setting_made settings.Version (version_of value) setting (version_fits value)) (λ e.
+    either (SettingFits setting) (is_keyword (codes "actions") first) _ _ setting e
+    (setting_made settings.Actions (actions_of value) setting (actions_fit value)) (λ e.
+    either (SettingFits setting) (is_keyword (codes "protocol") first) _ _ setting e
+    (setting_made settings.Protocol (protocol_of value) setting (protocol_fits value)) (λ e. absurd cc)))
 
 -- ---- symbol lists
 
@@ -91,26 +91,26 @@ list_made : (stage : MacroStage) (names : List ℕ) → is_string names ≡ true
     → list_fits (record { stage = macro_stage_number stage; names = names }) ≡ true
 list_made stage names fits = rw (stage_number stage, fits) refl
 
-symbols_found : (stage names : Word) (wish : Wish) → (macro_stage_of stage >>= symbols_at names) ≡ Some wish → WishFits wish
-symbols_found stage names wish e =
-    let at = bind_some (macro_stage_of stage) (symbols_at names) wish e in
-    wish_made (symbols_with at.0) (symbols_of names) wish
+symbols_found : (stage names : Word) (setting : Setting) → (macro_stage_of stage >>= symbols_at names) ≡ Some setting → SettingFits setting
+symbols_found stage names setting e =
+    let at = bind_some (macro_stage_of stage) (symbols_at names) setting e in
+    setting_made (symbols_with at.0) (symbols_of names) setting
     (λ text named. list_made at.0 text (names_fit names text named)) at.2
 
-symbols_fit : (first stage names : Word) (wish : Wish) → symbols_line first stage names ≡ Some wish → WishFits wish
-symbols_fit first stage names wish e =
-    either (WishFits wish) (is_keyword (codes "symbols") first) (macro_stage_of stage >>= symbols_at names) None wish e
-    (symbols_found stage names wish) (λ e. absurd cc)
+symbols_fit : (first stage names : Word) (setting : Setting) → symbols_line first stage names ≡ Some setting → SettingFits setting
+symbols_fit first stage names setting e =
+    either (SettingFits setting) (is_keyword (codes "symbols") first) (macro_stage_of stage >>= symbols_at names) None setting e
+    (symbols_found stage names setting) (λ e. absurd cc)
 
-wish_fits : (words : List Word) (wish : Wish) → wish_of words ≡ Some wish → WishFits wish
-wish_fits [] wish e = absurd cc
-wish_fits (first ∷ []) wish e = absurd cc
-wish_fits (first ∷ value ∷ []) wish e = option_fits first value wish e
-wish_fits (first ∷ stage ∷ names ∷ []) wish e = symbols_fit first stage names wish e
-wish_fits (a ∷ b ∷ c ∷ d ∷ words) wish e = absurd cc
+setting_fits : (words : List Word) (setting : Setting) → setting_of words ≡ Some setting → SettingFits setting
+setting_fits [] setting e = absurd cc
+setting_fits (first ∷ []) setting e = absurd cc
+setting_fits (first ∷ value ∷ []) setting e = option_fits first value setting e
+setting_fits (first ∷ stage ∷ names ∷ []) setting e = symbols_fit first stage names setting e
+setting_fits (a ∷ b ∷ c ∷ d ∷ words) setting e = absurd cc
 
 -- ---- lines
 
 pub line_fits : (words : List Word) (line : RuleLine) → Gives words line → LineFits line
-line_fits words (lines.Wish wish) gives = wish_fits words wish gives
+line_fits words (lines.Setting setting) gives = setting_fits words setting gives
 line_fits words (lines.At stage rule) gives = gives.2.may

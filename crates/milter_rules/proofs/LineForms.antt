@@ -1,4 +1,4 @@
--- What the words of a line give: the first word decides between a rule and a wish.
+-- What the words of a line give: the first word decides between a rule and a setting.
 use Rattle.std.specs.Prelude.{◌≡◌, ℕ, IsUtf8, option_map, Bool, true, false, List, [], ◌∷◌, codes, Option, None, Some, refl, if◌then◌else◌}
 use Rattle.std.specs.Str.{bytes_eq}
 use Rattle.std.proofs.Common.{ap, sym, subst, ◌∙◌}
@@ -20,7 +20,7 @@ use Rattle.milter_rules.specs.declared.rule_line.RuleLine.TheVariants as lines
 use Rattle.milter_ruleset.specs.ActionFits.{fields_fit}
 use Rattle.milter_rules.specs.ActionWords.{action_of, action_shape, if_fields_fit}
 use Rattle.milter_rules.specs.ConditionWords.{words_after}
-use Rattle.milter_rules.specs.RuleLines.{Gives, HasRule, IsNoText, actions_of, protocol_of, stage_at, wish_of}
+use Rattle.milter_rules.specs.RuleLines.{Gives, HasRule, IsNoText, actions_of, protocol_of, stage_at, setting_of}
 use Rattle.milter_rules.proofs.ConditionGrammar.{after_keyword, bind_some, from_case, map_some, nothing, some_same}
 
 at_word : List ℕ
@@ -28,12 +28,12 @@ at_word = codes "at"
 
 -- ---- the first word
 
-no_wish : (rest : List Word) → wish_of (keyword at_word ∷ rest) ≡ None
+no_setting : (rest : List Word) → setting_of (keyword at_word ∷ rest) ≡ None
 unfolding at_word
-no_wish [] = refl
-no_wish (value ∷ []) = refl
-no_wish (stage ∷ names ∷ []) = refl
-no_wish (a ∷ b ∷ c ∷ rest) = refl
+no_setting [] = refl
+no_setting (value ∷ []) = refl
+no_setting (stage ∷ names ∷ []) = refl
+no_setting (a ∷ b ∷ c ∷ rest) = refl
 
 none_some : {X : Type 0} (o : Option X) (x : X) → o ≡ None → o ≡ Some x → ⊥
 none_some None x e f = cc
@@ -55,8 +55,8 @@ unfolding at_word
 only_rule words rest (lines.At stage rule) after gives =
     let same = rest_same gives.0 rest (keyword at_word) (sym gives.1 ∙ after_keyword at_word words rest after) in
     record { stage = stage; rule = rule; is = refl; has = subst (λ r. HasRule r stage rule) same gives.2 }
-only_rule words rest (lines.Wish wish) after gives =
-    absurd (none_some (wish_of words) wish (ap wish_of (after_keyword at_word words rest after) ∙ no_wish rest) gives)
+only_rule words rest (lines.Setting setting) after gives =
+    absurd (none_some (setting_of words) setting (ap setting_of (after_keyword at_word words rest after) ∙ no_setting rest) gives)
 
 pub rule_given : (words rest : List Word) (stage : Stage) (rule : Rule) → words_after (codes "at") words ≡ Some rest
     → HasRule rest stage rule → Gives words (lines.At stage rule)

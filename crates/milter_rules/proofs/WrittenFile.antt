@@ -12,7 +12,7 @@ use Rattle.milter_stream.specs.declared.number.TheConstants.{PAYLOAD_MAX}
 use Rattle.milter_options.specs.declared.options.TheConstants.Actions.{SETSYMLIST}
 use Rattle.milter_options.specs.declared.symbol_lists.SymList.{SymList}
 use Rattle.milter_options.specs.Payload.{options_with_lists}
-use Rattle.milter_wire.specs.Agreement.{has_bit}
+use Rattle.milter_wire.specs.Negotiation.{has_bit}
 use Rattle.milter_wire.specs.declared.stage.Stage.{Stage}
 use Rattle.milter_wire.specs.declared.stage.Stage.TheVariants as stages
 use Rattle.milter_wire.specs.Stages.{all_stages}
@@ -28,7 +28,7 @@ use Rattle.milter_rules.specs.RulesGiven.{CanBeText, list_given, rules_given, st
 use Rattle.milter_ruleset.specs.RulesLaw.{each_fits}
 use Rattle.milter_rules.specs.RulesText.{rules_text}
 use Rattle.milter_ruleset.specs.StageRules.{by_stage, is_stage, rules_at}
-use Rattle.milter_rules.proofs.Drafts.{reply_len}
+use Rattle.milter_rules.proofs.Builders.{reply_len}
 use Rattle.milter_rules.proofs.GivenRules.{rules_give}
 
 -- ---- what is found of each kind

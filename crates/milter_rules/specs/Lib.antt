@@ -3,7 +3,7 @@ pub mod ActionWords
 pub mod RuleFault
 pub mod RuleLines
 pub mod RuleFile
-pub mod RuleDraft
+pub mod RuleBuilder
 pub mod WordsText
 pub mod ActionText
 pub mod RulesText

@@ -23,10 +23,10 @@ use Rattle.milter_exchange.specs.declared.limits.TheConstants.{VERSION_MAX}
 use Rattle.milter_ruleset.specs.declared.rule.Action.{Action}
 use Rattle.milter_ruleset.specs.declared.rule.Action.TheVariants as actions
 use Rattle.milter_ruleset.specs.declared.rule.Rule.{Rule}
-use Rattle.milter_rules.specs.declared.rule_draft.TheConstants.{RULES_MAX}
+use Rattle.milter_rules.specs.declared.rule_builder.TheConstants.{RULES_MAX}
 use Rattle.milter_rules.specs.declared.rule_line.RuleLine.{RuleLine}
 use Rattle.milter_rules.specs.declared.rule_line.RuleLine.TheVariants as lines
-use Rattle.milter_rules.specs.declared.rule_line.Wish.TheVariants as wishes
+use Rattle.milter_rules.specs.declared.rule_line.Setting.TheVariants as settings
 use Rattle.milter_ruleset.specs.declared.rule_list.StageRules.{StageRules}
 use Rattle.milter_ruleset.specs.ActionFits.{edits_weight}
 use Rattle.milter_rules.specs.RuleLines.{Gives}
@@ -36,28 +36,28 @@ use Rattle.milter_ruleset.specs.StageRules.{by_stage, is_stage}
 -- ---- what one line gives of each kind
 
 abbrev pub version_in : RuleLine → Option ℕ
-version_in (lines.Wish (wishes.Version version)) = Some version
+version_in (lines.Setting (settings.Version version)) = Some version
 version_in line = None
 
 abbrev pub actions_in : RuleLine → Option Actions
-actions_in (lines.Wish (wishes.Actions actions)) = Some actions
+actions_in (lines.Setting (settings.Actions actions)) = Some actions
 actions_in line = None
 
 abbrev pub protocol_in : RuleLine → Option Protocol
-protocol_in (lines.Wish (wishes.Protocol protocol)) = Some protocol
+protocol_in (lines.Setting (settings.Protocol protocol)) = Some protocol
 protocol_in line = None
 
 abbrev pub list_in : RuleLine → Option SymList
-list_in (lines.Wish (wishes.Symbols list)) = Some list
+list_in (lines.Setting (settings.Symbols list)) = Some list
 list_in line = None
 
 abbrev pub rule_in : Stage → RuleLine → Option Rule
 rule_in stage (lines.At other rule) = if is_stage other stage then Some rule else None
-rule_in stage (lines.Wish wish) = None
+rule_in stage (lines.Setting setting) = None
 
 abbrev pub is_rule : RuleLine → Bool
 is_rule (lines.At stage rule) = true
-is_rule (lines.Wish wish) = false
+is_rule (lines.Setting setting) = false
 
 -- ---- what lines give together
 

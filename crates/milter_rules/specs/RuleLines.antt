@@ -15,8 +15,8 @@ use Rattle.milter_exchange.specs.declared.limits.TheConstants.{VERSION_MAX, VERS
 use Rattle.milter_ruleset.specs.declared.rule.Rule.{Rule}
 use Rattle.milter_rules.specs.declared.rule_line.RuleLine.{RuleLine}
 use Rattle.milter_rules.specs.declared.rule_line.RuleLine.TheVariants as lines
-use Rattle.milter_rules.specs.declared.rule_line.Wish.{Wish}
-use Rattle.milter_rules.specs.declared.rule_line.Wish.TheVariants as wishes
+use Rattle.milter_rules.specs.declared.rule_line.Setting.{Setting}
+use Rattle.milter_rules.specs.declared.rule_line.Setting.TheVariants as settings
 use Rattle.milter_ruleset.specs.ActionFits.{is_string, may_act}
 use Rattle.milter_rules.specs.ActionWords.{action_of}
 use Rattle.milter_rules.specs.ConditionWords.{conditions_words}
@@ -42,11 +42,11 @@ abbrev pub protocol_of : Word → Option Protocol
 protocol_of word = option_map (λ bits. record { 0 = bits }) (plain_text word >>= bits_named protocol_table)
 
 -- `version NUMBER`, `actions NAMES` or `protocol NAMES`
-abbrev pub option_line : Word → Word → Option Wish
+abbrev pub option_line : Word → Word → Option Setting
 option_line first value =
-    if is_keyword (codes "version") first then option_map wishes.Version (version_of value)
-    else if is_keyword (codes "actions") first then option_map wishes.Actions (actions_of value)
-    else if is_keyword (codes "protocol") first then option_map wishes.Protocol (protocol_of value)
+    if is_keyword (codes "version") first then option_map settings.Version (version_of value)
+    else if is_keyword (codes "actions") first then option_map settings.Actions (actions_of value)
+    else if is_keyword (codes "protocol") first then option_map settings.Protocol (protocol_of value)
     else None
 
 -- ---- symbol lists
@@ -63,21 +63,21 @@ abbrev pub symbols_of : Word → Option (List ℕ)
 symbols_of word = text_of word >>= if_string
 
 -- `symbols STAGE TEXT`
-abbrev pub symbols_with : MacroStage → List ℕ → Wish
-symbols_with stage names = wishes.Symbols (record { stage = macro_stage_number stage; names = names })
+abbrev pub symbols_with : MacroStage → List ℕ → Setting
+symbols_with stage names = settings.Symbols (record { stage = macro_stage_number stage; names = names })
 
-abbrev pub symbols_at : Word → MacroStage → Option Wish
+abbrev pub symbols_at : Word → MacroStage → Option Setting
 symbols_at names stage = option_map (symbols_with stage) (symbols_of names)
 
-abbrev pub symbols_line : Word → Word → Word → Option Wish
+abbrev pub symbols_line : Word → Word → Word → Option Setting
 symbols_line first stage names =
     if is_keyword (codes "symbols") first then macro_stage_of stage >>= symbols_at names else None
 
 -- what the filter wants by a line of options, or of a symbol list
-abbrev pub wish_of : List Word → Option Wish
-wish_of (first ∷ value ∷ []) = option_line first value
-wish_of (first ∷ stage ∷ names ∷ []) = symbols_line first stage names
-wish_of _ = None
+abbrev pub setting_of : List Word → Option Setting
+setting_of (first ∷ value ∷ []) = option_line first value
+setting_of (first ∷ stage ∷ names ∷ []) = symbols_line first stage names
+setting_of _ = None
 
 -- ---- rules
 
@@ -99,4 +99,4 @@ pub record HasRule (words : List Word) (stage : Stage) (rule : Rule) : Type 0 wh
 abbrev pub Gives : List Word → RuleLine → Type 0
 Gives words (lines.At stage rule) =
     (rest : List Word) × (words ≡ keyword (codes "at") ∷ rest) × HasRule rest stage rule
-Gives words (lines.Wish wish) = wish_of words ≡ Some wish
+Gives words (lines.Setting setting) = setting_of words ≡ Some setting

@@ -4,10 +4,10 @@ use Rattle.std.specs.List.{flat_map}
 use Rattle.milter_options.specs.declared.symbol_lists.SymList.{SymList}
 use Rattle.milter_wire.specs.declared.stage.Stage.{Stage}
 use Rattle.milter_wire.specs.Stages.{all_stages}
-use Rattle.milter_rules.specs.declared.rule_draft.TheConstants.{RULES_MAX}
+use Rattle.milter_rules.specs.declared.rule_builder.TheConstants.{RULES_MAX}
 use Rattle.milter_rules.specs.declared.rule_line.RuleLine.{RuleLine}
 use Rattle.milter_rules.specs.declared.rule_line.RuleLine.TheVariants as lines
-use Rattle.milter_rules.specs.declared.rule_line.Wish.TheVariants as wishes
+use Rattle.milter_rules.specs.declared.rule_line.Setting.TheVariants as settings
 use Rattle.milter_ruleset.specs.declared.rule_list.StageRules.{StageRules}
 use Rattle.milter_rules.specs.RuleFile.{lists_of}
 use Rattle.milter_ruleset.specs.RuleSet.{RuleSet}
@@ -16,7 +16,7 @@ use Rattle.milter_ruleset.specs.StageRules.{rules_at}
 use Rattle.milter_rules.specs.WordsText.{HasBytes}
 
 abbrev pub list_given : SymList → RuleLine
-list_given list = lines.Wish (wishes.Symbols list)
+list_given list = lines.Setting (settings.Symbols list)
 
 abbrev pub stage_given : StageRules → Stage → List RuleLine
 stage_given rules stage = map (lines.At stage) (rules_at rules stage)
@@ -24,9 +24,9 @@ stage_given rules stage = map (lines.At stage) (rules_at rules stage)
 -- the version, the actions, the protocol, each symbol list, and the rules stage by stage
 abbrev pub rules_given : RuleSet → List RuleLine
 rules_given set =
-    lines.Wish (wishes.Version set.options.version)
-    ∷ lines.Wish (wishes.Actions set.options.actions)
-    ∷ lines.Wish (wishes.Protocol set.options.protocol)
+    lines.Setting (settings.Version set.options.version)
+    ∷ lines.Setting (settings.Actions set.options.actions)
+    ∷ lines.Setting (settings.Protocol set.options.protocol)
     ∷ (map list_given set.lists ++ flat_map (stage_given set.rules) all_stages)
 
 -- the number of stages that have macros: a symbol list with a smaller number is of such a stage

@@ -50,7 +50,7 @@ pub record CanBeLine (words : List Word) : Type 0 where
   pub writable : All CanBeWritten words
   pub stands : is_skipped (words_text words) ≡ false
 
--- ---- words that are lent
+-- ---- words that are borrowed
 
 abbrev pub word_of : WordRef → Word
 word_of (Plain text) = keyword text.now

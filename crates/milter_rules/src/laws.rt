@@ -9,7 +9,7 @@ ghost use Rattle.milter_ruleset.specs.declared.rule.Action.{Action};
 ghost use Rattle.milter_ruleset.specs.ActionFits.{fields_fit};
 ghost use Rattle.milter_rules.specs.ActionText.{action_words};
 ghost use Rattle.milter_rules.specs.ActionWords.{action_of};
-ghost use Rattle.milter_rules.specs.declared.rule_draft.TheConstants.{RULES_MAX};
+ghost use Rattle.milter_rules.specs.declared.rule_builder.TheConstants.{RULES_MAX};
 ghost use Rattle.milter_rules.specs.RuleFile.{IsRuleFile};
 ghost use Rattle.milter_ruleset.specs.RuleSet.{RuleSet, is_lawful};
 ghost use Rattle.milter_rules.specs.RulesGiven.{CanBeText};

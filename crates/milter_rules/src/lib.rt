@@ -5,7 +5,7 @@
 mod action_words;
 mod condition_words;
 mod laws;
-mod rule_draft;
+mod rule_builder;
 mod rule_fault;
 mod rule_file;
 mod rule_line;
@@ -16,7 +16,7 @@ pub use laws::{lines_of_written_words, rule_limit, words_of_actions, written_rul
 pub use milter_ruleset::{
     Action, Condition, Conditions, Field, Rule, RuleList, Rules, StageRules, Test,
 };
-pub use rule_draft::RULES_MAX;
+pub use rule_builder::RULES_MAX;
 pub use rule_fault::RuleFault;
 pub use rule_file::read_rules;
 pub use rules_text::write_rules;

@@ -10,7 +10,7 @@ ghost use Rattle.milter_ruleset.specs.RuleSet.{RuleSet};
 ghost use Rattle.milter_ruleset.specs.RulesValue.{case_of, rule_set};
 ghost use Rattle.milter_search.specs.declared.text_case.TextCase.TheVariants.{Exact};
 
-use crate::rule_draft::Draft;
+use crate::rule_builder::Builder;
 use crate::rule_fault::RuleFault;
 use crate::rule_line::line_in;
 use milter_ruleset::Rules;
@@ -33,8 +33,7 @@ use std::alloc::Global;
 /// in quotes, and all else is plain.
 ///
 /// The fault is at the first line that isn't of this form, or by which the rules would be none: out of memory aside,
-/// there is one exactly where the file has no rules. Beside the rules, memory is taken for the words of one line at a
-/// time.
+/// there is one exactly where the file has no rules. Beside the rules, the words of one line at a time are allocated.
 pub fn read_rules(alloc: Global, bytes: &[u8]) -> Result<Rules, RuleFault>
     // What is read is what the file gives.
     ensures found { IfOk result (λ rules. IsRuleFile bytes.now (rule_set rules)) }
@@ -47,21 +46,21 @@ pub fn read_rules(alloc: Global, bytes: &[u8]) -> Result<Rules, RuleFault>
     ensures line { IfErr result (IsWithin (length (lines_of bytes.now))) }
 {
     let mut lines = LineCursor::new(bytes);
-    let draft = read_lines(alloc, &mut lines)?;
-    Ok(draft.into_rules())
+    let builder = read_lines(alloc, &mut lines)?;
+    Ok(builder.into_rules())
 }
 
 /// What the lines give together.
-fn read_lines(alloc: Global, lines: &mut LineCursor<'_>) -> Result<Draft, RuleFault>
-    ensures found { IfOk result (λ draft. FoundAll lines.old.lines draft) }
+fn read_lines(alloc: Global, lines: &mut LineCursor<'_>) -> Result<Builder, RuleFault>
+    ensures found { IfOk result (λ builder. FoundAll lines.old.lines builder) }
     ensures only { (values : List RuleLine) → AllGive lines.old.lines values → CanBeFile values →
-        MatchResult result (λ draft. draft ≡ parts_of values) (λ e. e ≡ RuleFault.NoMemory) }
+        MatchResult result (λ builder. builder ≡ parts_of values) (λ e. e ≡ RuleFault.NoMemory) }
     ensures within { IfErr result (IsBefore lines.old.end) }
 {
-    let mut draft = Draft::new(alloc);
+    let mut builder = Builder::new(alloc);
     while let Some(line) = lines.next(alloc)? {
         let value = line_in(alloc, &line)?;
-        draft.add(value, line.number)?;
+        builder.add(value, line.number)?;
     }
-    Ok(draft)
+    Ok(builder)
 }

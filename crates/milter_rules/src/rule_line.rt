@@ -11,7 +11,7 @@ ghost use Rattle.milter_rules.specs.declared.rule_line.RuleLine.{RuleLine};
 ghost use Rattle.milter_ruleset.specs.ActionFits.{may_act};
 ghost use Rattle.milter_rules.specs.ActionWords.{action_of};
 ghost use Rattle.milter_rules.specs.RuleFault.{IsAt};
-ghost use Rattle.milter_rules.specs.RuleLines.{Gives, HasRule, IsNoText, actions_of, macro_stage_of, option_line, protocol_of, stage_at, symbols_line, symbols_of, version_of, wish_of};
+ghost use Rattle.milter_rules.specs.RuleLines.{Gives, HasRule, IsNoText, actions_of, macro_stage_of, option_line, protocol_of, stage_at, symbols_line, symbols_of, version_of, setting_of};
 
 use crate::action_words::action_in;
 use crate::condition_words::{conditions_in, words_after};
@@ -25,7 +25,7 @@ use std::alloc::Global;
 
 /// What a filter wants.
 #[derive(Drop)]
-pub(crate) enum Wish {
+pub(crate) enum Setting {
     /// This version.
     Version(u32),
     /// These actions.
@@ -40,7 +40,7 @@ pub(crate) enum Wish {
 #[derive(Drop)]
 pub(crate) enum RuleLine {
     /// What the filter wants.
-    Wish(Wish),
+    Setting(Setting),
     /// A rule of a stage.
     At(Stage, Rule),
 }
@@ -59,15 +59,15 @@ pub(crate) fn line_in(alloc: Global, line: &FileLine) -> Result<RuleLine, RuleFa
         let (stage, rule) = rule_in(alloc, rest, line.number)?;
         return Ok(RuleLine::At(stage, rule));
     }
-    match wish_in(alloc, words)? {
-        Some(wish) => Ok(RuleLine::Wish(wish)),
+    match setting_in(alloc, words)? {
+        Some(setting) => Ok(RuleLine::Setting(setting)),
         None => Err(RuleFault::UnknownWord(line.number)),
     }
 }
 
 /// What a line of options or of a symbol list gives.
-fn wish_in(alloc: Global, words: &[Word]) -> Result<Option<Wish>, NoMemory>
-    ensures { IfOk result (λ wish. wish ≡ wish_of words.now) }
+fn setting_in(alloc: Global, words: &[Word]) -> Result<Option<Setting>, NoMemory>
+    ensures { IfOk result (λ setting. setting ≡ setting_of words.now) }
 {
     match words {
         [first, value] => Ok(option_in(first, value)),
@@ -77,15 +77,15 @@ fn wish_in(alloc: Global, words: &[Word]) -> Result<Option<Wish>, NoMemory>
 }
 
 /// What a line of options gives.
-fn option_in(first: &Word, value: &Word) -> Option<Wish>
+fn option_in(first: &Word, value: &Word) -> Option<Setting>
     ensures { result ≡ option_line first.now value.now }
 {
     if first.is_keyword(b"version") {
-        version_in(value).map(Wish::Version)
+        version_in(value).map(Setting::Version)
     } else if first.is_keyword(b"actions") {
-        actions_in(value).map(Wish::Actions)
+        actions_in(value).map(Setting::Actions)
     } else if first.is_keyword(b"protocol") {
-        protocol_in(value).map(Wish::Protocol)
+        protocol_in(value).map(Setting::Protocol)
     } else {
         None
     }
@@ -133,8 +133,8 @@ fn symbols_in(
     first: &Word,
     stage: &Word,
     names: &Word,
-) -> Result<Option<Wish>, NoMemory>
-    ensures { IfOk result (λ wish. wish ≡ symbols_line first.now stage.now names.now) }
+) -> Result<Option<Setting>, NoMemory>
+    ensures { IfOk result (λ setting. setting ≡ symbols_line first.now stage.now names.now) }
 {
     if !first.is_keyword(b"symbols") {
         return Ok(None);
@@ -144,7 +144,7 @@ fn symbols_in(
     };
     let names = Text::copy_of(alloc, names.as_slice())?;
     let stage = stage.number();
-    Ok(Some(Wish::Symbols(SymList { stage, names })))
+    Ok(Some(Setting::Symbols(SymList { stage, names })))
 }
 
 /// The stage that has macros, by its word.

@@ -5,7 +5,7 @@ ghost use Rattle.std.specs.Io.KnownBytes.{Appends};
 ghost use Rattle.std.specs.List.{flat_map};
 ghost use Rattle.milter_text.specs.TextWriter.{Puts};
 ghost use Rattle.milter_text.specs.WordValues.{keyword};
-ghost use Rattle.milter_text.specs.Writing.{WritesPrefix};
+ghost use Rattle.milter_text.specs.WrittenText.{WritesPrefix};
 ghost use Rattle.milter_rules.specs.ActionText.{action_words, edit_words, indexed_words, texts_words};
 ghost use Rattle.milter_rules.specs.ConditionWords.{condition_words, conditions_words};
 ghost use Rattle.milter_rules.specs.RulesText.{macro_stage_numbered, options_text, rule_text, rules_text};

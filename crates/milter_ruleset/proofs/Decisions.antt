@@ -9,7 +9,7 @@ use Rattle.milter_ruleset.specs.declared.rule.Action.TheVariants as actions
 use Rattle.milter_ruleset.specs.declared.rule.Rule.{Rule}
 use Rattle.milter_search.specs.declared.text_case.TextCase.{TextCase}
 use Rattle.milter_ruleset.specs.Conditions.{applies}
-use Rattle.milter_ruleset.specs.Reading.{actions_of, answer_by, decided, with_edits}
+use Rattle.milter_ruleset.specs.Decisions.{actions_of, answer_by, decided, with_edits}
 
 -- the actions where the first rule applies, and where it doesn't
 first_action : (does : Bool) (rule : Rule) (others : List Rule) → does ≡ true

@@ -6,7 +6,7 @@ use Rattle.milter_wire.specs.declared.verdict.Verdict.TheVariants as verdicts
 use Rattle.milter_message.specs.declared.edit.Edit.{Edit}
 use Rattle.milter_ruleset.specs.declared.rule.Action.{Action}
 use Rattle.milter_ruleset.specs.declared.rule.Action.TheVariants as actions
-use Rattle.milter_ruleset.specs.Reading.{answer_by, with_edits}
+use Rattle.milter_ruleset.specs.Decisions.{answer_by, with_edits}
 
 pub first_verdict : (edits : List Edit) (verdict : Verdict) (later : List Action)
     → answer_by (map actions.Edit edits ++ actions.Verdict verdict ∷ later) ≡ record { edits = edits; verdict = verdict }

@@ -1,7 +1,7 @@
 pub mod RuleNames
 pub mod StageRules
 pub mod Conditions
-pub mod Reading
+pub mod Decisions
 pub mod ActionFits
 pub mod RuleSet
 pub mod RulesLaw

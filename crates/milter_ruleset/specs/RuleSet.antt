@@ -8,14 +8,14 @@ use Rattle.milter_options.specs.declared.symbol_lists.SymList.{SymList}
 use Rattle.milter_options.specs.Bits.{is_within}
 use Rattle.milter_options.specs.Payload.{options_with_lists}
 use Rattle.milter_wire.specs.declared.stage.Stage.TheVariants.{Connect, Helo, Mail, Rcpt, DataCmd, Header, Eoh, Body, Eob}
-use Rattle.milter_wire.specs.Agreement.{has_bit}
+use Rattle.milter_wire.specs.Negotiation.{has_bit}
 use Rattle.milter_message.specs.declared.message.TheConstants.{WEIGHT_MAX}
 use Rattle.milter_exchange.specs.declared.limits.TheConstants.{ACTIONS_MAX, PROTOCOL_MAX, VERSION_MAX, VERSION_MIN}
 use Rattle.milter_exchange.specs.Behavior.{Behavior}
 use Rattle.milter_ruleset.specs.declared.rule_list.StageRules.{StageRules}
 use Rattle.milter_search.specs.declared.text_case.TextCase.{TextCase}
 use Rattle.milter_ruleset.specs.ActionFits.{are_lawful_at, edits_weight, is_string}
-use Rattle.milter_ruleset.specs.Reading.{decided}
+use Rattle.milter_ruleset.specs.Decisions.{decided}
 use Rattle.milter_ruleset.specs.StageRules.{no_rules, rules_at}
 
 pub record RuleSet : Type 0 where
@@ -23,7 +23,7 @@ pub record RuleSet : Type 0 where
   pub lists : List SymList
   pub rules : StageRules
 
--- no rules, and no wishes
+-- no rules, and no settings
 abbrev pub no_rule_set : RuleSet
 no_rule_set =
     record {

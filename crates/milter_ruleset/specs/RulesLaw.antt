@@ -16,7 +16,7 @@ use Rattle.milter_wire.specs.declared.stage.Stage.TheVariants as stages
 use Rattle.milter_wire.specs.declared.verdict.Verdict.{Verdict}
 use Rattle.milter_wire.specs.declared.verdict.Verdict.TheVariants.{Continue, Accept, Reject, Tempfail, Discard, Skip, Code}
 use Rattle.milter_options.specs.declared.options.TheConstants.Actions.{SETSYMLIST}
-use Rattle.milter_wire.specs.Agreement.{has_bit}
+use Rattle.milter_wire.specs.Negotiation.{has_bit}
 use Rattle.milter_wire.specs.Reply.{FieldsFit, Fits}
 use Rattle.milter_wire.specs.Verdicts as verdict_replies
 use Rattle.milter_wire.specs.Verdicts.{given_at}
@@ -36,7 +36,7 @@ use Rattle.milter_ruleset.specs.declared.rule_list.StageRules.{StageRules}
 use Rattle.milter_search.specs.declared.text_case.TextCase.{TextCase}
 use Rattle.milter_ruleset.specs.ActionFits.{allowed_at, are_lawful_at, edit_fits, edit_in, edits_weight, fields_fit, has_room, is_string, is_string_or_none, may_act, reply_of, verdict_fits}
 use Rattle.milter_ruleset.specs.Conditions.{applies}
-use Rattle.milter_ruleset.specs.Reading.{answer_by, decided}
+use Rattle.milter_ruleset.specs.Decisions.{answer_by, decided}
 use Rattle.milter_ruleset.specs.RuleSet.{RuleSet, behavior_of, is_lawful, list_fits, lists_wanted, no_rule_set, options_known, rules_lawful, wants_within}
 use Rattle.milter_stream.specs.Number.{number}
 use Rattle.milter_ruleset.specs.StageRules.{rules_at}

@@ -10,7 +10,7 @@ use milter_wire::{HEAD_LEN, Header, PAYLOAD_MAX, Stage, Text, Verdict, string_le
 
 impl Action {
     /// Whether the action may be done at the stage: edits at the end of a message alone, and a verdict where it is
-    /// given. No memory is taken.
+    /// given. Doesn't allocate.
     pub fn is_allowed_at(&self, stage: Stage) -> bool
         ensures { result ≡ allowed_at stage self.now }
     {
@@ -20,8 +20,8 @@ impl Action {
         }
     }
 
-    /// Whether no text of the action has a NUL but that of a body, and a code begins with `4` or `5` and two digits. No
-    /// memory is taken.
+    /// Whether no text of the action has a NUL but that of a body, and a code begins with `4` or `5` and two digits.
+    /// Doesn't allocate.
     pub fn fields_fit(&self) -> bool
         ensures { result ≡ fields_fit self.now }
     {
@@ -31,7 +31,7 @@ impl Action {
         }
     }
 
-    /// Whether the packet of the action has room for it: its length field is at most 65,536. No memory is taken.
+    /// Whether the packet of the action has room for it: its length field is at most 65,536. Doesn't allocate.
     #[tactic(auto, unfolding(milter_stream::specs::Number::number))]
     pub fn has_room(&self) -> bool
         ensures { result ≡ has_room self.now }
@@ -96,7 +96,7 @@ fn is_string_or_none(text: &Option<Text>) -> bool
     }
 }
 
-/// Whether the text has no NUL, so that a string can carry it. No memory is taken.
+/// Whether the text has no NUL, so that a string can carry it. Doesn't allocate.
 pub fn is_string(text: &Text) -> bool
     ensures { result ≡ is_string text.now }
 {

@@ -6,7 +6,7 @@ ghost use Rattle.milter_wire.specs.declared.verdict.Verdict.TheVariants as verdi
 ghost use Rattle.milter_message.specs.declared.edit.Edit.{Edit};
 ghost use Rattle.milter_ruleset.specs.declared.rule.Action.{Action};
 ghost use Rattle.milter_ruleset.specs.declared.rule.Action.TheVariants as actions;
-ghost use Rattle.milter_ruleset.specs.Reading.{answer_by};
+ghost use Rattle.milter_ruleset.specs.Decisions.{answer_by};
 
 /// What the actions of the rules that apply come to.
 pub fn answers_of_actions()

@@ -3,7 +3,7 @@
 #![tactic(auto)]
 
 mod action_fits;
-mod deciding;
+mod decision;
 mod laws;
 mod places;
 mod rule;

@@ -30,7 +30,7 @@ pub enum Field {
 }
 
 impl Field {
-    /// The word of the field in rule files, without the name of a header field or of a macro. No memory is taken.
+    /// The word of the field in rule files, without the name of a header field or of a macro. Doesn't allocate.
     pub fn name(&self) -> &'static [u8]
         ensures { result.now ≡ field_name self.now }
     {
@@ -91,14 +91,14 @@ impl Model for Conditions {
 impl Conditions {
     ghost use Rattle.std.specs.Prelude.{◌≡◌};
 
-    /// These conditions. They aren't copied, and no memory is taken.
+    /// These conditions. Neither copies nor allocates.
     pub fn new(conditions: Vec<Condition>) -> Self
         ensures { result ≡ conditions.items }
     {
         Conditions { conditions }
     }
 
-    /// The conditions, in order. No memory is taken.
+    /// The conditions, in order. Doesn't allocate.
     pub fn as_slice(&self) -> &[Condition]
         ensures { result.now ≡ self.now }
     {

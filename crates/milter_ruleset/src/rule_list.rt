@@ -24,7 +24,7 @@ impl Model for RuleList {
 }
 
 impl RuleList {
-    /// No rules. No memory is taken.
+    /// No rules. Doesn't allocate.
     pub fn new(alloc: Global) -> Self
         ensures { result ≡ [] }
     {
@@ -33,7 +33,7 @@ impl RuleList {
         }
     }
 
-    /// The rules, in order. No memory is taken.
+    /// The rules, in order. Doesn't allocate.
     pub fn as_slice(&self) -> &[Rule]
         ensures { result.now ≡ self.now }
     {
@@ -67,14 +67,14 @@ pub struct StageRules {
     pub header: RuleList,
     /// Those of the end of the header.
     pub eoh: RuleList,
-    /// Those of a piece of the body.
+    /// Those of a chunk of the body.
     pub body: RuleList,
     /// Those of the end of a message.
     pub eob: RuleList,
 }
 
 impl StageRules {
-    /// No rules. No memory is taken.
+    /// No rules. Doesn't allocate.
     pub fn new(alloc: Global) -> Self
         ensures { result ≡ no_rules }
     {
@@ -91,7 +91,7 @@ impl StageRules {
         }
     }
 
-    /// The rules of the stage, in order. No memory is taken.
+    /// The rules of the stage, in order. Doesn't allocate.
     pub fn at(&self, stage: Stage) -> &[Rule]
         ensures { result.now ≡ rules_at self.now stage }
     {

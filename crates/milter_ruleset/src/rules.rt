@@ -3,7 +3,7 @@
 ghost use Rattle.std.specs.Prelude.{◌≡◌, true};
 ghost use Rattle.milter_ruleset.specs.RuleSet.{is_lawful};
 
-use crate::deciding::{decide_by, search_by};
+use crate::decision::{decide_by, search_by};
 use crate::rule::Rule;
 use crate::rule_list::StageRules;
 use milter_filter::{Answer, Policy, Seen, TextCase, VERSION_MAX};
@@ -32,7 +32,7 @@ impl Rules {
     ghost use Rattle.milter_ruleset.specs.StageRules.{rules_at};
 
     /// No rules: the filter wants version 6 without any bit, and answers `Continue` to all, as
-    /// [`Pass`](milter_filter::Pass) does. No memory is taken.
+    /// [`Pass`](milter_filter::Pass) does. Doesn't allocate.
     pub fn new(alloc: Global) -> Self
         ensures set { rule_set result ≡ no_rule_set }
         ensures case { case_of result ≡ Exact }
@@ -51,8 +51,8 @@ impl Rules {
 
     /// These rules, with what the filter wants. They are lawful: of a known version and known bits, with symbol lists
     /// only where [`Actions::SETSYMLIST`] is among the actions; the reply with all of it fits a packet; each rule may
-    /// do what it does at its stage; and the packets of all edits have at most 16,777,216 bytes. Nothing is copied, and
-    /// no memory is taken.
+    /// do what it does at its stage; and the packets of all edits have at most 16,777,216 bytes. Neither copies nor
+    /// allocates.
     pub fn from_parts(options: Options, lists: SymLists, rules: StageRules) -> Self
         requires { is_lawful (record { options = options; lists = lists; rules = rules }) ≡ true }
         ensures set { rule_set result ≡ record { options = options; lists = lists; rules = rules } }
@@ -86,21 +86,21 @@ impl Rules {
         self.case
     }
 
-    /// What the filter wants. No memory is taken.
+    /// What the filter wants. Doesn't allocate.
     pub fn options(&self) -> Options
         ensures { result ≡ (rule_set self.now).options }
     {
         self.options
     }
 
-    /// The macros that the filter wants. No memory is taken.
+    /// The macros that the filter wants. Doesn't allocate.
     pub fn lists(&self) -> &[SymList]
         ensures { result.now ≡ (rule_set self.now).lists }
     {
         self.lists.as_slice()
     }
 
-    /// The rules of the stage, in the order in which they are looked at. No memory is taken.
+    /// The rules of the stage, in the order in which they are looked at. Doesn't allocate.
     pub fn at(&self, stage: Stage) -> &[Rule]
         ensures { result.now ≡ rules_at (rule_set self.now).rules stage }
     {

@@ -3,7 +3,7 @@ use Rattle.std.proofs.Common.{◌≡◌, suc, Bool, true, false, not, if◌then�
 use Rattle.std.proofs.lemmas.List.Elements.{All-cons, All-nil}
 use Rattle.milter_outcome.specs.declared.loss.By.{By}
 use Rattle.milter_outcome.specs.declared.report.Report.{Report}
-use Rattle.milter_schedule.specs.TalkReports.{count_reports, is_known}
+use Rattle.milter_schedule.specs.DialogueReports.{count_reports, is_known}
 
 abbrev pub is_other : By → Bool
 is_other by = not (is_known by)

@@ -4,7 +4,7 @@ use Rattle.std.specs.List.{AllZip}
 use Rattle.std.specs.Option.{option_map}
 use Rattle.std.proofs.lemmas.Bool.{true≢false}
 use Rattle.milter_message.specs.MailObject.{MailObject}
-use Rattle.milter_wire.specs.Agreement.{has_leading_space}
+use Rattle.milter_wire.specs.Negotiation.{has_leading_space}
 use Rattle.milter_exchange.specs.Exchanges.{Exchange}
 use Rattle.milter_outcome.specs.declared.loss.By.{By}
 use Rattle.milter_outcome.specs.declared.loss.By.TheVariants.{Connection, Default, Filter}
@@ -12,8 +12,8 @@ use Rattle.milter_outcome.specs.declared.loss.Loss.{Loss}
 use Rattle.milter_outcome.specs.declared.loss.Loss.TheVariants as losses
 use Rattle.milter_outcome.specs.declared.outcome.Outcome.{Outcome}
 use Rattle.milter_outcome.specs.declared.report.Report.{Report}
-use Rattle.milter_outcome.specs.Walks.{acted, ruled}
-use Rattle.milter_mta.specs.Settling.{report}
+use Rattle.milter_outcome.specs.Dialogues.{acted, ruled}
+use Rattle.milter_mta.specs.Dispositions.{report}
 use Rattle.milter_walk.specs.Sessions.{settled_through}
 use Rattle.milter_walk.specs.Settled.{ends_with_client}
 use Rattle.milter_schedule.specs.declared.event.Event.{Event}
@@ -22,8 +22,8 @@ use Rattle.milter_schedule.specs.declared.state.Counts.{Counts}
 use Rattle.milter_schedule.specs.declared.state.State.{State}
 use Rattle.milter_schedule.specs.declared.state.State.TheVariants.{Idle, Linked, Done}
 use Rattle.milter_schedule.specs.Schedule.{Scenario, after_all, happens, happens_linked, entries_at}
-use Rattle.milter_schedule.specs.TalkReports.{IsRuledBy, agreed_of, count_events, count_reports, walk_about}
-use Rattle.milter_transcript.specs.Transcript.{Entry, default_reports, default_within, reports_within}
+use Rattle.milter_schedule.specs.DialogueReports.{IsRuledBy, negotiated_of, count_events, count_reports, dialogue_about}
+use Rattle.milter_transcript.specs.ConnectionEntries.{Entry, default_reports, default_within, reports_within}
 
 -- of some kind of cause, each event adds at most so many
 module _ (is_by : By → Bool) (is_event : Event → Bool) (not_filter : is_by Filter ≡ false) (not_client : is_by Connection ≡ false)
@@ -47,11 +47,11 @@ module _ (is_by : By → Bool) (is_event : Event → Bool) (not_filter : is_by F
       by_client false = not_filter
 
   ruled-not : (p : Scenario) (message : MailObject) (r : Report) → IsRuledBy p message r → is_by r.settled_by ≡ false
-  ruled-not p message r e = by_found (ruled (has_leading_space (agreed_of p)) message (walk_about p message)) e
+  ruled-not p message r e = by_found (ruled (has_leading_space (negotiated_of p)) message (dialogue_about p message)) e
     where
-      by_found : (found : Option Outcome) → option_map (λ outcome. report (acted (walk_about p message)) outcome (settled_through (walk_about p message))) found ≡ Some r → is_by r.settled_by ≡ false
+      by_found : (found : Option Outcome) → option_map (λ outcome. report (acted (dialogue_about p message)) outcome (settled_through (dialogue_about p message))) found ≡ Some r → is_by r.settled_by ≡ false
       by_found None e = absurd cc
-      by_found (Some o) e = subst (λ (x : Report). is_by x.settled_by ≡ false) (let same : report (acted (walk_about p message)) o (settled_through (walk_about p message)) ≡ r = cc in same) (through (walk_about p message))
+      by_found (Some o) e = subst (λ (x : Report). is_by x.settled_by ≡ false) (let same : report (acted (dialogue_about p message)) o (settled_through (dialogue_about p message)) ≡ r = cc in same) (through (dialogue_about p message))
 
   pub none-ruled : (p : Scenario) (xs : List MailObject) (rs : List Report) → AllZip (IsRuledBy p) xs rs → count rs ≡ 0
   none-ruled p [] [] all = refl
@@ -68,9 +68,9 @@ module _ (is_by : By → Bool) (is_event : Event → Bool) (not_filter : is_by F
       by_kind true e = omega arith
       by_kind false e = e
 
-  given-one : (p : Scenario) (loss : Loss) (left : List MailObject) (walk : List Exchange) → count (default_reports p.config.on_loss loss left walk) ≤ (if is_by (Default loss) then 1 else 0)
-  given-one p loss [] walk = omega arith
-  given-one p loss (m ∷ left) walk = omega arith
+  given-one : (p : Scenario) (loss : Loss) (left : List MailObject) (dialogue : List Exchange) → count (default_reports p.config.on_loss loss left dialogue) ≤ (if is_by (Default loss) then 1 else 0)
+  given-one p loss [] dialogue = omega arith
+  given-one p loss (m ∷ left) dialogue = omega arith
 
   le-if : (a b : Bool) → (b ≡ false → a ≡ false) → (if a then 1 else 0) ≤ (if b then 1 else 0)
   le-if true true f = omega arith
@@ -90,9 +90,9 @@ module _ (is_by : By → Bool) (is_event : Event → Bool) (not_filter : is_by F
         of-turns (entry ∷ entries) h = by_past (nat_le (length entry.line.back) h) (of-turns entries (h - length entry.line.back))
           where
             by_past : (k : Bool) → count (default_within p.config.on_loss loss entries (h - length entry.line.back)) ≤ (if is_by (Default loss) then 1 else 0)
-                → count (if k then default_within p.config.on_loss loss entries (h - length entry.line.back) else default_reports p.config.on_loss loss entry.left entry.walk) ≤ (if is_by (Default loss) then 1 else 0)
+                → count (if k then default_within p.config.on_loss loss entries (h - length entry.line.back) else default_reports p.config.on_loss loss entry.left entry.dialogue) ≤ (if is_by (Default loss) then 1 else 0)
             by_past true e = e
-            by_past false e = given-one p loss entry.left entry.walk
+            by_past false e = given-one p loss entry.left entry.dialogue
 
     one-linked : (i : ℕ) (c : Counts) (event : Event) → count (happens_linked p i c event).reports ≤ at-most event
     unfolding at-most
@@ -101,12 +101,12 @@ module _ (is_by : By → Bool) (is_event : Event → Bool) (not_filter : is_by F
     one-linked i c (ToFilter n) = omega arith
     one-linked i c (Answer n) = omega arith
     one-linked i c (ToMta n) =
-        let d = count-drop (length (reports_within (entries_at p i) c.heard)) (reports_within (entries_at p i) (min (c.heard + n) c.answered)) in
-        let z = settled-none i (min (c.heard + n) c.answered) in
+        let d = count-drop (length (reports_within (entries_at p i) c.received)) (reports_within (entries_at p i) (min (c.received + n) c.answered)) in
+        let z = settled-none i (min (c.received + n) c.answered) in
         omega arith
     one-linked i c Die = omega arith
-    one-linked i c Lose = let o = lost-one losses.Reset i c.heard in let l = le-if (is_by (Default losses.Reset)) (is_event Lose) reset in omega arith
-    one-linked i c Timeout = let o = lost-one losses.Timeout i c.heard in let l = le-if (is_by (Default losses.Timeout)) (is_event Timeout) timeout in omega arith
+    one-linked i c Lose = let o = lost-one losses.Reset i c.received in let l = le-if (is_by (Default losses.Reset)) (is_event Lose) reset in omega arith
+    one-linked i c Timeout = let o = lost-one losses.Timeout i c.received in let l = le-if (is_by (Default losses.Timeout)) (is_event Timeout) timeout in omega arith
 
     one : (s : State) (event : Event) → count (happens p s event).reports ≤ at-most event
     unfolding at-most

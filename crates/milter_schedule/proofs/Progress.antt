@@ -8,24 +8,24 @@ use Rattle.milter_outcome.specs.declared.report.Report.{Report}
 use Rattle.milter_exchange.specs.Exchanges.{Exchange}
 use Rattle.milter_walk.specs.Lines.{Line}
 use Rattle.milter_transcript.specs.ByteCounts.{due, packet_end, to_filter, to_mta}
-use Rattle.milter_transcript.specs.Transcript.{Entry, default_reports, default_within, reports_within}
+use Rattle.milter_transcript.specs.ConnectionEntries.{Entry, default_reports, default_within, reports_within}
 use Rattle.milter_transcript.proofs.ByteCounting.{by_lt, due-le, owed-mono, packet_end-due}
-use Rattle.milter_transcript.proofs.TranscriptLines.{lines-are, session-ends}
+use Rattle.milter_transcript.proofs.EntryLines.{lines-are, session-ends}
 use Rattle.milter_schedule.specs.declared.event.Event.{Event}
 use Rattle.milter_schedule.specs.declared.event.Event.TheVariants.{Dial, Send, ToFilter, Answer, ToMta, Die, Lose, Timeout}
 use Rattle.milter_schedule.specs.declared.state.Counts.{Counts}
 use Rattle.milter_schedule.specs.declared.state.State.{State}
 use Rattle.milter_schedule.specs.declared.state.State.TheVariants.{Idle, Linked, Done}
 use Rattle.milter_schedule.specs.Schedule.{After, Scenario, after_all, entries_at, first, gives_up, happens, idle_at, lines_at, loses, sends, sent_to}
-use Rattle.milter_schedule.specs.TalkReports.{IsRuledBy, count_events, is_lose, is_timeout}
-use Rattle.milter_schedule.proofs.EntryAccounts.{Accounts, TalkLaws, all-ruled, session}
+use Rattle.milter_schedule.specs.DialogueReports.{IsRuledBy, count_events, is_lose, is_timeout}
+use Rattle.milter_schedule.proofs.EntryAccounts.{Accounts, DialogueLaws, all-ruled, session}
 use Rattle.milter_schedule.proofs.RunReports.{IsAtState, Sound, at-happens, at-first, sound-happens, sound-idle, zip-length}
 
 -- ---- a loss over the entries of a connection
 
-default-length : (p : Scenario) (loss : Loss) (left : List MailObject) (walk : List Exchange) → length (default_reports p.config.on_loss loss left walk) ≡ min 1 (length left)
-default-length p loss [] walk = omega arith
-default-length p loss (message ∷ left) walk = omega arith
+default-length : (p : Scenario) (loss : Loss) (left : List MailObject) (dialogue : List Exchange) → length (default_reports p.config.on_loss loss left dialogue) ≡ min 1 (length left)
+default-length p loss [] dialogue = omega arith
+default-length p loss (message ∷ left) dialogue = omega arith
 
 -- one more report, where a message is left
 lost-length : (p : Scenario) (loss : Loss) (entries : List Entry) (left : List MailObject) → Accounts p left entries → (h : ℕ)
@@ -36,10 +36,10 @@ lost-length p loss (entry ∷ entries) left acc h =
     by_lt h n
     (λ wait.
     let none : reports_within (entry ∷ entries) h ≡ [] = rw (lt-leb n h wait) refl in
-    let lost : default_within p.config.on_loss loss (entry ∷ entries) h ≡ default_reports p.config.on_loss loss entry.left entry.walk = rw (lt-leb n h wait) refl in
+    let lost : default_within p.config.on_loss loss (entry ∷ entries) h ≡ default_reports p.config.on_loss loss entry.left entry.dialogue = rw (lt-leb n h wait) refl in
     let a = ap length none in
     let b = ap length lost in
-    let d = default-length p loss entry.left entry.walk in
+    let d = default-length p loss entry.left entry.dialogue in
     let e = ap length acc.0 in
     omega arith)
     (λ past.
@@ -54,7 +54,7 @@ lost-length p loss (entry ∷ entries) left acc h =
     let g = zip-length (IsRuledBy p) acc.2.1.done entry.reports acc.2.1.each in
     omega arith)
 
-module _ (p : Scenario) (laws : TalkLaws p) where
+module _ (p : Scenario) (laws : DialogueLaws p) where
   abbrev pub whole : ℕ
   whole = length p.session.messages
 
@@ -71,49 +71,49 @@ module _ (p : Scenario) (laws : TalkLaws p) where
       by_some true is = ltb-true i whole is
       by_some false is = let ge = ltb-false i whole is in omega arith
 
-  -- where all was sent all was heard
-  all-settled : (i : ℕ) (c : Counts) → due (lines_at p i) c.heard ≡ length (to_filter (lines_at p i)) → length (reports_within (entries_at p i) c.heard) ≡ length (drop i p.session.messages)
+  -- where all was sent all was received
+  all-settled : (i : ℕ) (c : Counts) → due (lines_at p i) c.received ≡ length (to_filter (lines_at p i)) → length (reports_within (entries_at p i) c.received) ≡ length (drop i p.session.messages)
   all-settled i c e =
       let messages = drop i p.session.messages in
       let same = lines-are p.filter p.config.offer p.session messages in
-      let ends : length (to_mta (lines_at p i)) ≤ c.heard =
-      subst (λ (lines : List Line). due lines c.heard ≡ length (to_filter lines) → length (to_mta lines) ≤ c.heard) (sym same) (session-ends p.filter p.config.offer p.session messages c.heard) e in
-      sym (zip-length (IsRuledBy p) messages (reports_within (entries_at p i) c.heard) (all-ruled p (entries_at p i) messages (session p laws messages) c.heard ends))
+      let ends : length (to_mta (lines_at p i)) ≤ c.received =
+      subst (λ (lines : List Line). due lines c.received ≡ length (to_filter lines) → length (to_mta lines) ≤ c.received) (sym same) (session-ends p.filter p.config.offer p.session messages c.received) e in
+      sym (zip-length (IsRuledBy p) messages (reports_within (entries_at p i) c.received) (all-ruled p (entries_at p i) messages (session p laws messages) c.received ends))
 
   -- ---- the last bytes of a connection
 
-  last-due : (i : ℕ) (c : Counts) (n : ℕ) → Sound p laws (Linked i c) → c.sent < due (lines_at p i) c.heard
-      → min (c.sent + n) (packet_end (lines_at p i) c.sent) ≡ length (to_filter (lines_at p i)) → due (lines_at p i) c.heard ≡ length (to_filter (lines_at p i))
+  last-due : (i : ℕ) (c : Counts) (n : ℕ) → Sound p laws (Linked i c) → c.sent < due (lines_at p i) c.received
+      → min (c.sent + n) (packet_end (lines_at p i) c.sent) ≡ length (to_filter (lines_at p i)) → due (lines_at p i) c.received ≡ length (to_filter (lines_at p i))
   last-due i c n ok early all =
       let a = ok.0 in let b = ok.1 in
       let m = owed-mono (lines_at p i) c.taken c.sent ok.2 in
-      let d = packet_end-due (lines_at p i) c.sent c.heard early (omega arith) in
-      let l = due-le (lines_at p i) c.heard in
+      let d = packet_end-due (lines_at p i) c.sent c.received early (omega arith) in
+      let l = due-le (lines_at p i) c.received in
       omega arith
 
   left-sent : (i : ℕ) (c : Counts) (n : ℕ) (reports : List Report) → Sound p laws (Linked i c) → IsAtState p laws (Linked i c) reports → i < whole
       → Left (sends (lines_at p i) i c n) (reports ++ [])
-  left-sent i c n reports ok h less = by_due (nat_lt c.sent (due (lines_at p i) c.heard)) refl
+  left-sent i c n reports ok h less = by_due (nat_lt c.sent (due (lines_at p i) c.received)) refl
     where
       by_all : (s : ℕ) (all : Bool) → (s == length (to_filter (lines_at p i))) ≡ all
-          → (s ≡ length (to_filter (lines_at p i)) → due (lines_at p i) c.heard ≡ length (to_filter (lines_at p i)))
+          → (s ≡ length (to_filter (lines_at p i)) → due (lines_at p i) c.received ≡ length (to_filter (lines_at p i)))
           → Left (if all then Done else Linked i (record c { sent = s })) (reports ++ [])
       by_all s false e last = less
       by_all s true e last =
           let settled = all-settled i c (last (eqb-true s (length (to_filter (lines_at p i))) e)) in
           let d = length-drop i p.session.messages in
           let a = ap length h.3 in
-          let b = length-append h.0 (reports_within (entries_at p i) c.heard) in
+          let b = length-append h.0 (reports_within (entries_at p i) c.received) in
           let k = h.2 in
           let z = ap length (append-nil reports) in
           omega arith
 
-      by_due : (early : Bool) → nat_lt c.sent (due (lines_at p i) c.heard) ≡ early
+      by_due : (early : Bool) → nat_lt c.sent (due (lines_at p i) c.received) ≡ early
           → Left (if early then sent_to (lines_at p i) i c (min (c.sent + n) (packet_end (lines_at p i) c.sent)) else Linked i c) (reports ++ [])
       by_due false e = less
       by_due true e =
           by_all (min (c.sent + n) (packet_end (lines_at p i) c.sent)) (min (c.sent + n) (packet_end (lines_at p i) c.sent) == length (to_filter (lines_at p i))) refl
-          (last-due i c n ok (ltb-true c.sent (due (lines_at p i) c.heard) e))
+          (last-due i c n ok (ltb-true c.sent (due (lines_at p i) c.received) e))
 
   -- ---- one event
 
@@ -136,9 +136,9 @@ module _ (p : Scenario) (laws : TalkLaws p) where
 
   loses-one : (i : ℕ) (c : Counts) (reports : List Report) (loss : Loss) → IsAtState p laws (Linked i c) reports → i < whole → Moves reports 1 (loses p i c loss).state (loses p i c loss).reports
   loses-one i c reports loss h less =
-      let sw = reports_within (entries_at p i) c.heard in
-      let lw = default_within p.config.on_loss loss (entries_at p i) c.heard in
-      let l = lost-length p loss (entries_at p i) (drop i p.session.messages) (session p laws (drop i p.session.messages)) c.heard in
+      let sw = reports_within (entries_at p i) c.received in
+      let lw = default_within p.config.on_loss loss (entries_at p i) c.received in
+      let l = lost-length p loss (entries_at p i) (drop i p.session.messages) (session p laws (drop i p.session.messages)) c.received in
       let d = length-drop i p.session.messages in
       let a = ap length h.3 in
       let b = length-append h.0 sw in

@@ -55,16 +55,16 @@ module _ (p : Scenario) (settled : ℕ) (n : ℕ) (some : 0 < n) where
     by_sent state e = ap (λ (s : State). (rest (rs ++ []) s).state) e
 
     pub round-moves : (whole.state ≡ Done) ⊎ MovesOn lines settled c whole.state
-    round-moves = by_lt c.sent (due lines c.heard)
+    round-moves = by_lt c.sent (due lines c.received)
         (λ early.
         let picks : sends lines settled c n ≡ sent_to lines settled c sent_bytes =
-        ap (λ (b : Bool). if b then sent_to lines settled c sent_bytes else Linked settled c) (lt-ltb c.sent (due lines c.heard) early) in
+        ap (λ (b : Bool). if b then sent_to lines settled c sent_bytes else Linked settled c) (lt-ltb c.sent (due lines c.received) early) in
         by_end early picks (sent_bytes == length (to_filter lines)) refl)
         (λ late.
         let stays_so : sends lines settled c n ≡ Linked settled c =
-        ap (λ (b : Bool). if b then sent_to lines settled c sent_bytes else Linked settled c) (le-ltb c.sent (due lines c.heard) late) in
+        ap (λ (b : Bool). if b then sent_to lines settled c sent_bytes else Linked settled c) (le-ltb c.sent (due lines c.received) late) in
         let d = counts.sent in
-        let at_due : c.sent ≡ due lines c.heard = omega arith in
+        let at_due : c.sent ≡ due lines c.received = omega arith in
         inr (record {
           next = after_round lines c n;
           state_is = by_sent (Linked settled c) stays_so ∙ rest-linked (rs ++ []) c lives;
@@ -72,14 +72,14 @@ module _ (p : Scenario) (settled : ℕ) (n : ℕ) (some : 0 < n) where
           less = waits-moves lines c counts n some at_due;
         }))
       where
-        by_end : c.sent < due lines c.heard → sends lines settled c n ≡ sent_to lines settled c sent_bytes → (ends : Bool) → (sent_bytes == length (to_filter lines)) ≡ ends
+        by_end : c.sent < due lines c.received → sends lines settled c n ≡ sent_to lines settled c sent_bytes → (ends : Bool) → (sent_bytes == length (to_filter lines)) ≡ ends
             → (whole.state ≡ Done) ⊎ MovesOn lines settled c whole.state
         by_end early picks true at =
             inl (by_sent Done (picks ∙ ap (λ (b : Bool). if b then Done else Linked settled (record c { sent = sent_bytes })) at))
         by_end early picks false at =
-            let a = counts.heard in let b = counts.answered in let d = owed-mono lines c.taken c.sent counts.taken in
-            let e = packet_end-due lines c.sent c.heard early (omega arith) in
-            let f = due-le lines c.heard in
+            let a = counts.received in let b = counts.answered in let d = owed-mono lines c.taken c.sent counts.taken in
+            let e = packet_end-due lines c.sent c.received early (omega arith) in
+            let f = due-le lines c.received in
             let short : sent_bytes < length (to_filter lines) = not_all (sent_bytes) (length (to_filter lines)) at (omega arith) in
             inr (record {
               next = after_round lines (record c { sent = sent_bytes }) n;

@@ -1,17 +1,17 @@
--- The reports of a schedule are of the talks.
+-- The reports of a schedule are of the dialogues.
 use Rattle.std.proofs.Common.{◌≡◌, inl, inr, ℕ, ◌+◌, ◌-◌, ◌≤◌, ◌<◌, Bool, true, false, if◌then◌else◌, nat_lt, ◌==◌, min, List, [], ◌∷◌, ◌++◌, drop, length, refl, sym, ◌∙◌, ap, subst, arith, append-nil, append_assoc, length-append}
 use Rattle.std.specs.List.{AllZip}
 use Rattle.std.proofs.lemmas.Bool.{le-ltb, lt-leb}
 use Rattle.milter_message.specs.MailObject.{MailObject}
 use Rattle.milter_mail.specs.Plan.{plan}
-use Rattle.milter_exchange.specs.Talk.{talk}
+use Rattle.milter_exchange.specs.Dialogue.{dialogue_with}
 use Rattle.milter_outcome.specs.declared.loss.Loss.{Loss}
 use Rattle.milter_outcome.specs.declared.report.Report.{Report}
 use Rattle.milter_stream.specs.Number.{number}
 use Rattle.milter_wire.specs.declared.reply.Reply.{Reply}
 use Rattle.milter_wire.specs.Reply.{code_of, encoding, payload_of}
 use Rattle.milter_exchange.specs.Replies.{options_reply}
-use Rattle.milter_schedule.specs.TalkReports.{AreReported, IsDefaultAfter, IsRuledBy, IsReportOf, agreed_of}
+use Rattle.milter_schedule.specs.DialogueReports.{AreReported, IsDefaultAfter, IsRuledBy, IsReportOf, negotiated_of}
 use Rattle.milter_schedule.specs.declared.event.Event.{Event}
 use Rattle.milter_schedule.specs.declared.event.Event.TheVariants.{Dial, Send, ToFilter, Answer, ToMta, Die, Lose, Timeout}
 use Rattle.milter_schedule.specs.declared.state.Counts.{Counts}
@@ -19,11 +19,11 @@ use Rattle.milter_schedule.specs.declared.state.State.{State}
 use Rattle.milter_schedule.specs.declared.state.State.TheVariants.{Idle, Linked, Done}
 use Rattle.milter_outcome.specs.declared.loss.Loss.TheVariants as losses
 use Rattle.milter_transcript.specs.ByteCounts.{due, owed, packet_end, to_filter}
-use Rattle.milter_schedule.specs.Schedule.{Scenario, after_all, first, gives_up, happens, happens_linked, hears, idle_at, if_lives, lines_at, loses, run_reports, sends, sent_to, entries_at}
-use Rattle.milter_transcript.specs.Transcript.{default_reports, default_within, transcript, reports_within}
-use Rattle.milter_exchange.proofs.WholeTalks.{talk-some}
+use Rattle.milter_schedule.specs.Schedule.{Scenario, after_all, first, gives_up, happens, happens_linked, receives_bytes, idle_at, if_lives, lines_at, loses, run_reports, sends, sent_to, entries_at}
+use Rattle.milter_transcript.specs.ConnectionEntries.{default_reports, default_within, connection_entries, reports_within}
+use Rattle.milter_exchange.proofs.WholeDialogues.{dialogue_with-some}
 use Rattle.milter_transcript.proofs.ByteCounting.{by_lt, lt-ltb, owed-mono, packet_end-more}
-use Rattle.milter_schedule.proofs.EntryAccounts.{Settles, TalkLaws, added, drop-past, given-up, session, within, zip-append}
+use Rattle.milter_schedule.proofs.EntryAccounts.{Settles, DialogueLaws, added, drop-past, given-up, session, within, zip-append}
 
 pub zip-length : {A B : Type 0} (R : A → B → Type 0) (xs : List A) (ys : List B) → AllZip R xs ys → length xs ≡ length ys
 zip-length R [] [] all = refl
@@ -31,8 +31,8 @@ zip-length R [] (y ∷ ys) all = absurd all
 zip-length R (x ∷ xs) [] all = absurd all
 zip-length R (x ∷ xs) (y ∷ ys) all = let r = zip-length R xs ys all.1 in omega arith
 
-module _ (p : Scenario) (laws : TalkLaws p) where
-  -- so many are settled, each as told
+module _ (p : Scenario) (laws : DialogueLaws p) where
+  -- so many are settled, each as reported
   pub record Reported (messages : List MailObject) (reports : List Report) (left : List MailObject) : Type 0 where
     pub done : List MailObject
     pub messages_are : messages ≡ done ++ left
@@ -55,7 +55,7 @@ module _ (p : Scenario) (laws : TalkLaws p) where
   IsAtState (Idle i) reports = Reported p.session.messages reports (drop i p.session.messages) × (length reports ≡ i)
   IsAtState (Linked i c) reports =
       (before : List Report) × Reported p.session.messages before (drop i p.session.messages) × (length before ≡ i)
-      × (reports ≡ before ++ reports_within (entries_at p i) c.heard)
+      × (reports ≡ before ++ reports_within (entries_at p i) c.received)
   IsAtState Done reports = (left : List MailObject) × Reported p.session.messages reports left
 
   reported-ruled : (reports us : List Report) (left rest : List MailObject) → Reported p.session.messages reports left → Settles p left (IsRuledBy p) us rest → Reported p.session.messages (reports ++ us) rest
@@ -90,16 +90,16 @@ module _ (p : Scenario) (laws : TalkLaws p) where
 
   at-done : (i : ℕ) (c : Counts) (reports : List Report) → IsAtState (Linked i c) reports → IsAtState Done reports
   at-done i c reports h =
-      let w = within p (entries_at p i) (drop i p.session.messages) (session p laws (drop i p.session.messages)) c.heard in
-      (w.rest, subst (λ (l : List Report). Reported p.session.messages l w.rest) (sym h.3) (reported-ruled h.0 (reports_within (entries_at p i) c.heard) (drop i p.session.messages) w.rest h.1 w.settled))
+      let w = within p (entries_at p i) (drop i p.session.messages) (session p laws (drop i p.session.messages)) c.received in
+      (w.rest, subst (λ (l : List Report). Reported p.session.messages l w.rest) (sym h.3) (reported-ruled h.0 (reports_within (entries_at p i) c.received) (drop i p.session.messages) w.rest h.1 w.settled))
 
-  -- nothing more is heard
-  at-same : (i : ℕ) (c k : Counts) (reports : List Report) → k.heard ≡ c.heard → IsAtState (Linked i c) reports → IsAtState (Linked i k) (reports ++ [])
+  -- nothing more is received
+  at-same : (i : ℕ) (c k : Counts) (reports : List Report) → k.received ≡ c.received → IsAtState (Linked i c) reports → IsAtState (Linked i k) (reports ++ [])
   at-same i c k reports e h =
       (h.0, h.1, h.2, append-nil reports ∙ h.3 ∙ ap (λ (n : ℕ). h.0 ++ reports_within (entries_at p i) n) (sym e))
 
   at-sent : (i : ℕ) (c : Counts) (reports : List Report) (n : ℕ) → IsAtState (Linked i c) reports → IsAtState (sends (lines_at p i) i c n) (reports ++ [])
-  at-sent i c reports n h = by_due (nat_lt c.sent (due (lines_at p i) c.heard))
+  at-sent i c reports n h = by_due (nat_lt c.sent (due (lines_at p i) c.received))
     where
       by_all : (s : ℕ) (all : Bool) → IsAtState (if all then Done else Linked i (record c { sent = s })) (reports ++ [])
       by_all s true = subst (λ (l : List Report). IsAtState Done l) (sym (append-nil reports)) (at-done i c reports h)
@@ -112,9 +112,9 @@ module _ (p : Scenario) (laws : TalkLaws p) where
   at-lost : (i : ℕ) (c : Counts) (reports : List Report) (loss : Loss) → IsAtState (Linked i c) reports → IsAtState (loses p i c loss).state (reports ++ (loses p i c loss).reports)
   unfolding within at-done
   at-lost i c reports loss h =
-      let sw = reports_within (entries_at p i) c.heard in
-      let lw = default_within p.config.on_loss loss (entries_at p i) c.heard in
-      let w = within p (entries_at p i) (drop i p.session.messages) (session p laws (drop i p.session.messages)) c.heard in
+      let sw = reports_within (entries_at p i) c.received in
+      let lw = default_within p.config.on_loss loss (entries_at p i) c.received in
+      let w = within p (entries_at p i) (drop i p.session.messages) (session p laws (drop i p.session.messages)) c.received in
       let now = (at-done i c reports h).1 in
       let l = w.lost loss in
       let a = ap length h.3 in
@@ -127,25 +127,25 @@ module _ (p : Scenario) (laws : TalkLaws p) where
       → IsAtState (gives_up p i (default_reports p.config.on_loss loss (drop i p.session.messages) [])).state (reports ++ default_reports p.config.on_loss loss (drop i p.session.messages) [])
   at-given_up i reports loss h =
       let us = default_reports p.config.on_loss loss (drop i p.session.messages) [] in
-      let g = given-up p loss (drop i p.session.messages) [] (λ message others e. (record { more = talk p.filter (agreed_of p) [] (plan (agreed_of p) p.session message); whole = refl }, talk-some p.filter (agreed_of p) [] (plan (agreed_of p) p.session message) (laws.plan_end message))) in
+      let g = given-up p loss (drop i p.session.messages) [] (λ message others e. (record { more = dialogue_with p.filter (negotiated_of p) [] (plan (negotiated_of p) p.session message); whole = refl }, dialogue_with-some p.filter (negotiated_of p) [] (plan (negotiated_of p) p.session message) (laws.plan_end message))) in
       let d = length-append reports us in
       let e = h.1 in
       at-idle (i + length us) (reports ++ us) g.0 (reported-lost reports us (drop i p.session.messages) g.0 h.0 g.1) (omega arith)
 
-  at-heard : (i : ℕ) (c : Counts) (reports : List Report) (n : ℕ) → c.heard ≤ n → IsAtState (Linked i c) reports → IsAtState (hears p i c n).state (reports ++ (hears p i c n).reports)
-  at-heard i c reports n le h =
-      let e : c.heard + (n - c.heard) ≡ n = omega arith in (
+  at-received : (i : ℕ) (c : Counts) (reports : List Report) (n : ℕ) → c.received ≤ n → IsAtState (Linked i c) reports → IsAtState (receives_bytes p i c n).state (reports ++ (receives_bytes p i c n).reports)
+  at-received i c reports n le h =
+      let e : c.received + (n - c.received) ≡ n = omega arith in (
         h.0,
         h.1,
         h.2,
-        ap (λ (l : List Report). l ++ drop (length (reports_within (entries_at p i) c.heard)) (reports_within (entries_at p i) n)) h.3
-            ∙ append_assoc h.0 (reports_within (entries_at p i) c.heard) (drop (length (reports_within (entries_at p i) c.heard)) (reports_within (entries_at p i) n))
+        ap (λ (l : List Report). l ++ drop (length (reports_within (entries_at p i) c.received)) (reports_within (entries_at p i) n)) h.3
+            ∙ append_assoc h.0 (reports_within (entries_at p i) c.received) (drop (length (reports_within (entries_at p i) c.received)) (reports_within (entries_at p i) n))
             ∙ ap (λ (l : List Report). h.0 ++ l)
-            (ap (λ (k : ℕ). reports_within (entries_at p i) c.heard ++ drop (length (reports_within (entries_at p i) c.heard)) (reports_within (entries_at p i) k)) (sym e)
-            ∙ added (entries_at p i) c.heard (n - c.heard) ∙ ap (reports_within (entries_at p i)) e),
+            (ap (λ (k : ℕ). reports_within (entries_at p i) c.received ++ drop (length (reports_within (entries_at p i) c.received)) (reports_within (entries_at p i) k)) (sym e)
+            ∙ added (entries_at p i) c.received (n - c.received) ∙ ap (reports_within (entries_at p i)) e),
       )
 
-  at-linked : (i : ℕ) (c : Counts) (reports : List Report) (event : Event) → c.heard ≤ c.answered → IsAtState (Linked i c) reports
+  at-linked : (i : ℕ) (c : Counts) (reports : List Report) (event : Event) → c.received ≤ c.answered → IsAtState (Linked i c) reports
       → IsAtState (happens_linked p i c event).state (reports ++ (happens_linked p i c event).reports)
   at-linked i c reports Dial le h = at-same i c c reports refl h
   at-linked i c reports (Send n) le h = at-sent i c reports n h
@@ -159,7 +159,7 @@ module _ (p : Scenario) (laws : TalkLaws p) where
       by_lives : (lives : Bool) → IsAtState (Linked i (if_lives lives c (record c { answered = min (c.answered + n) (owed (lines_at p i) c.taken) }))) (reports ++ [])
       by_lives true = at-same i c (record c { answered = min (c.answered + n) (owed (lines_at p i) c.taken) }) reports refl h
       by_lives false = at-same i c c reports refl h
-  at-linked i c reports (ToMta n) le h = at-heard i c reports (min (c.heard + n) c.answered) (omega arith) h
+  at-linked i c reports (ToMta n) le h = at-received i c reports (min (c.received + n) c.answered) (omega arith) h
   at-linked i c reports Die le h = at-same i c (record c { lives = false }) reports refl h
   at-linked i c reports Lose le h = at-lost i c reports losses.Reset h
   at-linked i c reports Timeout le h = at-lost i c reports losses.Timeout h
@@ -167,7 +167,7 @@ module _ (p : Scenario) (laws : TalkLaws p) where
   -- ---- the counts are sound
 
   abbrev pub Sound : State → Type 0
-  Sound (Linked i c) = (c.heard ≤ c.answered) × (c.answered ≤ owed (lines_at p i) c.taken) × (c.taken ≤ c.sent)
+  Sound (Linked i c) = (c.received ≤ c.answered) × (c.answered ≤ owed (lines_at p i) c.taken) × (c.taken ≤ c.sent)
   Sound other = Unit {0}
 
   pub sound-idle : (i : ℕ) → Sound (idle_at p i)
@@ -178,13 +178,13 @@ module _ (p : Scenario) (laws : TalkLaws p) where
       by_some false = tt
 
   sound-sent : (i : ℕ) (c : Counts) (n : ℕ) → Sound (Linked i c) → Sound (sends (lines_at p i) i c n)
-  sound-sent i c n ok = by_lt c.sent (due (lines_at p i) c.heard)
-      (λ early. subst (λ (b : Bool). Sound (if b then sent_to (lines_at p i) i c (min (c.sent + n) (packet_end (lines_at p i) c.sent)) else Linked i c)) (sym (lt-ltb c.sent (due (lines_at p i) c.heard) early))
+  sound-sent i c n ok = by_lt c.sent (due (lines_at p i) c.received)
+      (λ early. subst (λ (b : Bool). Sound (if b then sent_to (lines_at p i) i c (min (c.sent + n) (packet_end (lines_at p i) c.sent)) else Linked i c)) (sym (lt-ltb c.sent (due (lines_at p i) c.received) early))
       (by_all (min (c.sent + n) (packet_end (lines_at p i) c.sent)) (min (c.sent + n) (packet_end (lines_at p i) c.sent) == length (to_filter (lines_at p i)))
       (let a = ok.0 in let b = ok.1 in let d = ok.2 in
       let m = owed-mono (lines_at p i) c.taken c.sent ok.2 in
-      let e = packet_end-more (lines_at p i) c.sent c.heard early (omega arith) in omega arith)))
-      (λ late. subst (λ (b : Bool). Sound (if b then sent_to (lines_at p i) i c (min (c.sent + n) (packet_end (lines_at p i) c.sent)) else Linked i c)) (sym (le-ltb c.sent (due (lines_at p i) c.heard) late)) ok)
+      let e = packet_end-more (lines_at p i) c.sent c.received early (omega arith) in omega arith)))
+      (λ late. subst (λ (b : Bool). Sound (if b then sent_to (lines_at p i) i c (min (c.sent + n) (packet_end (lines_at p i) c.sent)) else Linked i c)) (sym (le-ltb c.sent (due (lines_at p i) c.received) late)) ok)
     where
       by_all : (s : ℕ) (all : Bool) → c.sent ≤ s → Sound (if all then Done else Linked i (record c { sent = s }))
       by_all s true le = tt
@@ -233,9 +233,9 @@ module _ (p : Scenario) (laws : TalkLaws p) where
       some-bytes : (r : Reply) → 0 < length (encoding r)
       some-bytes r = let is = length-append (number (length (payload_of r) + 1)) (code_of r ∷ payload_of r) in omega arith
 
-      of-messages : (l : List MailObject) → reports_within (transcript p.filter p.config.offer p.session l) 0 ≡ []
+      of-messages : (l : List MailObject) → reports_within (connection_entries p.filter p.config.offer p.session l) 0 ≡ []
       of-messages [] = refl
-      of-messages (message ∷ l) = rw (lt-leb (length (encoding (options_reply (agreed_of p)))) 0 (some-bytes (options_reply (agreed_of p)))) refl
+      of-messages (message ∷ l) = rw (lt-leb (length (encoding (options_reply (negotiated_of p)))) 0 (some-bytes (options_reply (negotiated_of p)))) refl
 
       settled-nothing : (i : ℕ) → reports_within (entries_at p i) 0 ≡ []
       settled-nothing i = of-messages (drop i p.session.messages)

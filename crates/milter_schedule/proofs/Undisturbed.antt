@@ -1,21 +1,21 @@
--- Without a loss or a timeout each message is reported as its talk rules.
+-- Without a loss or a timeout each message is reported as its dialogue rules.
 use Rattle.std.proofs.Common.{◌≡◌, ◌⊎◌, inl, inr, ℕ, suc, ◌+◌, ◌≤◌, Bool, true, false, ◌||◌, if◌then◌else◌, List, [], ◌∷◌, ◌++◌, length, Option, None, Some, option_map, All, refl, sym, ◌∙◌, ap, subst, arith, append-nil, length-append}
 use Rattle.std.specs.List.{AllZip}
 use Rattle.std.proofs.lemmas.List.Elements.{All-cons, All-head, All-nil, All-tail}
 use Rattle.milter_message.specs.MailObject.{MailObject}
 use Rattle.milter_exchange.specs.Exchanges.{Exchange}
-use Rattle.milter_wire.specs.Agreement.{has_leading_space}
+use Rattle.milter_wire.specs.Negotiation.{has_leading_space}
 use Rattle.milter_outcome.specs.declared.loss.By.{By}
 use Rattle.milter_outcome.specs.declared.loss.By.TheVariants.{Connection, Default, Filter}
 use Rattle.milter_outcome.specs.declared.loss.Loss.{Loss}
 use Rattle.milter_outcome.specs.declared.outcome.Outcome.{Outcome}
 use Rattle.milter_outcome.specs.declared.report.Report.{Report}
-use Rattle.milter_outcome.specs.Walks.{acted, ruled}
-use Rattle.milter_mta.specs.Settling.{report}
+use Rattle.milter_outcome.specs.Dialogues.{acted, ruled}
+use Rattle.milter_mta.specs.Dispositions.{report}
 use Rattle.milter_walk.specs.Sessions.{settled_through}
 use Rattle.milter_walk.specs.Settled.{ends_with_client}
 use Rattle.milter_schedule.specs.Schedule.{Scenario}
-use Rattle.milter_schedule.specs.TalkReports.{AreReported, HasAllVerdicts, IsDefaultAfter, IsReportOf, IsRuledBy, agreed_of, by_reset, by_timeout, count_reports, is_by_verdict, is_known, walk_about}
+use Rattle.milter_schedule.specs.DialogueReports.{AreReported, HasAllVerdicts, IsDefaultAfter, IsReportOf, IsRuledBy, negotiated_of, by_reset, by_timeout, count_reports, is_by_verdict, is_known, dialogue_about}
 use Rattle.milter_schedule.proofs.RunReports.{zip-length}
 
 -- ---- none is by default
@@ -72,15 +72,15 @@ all-ruled-by p rs are known resets timeouts all =
 -- ---- what is ruled is by a verdict, with all of them
 
 by-parts : (p : Scenario) (message : MailObject) (r : Report) (outcome : Option Outcome)
-    → option_map (λ (o : Outcome). report (acted (walk_about p message)) o (settled_through (walk_about p message))) outcome ≡ Some r
-    → (r.acted ≡ acted (walk_about p message)) × (r.settled_by ≡ settled_through (walk_about p message))
+    → option_map (λ (o : Outcome). report (acted (dialogue_about p message)) o (settled_through (dialogue_about p message))) outcome ≡ Some r
+    → (r.acted ≡ acted (dialogue_about p message)) × (r.settled_by ≡ settled_through (dialogue_about p message))
 by-parts p message r None e = absurd cc
 by-parts p message r (Some o) e =
-    let same : r ≡ report (acted (walk_about p message)) o (settled_through (walk_about p message)) = cc in
+    let same : r ≡ report (acted (dialogue_about p message)) o (settled_through (dialogue_about p message)) = cc in
     (ap (λ x. x.acted) same, ap (λ x. x.settled_by) same)
 
-of-verdict : (walk : List Exchange) → is_by_verdict (settled_through walk) ≡ true
-of-verdict walk = by_client (ends_with_client walk)
+of-verdict : (dialogue : List Exchange) → is_by_verdict (settled_through dialogue) ≡ true
+of-verdict dialogue = by_client (ends_with_client dialogue)
   where
     by_client : (client : Bool) → is_by_verdict (if client then Connection else Filter) ≡ true
     by_client true = refl
@@ -91,7 +91,7 @@ all-verdicts p [] [] each = tt
 all-verdicts p [] (r ∷ rs) each = absurd each
 all-verdicts p (message ∷ messages) [] each = absurd each
 all-verdicts p (message ∷ messages) (r ∷ rs) each =
-    ((by-parts p message r (ruled (has_leading_space (agreed_of p)) message (walk_about p message)) each.0).0, all-verdicts p messages rs each.1)
+    ((by-parts p message r (ruled (has_leading_space (negotiated_of p)) message (dialogue_about p message)) each.0).0, all-verdicts p messages rs each.1)
 
 pub all-by-verdict : (p : Scenario) (messages : List MailObject) (rs : List Report) → AllZip (IsRuledBy p) messages rs → All (λ (r : Report). is_by_verdict r.settled_by ≡ true) rs
 all-by-verdict p [] [] each = All-nil (λ (r : Report). is_by_verdict r.settled_by ≡ true)
@@ -99,5 +99,5 @@ all-by-verdict p [] (r ∷ rs) each = absurd each
 all-by-verdict p (message ∷ messages) [] each = absurd each
 all-by-verdict p (message ∷ messages) (r ∷ rs) each =
     All-cons (λ (r : Report). is_by_verdict r.settled_by ≡ true) r rs
-    (ap is_by_verdict (by-parts p message r (ruled (has_leading_space (agreed_of p)) message (walk_about p message)) each.0).1 ∙ of-verdict (walk_about p message))
+    (ap is_by_verdict (by-parts p message r (ruled (has_leading_space (negotiated_of p)) message (dialogue_about p message)) each.0).1 ∙ of-verdict (dialogue_about p message))
     (all-by-verdict p messages rs each.1)

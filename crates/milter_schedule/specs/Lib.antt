@@ -1,4 +1,4 @@
 pub mod Schedule
-pub mod TalkReports
+pub mod DialogueReports
 pub mod Rounds
 pub mod Worked

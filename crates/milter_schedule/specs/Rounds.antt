@@ -13,22 +13,22 @@ use Rattle.milter_schedule.specs.declared.state.State.TheVariants.{Linked}
 pub record AreCounts (lines : List Line) (c : Counts) : Type 0 where
   pub not_over : c.sent < length (to_filter lines)
   pub taken : c.taken ≤ c.sent
-  pub sent : c.sent ≤ due lines c.heard
-  pub heard : c.heard ≤ c.answered
+  pub sent : c.sent ≤ due lines c.received
+  pub received : c.received ≤ c.answered
   pub answered : c.answered ≤ owed lines c.taken
 
 -- how many bytes are to move yet
 abbrev pub to_move : List Line → Counts → ℕ
 to_move lines c =
     (length (to_filter lines) - c.sent) + (length (to_filter lines) - c.taken) + (length (to_mta lines) - c.answered)
-    + (length (to_mta lines) - c.heard)
+    + (length (to_mta lines) - c.received)
 
 -- at most so many bytes moved at each place but that where they are sent
 abbrev pub after_round : List Line → Counts → ℕ → Counts
 after_round lines c n =
     let taken = min (c.taken + n) c.sent in
     let answered = min (c.answered + n) (owed lines taken) in
-    record c { taken = taken; answered = answered; heard = min (c.heard + n) answered }
+    record c { taken = taken; answered = answered; received = min (c.received + n) answered }
 
 -- all four moves, in order
 abbrev pub round : ℕ → List Event

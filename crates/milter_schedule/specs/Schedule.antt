@@ -14,7 +14,7 @@ use Rattle.milter_schedule.specs.declared.state.Counts.{Counts}
 use Rattle.milter_schedule.specs.declared.state.State.{State}
 use Rattle.milter_schedule.specs.declared.state.State.TheVariants.{Idle, Linked, Done}
 use Rattle.milter_transcript.specs.ByteCounts.{due, owed, packet_end, to_filter}
-use Rattle.milter_transcript.specs.Transcript.{Entry, default_reports, lines_of, default_within, transcript, reports_within}
+use Rattle.milter_transcript.specs.ConnectionEntries.{Entry, default_reports, lines_of, default_within, connection_entries, reports_within}
 
 -- a filter, what is offered to it with what a lost one leaves, and the session
 pub record Scenario : Type 0 where
@@ -29,9 +29,9 @@ pub record After : Type 0 where
 abbrev pub stays : State → After
 stays state = record { state = state; reports = [] }
 
--- the transcript of the connection that begins when so many messages are settled
+-- the list of the entries of the connection that begins when so many messages are settled
 abbrev pub entries_at : Scenario → ℕ → List Entry
-entries_at p settled = transcript p.filter p.config.offer p.session (drop settled p.session.messages)
+entries_at p settled = connection_entries p.filter p.config.offer p.session (drop settled p.session.messages)
 
 abbrev pub lines_at : Scenario → ℕ → List Line
 lines_at p settled = lines_of (entries_at p settled)
@@ -46,7 +46,7 @@ abbrev pub gives_up : Scenario → ℕ → List Report → After
 gives_up p settled reports = record { state = idle_at p (settled + length reports); reports = reports }
 
 abbrev pub fresh : Counts
-fresh = record { sent = 0; taken = 0; answered = 0; heard = 0; lives = true }
+fresh = record { sent = 0; taken = 0; answered = 0; received = 0; lives = true }
 
 -- so many bytes in all, perhaps of the last packet
 abbrev pub sent_to : List Line → ℕ → Counts → ℕ → State
@@ -55,24 +55,24 @@ sent_to lines settled c sent =
 
 abbrev pub sends : List Line → ℕ → Counts → ℕ → State
 sends lines settled c n =
-    if nat_lt c.sent (due lines c.heard) then sent_to lines settled c (min (c.sent + n) (packet_end lines c.sent))
+    if nat_lt c.sent (due lines c.received) then sent_to lines settled c (min (c.sent + n) (packet_end lines c.sent))
     else Linked settled c
 
 -- what they settle now, and settled before
-abbrev pub hears : Scenario → ℕ → Counts → ℕ → After
-hears p settled c heard =
+abbrev pub receives_bytes : Scenario → ℕ → Counts → ℕ → After
+receives_bytes p settled c received =
     let entries = entries_at p settled in
     record {
-      state = Linked settled (record c { heard = heard });
-      reports = drop (length (reports_within entries c.heard)) (reports_within entries heard);
+      state = Linked settled (record c { received = received });
+      reports = drop (length (reports_within entries c.received)) (reports_within entries received);
     }
 
 abbrev pub loses : Scenario → ℕ → Counts → Loss → After
 loses p settled c loss =
     let entries = entries_at p settled in
-    let reports = default_within p.config.on_loss loss entries c.heard in
+    let reports = default_within p.config.on_loss loss entries c.received in
     record {
-      state = idle_at p (settled + length (reports_within entries c.heard) + length reports);
+      state = idle_at p (settled + length (reports_within entries c.received) + length reports);
       reports = reports;
     }
 
@@ -97,7 +97,7 @@ happens_linked p settled c (ToFilter n) =
 happens_linked p settled c (Answer n) =
     let answered = min (c.answered + n) (owed (lines_at p settled) c.taken) in
     stays (Linked settled (if_lives c.lives c (record c { answered = answered })))
-happens_linked p settled c (ToMta n) = hears p settled c (min (c.heard + n) c.answered)
+happens_linked p settled c (ToMta n) = receives_bytes p settled c (min (c.received + n) c.answered)
 happens_linked p settled c Die = stays (Linked settled (record c { lives = false }))
 happens_linked p settled c Lose = loses p settled c losses.Reset
 happens_linked p settled c Timeout = loses p settled c losses.Timeout

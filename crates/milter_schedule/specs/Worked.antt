@@ -4,7 +4,7 @@ use Rattle.milter_wire.specs.declared.stage.Stage.{Stage}
 use Rattle.milter_wire.specs.declared.stage.Stage.TheVariants.{Body, Connect, Rcpt}
 use Rattle.milter_wire.specs.declared.verdict.Verdict.{Verdict}
 use Rattle.milter_wire.specs.declared.verdict.Verdict.TheVariants.{Accept, Continue, Reject, Skip}
-use Rattle.milter_message.specs.declared.message.TheConstants.{PIECE_LEN}
+use Rattle.milter_message.specs.declared.message.TheConstants.{CHUNK_LEN}
 use Rattle.milter_message.specs.declared.edit.Edit.TheVariants.{AddRcpt, DelRcpt}
 use Rattle.milter_message.specs.MailObject.{MailObject}
 use Rattle.milter_exchange.specs.Behavior.{Behavior}
@@ -52,7 +52,7 @@ abbrev pub moves_recipient : Behavior
 moves_recipient =
     deciding 0 (edits_at_end (AddRcpt (codes "c@y") ∷ DelRcpt (codes "b@y") ∷ []) Continue)
 
--- no piece of a body is wanted after the first
+-- no chunk of a body is wanted after the first
 abbrev skips_body : Stage → Verdict
 skips_body Body = Skip
 skips_body other = Continue
@@ -60,9 +60,9 @@ skips_body other = Continue
 abbrev pub skips : Behavior
 skips = deciding SKIP.0 (λ at seen. record { edits = []; verdict = skips_body at })
 
--- three pieces of a body of the letter A, the last one of one byte
-abbrev pub three_pieces : MailObject
-three_pieces = record message { body = replicate (2 * PIECE_LEN + 1) 65 }
+-- three chunks of a body of the letter A, the last one of one byte
+abbrev pub three_chunks : MailObject
+three_chunks = record message { body = replicate (2 * CHUNK_LEN + 1) 65 }
 
 -- what is reported of a message, in short
 pub record Summary : Type 0 where

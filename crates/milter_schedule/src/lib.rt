@@ -12,6 +12,6 @@ mod state;
 pub use event::Event;
 pub use laws::{
     beginnings_are_acted_on, defaults_are_counted, losses_settle_messages, rounds_move_on,
-    schedules_report_talks, undisturbed_schedules_are_ruled, verdicts_were_given,
+    schedules_report_dialogues, undisturbed_schedules_are_ruled, verdicts_were_given,
 };
 pub use state::{Counts, State};

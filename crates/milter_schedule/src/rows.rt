@@ -12,7 +12,7 @@ ghost use Rattle.milter_outcome.specs.Outcomes.{released};
 ghost use Rattle.milter_mta.specs.Worked.{at, message, two_recipients};
 ghost use Rattle.milter_schedule.specs.declared.event.Event.TheVariants.{Dial, Send, ToFilter, Answer, ToMta, Die, Lose, Timeout};
 ghost use Rattle.milter_schedule.specs.Rounds.{rounds};
-ghost use Rattle.milter_schedule.specs.Worked.{accepts_client, moves_recipient, refuses_each, refuses_first, scenario, skips, summaries, three_pieces};
+ghost use Rattle.milter_schedule.specs.Worked.{accepts_client, moves_recipient, refuses_each, refuses_first, scenario, skips, summaries, three_chunks};
 
 /// A session whose bytes are moved in rounds.
 pub(crate) fn undisturbed()
@@ -93,7 +93,7 @@ pub(crate) fn settled_before()
 
 /// A connection that is lost within the answer to the end of a message.
 pub(crate) fn lost_at_end()
-    // The first of two edits was heard: none is made.
+    // The first of two edits was received: none is made.
     ensures one_edit { summaries (scenario moves_recipient defaults.Accept (message ∷ []))
         (Dial ∷ rounds 7 100 ++ Send 100 ∷ ToFilter 100 ∷ Answer 100 ∷ ToMta 9 ∷ Lose ∷ [])
         ≡ record {
@@ -119,31 +119,31 @@ pub(crate) fn lost_at_end()
         } ∷ [] }
 {}
 
-/// Bodies of three pieces, of which the filter may want the first alone.
+/// Bodies of three chunks, of which the filter may want the first alone.
 pub(crate) fn skipped()
-    ensures skip { summaries (scenario skips defaults.Tempfail (three_pieces ∷ message ∷ []))
+    ensures skip { summaries (scenario skips defaults.Tempfail (three_chunks ∷ message ∷ []))
         (Dial ∷ rounds 9 100000 ++ Lose ∷ [])
         ≡ record {
           verdicts = Continue ∷ Continue ∷ Continue ∷ Continue ∷ Continue ∷ Continue ∷ Skip ∷ Continue ∷ [];
-          outcome = released three_pieces;
+          outcome = released three_chunks;
           by = by.Filter;
         } ∷ record {
           verdicts = Continue ∷ Continue ∷ [];
           outcome = Refused refusals.Tempfail;
           by = by.Default losses.Reset;
         } ∷ [] }
-    ensures no_skip { summaries (scenario pass defaults.Tempfail (three_pieces ∷ [])) (Dial ∷ rounds 11 100000)
+    ensures no_skip { summaries (scenario pass defaults.Tempfail (three_chunks ∷ [])) (Dial ∷ rounds 11 100000)
         ≡ record {
           verdicts = replicate 10 Continue;
-          outcome = released three_pieces;
+          outcome = released three_chunks;
           by = by.Filter;
         } ∷ [] }
-    // All but the last byte of the packet of the first piece.
-    ensures piece_lost { summaries (scenario skips defaults.Accept (three_pieces ∷ []))
+    // All but the last byte of the packet of the first chunk.
+    ensures chunk_lost { summaries (scenario skips defaults.Accept (three_chunks ∷ []))
         (Dial ∷ rounds 7 100000 ++ Send 65539 ∷ ToFilter 100000 ∷ Answer 100 ∷ ToMta 100 ∷ Lose ∷ [])
         ≡ record {
           verdicts = Continue ∷ Continue ∷ Continue ∷ Continue ∷ Continue ∷ Continue ∷ [];
-          outcome = released three_pieces;
+          outcome = released three_chunks;
           by = by.Default losses.Reset;
         } ∷ [] }
 {}

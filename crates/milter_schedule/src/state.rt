@@ -9,8 +9,8 @@ pub struct Counts {
     pub taken: u128,
     /// Bytes that the filter's end answered.
     pub answered: u128,
-    /// Of these, bytes that the mail server's end heard.
-    pub heard: u128,
+    /// Of these, bytes that the mail server's end received.
+    pub received: u128,
     /// Whether the filter lives.
     pub lives: bool,
 }

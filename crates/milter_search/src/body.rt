@@ -49,12 +49,12 @@ impl Body {
         self.bytes.as_slice()
     }
 
-    /// Takes a copy of the bytes of a piece. After `NoMemory` the body is as it was.
-    pub fn extend(&mut self, piece: &[u8]) -> Result<(), NoMemory>
-        ensures ok { OnOk result (self.new ≡ self.old ++ piece.now) }
+    /// Takes a copy of the bytes of a chunk. After `NoMemory` the body is as it was.
+    pub fn extend(&mut self, chunk: &[u8]) -> Result<(), NoMemory>
+        ensures ok { OnOk result (self.new ≡ self.old ++ chunk.now) }
         ensures err { OnErr result (self.new ≡ self.old) }
     {
-        self.bytes.extend_from_slice(piece)?;
+        self.bytes.extend_from_slice(chunk)?;
         Ok(())
     }
 

@@ -1,7 +1,7 @@
 //! The header fields of a message, and what of them was searched for texts.
 
 ghost use Rattle.std.specs.Prelude.{◌≡◌, ◌++◌, ◌∷◌, [], IfOk, OnErr, OnOk};
-ghost use Rattle.milter_fields.specs.Lent.{header_of};
+ghost use Rattle.milter_fields.specs.Borrowed.{header_of};
 ghost use Rattle.milter_search.specs.Texts.{finds_named};
 
 use crate::header_search::{HeaderSearch, finds_named, look_at_all, reset_all};

@@ -1,5 +1,5 @@
 //! Texts that are looked for: how they are compared with values, and what of a message was searched for them already,
-//! so that a search that is made again with each header field and each piece of a body goes over each byte once.
+//! so that a search that is made again with each header field and each chunk of a body goes over each byte once.
 #![tactic(auto)]
 
 mod body;

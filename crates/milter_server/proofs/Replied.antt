@@ -7,8 +7,8 @@ use Rattle.milter_exchange.specs.declared.command_order.CommandOrder.{CommandOrd
 use Rattle.milter_exchange.specs.declared.filter_state.FilterState.{FilterState}
 use Rattle.milter_filter.specs.declared.served.Served.{Served}
 use Rattle.milter_filter.specs.declared.served.Served.TheVariants.{Quit, Ended, Failed, ReadFault, WriteFault, TurnLimit}
-use Rattle.milter_filter.specs.Serving.{Replied, RepliedAs, RepliedInPart}
-use Rattle.milter_filter.specs.Streams.{conversation_of, reply_bytes}
+use Rattle.milter_filter.specs.ServedConnections.{Replied, RepliedAs, RepliedInPart}
+use Rattle.milter_filter.specs.Streams.{filter_end_of, reply_bytes}
 use Rattle.milter_filter.proofs.Cutting.{replies-add, replies-from, state-from}
 use Rattle.milter_server.specs.Connections.{Completes, Connected, EndsAs, GoesFrom, ServesInTurns, fresh_connected}
 
@@ -47,10 +47,10 @@ module _ {P : Type 0} (b : Behavior) (order : CommandOrder) (policy : P) where
     abbrev pub replied-whole : Replied order b unread left w v
     replied-whole = record { input = d.goes.input; was_read = d.goes.was_read; was_written = subst (Appends w v) all-sent d.goes.goes.was_written }
 
-    abbrev replied-as : (state : FilterState) → new.core.standing.state ≡ state → RepliedAs state order b unread left w v
+    abbrev replied-as : (state : FilterState) → new.core.order_state.state ≡ state → RepliedAs state order b unread left w v
     replied-as state is = (
       replied-whole,
-      ap (λ xs. (conversation_of order b xs).state) (sym all-taken) ∙ state-from b order policy new.core d.goes.taken d.goes.goes.sent d.goes.goes.goes_on ∙ is,
+      ap (λ xs. (filter_end_of order b xs).state) (sym all-taken) ∙ state-from b order policy new.core d.goes.taken d.goes.goes.sent d.goes.goes.goes_on ∙ is,
     )
 
   pub replied-ends : (unread left w v : Option (List ℕ)) (end : Served) → EndsAs b (fresh_connected order policy) unread left w v end → ServesInTurns order b unread left w v end

@@ -10,7 +10,7 @@ use Rattle.milter_exchange.specs.declared.filter_state.FilterState.TheVariants a
 use Rattle.milter_filter.specs.declared.served.Served.{Served}
 use Rattle.milter_filter.specs.declared.served.Served.TheVariants.{Quit, Ended, Failed, ReadFault, WriteFault, TurnLimit}
 use Rattle.milter_filter.specs.Cores.{Core, GoesOn, Takes, fresh_core_in, given_up}
-use Rattle.milter_filter.specs.PieceServing.{CutOff, Goes, PieceCut, Sends}
+use Rattle.milter_filter.specs.ServedPieces.{CutOff, Goes, PieceCut, Sends}
 use Rattle.milter_filter.proofs.Cutting.{fresh-begins, goes_on-joins, goes_on-stays}
 use Rattle.milter_filter.proofs.ServedBytes.{goes-joins, goes_on-written, serving-or-quit}
 use Rattle.milter_server.specs.declared.turn.Turn.{Turn}
@@ -29,7 +29,7 @@ module _ {P : Type 0} (b : Behavior) where
     serving = refl;
   })
 
-  pub serving-goes : (old core : Core P) (input : List ℕ) (w v : Option (List ℕ)) → IsServing b old → Goes b old input core w v → core.standing.state ≡ states.Serving → IsServing b core
+  pub serving-goes : (old core : Core P) (input : List ℕ) (w v : Option (List ℕ)) → IsServing b old → Goes b old input core w v → core.order_state.state ≡ states.Serving → IsServing b core
   serving-goes old core input w v s g serving = record {
     order = s.order;
     input = s.input ++ input;
@@ -41,11 +41,11 @@ module _ {P : Type 0} (b : Behavior) where
   }
 
   -- a reply waits, so the mail server has not quit
-  pub waits-serving : (core mid new : Core P) (piece : List ℕ) (n : ℕ) (w v : Option (List ℕ)) (done : Bool) → Takes b core piece n mid → Sends mid new w v done → new.pending ≢ [] → new.standing.state ≡ states.Serving
-  waits-serving core mid new piece n w v done t sends some = by_state mid.standing.state refl
+  pub waits-serving : (core mid new : Core P) (piece : List ℕ) (n : ℕ) (w v : Option (List ℕ)) (done : Bool) → Takes b core piece n mid → Sends mid new w v done → new.pending ≢ [] → new.order_state.state ≡ states.Serving
+  waits-serving core mid new piece n w v done t sends some = by_state mid.order_state.state refl
     where
-      same : new.standing.state ≡ mid.standing.state
-      same = ap (λ (c : Core P). c.standing.state) sends.core
+      same : new.order_state.state ≡ mid.order_state.state
+      same = ap (λ (c : Core P). c.order_state.state) sends.core
 
       none-left : (sent pending : List ℕ) → sent ++ pending ≡ [] → pending ≡ []
       none-left [] pending e = e
@@ -54,7 +54,7 @@ module _ {P : Type 0} (b : Behavior) where
       quiet : mid.pending ≡ [] → ⊥
       quiet none = some (none-left sends.sent new.pending (sends.whole ∙ none))
 
-      by_state : (state : FilterState) → mid.standing.state ≡ state → new.standing.state ≡ states.Serving
+      by_state : (state : FilterState) → mid.order_state.state ≡ state → new.order_state.state ≡ states.Serving
       by_state states.Serving is = same ∙ is
       by_state states.Quit is = absurd (quiet (t.silent (λ serving. quit_serving (sym is ∙ serving))))
         where
@@ -70,8 +70,8 @@ module _ {P : Type 0} (b : Behavior) where
     was_written = sends.was_written;
   }
 
-  pub sends-state : (old core : Core P) (w v : Option (List ℕ)) (done : Bool) → Sends old core w v done → core.standing.state ≡ old.standing.state
-  sends-state old core w v done sends = ap (λ (c : Core P). c.standing.state) sends.core
+  pub sends-state : (old core : Core P) (w v : Option (List ℕ)) (done : Bool) → Sends old core w v done → core.order_state.state ≡ old.order_state.state
+  sends-state old core w v done sends = ap (λ (c : Core P). c.order_state.state) sends.core
 
   pub sends-serving : (old core : Core P) (w v : Option (List ℕ)) (done : Bool) → IsServing b old → Sends old core w v done → IsServing b core
   sends-serving old core w v done s sends = serving-goes old core [] w v s (sends-goes old core w v done s sends) (sends-state old core w v done sends ∙ s.serving)
@@ -165,7 +165,7 @@ module _ {P : Type 0} (b : Behavior) where
       done = record { nothing_pending = none; nothing_waiting = refl };
     }
 
-    pub quit-ends : (new : Core P) → Goes b mid piece new v u → new.pending ≡ [] → new.standing.state ≡ states.Quit → EndsAs b (connected core waiting) unread left w u Quit
+    pub quit-ends : (new : Core P) → Goes b mid piece new v u → new.pending ≡ [] → new.order_state.state ≡ states.Quit → EndsAs b (connected core waiting) unread left w u Quit
     quit-ends new q none quit = (connected new [], completes-piece new q none, quit)
 
   -- nothing was read
@@ -198,8 +198,8 @@ if-err (Err e) f g m x = m e x
 
 -- ---- a core that waits for input
 
-abbrev pub going-serves : {P : Type 0} (core : Core P) → ((fault : FilterFault) → core.standing.state ≢ states.Failed fault) → core.standing.state ≢ states.Quit → core.standing.state ≡ states.Serving
-going-serves core going on = serving-or-quit core.standing going on
+abbrev pub going-serves : {P : Type 0} (core : Core P) → ((fault : FilterFault) → core.order_state.state ≢ states.Failed fault) → core.order_state.state ≢ states.Quit → core.order_state.state ≡ states.Serving
+going-serves core going on = serving-or-quit core.order_state going on
 
 pub has-not : (found : Bool) (state : FilterState) → found ≡ false → (state ≡ states.Quit → IsTrue found) → state ≢ states.Quit
 has-not found state is says quit = let no : IsTrue false = subst IsTrue is (says quit) in absurd cc

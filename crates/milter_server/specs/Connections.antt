@@ -9,8 +9,8 @@ use Rattle.milter_filter.specs.declared.served.Served.{Served}
 use Rattle.milter_filter.specs.declared.served.Served.TheVariants.{Quit, Ended, Failed, ReadFault, WriteFault}
 use Rattle.milter_filter.specs.declared.served.Served.TheVariants.{TurnLimit}
 use Rattle.milter_filter.specs.Cores.{Core, GoesOn, fresh_core_in}
-use Rattle.milter_filter.specs.PieceServing.{Goes}
-use Rattle.milter_filter.specs.Serving.{RepliedAs, RepliedInPart, Serves}
+use Rattle.milter_filter.specs.ServedPieces.{Goes}
+use Rattle.milter_filter.specs.ServedConnections.{RepliedAs, RepliedInPart, Serves}
 use Rattle.milter_server.specs.declared.turn.Turn.{Turn}
 use Rattle.milter_server.specs.declared.turn.Turn.TheVariants as turns
 
@@ -33,7 +33,7 @@ pub record IsServing {P : Type 0} (b : Behavior) (core : Core P) : Type 0 where
   pub input : List ℕ
   pub sent : List ℕ
   pub goes_on : GoesOn b (fresh_core_in order core.policy) input sent core
-  pub serving : core.standing.state ≡ states.Serving
+  pub serving : core.order_state.state ≡ states.Serving
 
 -- These bytes were read. The core took them, after those that waited and but for those that wait now, and what was sent
 -- of its replies was written.
@@ -60,16 +60,16 @@ pub record Completes {P : Type 0} (b : Behavior) (old : Connected P) (unread lef
 abbrev pub EndsAs : {P : Type 0} → Behavior → Connected P → Option (List ℕ) → Option (List ℕ) → Option (List ℕ)
     → Option (List ℕ) → Served → Type 0
 EndsAs {P} b old unread left written all Quit =
-    (new : Connected P) × Completes b old unread left written all new × (new.core.standing.state ≡ states.Quit)
+    (new : Connected P) × Completes b old unread left written all new × (new.core.order_state.state ≡ states.Quit)
 EndsAs {P} b old unread left written all (Ended count) =
-    (new : Connected P) × Completes b old unread left written all new × (new.core.standing.state ≡ states.Serving)
+    (new : Connected P) × Completes b old unread left written all new × (new.core.order_state.state ≡ states.Serving)
     × (length new.core.unread ≡ count) × IsAtEnd left
 EndsAs {P} b old unread left written all (Failed fault) =
     (fault ≢ NoMemory → (new : Connected P) × Completes b old unread left written all new
-    × (new.core.standing.state ≡ states.Failed fault))
+    × (new.core.order_state.state ≡ states.Failed fault))
     × (fault ≡ NoMemory → (new : Connected P) × GoesFrom b old unread left written all new)
 EndsAs {P} b old unread left written all ReadFault =
-    (new : Connected P) × Completes b old unread left written all new × (new.core.standing.state ≡ states.Serving)
+    (new : Connected P) × Completes b old unread left written all new × (new.core.order_state.state ≡ states.Serving)
 EndsAs {P} b old unread left written all WriteFault = (new : Connected P) × GoesFrom b old unread left written all new
 EndsAs {P} b old unread left written all TurnLimit = ⊥
 

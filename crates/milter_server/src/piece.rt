@@ -5,7 +5,7 @@ ghost use Rattle.milter_stream.specs.Stream.{IsUnfinished};
 ghost use Rattle.milter_exchange.specs.declared.filter_fault.FilterFault.{FilterFault as Fault};
 ghost use Rattle.milter_exchange.specs.declared.filter_state.FilterState.TheVariants.{Failed, Serving};
 ghost use Rattle.milter_filter.specs.declared.served.Served.TheVariants.{WriteFault};
-ghost use Rattle.milter_filter.specs.PieceServing.{CutOff, Goes, Sends};
+ghost use Rattle.milter_filter.specs.ServedPieces.{CutOff, Goes, Sends};
 
 use milter_filter::{FilterCore, Policy, Served};
 use std::io::{ErrorKind, Write};
@@ -40,15 +40,15 @@ pub(crate) fn take_piece<P: Policy, W: Write>(
     piece: &[u8],
     writer: &mut W,
 ) -> Result<usize, Served>
-    requires serving { core.old.standing.state ≡ Serving }
+    requires serving { core.old.order_state.state ≡ Serving }
     requires nothing_pending { core.old.pending ≡ [] }
     requires unfinished { IsUnfinished core.old.unread }
     ensures goes { IfOk result (λ n. Goes (P.behavior core.old.policy) core.old (take n piece.now) core.new
         (W.contents writer.old) (W.contents writer.new)) }
     ensures within { IfOk result (λ n. n ≤ length piece.now) }
     ensures whole { IfOk result (λ n. core.new.pending ≡ [] → n ≡ length piece.now) }
-    ensures going { OnOk result ((fault : Fault) → core.new.standing.state ≢ Failed fault) }
-    ensures serving { OnOk result (core.new.pending ≢ [] → core.new.standing.state ≡ Serving) }
+    ensures going { OnOk result ((fault : Fault) → core.new.order_state.state ≢ Failed fault) }
+    ensures serving { OnOk result (core.new.pending ≢ [] → core.new.order_state.state ≡ Serving) }
     ensures cut_off { IfErr result (λ end. CutOff (P.behavior core.old.policy) core.old piece.now
         (W.contents writer.old) (W.contents writer.new) end) }
 {

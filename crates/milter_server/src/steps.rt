@@ -13,7 +13,7 @@ use std::io::{ErrorKind, Read, Write};
 
 /// Whether the mail server has quit.
 fn has_quit<P: Policy>(core: &FilterCore<'_, P>) -> bool
-    ensures { IsTrue result ↔ (core.now.standing.state ≡ Quit) }
+    ensures { IsTrue result ↔ (core.now.order_state.state ≡ Quit) }
 {
     matches!(core.state(), FilterState::Quit)
 }

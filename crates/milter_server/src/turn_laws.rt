@@ -3,7 +3,7 @@
 ghost use Rattle.std.specs.Prelude.{◌≡◌, List, Option, ℕ};
 ghost use Rattle.milter_exchange.specs.Behavior.{Behavior};
 ghost use Rattle.milter_exchange.specs.declared.command_order.CommandOrder.{CommandOrder as Order};
-ghost use Rattle.milter_filter.specs.Serving.{Replied, RepliedInPart};
+ghost use Rattle.milter_filter.specs.ServedConnections.{Replied, RepliedInPart};
 ghost use Rattle.milter_filter.specs.declared.served.Served.{Served as End};
 ghost use Rattle.milter_server.specs.Connections.{Completes, Connected, EndsAs, GoesFrom, ServesInTurns, fresh_connected};
 

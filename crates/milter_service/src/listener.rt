@@ -17,7 +17,7 @@ pub enum Listener {
     Unix(UnixListener),
 }
 
-/// A socket by which a mail server talks. It never waits.
+/// A socket by which a mail server connects. It never waits.
 #[derive(Drop)]
 pub enum Stream {
     /// One of the internet.

@@ -197,7 +197,7 @@ run_end text value_of left rest xs ys opens h none = end_by text value_of h.line
 
 -- ---- one more text of a body
 
-pub concat_more : (pieces : List (List ℕ)) (piece : List ℕ) → concat pieces ++ piece ≡ concat (pieces ++ piece ∷ [])
-concat_more pieces piece =
-    let single : concat (piece ∷ []) ≡ piece = append-nil piece in
-    ap (λ l. concat pieces ++ l) (sym single) ∙ sym (concat-append pieces (piece ∷ []))
+pub concat_more : (chunks : List (List ℕ)) (chunk : List ℕ) → concat chunks ++ chunk ≡ concat (chunks ++ chunk ∷ [])
+concat_more chunks chunk =
+    let single : concat (chunk ∷ []) ≡ chunk = append-nil chunk in
+    ap (λ l. concat chunks ++ l) (sym single) ∙ sym (concat-append chunks (chunk ∷ []))

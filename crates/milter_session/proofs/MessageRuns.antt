@@ -12,9 +12,9 @@ use Rattle.milter_session.specs.declared.session_fault.SessionFault.{SessionFaul
 use Rattle.milter_session.specs.declared.session_fault.SessionFault.TheVariants.{NoMemory}
 use Rattle.milter_text.specs.WordValues.{begins}
 use Rattle.milter_session.specs.LineGroups.{EndsBefore}
-use Rattle.milter_session.specs.LineValues.{end_line, header_of, piece_of}
+use Rattle.milter_session.specs.LineValues.{end_line, header_of, chunk_of}
 use Rattle.milter_session.specs.MessageLines.{BeginWithMessage, BeginWithParts}
-use Rattle.milter_session.specs.Openings.{header_begins, piece_begins}
+use Rattle.milter_session.specs.Openings.{header_begins, chunk_begins}
 use Rattle.milter_session.specs.SessionFile.{AllHaveValues, ParsesAsMessage, ParsesAsMessageList}
 use Rattle.milter_text.proofs.FirstWord.{begins_other}
 use Rattle.milter_session.proofs.LineRuns.{Opens}
@@ -37,13 +37,13 @@ ends_texts last rest h = ends_before_last (codes "body") last rest refl h
 pub ends_headers : (lines : List (List ℕ)) (last : List ℕ) (rest : List (List ℕ)) (m : MailObject) (parts : BeginWithParts lines m (last ∷ rest)) → HasWords last end_line
     → EndsBefore (codes "header") (parts.texts ++ last ∷ rest)
 ends_headers lines last rest m parts h =
-    ends_before_others (codes "header") (codes "body") piece_of parts.texts (last ∷ rest) parts.pieces piece_begins refl parts.texts_are (ends_before_last (codes "header") last rest refl h)
+    ends_before_others (codes "header") (codes "body") chunk_of parts.texts (last ∷ rest) parts.chunks chunk_begins refl parts.texts_are (ends_before_last (codes "header") last rest refl h)
 
 pub ends_recipients : (lines : List (List ℕ)) (last : List ℕ) (rest : List (List ℕ)) (m : MailObject) (parts : BeginWithParts lines m (last ∷ rest)) → HasWords last end_line
     → EndsBefore (codes "recipient") (parts.headers ++ (parts.texts ++ last ∷ rest))
 ends_recipients lines last rest m parts h =
     let last_ends = ends_before_last (codes "recipient") last rest refl h in
-    let texts = ends_before_others (codes "recipient") (codes "body") piece_of parts.texts (last ∷ rest) parts.pieces piece_begins refl parts.texts_are last_ends in
+    let texts = ends_before_others (codes "recipient") (codes "body") chunk_of parts.texts (last ∷ rest) parts.chunks chunk_begins refl parts.texts_are last_ends in
     ends_before_others (codes "recipient") (codes "header") header_of parts.headers (parts.texts ++ last ∷ rest) m.headers header_begins refl parts.headers_are texts
 
 -- ---- the parts of a message, and its last line
@@ -60,7 +60,7 @@ parts_of_message lines prefix rest m e parses =
       headers = parses.headers;
       texts = parses.texts;
       in_order = e ∙ ap (λ l. l ++ rest) parses.in_order ∙ ap (λ l. parses.first ∷ parses.sender ∷ l) (regroup parses.recipients parses.headers parses.texts rest parses.last);
-      pieces = parses.pieces;
+      chunks = parses.chunks;
       first_is = parses.first_is;
       sender_is = parses.sender_is;
       recipients_are = parses.recipients_are;
@@ -85,7 +85,7 @@ message_of_parts lines left rest last m parts e h =
         texts = parts.texts;
         last = last;
         in_order = refl;
-        pieces = parts.pieces;
+        chunks = parts.chunks;
         first_is = parts.first_is;
         sender_is = parts.sender_is;
         recipients_are = parts.recipients_are;

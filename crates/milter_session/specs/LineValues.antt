@@ -103,6 +103,6 @@ header_of (first ∷ name ∷ value ∷ []) =
 header_of _ = None
 
 -- `body TEXT`
-abbrev pub piece_of : List Word → Option (List ℕ)
-piece_of (first ∷ text ∷ []) = if is_keyword (codes "body") first then text_of text else None
-piece_of _ = None
+abbrev pub chunk_of : List Word → Option (List ℕ)
+chunk_of (first ∷ text ∷ []) = if is_keyword (codes "body") first then text_of text else None
+chunk_of _ = None

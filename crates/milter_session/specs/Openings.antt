@@ -8,7 +8,7 @@ use Rattle.milter_fields.specs.declared.path.Path.{Path}
 use Rattle.milter_text.specs.declared.word.Word.{Word}
 use Rattle.milter_session.specs.declared.session_macros.MacroLine.{MacroLine}
 use Rattle.milter_text.specs.WordValues.{begins, is_keyword, text_of, texts_of}
-use Rattle.milter_session.specs.LineValues.{header_of, is_name, macro_of, macro_with, path_of, path_with, piece_of}
+use Rattle.milter_session.specs.LineValues.{header_of, is_name, macro_of, macro_with, path_of, path_with, chunk_of}
 use Rattle.milter_session.specs.LineValues.{stage_of}
 
 begins_if : {X : Type 0} (test : Bool) (value : Option X) (x : X) → (if test then value else None) ≡ Some x
@@ -29,9 +29,9 @@ header_begins (first ∷ name ∷ value ∷ []) x e =
     (Some (record { name = name.text; value = value.text })) x e)).0
 header_begins _ x e = absurd cc
 
-pub piece_begins : (words : List Word) (x : List ℕ) → piece_of words ≡ Some x → begins (codes "body") words ≡ true
-piece_begins (first ∷ text ∷ []) x e = begins_if (is_keyword (codes "body") first) (text_of text) x e
-piece_begins _ x e = absurd cc
+pub chunk_begins : (words : List Word) (x : List ℕ) → chunk_of words ≡ Some x → begins (codes "body") words ≡ true
+chunk_begins (first ∷ text ∷ []) x e = begins_if (is_keyword (codes "body") first) (text_of text) x e
+chunk_begins _ x e = absurd cc
 
 pub macro_begins : (words : List Word) (x : MacroLine) → macro_of words ≡ Some x
     → begins (codes "macro") words ≡ true

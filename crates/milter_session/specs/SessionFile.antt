@@ -11,7 +11,7 @@ use Rattle.milter_mail.specs.MailSession.{IsSession, MailSession}
 use Rattle.milter_session.specs.declared.session_macros.MacroLine.{MacroLine}
 use Rattle.milter_options.specs.declared.macro_stage.MacroStage.{MacroStage}
 use Rattle.milter_session.specs.LineValues.{client_of, end_line, header_of, helo_of, macro_of, message_line, path_of}
-use Rattle.milter_session.specs.LineValues.{piece_of}
+use Rattle.milter_session.specs.LineValues.{chunk_of}
 use Rattle.milter_session.specs.MacroLists.{by_stage, is_stage}
 use Rattle.milter_text.specs.Words.{HasWords}
 
@@ -47,13 +47,13 @@ pub record ParsesAsMessage (lines : List (List ℕ)) (m : MailObject) : Type 0 w
   pub texts : List (List ℕ)
   pub last : List ℕ
   pub in_order : lines ≡ first ∷ sender ∷ (recipients ++ (headers ++ (texts ++ last ∷ [])))
-  pub pieces : List (List ℕ)
+  pub chunks : List (List ℕ)
   pub first_is : HasWords first message_line
   pub sender_is : LineHasValue (path_of (codes "sender")) sender m.sender
   pub recipients_are : AllHaveValues (path_of (codes "recipient")) recipients m.recipients
   pub headers_are : AllHaveValues header_of headers m.headers
-  pub texts_are : AllHaveValues piece_of texts pieces
-  pub body_is : m.body ≡ concat pieces
+  pub texts_are : AllHaveValues chunk_of texts chunks
+  pub body_is : m.body ≡ concat chunks
   pub last_is : HasWords last end_line
 
 -- the lines of messages, one message after the other

@@ -8,7 +8,7 @@ ghost use Rattle.milter_wire.specs.declared.command.Command.TheVariants as comma
 ghost use Rattle.milter_wire.specs.Command.{Fits};
 ghost use Rattle.milter_fields.specs.Field.{HasNoNul};
 ghost use Rattle.milter_message.specs.LeadingSpace.{WholeFieldFits};
-ghost use Rattle.milter_session.specs.LineValues.{header_of, helo_of, if_named, is_name, path_of, piece_of};
+ghost use Rattle.milter_session.specs.LineValues.{header_of, helo_of, if_named, is_name, path_of, chunk_of};
 ghost use Rattle.milter_session.specs.declared.session_fault.SessionFault.TheVariants as SessionFault;
 ghost use Rattle.milter_session.specs.SessionFault.{IsAt, Reads};
 
@@ -184,21 +184,21 @@ fn sized_header(header: Header, number: u64) -> Result<Header, SessionFault>
 }
 
 /// The text of a body in the line.
-pub(crate) fn piece_in(line: &FileLine) -> Result<&[u8], SessionFault>
-    ensures found { IfOk result (λ piece. piece_of line.now.words.items ≡ Some piece.now) }
-    ensures only { (piece : List ℕ) → piece_of line.now.words.items ≡ Some piece →
-        MatchResult result (λ found. found.now ≡ piece) (λ e. e ≡ SessionFault.NoMemory) }
+pub(crate) fn chunk_in(line: &FileLine) -> Result<&[u8], SessionFault>
+    ensures found { IfOk result (λ chunk. chunk_of line.now.words.items ≡ Some chunk.now) }
+    ensures only { (chunk : List ℕ) → chunk_of line.now.words.items ≡ Some chunk →
+        MatchResult result (λ found. found.now ≡ chunk) (λ e. e ≡ SessionFault.NoMemory) }
     ensures at { IfErr result (λ e. IsAt line.now.number e) }
 {
-    match piece_text(line.words.as_slice()) {
+    match chunk_text(line.words.as_slice()) {
         Some(text) => Ok(text.as_slice()),
         None => Err(SessionFault::UnknownLine(line.number)),
     }
 }
 
 /// The text in the words of a body's line.
-fn piece_text(words: &[Word]) -> Option<&Text>
-    ensures { option_map (λ text. text.now) result ≡ piece_of words.now }
+fn chunk_text(words: &[Word]) -> Option<&Text>
+    ensures { option_map (λ text. text.now) result ≡ chunk_of words.now }
 {
     let [first, text] = words else {
         return None;

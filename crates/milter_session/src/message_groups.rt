@@ -5,11 +5,11 @@ ghost use Rattle.std.specs.List.{concat};
 ghost use Rattle.milter_wire.specs.declared.command.Command.TheVariants as commands;
 ghost use Rattle.milter_wire.specs.Command.{Fits};
 ghost use Rattle.milter_message.specs.LeadingSpace.{WholeFieldFits};
-ghost use Rattle.milter_session.specs.LineValues.{header_of, path_of, piece_of};
-ghost use Rattle.milter_session.specs.Openings.{header_begins, path_begins, piece_begins};
+ghost use Rattle.milter_session.specs.LineValues.{header_of, path_of, chunk_of};
+ghost use Rattle.milter_session.specs.Openings.{header_begins, path_begins, chunk_begins};
 
 use crate::line_group::LineGroup;
-use crate::line_values::{header_in, path_in, piece_in};
+use crate::line_values::{chunk_in, header_in, path_in};
 use crate::session_fault::SessionFault;
 use milter_text::FileLine;
 use milter_wire::{Header, Path, Text};
@@ -98,9 +98,9 @@ impl LineGroup for Body {
 
     ghost text = { codes "body" };
 
-    ghost value_of = { piece_of };
+    ghost value_of = { chunk_of };
 
-    ghost IsMadeOf = { λ group pieces. group.bytes.items ≡ concat pieces };
+    ghost IsMadeOf = { λ group chunks. group.bytes.items ≡ concat chunks };
 
     ghost CanBe = { λ _. Unit {0} };
 
@@ -115,9 +115,9 @@ impl LineGroup for Body {
     }
 
     fn add(&mut self, _alloc: Global, line: &FileLine) -> Result<(), SessionFault> {
-        self.bytes.extend_from_slice(piece_in(line)?)?;
+        self.bytes.extend_from_slice(chunk_in(line)?)?;
         Ok(())
     }
 
-    ghost opens = { piece_begins };
+    ghost opens = { chunk_begins };
 }

@@ -31,7 +31,7 @@ use std::alloc::Global;
 ///
 /// The fault is at the first line that isn't of this form, or by which the session would be none: out of memory aside,
 /// there is one exactly where the file is parsed as no session. Its line is one of the file, or the one after the last.
-/// Beside the session, memory is taken for the words of one line at a time.
+/// Beside the session, the words of one line at a time are allocated.
 pub fn read_session(alloc: Global, bytes: &[u8]) -> Result<Session, SessionFault>
     // What is read is what the file is parsed as.
     ensures found { IfOk result (λ s. IsSessionFile bytes.now s) }

@@ -4,7 +4,7 @@ ghost use Rattle.std.specs.Prelude.{OnErr, OnOk};
 ghost use Rattle.std.specs.Io.KnownBytes.{Appends};
 ghost use Rattle.std.specs.List.{flat_map};
 ghost use Rattle.milter_text.specs.TextWriter.{Puts};
-ghost use Rattle.milter_text.specs.Writing.{WritesPrefix};
+ghost use Rattle.milter_text.specs.WrittenText.{WritesPrefix};
 ghost use Rattle.milter_session.specs.SessionText.{all_macro_lines, client_line, endpoint_line, macro_line, macro_lines};
 ghost use Rattle.milter_session.specs.SessionText.{message_text, opening_text, session_text};
 

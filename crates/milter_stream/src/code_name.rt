@@ -24,7 +24,7 @@ impl fmt::Display for CodeName {
     }
 }
 
-/// The hexadecimal digit of a number below 16, a letter in lower case. No memory is taken.
+/// The hexadecimal digit of a number below 16, a letter in lower case. Doesn't allocate.
 pub fn hex_digit(value: u8) -> u8
     requires { value < 16 }
     ensures { result ≡ hex_digit value }

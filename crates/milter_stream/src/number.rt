@@ -1,7 +1,7 @@
 //! Numbers in four bytes, the highest first, and the head of a packet.
 
 ghost use Rattle.std.specs.Prelude.{◌≡◌, ◌+◌, ◌≤◌, ◌∷◌, ◌++◌, [], OnOk, option_map};
-ghost use Rattle.milter_stream.specs.Appending.{PutsBytes};
+ghost use Rattle.milter_stream.specs.AppendedBytes.{PutsBytes};
 ghost use Rattle.milter_stream.specs.Number.{number, number_at, number_from_bytes};
 
 use crate::fault::NoMemory;
@@ -35,8 +35,8 @@ pub(crate) fn number_from_bytes(a: u8, b: u8, c: u8, d: u8) -> u32
     u32::from_be_bytes([a, b, c, d])
 }
 
-/// The number in the first four bytes, the highest first, and the bytes after them; none where there are fewer. No
-/// memory is taken.
+/// The number in the first four bytes, the highest first, and the bytes after them; none where there are fewer. Doesn't
+/// allocate.
 pub fn take_number(bytes: &[u8]) -> Option<(u32, &[u8])>
     ensures { option_map (λ x. (x.0, x.1.now)) result ≡ number_at bytes.now }
 {

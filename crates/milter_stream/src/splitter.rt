@@ -13,7 +13,7 @@ use crate::number::PACKET_MAX;
 use std::alloc::Global;
 use std::marker::Model;
 
-/// A packet of a stream, lent by the splitter that it was taken from: what `decode` reads. Source: mfdef.h.
+/// A packet of a stream, borrowed from the splitter that it was taken from: what `decode` reads. Source: mfdef.h.
 #[derive(Clone, Copy, Debug, PartialEq, Eq)]
 pub struct Packet<'a> {
     /// The code of the packet.
@@ -95,7 +95,7 @@ impl Splitter {
 
     /// The packet, where a whole one is unread: it is handed out at once, and nothing is unread then. The fault is
     /// `ZeroLength` or `TooLong(length)`, from the moment that the four bytes of such a length were taken, and every
-    /// later call answers the same. No memory is taken.
+    /// later call answers the same. Doesn't allocate.
     pub fn next(&mut self) -> Result<Option<Packet<'_>>, WireFault>
         ensures packet { IfOk result (λ found. IfSome found (λ p.
             IsFrame (frame_of p) × (self.old ≡ frame_bytes (frame_of p)))) }
@@ -113,7 +113,7 @@ impl Splitter {
         }
     }
 
-    /// Nothing is unread then, and no fault is answered of what came before. No memory is taken.
+    /// Discards unread bytes and any error. Doesn't allocate.
     pub fn clear(&mut self)
         ensures { self.new ≡ [] }
     {
@@ -121,7 +121,7 @@ impl Splitter {
         *len = 0;
     }
 
-    /// How many bytes were taken and not handed out: at most 65,540, those of the longest packet. No memory is taken.
+    /// How many bytes were taken and not handed out: at most 65,540, those of the longest packet. Doesn't allocate.
     pub fn unread(&self) -> usize
         ensures unread { result ≡ length self.now }
         ensures bound { result ≤ PACKET_MAX }
@@ -130,7 +130,7 @@ impl Splitter {
     }
 
     /// Whether the stream may end here: `Ok` where no byte is unread, else the fault of the length that the unread
-    /// bytes begin with, else `Truncated` with their number. No memory is taken.
+    /// bytes begin with, else `Truncated` with their number. Doesn't allocate.
     pub fn at_end(&self) -> Result<(), WireFault>
         ensures { result ≡ end_result self.now }
     {

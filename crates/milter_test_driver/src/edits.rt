@@ -2,7 +2,7 @@
 //! stream of the reply packets that ask for the edits.
 //!
 //! The first word is what is printed: `text` the text of the message after them, and `count` how many header fields and
-//! recipients it then has. A second word says that leading spaces are agreed on.
+//! recipients it then has. A second word says that leading spaces are negotiated.
 
 ghost use Rattle.std.specs.Prelude.{◌≤◌, All, IfOk, length};
 ghost use Rattle.milter_wire.specs.Reply.{Fits};

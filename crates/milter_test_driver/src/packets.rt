@@ -1,8 +1,8 @@
 //! Packets of a stream, read as often as the command line asks for, and the number of their payload bytes is printed.
 //!
-//! The first word is what is done with each packet: `split` nothing, `lent` it is decoded as it is lent, `owned` it is
-//! decoded into a command of its own, and `encode` the lent command is encoded again. With `copy` the bytes are copied
-//! to a buffer, and not split. The second word is how often.
+//! The first word is what is done with each packet: `split` nothing, `borrowed` it is decoded as it is borrowed,
+//! `owned` it is decoded into a command of its own, and `encode` the borrowed command is encoded again. With `copy` the
+//! bytes are copied to a buffer, and not split. The second word is how often.
 
 ghost use Rattle.std.specs.Prelude.{◌≤◌, length};
 
@@ -21,9 +21,9 @@ trait Work {
 #[derive(Drop)]
 struct Split;
 
-/// It is decoded as it is lent.
+/// It is decoded as it is borrowed.
 #[derive(Drop)]
-struct Lent;
+struct Borrowed;
 
 /// It is decoded into a command of its own.
 #[derive(Drop)]
@@ -31,7 +31,7 @@ struct Owned {
     alloc: Global,
 }
 
-/// It is decoded as it is lent, and encoded again.
+/// It is decoded as it is borrowed, and encoded again.
 #[derive(Drop)]
 struct Encode {
     alloc: Global,
@@ -45,7 +45,7 @@ impl Work for Split {
     }
 }
 
-impl Work for Lent {
+impl Work for Borrowed {
     fn read(&mut self, packet: Packet<'_>) -> anyhow::Result<()> {
         let _command = CommandRef::decode(packet.code, packet.payload)?;
         Ok(())
@@ -128,12 +128,12 @@ pub fn print_total<R: Print + AllocGlobal>(
 ) -> anyhow::Result<()> {
     let alloc = rt.alloc();
     let [work, count] = words else {
-        bail!("usage: milter_test_driver packets split|lent|owned|encode|copy COUNT");
+        bail!("usage: milter_test_driver packets split|borrowed|owned|encode|copy COUNT");
     };
     let count = count.parse::<u64>().ok().context("COUNT is no number")?;
     let total = match work.as_str() {
         "split" => read_again(alloc, &mut Split, input, count)?,
-        "lent" => read_again(alloc, &mut Lent, input, count)?,
+        "borrowed" => read_again(alloc, &mut Borrowed, input, count)?,
         "owned" => read_again(alloc, &mut Owned { alloc }, input, count)?,
         "encode" => {
             let out = Vec::new(alloc);

@@ -5,11 +5,11 @@
 //! the bytes come. The others print a number of messages: `read` of the session, `run` of those that the events settle,
 //! and `play` of those that are settled over one connection on which everything arrives.
 
-mod counting;
+mod counting_filter;
 
 use crate::input::config_without_bits;
 use anyhow::bail;
-use counting::Counting;
+use counting_filter::Counting;
 use milter_events::read_events;
 use milter_filter::Pass;
 use milter_schedule::Event;

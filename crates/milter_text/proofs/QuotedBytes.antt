@@ -1,4 +1,5 @@
--- A byte that is written between quotes is read, and one that is read was written so; a text is written in one way only.
+-- A byte that is written between quotes is read, and one that is read was written so; a text is written in one way
+-- only.
 use Rattle.std.proofs.Common.{◌≡◌, ℕ, ◌+◌, ◌*◌, ◌==◌, true, false, List, [], ◌∷◌, ◌++◌, Option, Some, None, option_map, refl, sym, ap, ◌∙◌, arith, append_assoc, append-nil}
 use Rattle.std.proofs.lemmas.Bool.{and_parts, cond_both, eqb-true, not-true}
 use Rattle.std.proofs.lemmas.Bool.Decides.{nat_tests}

@@ -6,7 +6,7 @@ use Rattle.std.proofs.lemmas.List.Concat.{flat_map-append}
 use Rattle.std.specs.List.{flat_map}
 use Rattle.std.specs.Io.KnownBytes.{Appends, Keeps}
 use Rattle.std.proofs.KnownBytes.{Appends-kept, Appends-nil, Appends-trans}
-use Rattle.milter_text.specs.Writing.{WritesPrefix}
+use Rattle.milter_text.specs.WrittenText.{WritesPrefix}
 use Rattle.milter_text.specs.declared.text_fault.TextFault.{TextFault}
 use Rattle.milter_text.specs.TextWriter.{Advances, Puts, WritesAllBut, buffered, written_bytes}
 use Rattle.milter_text.specs.declared.text_writer.TextWriter.{TextWriter}

@@ -8,5 +8,5 @@ pub mod WordFault
 pub mod LineFault
 pub mod LineCursor
 pub mod TextFault
-pub mod Writing
+pub mod WrittenText
 pub mod TextWriter

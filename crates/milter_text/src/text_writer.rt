@@ -3,9 +3,9 @@
 ghost use Rattle.std.specs.Prelude.{◌≡◌, ◌++◌, [], OnOk};
 ghost use Rattle.std.specs.List.{flat_map};
 ghost use Rattle.milter_text.specs.Quoting.{quoted, quoted_byte};
-ghost use Rattle.milter_text.specs.Writing.{WritesText};
+ghost use Rattle.milter_text.specs.WrittenText.{WritesText};
 
-use crate::quoting::put_escaped;
+use crate::quotes::put_escaped;
 use crate::text_fault::TextFault;
 use std::alloc::Global;
 use std::io::Write;

@@ -6,7 +6,7 @@ use Rattle.milter_trace.specs.declared.fault.TraceFault.{TraceFault}
 use Rattle.milter_trace.specs.declared.fault.TraceFault.TheVariants.{BadLine, Packet, Truncated, ReadFault, WriteFault, TurnLimit, NoMemory}
 use Rattle.milter_trace.specs.Trace.{Trace, prepend_text}
 use Rattle.milter_trace.specs.TraceState.{ContinuesTrace, TraceState, AppendsTrace, trace_to_come}
-use Rattle.milter_text.specs.Writing.{WritesPrefix}
+use Rattle.milter_text.specs.WrittenText.{WritesPrefix}
 use Rattle.milter_trace.specs.TraceWriting.{EndsTrace, IsInputFault, EndsWithFault, WritesTrace}
 
 -- ---- a write that failed

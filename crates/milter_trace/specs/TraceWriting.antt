@@ -1,7 +1,7 @@
 -- What a trace leaves with its writer.
 use Rattle.std.specs.Prelude.{◌≡◌, ℕ, List, Option, None, Some, Result, Ok, Err}
 use Rattle.std.specs.Io.KnownBytes.{Appends}
-use Rattle.milter_text.specs.Writing.{WritesPrefix}
+use Rattle.milter_text.specs.WrittenText.{WritesPrefix}
 use Rattle.milter_trace.specs.declared.fault.TraceFault.{TraceFault}
 use Rattle.milter_trace.specs.declared.fault.TraceFault.TheVariants.{BadLine, Packet, Truncated, ReadFault, WriteFault, TurnLimit, NoMemory}
 use Rattle.milter_trace.specs.Trace.{Trace}

@@ -3,7 +3,7 @@
 ghost use Rattle.std.specs.Prelude.{◌≡◌, ◌≢◌, ◌≤◌, ◌<◌, ◌+◌, ◌++◌, ◌^◌, List, ℕ, [], None, Some, length, IfOk, IfErr, OnOk, OnErr, IsErrOf, IsTrue, ◌↔◌};
 ghost use Rattle.std.specs.Io.KnownBytes.{Appends, IsAtEnd};
 ghost use Rattle.milter_text.specs.Lines.{lines_of};
-ghost use Rattle.milter_text.specs.Writing.{WritesPrefix};
+ghost use Rattle.milter_text.specs.WrittenText.{WritesPrefix};
 ghost use Rattle.milter_trace.specs.PrinterState.{printer_state};
 ghost use Rattle.milter_trace.specs.declared.trace_line.TheConstants.{LINE_MAX};
 ghost use Rattle.milter_trace.specs.TraceRun.{HasBytes, read_max, WritesPrefixOf, WritesTraceOf};

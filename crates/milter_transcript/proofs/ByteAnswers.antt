@@ -13,10 +13,10 @@ use Rattle.milter_wire.specs.Command.{Fits, encoding}
 use Rattle.milter_wire.specs.Frames.{command_frame, frame_command, frames_and}
 use Rattle.milter_wire.specs.Reply as replied
 use Rattle.milter_exchange.specs.Behavior.{Behavior}
-use Rattle.milter_exchange.specs.Conversations.{Conversation, Received, after, next, replies, replies_at, start}
+use Rattle.milter_exchange.specs.FilterEnds.{FilterEnd, Received, after, next, replies, replies_at, start}
 use Rattle.milter_exchange.specs.declared.filter_state.FilterState.{FilterState}
 use Rattle.milter_exchange.specs.declared.filter_state.FilterState.TheVariants.{Failed, Quit, Serving}
-use Rattle.milter_exchange.specs.Standings.{Standing, fresh, standing_after, standing_at, standing_of, standing_replies}
+use Rattle.milter_exchange.specs.OrderStates.{OrderState, fresh, order_state_after, order_state_at, order_state_of, order_state_replies}
 use Rattle.milter_walk.specs.Lines.{Line}
 use Rattle.milter_filter.specs.Streams.{fault_after, received_in}
 use Rattle.milter_transcript.specs.ByteCounts.{owed, to_filter, to_mta}
@@ -67,23 +67,23 @@ module _ (compute : FramesCompute) (read_back : FramesReadBack) where
   -- ---- byte by byte
 
   module _ (b : Behavior) where
-    abbrev written : Conversation → List ℕ → List ℕ
+    abbrev written : FilterEnd → List ℕ → List ℕ
     written c bytes = flat_map replied.encoding (replies b c (received_in bytes))
 
-    none-written : (c : Conversation) (bytes : List ℕ) → received_in bytes ≡ [] → written c bytes ≡ []
+    none-written : (c : FilterEnd) (bytes : List ℕ) → received_in bytes ≡ [] → written c bytes ≡ []
     none-written c bytes e = ap (λ (r : List Received). flat_map replied.encoding (replies b c r)) e
 
-    one-written : (c : Conversation) (command : Command) → Fits command → (more : List ℕ)
+    one-written : (c : FilterEnd) (command : Command) → Fits command → (more : List ℕ)
         → written c (encoding command ++ more) ≡ flat_map replied.encoding (replies_at b c (Ok command)) ++ written (next b c (Ok command)) more
     one-written c command fits more =
         ap (λ (r : List Received). flat_map replied.encoding (replies b c r)) (one-received command fits more)
         ∙ flat_map-append replied.encoding (replies_at b c (Ok command)) (replies b (next b c (Ok command)) (received_in more))
 
-    pub record AnswersAt (c : Conversation) (lines : List Line) (taken : ℕ) : Type 0 where
+    pub record AnswersAt (c : FilterEnd) (lines : List Line) (taken : ℕ) : Type 0 where
       pub replied : written c (take taken (to_filter lines)) ≡ take (owed lines taken) (to_mta lines)
       pub serves : taken < length (to_filter lines) → (after b c (received_in (take taken (to_filter lines)))).state ≡ Serving
 
-    pub answers : (lines : List Line) (c new : Conversation) → Replies b c lines new → (taken : ℕ) → AnswersAt c lines taken
+    pub answers : (lines : List Line) (c new : FilterEnd) → Replies b c lines new → (taken : ℕ) → AnswersAt c lines taken
     answers [] c new r taken =
         let none : take taken [] ≡ [] = take_all {A = ℕ} taken [] (omega arith) in
         record {
@@ -131,30 +131,30 @@ module _ (compute : FramesCompute) (read_back : FramesReadBack) where
 
     -- ---- as a filter's core keeps it
 
-    abbrev pub StandingIs : Type 0
-    StandingIs = (b : Behavior) (c : Conversation) (received : List Received) → standing_of b (after b c received) ≡ standing_after b (standing_of b c) received
+    abbrev pub OrderStateIs : Type 0
+    OrderStateIs = (b : Behavior) (c : FilterEnd) (received : List Received) → order_state_of b (after b c received) ≡ order_state_after b (order_state_of b c) received
 
-    abbrev pub StandingReplies : Type 0
-    StandingReplies = (b : Behavior) (c : Conversation) (received : List Received) → replies b c received ≡ standing_replies b (standing_of b c) received
+    abbrev pub OrderStateReplies : Type 0
+    OrderStateReplies = (b : Behavior) (c : FilterEnd) (received : List Received) → replies b c received ≡ order_state_replies b (order_state_of b c) received
 
-    state-of : (c : Conversation) → (standing_of b c).state ≡ c.state
+    state-of : (c : FilterEnd) → (order_state_of b c).state ≡ c.state
     state-of c = by_state c.state
       where
-        by_state : (s : FilterState) → (standing_at b c.history s).state ≡ s
+        by_state : (s : FilterState) → (order_state_at b c.transcript s).state ≡ s
         by_state Serving = refl
         by_state Quit = refl
         by_state (Failed fault) = refl
 
-    pub answers-lines : StandingIs → StandingReplies → standing_of b start ≡ fresh → (lines : List Line) (new : Conversation) → Replies b start lines new → AnswersLines b lines
-    answers-lines standing_is replies_are begins lines new r =
+    pub answers-lines : OrderStateIs → OrderStateReplies → order_state_of b start ≡ fresh → (lines : List Line) (new : FilterEnd) → Replies b start lines new → AnswersLines b lines
+    answers-lines order_state_is replies_are begins lines new r =
         record {
           replied = λ taken.
-              ap (λ (s : Standing). flat_map replied.encoding (standing_replies b s (received_in (take taken (to_filter lines))))) (sym begins)
+              ap (λ (s : OrderState). flat_map replied.encoding (order_state_replies b s (received_in (take taken (to_filter lines))))) (sym begins)
               ∙ ap (flat_map replied.encoding) (sym (replies_are b start (received_in (take taken (to_filter lines)))))
               ∙ (answers lines start new r taken).replied;
           serves = λ taken less.
-              ap (λ (s : Standing). (standing_after b s (received_in (take taken (to_filter lines)))).state) (sym begins)
-              ∙ ap (λ (s : Standing). s.state) (sym (standing_is b start (received_in (take taken (to_filter lines)))))
+              ap (λ (s : OrderState). (order_state_after b s (received_in (take taken (to_filter lines)))).state) (sym begins)
+              ∙ ap (λ (s : OrderState). s.state) (sym (order_state_is b start (received_in (take taken (to_filter lines)))))
               ∙ state-of (after b start (received_in (take taken (to_filter lines))))
               ∙ (answers lines start new r taken).serves less;
         }

@@ -69,8 +69,8 @@ due-mono (line ∷ lines) m k le =
     omega arith)
 
 pub packet_end-due : (lines : List Line) (s m : ℕ) → s < due lines m → m ≤ owed lines s → packet_end lines s ≤ due lines m
-packet_end-due [] s m early told = omega arith
-packet_end-due (line ∷ lines) s m early told =
+packet_end-due [] s m early by_received = omega arith
+packet_end-due (line ∷ lines) s m early by_received =
     by_lt s (length line.out)
     (λ less.
     let p : packet_end (line ∷ lines) s ≡ length line.out = rw (lt-ltb s (length line.out) less) refl in
@@ -97,8 +97,8 @@ owed-le (line ∷ lines) t =
     (λ past. let d = owed-whole line lines t past in let r = owed-le lines (t - length line.out) in omega arith)
 
 pub packet_end-more : (lines : List Line) (s m : ℕ) → s < due lines m → m ≤ owed lines s → s < packet_end lines s
-packet_end-more [] s m early told = absurd (let h : s < 0 = early in omega arith)
-packet_end-more (line ∷ lines) s m early told =
+packet_end-more [] s m early by_received = absurd (let h : s < 0 = early in omega arith)
+packet_end-more (line ∷ lines) s m early by_received =
     by_lt s (length line.out)
     (λ less. let p : packet_end (line ∷ lines) s ≡ length line.out = rw (lt-ltb s (length line.out) less) refl in omega arith)
     (λ whole.
@@ -113,20 +113,20 @@ packet_end-more (line ∷ lines) s m early told =
 
 -- ---- what is owed and due
 
--- an answer that is owed and not heard is of a packet that was taken
-owed-due-at : (o b d w heard taken : ℕ) (whole known : Bool) → nat_le o taken ≡ whole → nat_le b heard ≡ known
-    → (heard - b < w → d ≤ taken - o) → heard < (if whole then b + w else 0) → (if known then o + d else o) ≤ taken
-owed-due-at o b d w heard taken true true e f rest h =
-    let x = leb-true o taken e in let y = leb-true b heard f in let z = rest (omega arith) in omega arith
-owed-due-at o b d w heard taken true false e f rest h = leb-true o taken e
-owed-due-at o b d w heard taken false known e f rest h = omega arith
+-- an answer that is owed and not received is of a packet that was taken
+owed-due-at : (o b d w received taken : ℕ) (whole known : Bool) → nat_le o taken ≡ whole → nat_le b received ≡ known
+    → (received - b < w → d ≤ taken - o) → received < (if whole then b + w else 0) → (if known then o + d else o) ≤ taken
+owed-due-at o b d w received taken true true e f rest h =
+    let x = leb-true o taken e in let y = leb-true b received f in let z = rest (omega arith) in omega arith
+owed-due-at o b d w received taken true false e f rest h = leb-true o taken e
+owed-due-at o b d w received taken false known e f rest h = omega arith
 
-pub owed-due : (lines : List Line) (heard taken : ℕ) → heard < owed lines taken → due lines heard ≤ taken
-owed-due [] heard taken less = omega arith
-owed-due (line ∷ lines) heard taken less =
-    owed-due-at (length line.out) (length line.back) (due lines (heard - length line.back)) (owed lines (taken - length line.out)) heard taken
-    (nat_le (length line.out) taken) (nat_le (length line.back) heard) refl refl
-    (owed-due lines (heard - length line.back) (taken - length line.out)) less
+pub owed-due : (lines : List Line) (received taken : ℕ) → received < owed lines taken → due lines received ≤ taken
+owed-due [] received taken less = omega arith
+owed-due (line ∷ lines) received taken less =
+    owed-due-at (length line.out) (length line.back) (due lines (received - length line.back)) (owed lines (taken - length line.out)) received taken
+    (nat_le (length line.out) taken) (nat_le (length line.back) received) refl refl
+    (owed-due lines (received - length line.back) (taken - length line.out)) less
 
 -- what is owed of more bytes is no less
 owed-more-at : (o b w v taken more : ℕ) (whole later : Bool) → nat_le o taken ≡ whole → nat_le o (taken + more) ≡ later

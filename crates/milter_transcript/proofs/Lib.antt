@@ -1,5 +1,5 @@
 pub mod ByteCounting
-pub mod TranscriptLines
-mod TalkAnswers
+pub mod EntryLines
+mod DialogueAnswers
 mod ByteAnswers
 mod SessionAnswers

@@ -1,4 +1,4 @@
 pub mod ByteCounts
 pub mod Answered
-pub mod FilterHistory
-pub mod Transcript
+pub mod FilterTranscript
+pub mod ConnectionEntries

@@ -1,4 +1,4 @@
-//! The transcript of a session: what passes over a connection between a mail server's end and a filter that is never
+//! The entries of a session: what passes over a connection between a mail server's end and a filter that is never
 //! lost, packet by packet and byte by byte, and which reports each answer adds.
 //!
 //! Nothing here is run: each law is the contract of a function that does nothing.
@@ -7,6 +7,6 @@
 mod laws;
 
 pub use laws::{
-    bytes_are_answered, counts_of_bytes, sessions_are_answered, talks_are_answered,
-    transcripts_of_sessions,
+    bytes_are_answered, counts_of_bytes, dialogues_are_answered, entries_of_sessions,
+    sessions_are_answered,
 };

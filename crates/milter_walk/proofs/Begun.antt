@@ -1,23 +1,23 @@
--- A talk sends a beginning of its plan.
+-- A dialogue sends a beginning of its plan.
 use Rattle.std.specs.Prelude.{if◌then◌else◌}
 use Rattle.std.proofs.Common.{◌≡◌, Bool, true, false, cond, not, ◌&&◌, ◌||◌, List, [], ◌∷◌, ◌++◌, refl, sym, ap, ◌∙◌, append-nil}
 use Rattle.std.specs.List.{list_any}
 use Rattle.std.proofs.lemmas.Bool.{true≢false}
 use Rattle.milter_walk.proofs.TruthValues.{and-false, and-true, or-true}
-use Rattle.milter_wire.specs.declared.agreement.Agreed.{Agreed}
+use Rattle.milter_wire.specs.declared.negotiation.Negotiated.{Negotiated}
 use Rattle.milter_wire.specs.declared.command.Command.{Command}
 use Rattle.milter_exchange.specs.Behavior.{Behavior, exchange_of}
 use Rattle.milter_exchange.specs.Exchanges.{Exchange, commands_of}
-use Rattle.milter_exchange.specs.Talk.{is_body, is_closed, is_left_out, is_skipping, talk}
+use Rattle.milter_exchange.specs.Dialogue.{is_body, is_closed, is_left_out, is_skipping, dialogue_with}
 use Rattle.milter_plan.specs.PlanCursor.{without_body}
 use Rattle.milter_walk.specs.Beginnings.{IsBeginning}
 
 by_skips : (a b c : Bool) → b ≡ c → (a && b) ≡ (a && c)
 by_skips a b c e = ap (λ (k : Bool). a && k) e
 
-module _ (b : Behavior) (agreed : Agreed) where
+module _ (b : Behavior) (negotiated : Negotiated) where
   abbrev next : List Exchange → Command → Exchange
-  next walk command = exchange_of b agreed (commands_of walk) command
+  next dialogue command = exchange_of b negotiated (commands_of dialogue) command
 
   abbrev rest_of : Bool → List Exchange → List Exchange
   rest_of closed more = if closed then [] else more
@@ -28,50 +28,50 @@ module _ (b : Behavior) (agreed : Agreed) where
     unsent : List Command
     sent_is : commands_of sent ++ unsent ≡ without_body plan
 
-  after_skip : (left : List Command) (walk : List Exchange) → list_any is_skipping walk ≡ true → IsRest left (talk b agreed walk left)
-  unfolding talk
-  after_skip [] walk skipped = record { unsent = []; sent_is = refl }
-  after_skip (command ∷ left) walk skipped =
-      by_out (is_left_out walk command) refl (after_skip left walk skipped)
-      (after_skip left (next walk command ∷ walk) (or-true (is_skipping (next walk command)) (list_any is_skipping walk) skipped))
+  after_skip : (left : List Command) (dialogue : List Exchange) → list_any is_skipping dialogue ≡ true → IsRest left (dialogue_with b negotiated dialogue left)
+  unfolding dialogue_with
+  after_skip [] dialogue skipped = record { unsent = []; sent_is = refl }
+  after_skip (command ∷ left) dialogue skipped =
+      by_out (is_left_out dialogue command) refl (after_skip left dialogue skipped)
+      (after_skip left (next dialogue command ∷ dialogue) (or-true (is_skipping (next dialogue command)) (list_any is_skipping dialogue) skipped))
     where
-      is_piece : is_left_out walk command ≡ is_body command
-      is_piece = by_skips (is_body command) (list_any is_skipping walk) true skipped ∙ and-true (is_body command)
+      is_chunk : is_left_out dialogue command ≡ is_body command
+      is_chunk = by_skips (is_body command) (list_any is_skipping dialogue) true skipped ∙ and-true (is_body command)
 
-      here : (body : Bool) → is_left_out walk command ≡ body → without_body (command ∷ left) ≡ cond (not body) (command ∷ without_body left) (without_body left)
-      here body e = ap (λ (k : Bool). cond (not k) (command ∷ without_body left) (without_body left)) (sym is_piece ∙ e)
+      here : (body : Bool) → is_left_out dialogue command ≡ body → without_body (command ∷ left) ≡ cond (not body) (command ∷ without_body left) (without_body left)
+      here body e = ap (λ (k : Bool). cond (not k) (command ∷ without_body left) (without_body left)) (sym is_chunk ∙ e)
 
-      by_closed : (closed : Bool) → is_left_out walk command ≡ false → IsRest left (talk b agreed (next walk command ∷ walk) left)
-          → IsRest (command ∷ left) (next walk command ∷ rest_of closed (talk b agreed (next walk command ∷ walk) left))
+      by_closed : (closed : Bool) → is_left_out dialogue command ≡ false → IsRest left (dialogue_with b negotiated (next dialogue command ∷ dialogue) left)
+          → IsRest (command ∷ left) (next dialogue command ∷ rest_of closed (dialogue_with b negotiated (next dialogue command ∷ dialogue) left))
       by_closed true e rest = record { unsent = without_body left; sent_is = sym (here false e) }
       by_closed false e rest = record { unsent = rest.unsent; sent_is = ap (λ (l : List Command). command ∷ l) rest.sent_is ∙ sym (here false e) }
 
-      by_out : (out : Bool) → is_left_out walk command ≡ out → IsRest left (talk b agreed walk left)
-          → IsRest left (talk b agreed (next walk command ∷ walk) left)
+      by_out : (out : Bool) → is_left_out dialogue command ≡ out → IsRest left (dialogue_with b negotiated dialogue left)
+          → IsRest left (dialogue_with b negotiated (next dialogue command ∷ dialogue) left)
           → IsRest (command ∷ left)
-          (if out then talk b agreed walk left
-          else next walk command ∷ (if is_closed (next walk command ∷ walk) left then [] else talk b agreed (next walk command ∷ walk) left))
+          (if out then dialogue_with b negotiated dialogue left
+          else next dialogue command ∷ (if is_closed (next dialogue command ∷ dialogue) left then [] else dialogue_with b negotiated (next dialogue command ∷ dialogue) left))
       by_out true e same rest = record { unsent = same.unsent; sent_is = same.sent_is ∙ sym (here true e) }
-      by_out false e same rest = by_closed (is_closed (next walk command ∷ walk) left) e rest
+      by_out false e same rest = by_closed (is_closed (next dialogue command ∷ dialogue) left) e rest
 
   -- ---- before one
 
-  no_piece : (walk : List Exchange) (command : Command) → list_any is_skipping walk ≡ false → is_left_out walk command ≡ false
-  no_piece walk command none = by_skips (is_body command) (list_any is_skipping walk) false none ∙ and-false (is_body command)
+  no_chunk : (dialogue : List Exchange) (command : Command) → list_any is_skipping dialogue ≡ false → is_left_out dialogue command ≡ false
+  no_chunk dialogue command none = by_skips (is_body command) (list_any is_skipping dialogue) false none ∙ and-false (is_body command)
 
-  pub begins : (left : List Command) (walk : List Exchange) → list_any is_skipping walk ≡ false → IsBeginning left (talk b agreed walk left)
-  unfolding talk
-  begins [] walk none =
+  pub begins : (left : List Command) (dialogue : List Exchange) → list_any is_skipping dialogue ≡ false → IsBeginning left (dialogue_with b negotiated dialogue left)
+  unfolding dialogue_with
+  begins [] dialogue none =
       record { first = []; others = []; unsent = []; plan_is = refl; sent_is = refl; skip = λ some. absurd (some refl) }
-  begins (command ∷ left) walk none =
-      by_out (is_left_out walk command) refl
-      (λ skips. after_skip left (next walk command ∷ walk) (ap (λ (k : Bool). k || list_any is_skipping walk) skips))
-      (λ skips. begins left (next walk command ∷ walk) (ap (λ (k : Bool). k || list_any is_skipping walk) skips ∙ none))
+  begins (command ∷ left) dialogue none =
+      by_out (is_left_out dialogue command) refl
+      (λ skips. after_skip left (next dialogue command ∷ dialogue) (ap (λ (k : Bool). k || list_any is_skipping dialogue) skips))
+      (λ skips. begins left (next dialogue command ∷ dialogue) (ap (λ (k : Bool). k || list_any is_skipping dialogue) skips ∙ none))
     where
-      by_skip : (skips : Bool) → is_skipping (next walk command) ≡ skips
-          → (is_skipping (next walk command) ≡ true → IsRest left (talk b agreed (next walk command ∷ walk) left))
-          → (is_skipping (next walk command) ≡ false → IsBeginning left (talk b agreed (next walk command ∷ walk) left))
-          → IsBeginning (command ∷ left) (next walk command ∷ talk b agreed (next walk command ∷ walk) left)
+      by_skip : (skips : Bool) → is_skipping (next dialogue command) ≡ skips
+          → (is_skipping (next dialogue command) ≡ true → IsRest left (dialogue_with b negotiated (next dialogue command ∷ dialogue) left))
+          → (is_skipping (next dialogue command) ≡ false → IsBeginning left (dialogue_with b negotiated (next dialogue command ∷ dialogue) left))
+          → IsBeginning (command ∷ left) (next dialogue command ∷ dialogue_with b negotiated (next dialogue command ∷ dialogue) left)
       by_skip true e skipped goes =
           let rest = skipped e in
           record {
@@ -80,7 +80,7 @@ module _ (b : Behavior) (agreed : Agreed) where
             unsent = rest.unsent;
             plan_is = refl;
             sent_is = ap (λ (l : List Command). command ∷ l) rest.sent_is;
-            skip = λ some. ap (λ (k : Bool). k || list_any is_skipping (talk b agreed (next walk command ∷ walk) left)) e;
+            skip = λ some. ap (λ (k : Bool). k || list_any is_skipping (dialogue_with b negotiated (next dialogue command ∷ dialogue) left)) e;
           }
       by_skip false e skipped goes =
           let rest = goes e in
@@ -90,13 +90,13 @@ module _ (b : Behavior) (agreed : Agreed) where
             unsent = rest.unsent;
             plan_is = ap (λ (l : List Command). command ∷ l) rest.plan_is;
             sent_is = ap (λ (l : List Command). command ∷ l) rest.sent_is;
-            skip = λ some. or-true (is_skipping (next walk command)) _ (rest.skip some);
+            skip = λ some. or-true (is_skipping (next dialogue command)) _ (rest.skip some);
           }
 
       by_closed : (closed : Bool)
-          → (is_skipping (next walk command) ≡ true → IsRest left (talk b agreed (next walk command ∷ walk) left))
-          → (is_skipping (next walk command) ≡ false → IsBeginning left (talk b agreed (next walk command ∷ walk) left))
-          → IsBeginning (command ∷ left) (next walk command ∷ rest_of closed (talk b agreed (next walk command ∷ walk) left))
+          → (is_skipping (next dialogue command) ≡ true → IsRest left (dialogue_with b negotiated (next dialogue command ∷ dialogue) left))
+          → (is_skipping (next dialogue command) ≡ false → IsBeginning left (dialogue_with b negotiated (next dialogue command ∷ dialogue) left))
+          → IsBeginning (command ∷ left) (next dialogue command ∷ rest_of closed (dialogue_with b negotiated (next dialogue command ∷ dialogue) left))
       by_closed true skipped goes =
           record {
             first = command ∷ left;
@@ -106,13 +106,13 @@ module _ (b : Behavior) (agreed : Agreed) where
             sent_is = sym (append-nil (command ∷ left));
             skip = λ some. absurd (some refl);
           }
-      by_closed false skipped goes = by_skip (is_skipping (next walk command)) refl skipped goes
+      by_closed false skipped goes = by_skip (is_skipping (next dialogue command)) refl skipped goes
 
-      by_out : (out : Bool) → is_left_out walk command ≡ out
-          → (is_skipping (next walk command) ≡ true → IsRest left (talk b agreed (next walk command ∷ walk) left))
-          → (is_skipping (next walk command) ≡ false → IsBeginning left (talk b agreed (next walk command ∷ walk) left))
+      by_out : (out : Bool) → is_left_out dialogue command ≡ out
+          → (is_skipping (next dialogue command) ≡ true → IsRest left (dialogue_with b negotiated (next dialogue command ∷ dialogue) left))
+          → (is_skipping (next dialogue command) ≡ false → IsBeginning left (dialogue_with b negotiated (next dialogue command ∷ dialogue) left))
           → IsBeginning (command ∷ left)
-          (if out then talk b agreed walk left
-          else next walk command ∷ (if is_closed (next walk command ∷ walk) left then [] else talk b agreed (next walk command ∷ walk) left))
-      by_out true e skipped goes = absurd (true≢false (sym e ∙ no_piece walk command none))
-      by_out false e skipped goes = by_closed (is_closed (next walk command ∷ walk) left) skipped goes
+          (if out then dialogue_with b negotiated dialogue left
+          else next dialogue command ∷ (if is_closed (next dialogue command ∷ dialogue) left then [] else dialogue_with b negotiated (next dialogue command ∷ dialogue) left))
+      by_out true e skipped goes = absurd (true≢false (sym e ∙ no_chunk dialogue command none))
+      by_out false e skipped goes = by_closed (is_closed (next dialogue command ∷ dialogue) left) skipped goes

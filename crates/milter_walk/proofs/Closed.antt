@@ -1,8 +1,8 @@
--- What closes a walk, and walks that are open.
+-- What closes a dialogue, and dialogues that are open.
 use Rattle.std.proofs.Common.{◌≡◌, ◌≤◌, Bool, true, false, cond, not, ◌&&◌, ◌||◌, List, [], ◌∷◌, is_some, Option, None, Some, refl, sym, ap, ◌∙◌, subst, arith}
 use Rattle.std.specs.List.{list_any}
 use Rattle.std.proofs.lemmas.Bool.{true≢false}
-use Rattle.milter_wire.specs.declared.agreement.Agreed.{Agreed}
+use Rattle.milter_wire.specs.declared.negotiation.Negotiated.{Negotiated}
 use Rattle.milter_wire.specs.declared.command.Command.{Command}
 use Rattle.milter_wire.specs.declared.command.Command.TheVariants as commands
 use Rattle.milter_wire.specs.declared.stage.Stage.{Stage}
@@ -13,16 +13,16 @@ use Rattle.milter_exchange.specs.declared.answer.Answer.{Answer}
 use Rattle.milter_exchange.specs.Behavior.{Behavior}
 use Rattle.milter_exchange.specs.Commands.{is_of_connection}
 use Rattle.milter_exchange.specs.Exchanges.{Exchange, commands_of, onto}
-use Rattle.milter_exchange.specs.Histories.{rank_at}
+use Rattle.milter_exchange.specs.Transcripts.{rank_at}
 use Rattle.milter_exchange.specs.StageOrder.{rank_of}
-use Rattle.milter_exchange.specs.Talk.{IsEnded, IsOpen, IsTalk, are_all_refused, is_closed, is_final, is_final_answer, is_kept_rcpt, is_rcpt}
+use Rattle.milter_exchange.specs.Dialogue.{IsEnded, IsOpen, IsDialogueWith, are_all_refused, is_closed, is_final, is_final_answer, is_kept_rcpt, is_rcpt}
 use Rattle.milter_exchange.specs.Verdicts.{has_verdict, is_refusal}
-use Rattle.milter_exchange.proofs.Talking.{left-false}
-use Rattle.milter_outcome.specs.Acting.{kept}
-use Rattle.milter_outcome.specs.Walks.{acted, ruled, ruled_by}
+use Rattle.milter_exchange.proofs.DialogueSteps.{left-false}
+use Rattle.milter_outcome.specs.ActedVerdicts.{kept}
+use Rattle.milter_outcome.specs.Dialogues.{acted, ruled, ruled_by}
 use Rattle.milter_walk.specs.Order.{AreInOrder, ComeBefore, ReachAtMost}
 use Rattle.milter_walk.specs.Settled.{ends_with_client}
-use Rattle.milter_walk.specs.Walks.{opening_of}
+use Rattle.milter_walk.specs.Dialogues.{opening_of}
 use Rattle.milter_walk.proofs.Openings.{low_rank}
 use Rattle.milter_walk.proofs.Ordered.{further}
 use Rattle.milter_walk.proofs.Refusals.{is_rcpt_at, rcpt_by_stage}
@@ -48,7 +48,7 @@ module _ (last : Exchange) (before : List Exchange) (left : List Command) where
       ap (λ (s : Option Stage). is_final_answer s last.answer || are_all_refused (last ∷ before) left) at
       ∙ ap (λ (k : Bool). k && not (list_any is_rcpt left) && not (list_any is_kept_rcpt (last ∷ before))) (rcpt_by_stage last.command ∙ ap is_rcpt_at at)
 
--- a walk that closed rules
+-- a dialogue that closed rules
 pub closed-rules : (last : Exchange) (before : List Exchange) (left : List Command) → is_closed (last ∷ before) left ≡ true
     → (leading_space : Bool) (message : MailObject) → is_some (ruled leading_space message (last ∷ before)) ≡ true
 closed-rules last before left closed leading_space message = by_last (stage_of last.command) last.answer refl refl
@@ -59,18 +59,18 @@ closed-rules last before left closed leading_space message = by_last (stage_of l
     by_last (Some stage) None at unanswered = absurd (true≢false (sym closed ∙ unanswered-open last before left unanswered))
     by_last (Some stage) (Some answer) at answered = refl
 
-pub ended-rules : (walk : List Exchange) (left : List Command) → IsEnded walk left → (leading_space : Bool) (message : MailObject)
-    → is_some (ruled leading_space message walk) ≡ true
+pub ended-rules : (dialogue : List Exchange) (left : List Command) → IsEnded dialogue left → (leading_space : Bool) (message : MailObject)
+    → is_some (ruled leading_space message dialogue) ≡ true
 ended-rules [] left ended leading_space message = absurd ended
 ended-rules (last ∷ before) left ended leading_space message = closed-rules last before left ended.0 leading_space message
 
--- and so does a whole talk, by its last exchange
-pub talk-rules : (b : Behavior) (agreed : Agreed) (before : List Exchange) (commands : List Command) (exchanges : List Exchange)
-    → IsTalk b agreed before commands exchanges → (leading_space : Bool) (message : MailObject) → is_some (ruled leading_space message (onto exchanges before)) ≡ true
-talk-rules b agreed before commands [] is leading_space message = absurd is
-talk-rules b agreed before commands (exchange ∷ []) is leading_space message = closed-rules exchange before is.0 is.2 leading_space message
-talk-rules b agreed before commands (exchange ∷ next ∷ more) is leading_space message =
-    talk-rules b agreed (exchange ∷ before) is.0 (next ∷ more) is.3 leading_space message
+-- and so does a whole dialogue, by its last exchange
+pub dialogue_with-rules : (b : Behavior) (negotiated : Negotiated) (before : List Exchange) (commands : List Command) (exchanges : List Exchange)
+    → IsDialogueWith b negotiated before commands exchanges → (leading_space : Bool) (message : MailObject) → is_some (ruled leading_space message (onto exchanges before)) ≡ true
+dialogue_with-rules b negotiated before commands [] is leading_space message = absurd is
+dialogue_with-rules b negotiated before commands (exchange ∷ []) is leading_space message = closed-rules exchange before is.0 is.2 leading_space message
+dialogue_with-rules b negotiated before commands (exchange ∷ next ∷ more) is leading_space message =
+    dialogue_with-rules b negotiated (exchange ∷ before) is.0 (next ∷ more) is.3 leading_space message
 
 -- ---- before there is a message, nothing depends on what is left
 
@@ -96,21 +96,21 @@ low-closed last before left other low =
     let none : is_rcpt last.command ≡ false = rcpt_by_stage last.command ∙ rcpt-low (stage_of last.command) low in
     no_rcpt-closed last before left none ∙ sym (no_rcpt-closed last before other none)
 
-low-open : (walk : List Exchange) (left other : List Command) → ReachAtMost 2 (commands_of walk) → IsOpen walk left → IsOpen walk other
+low-open : (dialogue : List Exchange) (left other : List Command) → ReachAtMost 2 (commands_of dialogue) → IsOpen dialogue left → IsOpen dialogue other
 low-open [] left other low is = tt
 low-open (last ∷ before) left other low is = (
   sym (low-closed last before left other low.0) ∙ is.0,
   low-open before (last.command ∷ left) (last.command ∷ other) low.1 is.1,
 )
 
-low-ended : (walk : List Exchange) (left other : List Command) → ReachAtMost 2 (commands_of walk) → IsEnded walk left → IsEnded walk other
+low-ended : (dialogue : List Exchange) (left other : List Command) → ReachAtMost 2 (commands_of dialogue) → IsEnded dialogue left → IsEnded dialogue other
 low-ended [] left other low is = is
 low-ended (last ∷ before) left other low is = (
   sym (low-closed last before left other low.0) ∙ is.0,
   low-open before (last.command ∷ left) (last.command ∷ other) low.1 is.1,
 )
 
--- a walk that ends with the client has not reached a message
+-- a dialogue that ends with the client has not reached a message
 pub client-low : (last : Exchange) (before : List Exchange) (stage : Stage) → stage_of last.command ≡ Some stage → is_of_connection last.command ≡ true
     → AreInOrder (commands_of (last ∷ before)) → ReachAtMost 2 (commands_of (last ∷ before))
 client-low last before stage at client order =
@@ -120,7 +120,7 @@ client-low last before stage at client order =
     )
 
 -- and so it ended whichever message was to follow
-pub ended-client : (walk : List Exchange) (left other : List Command) → AreInOrder (commands_of walk) → ends_with_client walk ≡ true → IsEnded walk left → IsEnded walk other
+pub ended-client : (dialogue : List Exchange) (left other : List Command) → AreInOrder (commands_of dialogue) → ends_with_client dialogue ≡ true → IsEnded dialogue left → IsEnded dialogue other
 ended-client [] left other order client is = is
 ended-client (last ∷ before) left other order client is = by_stage (stage_of last.command) refl
   where
@@ -134,8 +134,8 @@ pub no_rcpt : (command : Command) → is_of_connection command ≡ true → is_r
 no_rcpt (commands.Rcpt recipient) e = absurd (true≢false (sym e))
 no_rcpt other e = refl
 
--- of a walk that is open they are open, whatever follows them
-pub opening-open : (walk : List Exchange) (left other : List Command) → IsOpen walk left → IsOpen (opening_of walk) other
+-- of a dialogue that is open they are open, whatever follows them
+pub opening-open : (dialogue : List Exchange) (left other : List Command) → IsOpen dialogue left → IsOpen (opening_of dialogue) other
 opening-open [] left other is = tt
 opening-open (last ∷ before) left other is =
     by_client (is_of_connection last.command) refl (opening-open before (last.command ∷ left) other is.1) (opening-open before (last.command ∷ left) (last.command ∷ other) is.1)
@@ -149,8 +149,8 @@ opening-open (last ∷ before) left other is =
     )
     by_client false c rest more = rest
 
--- nor did they end a walk that ended with a message
-pub opening-ended : (walk : List Exchange) (left other : List Command) → ends_with_client walk ≡ false → IsEnded walk left → IsOpen (opening_of walk) other
+-- nor did they end a dialogue that ended with a message
+pub opening-ended : (dialogue : List Exchange) (left other : List Command) → ends_with_client dialogue ≡ false → IsEnded dialogue left → IsOpen (opening_of dialogue) other
 opening-ended [] left other client is = absurd is
 opening-ended (last ∷ before) left other client is =
     subst (λ (w : List Exchange). IsOpen w other) (sym (ap (λ (k : Bool). cond k (last ∷ opening_of before) (opening_of before)) client))

@@ -5,7 +5,7 @@ use Rattle.std.proofs.lemmas.List.Elements.{filter-append}
 use Rattle.std.proofs.lemmas.Option.{same_Some}
 use Rattle.milter_stream.specs.declared.fault.WireFault.{WireFault}
 use Rattle.milter_stream.specs.Stream.{Frame, first_frame, length_fault}
-use Rattle.milter_wire.specs.declared.agreement.Agreed.{Agreed}
+use Rattle.milter_wire.specs.declared.negotiation.Negotiated.{Negotiated}
 use Rattle.milter_wire.specs.declared.command.Command.{Command}
 use Rattle.milter_wire.specs.declared.reply.Reply.{Reply}
 use Rattle.milter_wire.specs.declared.stage.Stage.{Stage}
@@ -14,28 +14,28 @@ use Rattle.milter_wire.specs.Frames.{frame_reply}
 use Rattle.milter_message.specs.declared.edit.Edit.{Edit}
 use Rattle.milter_message.specs.MailObject.{MailObject}
 use Rattle.milter_outcome.specs.declared.acted.Acted.{Acted}
-use Rattle.milter_outcome.specs.declared.hearing.Heard.{Heard}
-use Rattle.milter_outcome.specs.declared.hearing.Heard.TheVariants as heard_as
+use Rattle.milter_outcome.specs.declared.received_reply.ReceivedReply.{ReceivedReply}
+use Rattle.milter_outcome.specs.declared.received_reply.ReceivedReply.TheVariants as received_as
 use Rattle.milter_outcome.specs.declared.loss.By.TheVariants.{Connection}
 use Rattle.milter_outcome.specs.declared.loss.Loss.{Loss}
 use Rattle.milter_outcome.specs.declared.loss.Loss.TheVariants.{Fault}
 use Rattle.milter_outcome.specs.declared.loss.MtaFault.{MtaFault}
 use Rattle.milter_outcome.specs.declared.loss.MtaFault.TheVariants.{Early, NotAtThisStage, Wire}
 use Rattle.milter_outcome.specs.declared.report.Report.{Report}
-use Rattle.milter_outcome.specs.Hearing.{options_heard, reply_heard}
+use Rattle.milter_outcome.specs.ReceivedReplies.{options_received, reply_received}
 use Rattle.milter_outcome.specs.Outcomes.{at_connection}
 use Rattle.milter_plan.specs.EditWeights.{weight_of_all}
-use Rattle.milter_plan.specs.Talks.{stage_first}
-use Rattle.milter_plan.specs.TalkVerdicts.{ends_walk, is_of_connection, last_verdict, left_after, number_after, with_verdict}
+use Rattle.milter_plan.specs.Transactions.{stage_first}
+use Rattle.milter_plan.specs.TransactionVerdicts.{ends_dialogue, is_of_connection, last_verdict, left_after, number_after, with_verdict}
 use Rattle.milter_mta.specs.declared.want.Want.{Want}
 use Rattle.milter_mta.specs.declared.want.Want.TheVariants as wants
-use Rattle.milter_mta.specs.Mta.{Link, Mta, Position, at_packet}
+use Rattle.milter_mta.specs.Mta.{FilterConnection, Mta, Position, at_packet}
 use Rattle.milter_mta.specs.Mta.Position.{Ended, Offering, Quitting, Sending}
-use Rattle.milter_mta.specs.Receiving.{agreed_on, at, byte_at, fails, framed, heard, heard_at, heard_on, replied, replied_at, ruled_on, unread_is}
-use Rattle.milter_mta.specs.Sending.{advanced, advanced_in, dialled, dialled_if, sent, sent_in, want}
-use Rattle.milter_mta.specs.Settling.{acted_in, defaulted, lost, report, settled_all, settled_first, settled_in}
-use Rattle.milter_walk.specs.AnyFilter.{ConnectionIsReported, HaveLastVerdict, IsLinkOnWalk, IsOnWalk, IsOptionOnWalk, IsPositionOnWalk, client_reports, is_by_client, without_messages}
-use Rattle.milter_walk.proofs.AnyFilter.{HeardFacts, byte-goes}
+use Rattle.milter_mta.specs.Replies.{negotiated_on, at, byte_at, fails, framed, received, received_at, received_on, replied, replied_at, ruled_on, unread_is}
+use Rattle.milter_mta.specs.Output.{advanced, advanced_in, dialled, dialled_if, sent, sent_in, want}
+use Rattle.milter_mta.specs.Dispositions.{acted_in, defaulted, lost, report, settled_all, settled_first, settled_in}
+use Rattle.milter_walk.specs.AnyFilter.{ConnectionIsReported, HaveLastVerdict, IsConnectionOnDialogue, IsOnDialogue, IsOptionOnDialogue, IsPositionOnDialogue, client_reports, is_by_client, without_messages}
+use Rattle.milter_walk.proofs.AnyFilter.{ReceivedFacts, byte-goes}
 use Rattle.milter_walk.proofs.Numbers.{last_added}
 
 -- ---- one report more, or those of all messages
@@ -63,7 +63,7 @@ one-other m new message messages r e is other reports connection =
 lost-keeps : (m : Mta) (loss : Loss) → ConnectionIsReported m → ConnectionIsReported (lost loss m)
 lost-keeps m loss is = by_messages m.session.messages refl
   where
-    by_messages : (messages : List MailObject) → m.session.messages ≡ messages → ConnectionIsReported (record (defaulted loss (acted_in m.link) messages m) { link = None })
+    by_messages : (messages : List MailObject) → m.session.messages ≡ messages → ConnectionIsReported (record (defaulted loss (acted_in m.filter_connection) messages m) { filter_connection = None })
     by_messages [] e = record { none = is.none; some = is.some }
     by_messages (message ∷ messages) e = one-other m _ message messages _ e is refl refl refl
 
@@ -105,19 +105,19 @@ module _ (m : Mta) (is : ConnectionIsReported m) (verdict : Verdict) (acted : Li
         );
       }
 
-  settled-keeps : (agreed : Agreed) (stage : Stage) (es : List Edit) → m.session.messages ≢ []
-      → (client : Bool) → ConnectionIsReported (if client then settled_all verdict acted m else settled_first agreed stage es verdict acted m)
-  settled-keeps agreed stage es left client = by_messages m.session.messages refl client
+  settled-keeps : (negotiated : Negotiated) (stage : Stage) (es : List Edit) → m.session.messages ≢ []
+      → (client : Bool) → ConnectionIsReported (if client then settled_all verdict acted m else settled_first negotiated stage es verdict acted m)
+  settled-keeps negotiated stage es left client = by_messages m.session.messages refl client
     where
       by_messages : (messages : List MailObject) → m.session.messages ≡ messages → (client : Bool)
-          → ConnectionIsReported (if client then settled_all verdict acted m else settled_in agreed stage es verdict acted messages m)
+          → ConnectionIsReported (if client then settled_all verdict acted m else settled_in negotiated stage es verdict acted messages m)
       by_messages [] e client = absurd (left e)
       by_messages (message ∷ messages) e true = all-keeps message messages e
       by_messages (message ∷ messages) e false = one-other m _ message messages _ e is refl refl refl
 
-ruled-keeps : (m : Mta) (agreed : Agreed) (stage : Stage) (verdicts : List Acted) (es : List Edit) (left : List Command) (verdict : Verdict) → ConnectionIsReported m
-    → m.session.messages ≢ [] → ConnectionIsReported (ruled_on agreed stage (with_verdict stage verdict verdicts) es left verdict m)
-ruled-keeps m agreed stage verdicts es left verdict is some = by_end (ends_walk stage verdict (with_verdict stage verdict verdicts) left)
+ruled-keeps : (m : Mta) (negotiated : Negotiated) (stage : Stage) (verdicts : List Acted) (es : List Edit) (left : List Command) (verdict : Verdict) → ConnectionIsReported m
+    → m.session.messages ≢ [] → ConnectionIsReported (ruled_on negotiated stage (with_verdict stage verdict verdicts) es left verdict m)
+ruled-keeps m negotiated stage verdicts es left verdict is some = by_end (ends_dialogue stage verdict (with_verdict stage verdict verdicts) left)
   where
     last : option_map (λ (a : Acted). a.verdict) (last_verdict (with_verdict stage verdict verdicts)) ≡ Some verdict
     last =
@@ -125,16 +125,16 @@ ruled-keeps m agreed stage verdicts es left verdict is some = by_end (ends_walk 
         (last_added verdicts (record { stage = stage; nth = number_after stage (last_verdict verdicts); verdict = verdict }))
 
     by_end : (ends : Bool) → ConnectionIsReported (if ends then (if is_of_connection stage then settled_all verdict (with_verdict stage verdict verdicts) m
-        else settled_first agreed stage es verdict (with_verdict stage verdict verdicts) m)
-        else at (at_packet (Sending agreed (with_verdict stage verdict verdicts) [] (left_after verdict left))) m)
-    by_end true = settled-keeps m is verdict (with_verdict stage verdict verdicts) last agreed stage es some (is_of_connection stage)
+        else settled_first negotiated stage es verdict (with_verdict stage verdict verdicts) m)
+        else at (at_packet (Sending negotiated (with_verdict stage verdict verdicts) [] (left_after verdict left))) m)
+    by_end true = settled-keeps m is verdict (with_verdict stage verdict verdicts) last negotiated stage es some (is_of_connection stage)
     by_end false = record { none = is.none; some = is.some }
 
 -- ---- the calls
 
 module _ (m : Mta) (is : ConnectionIsReported m) where
-  same : (link : Option Link) → ConnectionIsReported (record m { link = link })
-  same link = record { none = is.none; some = is.some }
+  same : (filter_connection : Option FilterConnection) → ConnectionIsReported (record m { filter_connection = filter_connection })
+  same filter_connection = record { none = is.none; some = is.some }
 
   pub dialled-keeps : ConnectionIsReported (dialled m)
   dialled-keeps = by_want (want m)
@@ -146,81 +146,81 @@ module _ (m : Mta) (is : ConnectionIsReported m) where
       by_want wants.Done = is
 
   pub advanced-keeps : ConnectionIsReported (advanced m)
-  advanced-keeps = by_link m.link (want m)
+  advanced-keeps = by_filter_connection m.filter_connection (want m)
     where
-      by_link : (link : Option Link) (w : Want) → ConnectionIsReported (advanced_in link w m)
-      by_link None w = is
-      by_link (Some link) wants.Send = same _
-      by_link (Some link) wants.Dial = is
-      by_link (Some link) wants.Receive = is
-      by_link (Some link) wants.Done = is
+      by_filter_connection : (filter_connection : Option FilterConnection) (w : Want) → ConnectionIsReported (advanced_in filter_connection w m)
+      by_filter_connection None w = is
+      by_filter_connection (Some filter_connection) wants.Send = same _
+      by_filter_connection (Some filter_connection) wants.Dial = is
+      by_filter_connection (Some filter_connection) wants.Receive = is
+      by_filter_connection (Some filter_connection) wants.Done = is
 
   pub sent-keeps : (count : ℕ) → ConnectionIsReported (sent count m)
-  sent-keeps count = by_link m.link
+  sent-keeps count = by_filter_connection m.filter_connection
     where
-      by_link : (link : Option Link) → ConnectionIsReported (sent_in count link m)
-      by_link None = is
-      by_link (Some link) = same _
+      by_filter_connection : (filter_connection : Option FilterConnection) → ConnectionIsReported (sent_in count filter_connection m)
+      by_filter_connection None = is
+      by_filter_connection (Some filter_connection) = same _
 
   pub lost-reported : (loss : Loss) → ConnectionIsReported (lost loss m)
   lost-reported loss = lost-keeps m loss is
 
-  -- ---- what is heard
+  -- ---- what is received
 
   failed : (fault : MtaFault) → ConnectionIsReported (fails fault m).mta
   failed fault = lost-keeps m (Fault fault) is
 
-  heard_at-keeps : (agreed : Agreed) (stage : Stage) (verdicts : List Acted) (es : List Edit) (left : List Command) (found : Result Heard MtaFault) → m.session.messages ≢ []
-      → ConnectionIsReported (heard_at agreed stage verdicts es left found m).mta
-  heard_at-keeps agreed stage verdicts es left (Err fault) some = failed fault
-  heard_at-keeps agreed stage verdicts es left (Ok (heard_as.Edit edit)) some = same _
-  heard_at-keeps agreed stage verdicts es left (Ok (heard_as.Verdict verdict)) some = ruled-keeps m agreed stage verdicts es (drop 1 left) verdict is some
+  received_at-keeps : (negotiated : Negotiated) (stage : Stage) (verdicts : List Acted) (es : List Edit) (left : List Command) (found : Result ReceivedReply MtaFault) → m.session.messages ≢ []
+      → ConnectionIsReported (received_at negotiated stage verdicts es left found m).mta
+  received_at-keeps negotiated stage verdicts es left (Err fault) some = failed fault
+  received_at-keeps negotiated stage verdicts es left (Ok (received_as.Edit edit)) some = same _
+  received_at-keeps negotiated stage verdicts es left (Ok (received_as.Verdict verdict)) some = ruled-keeps m negotiated stage verdicts es (drop 1 left) verdict is some
 
-  replied_at-keeps : (agreed : Agreed) (verdicts : List Acted) (es : List Edit) (left : List Command) (stage : Option Stage) (reply : Reply) → m.session.messages ≢ []
-      → ConnectionIsReported (replied_at agreed verdicts es left stage reply m).mta
-  replied_at-keeps agreed verdicts es left None reply some = failed NotAtThisStage
-  replied_at-keeps agreed verdicts es left (Some stage) reply some = heard_at-keeps agreed stage verdicts es left (reply_heard agreed stage (weight_of_all es) reply) some
+  replied_at-keeps : (negotiated : Negotiated) (verdicts : List Acted) (es : List Edit) (left : List Command) (stage : Option Stage) (reply : Reply) → m.session.messages ≢ []
+      → ConnectionIsReported (replied_at negotiated verdicts es left stage reply m).mta
+  replied_at-keeps negotiated verdicts es left None reply some = failed NotAtThisStage
+  replied_at-keeps negotiated verdicts es left (Some stage) reply some = received_at-keeps negotiated stage verdicts es left (reply_received negotiated stage (weight_of_all es) reply) some
 
-  agreed-keeps : (found : Result Agreed MtaFault) → ConnectionIsReported (agreed_on found m).mta
-  agreed-keeps (Err fault) = failed fault
-  agreed-keeps (Ok agreed) = same _
+  negotiated-keeps : (found : Result Negotiated MtaFault) → ConnectionIsReported (negotiated_on found m).mta
+  negotiated-keeps (Err fault) = failed fault
+  negotiated-keeps (Ok negotiated) = same _
 
-  replied-keeps : (position : Position) (reply : Reply) → IsPositionOnWalk m.config.offer (without_messages m.session) m.session.messages position → ConnectionIsReported (replied position reply m).mta
-  replied-keeps Offering reply on = agreed-keeps (options_heard m.config.offer reply)
-  replied-keeps (Sending agreed verdicts es left) reply on = replied_at-keeps agreed verdicts es left (stage_first left) reply on.1
+  replied-keeps : (position : Position) (reply : Reply) → IsPositionOnDialogue m.config.offer (without_messages m.session) m.session.messages position → ConnectionIsReported (replied position reply m).mta
+  replied-keeps Offering reply on = negotiated-keeps (options_received m.config.offer reply)
+  replied-keeps (Sending negotiated verdicts es left) reply on = replied_at-keeps negotiated verdicts es left (stage_first left) reply on.1
   replied-keeps Quitting reply on = failed Early
   replied-keeps Ended reply on = failed Early
 
-  framed-keeps : (position : Position) (found : Result Reply WireFault) → IsPositionOnWalk m.config.offer (without_messages m.session) m.session.messages position
+  framed-keeps : (position : Position) (found : Result Reply WireFault) → IsPositionOnDialogue m.config.offer (without_messages m.session) m.session.messages position
       → ConnectionIsReported (framed position found m).mta
   framed-keeps position (Err fault) on = failed (Wire fault)
   framed-keeps position (Ok reply) on = replied-keeps position reply on
 
-  unread-keeps : (link : Link) (unread : List ℕ) (fault : Option WireFault) (frame : Option (Frame × List ℕ)) → IsLinkOnWalk m.config.offer (without_messages m.session) m.session.messages link
-      → ConnectionIsReported (unread_is link unread fault frame m).mta
-  unread-keeps link unread (Some fault) frame on = failed (Wire fault)
-  unread-keeps link unread None None on = same _
-  unread-keeps link unread None (Some first) on = framed-keeps link.position (frame_reply first.0) on.position
+  unread-keeps : (filter_connection : FilterConnection) (unread : List ℕ) (fault : Option WireFault) (frame : Option (Frame × List ℕ)) → IsConnectionOnDialogue m.config.offer (without_messages m.session) m.session.messages filter_connection
+      → ConnectionIsReported (unread_is filter_connection unread fault frame m).mta
+  unread-keeps filter_connection unread (Some fault) frame on = failed (Wire fault)
+  unread-keeps filter_connection unread None None on = same _
+  unread-keeps filter_connection unread None (Some first) on = framed-keeps filter_connection.position (frame_reply first.0) on.position
 
-  byte-keeps : (byte : ℕ) → IsOnWalk m → ConnectionIsReported (byte_at m.link byte m).mta
-  byte-keeps byte on = by_link m.link on
+  byte-keeps : (byte : ℕ) → IsOnDialogue m → ConnectionIsReported (byte_at m.filter_connection byte m).mta
+  byte-keeps byte on = by_filter_connection m.filter_connection on
     where
-      by_owed : (link : Link) → IsLinkOnWalk m.config.offer (without_messages m.session) m.session.messages link → (owed : Bool)
-          → ConnectionIsReported (if owed then unread_is link (link.unread ++ byte ∷ []) (length_fault (link.unread ++ byte ∷ [])) (first_frame (link.unread ++ byte ∷ [])) m else fails Early m).mta
-      by_owed link is true = unread-keeps link _ _ _ is
-      by_owed link is false = failed Early
+      by_owed : (filter_connection : FilterConnection) → IsConnectionOnDialogue m.config.offer (without_messages m.session) m.session.messages filter_connection → (owed : Bool)
+          → ConnectionIsReported (if owed then unread_is filter_connection (filter_connection.unread ++ byte ∷ []) (length_fault (filter_connection.unread ++ byte ∷ [])) (first_frame (filter_connection.unread ++ byte ∷ [])) m else fails Early m).mta
+      by_owed filter_connection is true = unread-keeps filter_connection _ _ _ is
+      by_owed filter_connection is false = failed Early
 
-      by_link : (link : Option Link) → IsOptionOnWalk m.config.offer (without_messages m.session) m.session.messages link → ConnectionIsReported (byte_at link byte m).mta
-      by_link None is = failed Early
-      by_link (Some link) is = by_owed link is link.owed
+      by_filter_connection : (filter_connection : Option FilterConnection) → IsOptionOnDialogue m.config.offer (without_messages m.session) m.session.messages filter_connection → ConnectionIsReported (byte_at filter_connection byte m).mta
+      by_filter_connection None is = failed Early
+      by_filter_connection (Some filter_connection) is = by_owed filter_connection is filter_connection.owed
 
-heard-on-keeps : HeardFacts → (bytes : List ℕ) (m : Mta) (loss : Option Loss) → IsOnWalk m → ConnectionIsReported m
-    → ConnectionIsReported (heard_on (record { mta = m; loss = loss }) bytes).mta
-heard-on-keeps facts [] m loss on is = is
-heard-on-keeps facts (byte ∷ bytes) m (Some loss) on is = heard-on-keeps facts bytes m (Some loss) on is
-heard-on-keeps facts (byte ∷ bytes) m None on is =
-    let after = byte_at m.link byte m in
-    heard-on-keeps facts bytes after.mta after.loss (byte-goes facts m on byte).on_walk (byte-keeps m is byte on)
+received-on-keeps : ReceivedFacts → (bytes : List ℕ) (m : Mta) (loss : Option Loss) → IsOnDialogue m → ConnectionIsReported m
+    → ConnectionIsReported (received_on (record { mta = m; loss = loss }) bytes).mta
+received-on-keeps facts [] m loss on is = is
+received-on-keeps facts (byte ∷ bytes) m (Some loss) on is = received-on-keeps facts bytes m (Some loss) on is
+received-on-keeps facts (byte ∷ bytes) m None on is =
+    let after = byte_at m.filter_connection byte m in
+    received-on-keeps facts bytes after.mta after.loss (byte-goes facts m on byte).on_dialogue (byte-keeps m is byte on)
 
-pub heard-keeps : HeardFacts → (m : Mta) (bytes : List ℕ) → IsOnWalk m → ConnectionIsReported m → ConnectionIsReported (heard m bytes).mta
-heard-keeps facts m bytes on is = heard-on-keeps facts bytes m None on is
+pub received-keeps : ReceivedFacts → (m : Mta) (bytes : List ℕ) → IsOnDialogue m → ConnectionIsReported m → ConnectionIsReported (received m bytes).mta
+received-keeps facts m bytes on is = received-on-keeps facts bytes m None on is

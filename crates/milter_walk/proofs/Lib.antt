@@ -11,14 +11,14 @@ mod Closed
 mod Settled
 mod Losses
 mod PartAnswers
-mod HeardParts
-mod Agreeing
+mod ReceivedParts
+mod NegotiatedOptions
 mod Bare
 mod Begun
 mod Opened
 mod SettledSessions
 mod SentParts
 mod LeftToSend
-mod Settlements
+mod Dispositions
 mod AnyFilter
 mod Connections

@@ -6,35 +6,35 @@ use Rattle.milter_outcome.specs.declared.acted.Acted.{Acted}
 use Rattle.milter_outcome.specs.declared.loss.Loss.{Loss}
 use Rattle.milter_mta.specs.declared.want.Want.{Want}
 use Rattle.milter_mta.specs.declared.want.Want.TheVariants as wants
-use Rattle.milter_mta.specs.Mta.{Link, Mta, Position}
+use Rattle.milter_mta.specs.Mta.{FilterConnection, Mta, Position}
 use Rattle.milter_mta.specs.Mta.Position.{Offering, Sending, Quitting, Ended}
-use Rattle.milter_mta.specs.Sending.{advanced, advanced_in, after_packet, asks_at, finished, made, sent, sent_from, sent_in, sent_of, want}
-use Rattle.milter_mta.specs.Settling.{acted_at, defaulted, lost}
+use Rattle.milter_mta.specs.Output.{advanced, advanced_in, after_packet, asks_at, finished, made, sent, sent_from, sent_in, sent_of, want}
+use Rattle.milter_mta.specs.Dispositions.{acted_at, defaulted, lost}
 
-abbrev with_link : Option Link → Mta → Mta
-with_link link m = record m { link = link }
+abbrev with_connection : Option FilterConnection → Mta → Mta
+with_connection filter_connection m = record m { filter_connection = filter_connection }
 
 -- a loss settles by the verdicts alone
-module _ (m : Mta) (l r : Link) (same : acted_at l.position ≡ acted_at r.position) (loss : Loss) where
+module _ (m : Mta) (l r : FilterConnection) (same : acted_at l.position ≡ acted_at r.position) (loss : Loss) where
   defaulted-over : (messages : List MailObject) (acted : List Acted)
-      → record (defaulted loss acted messages (with_link (Some l) m)) { link = None } ≡ record (defaulted loss acted messages (with_link (Some r) m)) { link = None }
+      → record (defaulted loss acted messages (with_connection (Some l) m)) { filter_connection = None } ≡ record (defaulted loss acted messages (with_connection (Some r) m)) { filter_connection = None }
   defaulted-over [] acted = refl
   defaulted-over (message ∷ messages) acted = refl
 
-  pub lost-over : lost loss (with_link (Some l) m) ≡ lost loss (with_link (Some r) m)
+  pub lost-over : lost loss (with_connection (Some l) m) ≡ lost loss (with_connection (Some r) m)
   lost-over =
-      ap (λ (acted : List Acted). record (defaulted loss acted m.session.messages (with_link (Some l) m)) { link = None }) same
+      ap (λ (acted : List Acted). record (defaulted loss acted m.session.messages (with_connection (Some l) m)) { filter_connection = None }) same
       ∙ defaulted-over m.session.messages (acted_at r.position)
 
 -- ---- what is sent
 
 acted-after : (position : Position) → acted_at (after_packet position) ≡ acted_at position
 acted-after Offering = refl
-acted-after (Sending agreed acted edits left) = refl
+acted-after (Sending negotiated acted edits left) = refl
 acted-after Quitting = refl
 acted-after Ended = refl
 
-acted-finished : (l : Link) → acted_at (finished l).position ≡ acted_at l.position
+acted-finished : (l : FilterConnection) → acted_at (finished l).position ≡ acted_at l.position
 acted-finished l = by_tests l.aborts (asks_at l.position)
   where
     by_tests : (aborts asks : Bool) → acted_at (if aborts then record l { aborts = false; pending = []; owed = false }
@@ -44,17 +44,17 @@ acted-finished l = by_tests l.aborts (asks_at l.position)
     by_tests false true = refl
     by_tests false false = acted-after l.position
 
-acted-sent_from : (l : Link) (left : List ℕ) → acted_at (sent_from l left).position ≡ acted_at l.position
+acted-sent_from : (l : FilterConnection) (left : List ℕ) → acted_at (sent_from l left).position ≡ acted_at l.position
 acted-sent_from l [] = acted-finished l
 acted-sent_from l (byte ∷ bytes) = refl
 
-acted-sent : (count : ℕ) (bytes : List ℕ) (l : Link) → acted_at (sent_of count bytes l).position ≡ acted_at l.position
+acted-sent : (count : ℕ) (bytes : List ℕ) (l : FilterConnection) → acted_at (sent_of count bytes l).position ≡ acted_at l.position
 acted-sent count [] l = refl
 acted-sent count (byte ∷ bytes) l = acted-sent_from l (drop count (byte ∷ bytes))
 
--- a link that was there, and is then
-lost-sent_in : (link : Option Link) (w : Want) (m : Mta) (count : ℕ) (loss : Loss)
-    → lost loss (sent_in count (advanced_in link w (with_link link m)).link (advanced_in link w (with_link link m))) ≡ lost loss (with_link link m)
+-- a connection that was there, and is then
+lost-sent_in : (filter_connection : Option FilterConnection) (w : Want) (m : Mta) (count : ℕ) (loss : Loss)
+    → lost loss (sent_in count (advanced_in filter_connection w (with_connection filter_connection m)).filter_connection (advanced_in filter_connection w (with_connection filter_connection m))) ≡ lost loss (with_connection filter_connection m)
 lost-sent_in None w m count loss = refl
 lost-sent_in (Some l) wants.Send m count loss =
     lost-over m (sent_of count (made m.config l).pending (made m.config l)) l (acted-sent count (made m.config l).pending (made m.config l)) loss
@@ -63,11 +63,11 @@ lost-sent_in (Some l) wants.Receive m count loss = lost-over m (sent_of count l.
 lost-sent_in (Some l) wants.Done m count loss = lost-over m (sent_of count l.pending l) l (acted-sent count l.pending l) loss
 
 pub lost-sending : (m : Mta) (count : ℕ) (loss : Loss) → lost loss (sent count (advanced m)) ≡ lost loss m
-lost-sending m count loss = lost-sent_in m.link (want m) m count loss
+lost-sending m count loss = lost-sent_in m.filter_connection (want m) m count loss
 
 -- ---- in pieces
 
-none_pending : (l : Link) → (finished l).pending ≡ []
+none_pending : (l : FilterConnection) → (finished l).pending ≡ []
 none_pending l = by_tests l.aborts (asks_at l.position)
   where
     by_tests : (aborts asks : Bool) → (if aborts then record l { aborts = false; pending = []; owed = false }
@@ -81,17 +81,17 @@ drop_none : (count : ℕ) → drop {A = ℕ} count [] ≡ []
 drop_none zero = refl
 drop_none (suc count) = refl
 
-pending-over : (l : Link) (bytes left : List ℕ) → sent_from (record l { pending = bytes }) left ≡ sent_from l left
+pending-over : (l : FilterConnection) (bytes left : List ℕ) → sent_from (record l { pending = bytes }) left ≡ sent_from l left
 pending-over l bytes [] = refl
 pending-over l bytes (byte ∷ left) = refl
 
-sent_on : (l : Link) (left : List ℕ) (more : ℕ) → sent_of more (sent_from l left).pending (sent_from l left) ≡ sent_from l (drop more left)
+sent_on : (l : FilterConnection) (left : List ℕ) (more : ℕ) → sent_of more (sent_from l left).pending (sent_from l left) ≡ sent_from l (drop more left)
 sent_on l [] more =
     ap (λ (bytes : List ℕ). sent_of more bytes (finished l)) (none_pending l)
     ∙ ap (sent_from l) (sym (drop_none more))
 sent_on l (byte ∷ bytes) more = pending-over l (byte ∷ bytes) (drop more (byte ∷ bytes))
 
-sent_of-on : (l : Link) (count more : ℕ) (bytes : List ℕ) → l.pending ≡ bytes
+sent_of-on : (l : FilterConnection) (count more : ℕ) (bytes : List ℕ) → l.pending ≡ bytes
     → sent_of more (sent_of count bytes l).pending (sent_of count bytes l) ≡ sent_of (count + more) bytes l
 sent_of-on l count more [] e = ap (λ (bytes : List ℕ). sent_of more bytes l) e
 sent_of-on l count more (byte ∷ bytes) e =
@@ -99,8 +99,8 @@ sent_of-on l count more (byte ∷ bytes) e =
     ∙ ap (sent_from l) (drop-drop more count (byte ∷ bytes) ∙ ap (λ (n : ℕ). drop n (byte ∷ bytes)) (omega arith))
 
 pub sent-adds : (m : Mta) (count more : ℕ) → sent more (sent count m) ≡ sent (count + more) m
-sent-adds m count more = by_link m.link
+sent-adds m count more = by_filter_connection m.filter_connection
   where
-    by_link : (link : Option Link) → sent_in more (sent_in count link (with_link link m)).link (sent_in count link (with_link link m)) ≡ sent_in (count + more) link (with_link link m)
-    by_link None = refl
-    by_link (Some l) = ap (λ (n : Link). with_link (Some n) m) (sent_of-on l count more l.pending refl)
+    by_filter_connection : (filter_connection : Option FilterConnection) → sent_in more (sent_in count filter_connection (with_connection filter_connection m)).filter_connection (sent_in count filter_connection (with_connection filter_connection m)) ≡ sent_in (count + more) filter_connection (with_connection filter_connection m)
+    by_filter_connection None = refl
+    by_filter_connection (Some l) = ap (λ (n : FilterConnection). with_connection (Some n) m) (sent_of-on l count more l.pending refl)

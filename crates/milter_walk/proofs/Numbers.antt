@@ -3,18 +3,18 @@ use Rattle.std.proofs.Common.{◌≡◌, ◌≤◌, ◌<◌, ◌+◌, ◌-◌, �
 use Rattle.std.specs.List.{filter}
 use Rattle.std.proofs.lemmas.Bool.{eqb-true, eqb-false, ne_eqb, true≢false}
 use Rattle.std.specs.Prelude.{if◌then◌else◌}
-use Rattle.milter_wire.specs.declared.agreement.Agreed.{Agreed}
+use Rattle.milter_wire.specs.declared.negotiation.Negotiated.{Negotiated}
 use Rattle.milter_wire.specs.declared.stage.Stage.{Stage}
 use Rattle.milter_wire.specs.declared.stage.Stage.TheVariants.{Connect, Helo, Mail, Rcpt, DataCmd, Header, Eoh, Body, Eob}
-use Rattle.milter_wire.specs.Agreement.{is_answered, is_asked_at}
+use Rattle.milter_wire.specs.Negotiation.{is_answered, is_asked_at}
 use Rattle.milter_wire.specs.Stages.{stage_of}
 use Rattle.milter_exchange.specs.declared.answer.Answer.{Answer}
 use Rattle.milter_exchange.specs.Exchanges.{Exchange, commands_of}
-use Rattle.milter_exchange.specs.Histories.{rank_at}
+use Rattle.milter_exchange.specs.Transcripts.{rank_at}
 use Rattle.milter_exchange.specs.StageOrder.{rank_of}
 use Rattle.milter_outcome.specs.declared.acted.Acted.{Acted}
-use Rattle.milter_outcome.specs.Walks.{acted, acted_at, count_at, is_at}
-use Rattle.milter_plan.specs.TalkVerdicts.{last_verdict, number_after}
+use Rattle.milter_outcome.specs.Dialogues.{acted, acted_at, count_at, is_at}
+use Rattle.milter_plan.specs.TransactionVerdicts.{last_verdict, number_after}
 use Rattle.milter_walk.specs.Order.{AreProper, AreInOrder, ComeBefore, ReachAtMost}
 
 -- ---- the last verdict
@@ -71,7 +71,7 @@ same_stage a b e = sym (stage_back a) ∙ ap stage_at (eqb-true (rank_of a) (ran
 
 -- ---- no command of a later stage was sent
 
-none_at : (stage : Stage) (rank : ℕ) → rank < rank_of stage → (walk : List Exchange) → ReachAtMost rank (commands_of walk) → count_at stage walk ≡ 0
+none_at : (stage : Stage) (rank : ℕ) → rank < rank_of stage → (dialogue : List Exchange) → ReachAtMost rank (commands_of dialogue) → count_at stage dialogue ≡ 0
 none_at stage rank less [] below = refl
 none_at stage rank less (last ∷ before) below =
     let here = below.0 in
@@ -81,9 +81,9 @@ none_at stage rank less (last ∷ before) below =
 
 -- ---- numbers
 
-module _ (agreed : Agreed) (stage : Stage) (answered : is_answered agreed stage ≡ true) where
+module _ (negotiated : Negotiated) (stage : Stage) (answered : is_answered negotiated stage ≡ true) where
   abbrev IsNumbered : List Exchange → Type 0
-  IsNumbered walk = number_after stage (last_verdict (acted walk)) ≡ count_at stage walk + 1
+  IsNumbered dialogue = number_after stage (last_verdict (acted dialogue)) ≡ count_at stage dialogue + 1
 
   -- an exchange that is not of the stage and has no verdict
   passed_by : (last : Exchange) (before : List Exchange) → acted_at (stage_of last.command) last.answer (last ∷ before) ≡ []
@@ -119,7 +119,7 @@ module _ (agreed : Agreed) (stage : Stage) (answered : is_answered agreed stage 
           ∙ ap (λ (t : Bool). length (cond t (last ∷ filter (is_at stage) before) (filter (is_at stage) before)) + 1) (sym other)
 
   by_answer : (last : Exchange) (before : List Exchange) (at : Option Stage) (answer : Option Answer) → stage_of last.command ≡ at
-      → last.answer ≡ answer → is_some answer ≡ is_asked_at agreed at → ComeBefore at (commands_of before)
+      → last.answer ≡ answer → is_some answer ≡ is_asked_at negotiated at → ComeBefore at (commands_of before)
       → rank_at at ≤ rank_of stage → IsNumbered before → IsNumbered (last ∷ before)
   by_answer last before None answer at_is answer_is asked below most is =
       passed_by last before
@@ -133,14 +133,14 @@ module _ (agreed : Agreed) (stage : Stage) (answered : is_answered agreed stage 
       not_here : (same : Bool) → (rank_of at == rank_of stage) ≡ same → (rank_of at == rank_of stage) ≡ false
       not_here false e = e
       not_here true e =
-          let here : is_answered agreed at ≡ true = ap (is_answered agreed) (same_stage at stage e) ∙ answered in
+          let here : is_answered negotiated at ≡ true = ap (is_answered negotiated) (same_stage at stage e) ∙ answered in
           absurd (true≢false (sym here ∙ sym asked))
   by_answer last before (Some at) (Some answer) at_is answer_is asked below most is =
       by_last last before at answer (rank_of at == rank_of stage) at_is answer_is refl below most
 
   -- of the next command, where it is of this stage
-  pub numbered : (walk : List Exchange) → AreProper agreed walk → AreInOrder (commands_of walk) → ReachAtMost (rank_of stage) (commands_of walk)
-      → IsNumbered walk
+  pub numbered : (dialogue : List Exchange) → AreProper negotiated dialogue → AreInOrder (commands_of dialogue) → ReachAtMost (rank_of stage) (commands_of dialogue)
+      → IsNumbered dialogue
   numbered [] all order below = refl
   numbered (last ∷ before) all order below =
       by_answer last before (stage_of last.command) last.answer refl refl all.0.answered order.0 below.0

@@ -1,9 +1,9 @@
--- The exchanges about a client are a walk of their own, with the verdicts on the client.
+-- The exchanges about a client are a dialogue of their own, with the verdicts on the client.
 use Rattle.std.proofs.Common.{◌≡◌, ◌≤◌, ℕ, ◌==◌, Bool, true, false, cond, ◌||◌, List, [], ◌∷◌, ◌++◌, length, is_some, Option, None, Some, refl, sym, ap, ◌∙◌, arith, append-nil}
 use Rattle.std.specs.List.{filter, list_any}
 use Rattle.std.proofs.lemmas.Bool.{true≢false}
 use Rattle.std.proofs.lemmas.List.Elements.{filter-append}
-use Rattle.milter_wire.specs.declared.agreement.Agreed.{Agreed}
+use Rattle.milter_wire.specs.declared.negotiation.Negotiated.{Negotiated}
 use Rattle.milter_wire.specs.declared.command.Command.{Command}
 use Rattle.milter_wire.specs.declared.command.Command.TheVariants as commands
 use Rattle.milter_wire.specs.declared.stage.Stage.{Stage}
@@ -11,15 +11,15 @@ use Rattle.milter_wire.specs.Stages.{stage_of}
 use Rattle.milter_exchange.specs.declared.answer.Answer.{Answer}
 use Rattle.milter_exchange.specs.Commands.{is_of_connection}
 use Rattle.milter_exchange.specs.Exchanges.{Exchange, commands_of}
-use Rattle.milter_exchange.specs.Histories.{rank_at}
+use Rattle.milter_exchange.specs.Transcripts.{rank_at}
 use Rattle.milter_exchange.specs.StageOrder.{rank_of}
-use Rattle.milter_exchange.specs.Talk.{is_body, is_skipping, sendable}
+use Rattle.milter_exchange.specs.Dialogue.{is_body, is_skipping, sendable}
 use Rattle.milter_outcome.specs.declared.acted.Acted.{Acted}
-use Rattle.milter_outcome.specs.Walks.{acted, acted_at, count_at, is_at}
-use Rattle.milter_plan.specs.TalkVerdicts as plan
-use Rattle.milter_plan.specs.TalkVerdicts.{on_connection}
+use Rattle.milter_outcome.specs.Dialogues.{acted, acted_at, count_at, is_at}
+use Rattle.milter_plan.specs.TransactionVerdicts as plan
+use Rattle.milter_plan.specs.TransactionVerdicts.{on_connection}
 use Rattle.milter_walk.specs.Order.{AreInOrder, AreProper, ComeBefore, ReachAtMost}
-use Rattle.milter_walk.specs.Walks.{opening_of}
+use Rattle.milter_walk.specs.Dialogues.{opening_of}
 use Rattle.milter_walk.proofs.Numbers.{same_stage, some_rank}
 use Rattle.milter_walk.proofs.Ordered.{Reaches}
 use Rattle.milter_walk.proofs.Refusals.{keep_all, keep_if}
@@ -58,7 +58,7 @@ no_body other e = refl
 
 -- ---- order
 
-reach : (rank : ℕ) (walk : List Exchange) → ReachAtMost rank (commands_of walk) → ReachAtMost rank (commands_of (opening_of walk))
+reach : (rank : ℕ) (dialogue : List Exchange) → ReachAtMost rank (commands_of dialogue) → ReachAtMost rank (commands_of (opening_of dialogue))
 reach rank [] below = tt
 reach rank (last ∷ before) below = by_client (is_of_connection last.command) (reach rank before below.1)
   where
@@ -66,11 +66,11 @@ reach rank (last ∷ before) below = by_client (is_of_connection last.command) (
     by_client true rest = (below.0, rest)
     by_client false rest = rest
 
-come : (at : Option Stage) (walk : List Exchange) → ComeBefore at (commands_of walk) → ComeBefore at (commands_of (opening_of walk))
-come None walk before = tt
-come (Some stage) walk before = reach (rank_of stage) walk before
+come : (at : Option Stage) (dialogue : List Exchange) → ComeBefore at (commands_of dialogue) → ComeBefore at (commands_of (opening_of dialogue))
+come None dialogue before = tt
+come (Some stage) dialogue before = reach (rank_of stage) dialogue before
 
-opening-order : (walk : List Exchange) → AreInOrder (commands_of walk) → AreInOrder (commands_of (opening_of walk))
+opening-order : (dialogue : List Exchange) → AreInOrder (commands_of dialogue) → AreInOrder (commands_of (opening_of dialogue))
 opening-order [] order = tt
 opening-order (last ∷ before) order = by_client (is_of_connection last.command) (opening-order before order.1)
   where
@@ -78,7 +78,7 @@ opening-order (last ∷ before) order = by_client (is_of_connection last.command
     by_client true rest = (come (stage_of last.command) before order.0, rest)
     by_client false rest = rest
 
-opening-reach : (walk : List Exchange) → ReachAtMost 2 (commands_of (opening_of walk))
+opening-reach : (dialogue : List Exchange) → ReachAtMost 2 (commands_of (opening_of dialogue))
 opening-reach [] = tt
 opening-reach (last ∷ before) = by_client (is_of_connection last.command) refl (opening-reach before)
   where
@@ -87,14 +87,14 @@ opening-reach (last ∷ before) = by_client (is_of_connection last.command) refl
     by_client true e rest = (low_rank last.command e, rest)
     by_client false e rest = rest
 
-pub opening-reaches : (walk : List Exchange) → AreInOrder (commands_of walk) → Reaches 2 (commands_of (opening_of walk))
-opening-reaches walk order = record { order = opening-order walk order; reach = opening-reach walk }
+pub opening-reaches : (dialogue : List Exchange) → AreInOrder (commands_of dialogue) → Reaches 2 (commands_of (opening_of dialogue))
+opening-reaches dialogue order = record { order = opening-order dialogue order; reach = opening-reach dialogue }
 
-pub opening-proper : (agreed : Agreed) (walk : List Exchange) → AreProper agreed walk → AreProper agreed (opening_of walk)
-opening-proper agreed [] all = tt
-opening-proper agreed (last ∷ before) all = by_client (is_of_connection last.command) (opening-proper agreed before all.1)
+pub opening-proper : (negotiated : Negotiated) (dialogue : List Exchange) → AreProper negotiated dialogue → AreProper negotiated (opening_of dialogue)
+opening-proper negotiated [] all = tt
+opening-proper negotiated (last ∷ before) all = by_client (is_of_connection last.command) (opening-proper negotiated before all.1)
   where
-    by_client : (b : Bool) → AreProper agreed (opening_of before) → AreProper agreed (cond b (last ∷ opening_of before) (opening_of before))
+    by_client : (b : Bool) → AreProper negotiated (opening_of before) → AreProper negotiated (cond b (last ∷ opening_of before) (opening_of before))
     by_client true rest = (all.0, rest)
     by_client false rest = rest
 
@@ -105,7 +105,7 @@ module _ (stage : Stage) (client : plan.is_of_connection stage ≡ true) where
   is_there None e = absurd (true≢false (sym e ∙ some_rank stage))
   is_there (Some s) e = ap Some (same_stage s stage e)
 
-  same_count : (walk : List Exchange) → count_at stage (opening_of walk) ≡ count_at stage walk
+  same_count : (dialogue : List Exchange) → count_at stage (opening_of dialogue) ≡ count_at stage dialogue
   same_count [] = refl
   same_count (last ∷ before) = by_client (is_of_connection last.command) (is_at stage last) refl refl (same_count before)
     where
@@ -154,7 +154,7 @@ module _ (last : Exchange) (before : List Exchange) where
       ap (λ (k : Bool). acted o ++ cond k (record { stage = stage; nth = count_at stage (last ∷ before); verdict = answer.verdict } ∷ []) []) client
       ∙ append-nil (acted o)
 
-pub opening-acted : (walk : List Exchange) → on_connection (acted walk) ≡ acted (opening_of walk)
+pub opening-acted : (dialogue : List Exchange) → on_connection (acted dialogue) ≡ acted (opening_of dialogue)
 opening-acted [] = refl
 opening-acted (last ∷ before) =
     filter-append (λ (a : Acted). plan.is_of_connection a.stage) (acted before) (acted_at (stage_of last.command) last.answer (last ∷ before))
@@ -163,9 +163,9 @@ opening-acted (last ∷ before) =
 
 -- ---- what is left to send
 
-no_skip : (agreed : Agreed) (walk : List Exchange) → AreProper agreed walk → list_any is_skipping (opening_of walk) ≡ false
-no_skip agreed [] all = refl
-no_skip agreed (last ∷ before) all = by_client (is_of_connection last.command) refl (no_skip agreed before all.1)
+no_skip : (negotiated : Negotiated) (dialogue : List Exchange) → AreProper negotiated dialogue → list_any is_skipping (opening_of dialogue) ≡ false
+no_skip negotiated [] all = refl
+no_skip negotiated (last ∷ before) all = by_client (is_of_connection last.command) refl (no_skip negotiated before all.1)
   where
     never : (skips : Bool) → is_skipping last ≡ skips → is_of_connection last.command ≡ true → is_skipping last ≡ false
     never false e c = e
@@ -176,5 +176,5 @@ no_skip agreed (last ∷ before) all = by_client (is_of_connection last.command)
     by_client true e rest = ap (λ (s : Bool). s || list_any is_skipping (opening_of before)) (never (is_skipping last) refl e) ∙ rest
     by_client false e rest = rest
 
-pub opening-sendable : (agreed : Agreed) (walk : List Exchange) (left : List Command) → AreProper agreed walk → sendable (opening_of walk) left ≡ left
-opening-sendable agreed walk left all = ap (λ (b : Bool). keep_if b left) (no_skip agreed walk all) ∙ keep_all left
+pub opening-sendable : (negotiated : Negotiated) (dialogue : List Exchange) (left : List Command) → AreProper negotiated dialogue → sendable (opening_of dialogue) left ≡ left
+opening-sendable negotiated dialogue left all = ap (λ (b : Bool). keep_if b left) (no_skip negotiated dialogue all) ∙ keep_all left

@@ -3,23 +3,23 @@ use Rattle.std.specs.Prelude.{if◌then◌else◌}
 use Rattle.std.proofs.Common.{◌≡◌, ◌≤◌, ℕ, Bool, true, false, ◌||◌, List, [], ◌∷◌, ◌++◌, map, Option, None, Some, refl, sym, ap, ◌∙◌, subst, arith}
 use Rattle.std.specs.List.{flat_map}
 use Rattle.milter_fields.specs.declared.pair.Pair.{Pair}
-use Rattle.milter_wire.specs.declared.agreement.Agreed.{Agreed}
+use Rattle.milter_wire.specs.declared.negotiation.Negotiated.{Negotiated}
 use Rattle.milter_wire.specs.declared.command.Command.{Command}
 use Rattle.milter_wire.specs.declared.command.Command.TheVariants as commands
 use Rattle.milter_wire.specs.declared.stage.Stage.{Stage}
 use Rattle.milter_wire.specs.declared.stage.Stage.TheVariants.{Connect, Helo, Mail, Rcpt, DataCmd, Header, Eoh, Body, Eob}
-use Rattle.milter_wire.specs.Agreement.{has_leading_space, is_sent}
+use Rattle.milter_wire.specs.Negotiation.{has_leading_space, is_sent}
 use Rattle.milter_wire.specs.Stages.{macro_command_of, stage_of}
 use Rattle.milter_message.specs.LeadingSpace.{sent_header}
 use Rattle.milter_message.specs.MailObject.{MailObject}
-use Rattle.milter_message.specs.Pieces.{pieces_of}
+use Rattle.milter_message.specs.Chunks.{chunks_of}
 use Rattle.milter_mail.specs.declared.macros.Macros.{Macros}
 use Rattle.milter_mail.specs.MailSession.{MailSession}
 use Rattle.milter_mail.specs.Plan.{macros_of, opening, plan}
 use Rattle.milter_mail.specs.Steps.{macro_step, macros_at, message_steps, step}
 use Rattle.milter_exchange.specs.Exchanges.{onto}
-use Rattle.milter_exchange.specs.Talk.{has_end, is_end_command}
-use Rattle.milter_exchange.specs.Histories.{rank_at}
+use Rattle.milter_exchange.specs.Dialogue.{has_end, is_end_command}
+use Rattle.milter_exchange.specs.Transcripts.{rank_at}
 use Rattle.milter_exchange.specs.StageOrder.{rank_of}
 use Rattle.milter_plan.specs.PlanCursor.{Outgoing, commands_of, outgoing_of, stages_after, steps_at}
 use Rattle.milter_plan.proofs.PlanLaws.{message_by_stages, plan_by_stages}
@@ -72,7 +72,7 @@ pub onto-append : (xs ys before : List Command) → onto (xs ++ ys) before ≡ o
 onto-append [] ys before = refl
 onto-append (x ∷ xs) ys before = onto-append xs ys (x ∷ before)
 
-module _ (agreed : Agreed) (macros : Macros) (stage : Stage) where
+module _ (negotiated : Negotiated) (macros : Macros) (stage : Stage) where
   with_macros : (code : Option ℕ) (pairs : List Pair) (rank : ℕ) (before : List Command) → Reaches rank before → Reaches rank (onto (macro_step code pairs) before)
   with_macros None pairs rank before is = is
   with_macros (Some code) [] rank before is = is
@@ -88,8 +88,8 @@ module _ (agreed : Agreed) (macros : Macros) (stage : Stage) where
       }
 
   with_step : (command : Command) (rank : ℕ) (before : List Command) → stage_of command ≡ Some stage → rank ≤ rank_of stage → Reaches rank before
-      → Reaches (rank_of stage) (onto (step agreed macros stage command) before)
-  with_step command rank before at less is = by_sent (is_sent agreed stage)
+      → Reaches (rank_of stage) (onto (step negotiated macros stage command) before)
+  with_step command rank before at less is = by_sent (is_sent negotiated stage)
     where
       its_macros : List Command
       its_macros = macro_step (macro_command_of stage) (macros_at macros stage)
@@ -110,22 +110,22 @@ module _ (agreed : Agreed) (macros : Macros) (stage : Stage) where
   all_at f at (x ∷ xs) = (at x, all_at f at xs)
 
   with_steps : (left : List Command) → AreAt left → (rank : ℕ) (before : List Command) → rank ≤ rank_of stage → Reaches rank before
-      → Reaches (rank_of stage) (onto (flat_map (step agreed macros stage) left) before)
+      → Reaches (rank_of stage) (onto (flat_map (step negotiated macros stage) left) before)
   with_steps [] at rank before less is = reaches-further rank (rank_of stage) less before is
   with_steps (command ∷ left) at rank before less is =
-      subst (Reaches (rank_of stage)) (sym (onto-append (step agreed macros stage command) (flat_map (step agreed macros stage) left) before))
-      (with_steps left at.1 (rank_of stage) (onto (step agreed macros stage command) before) (omega arith) (with_step command rank before at.0 less is))
+      subst (Reaches (rank_of stage)) (sym (onto-append (step negotiated macros stage command) (flat_map (step negotiated macros stage) left) before))
+      (with_steps left at.1 (rank_of stage) (onto (step negotiated macros stage command) before) (omega arith) (with_step command rank before at.0 less is))
 
 module _ (o : Outgoing) where
-  each_at : (stage : Stage) → AreAt o.agreed o.macros stage (commands_of o stage)
+  each_at : (stage : Stage) → AreAt o.negotiated o.macros stage (commands_of o stage)
   each_at Connect = (refl, tt)
   each_at Helo = (refl, tt)
   each_at Mail = (refl, tt)
-  each_at Rcpt = all_at o.agreed o.macros Rcpt (λ recipient. commands.Rcpt recipient) (λ recipient. refl) o.message.recipients
+  each_at Rcpt = all_at o.negotiated o.macros Rcpt (λ recipient. commands.Rcpt recipient) (λ recipient. refl) o.message.recipients
   each_at DataCmd = (refl, tt)
-  each_at Header = all_at o.agreed o.macros Header (λ header. commands.Header (sent_header (has_leading_space o.agreed) header)) (λ header. refl) o.message.headers
+  each_at Header = all_at o.negotiated o.macros Header (λ header. commands.Header (sent_header (has_leading_space o.negotiated) header)) (λ header. refl) o.message.headers
   each_at Eoh = (refl, tt)
-  each_at Body = all_at o.agreed o.macros Body (λ piece. commands.Body piece) (λ piece. refl) (pieces_of o.message.body)
+  each_at Body = all_at o.negotiated o.macros Body (λ chunk. commands.Body chunk) (λ chunk. refl) (chunks_of o.message.body)
   each_at Eob = (refl, tt)
 
   -- stages, each of a higher rank than the one before it
@@ -139,22 +139,22 @@ module _ (o : Outgoing) where
   with_stages (stage ∷ stages) rank before ascend is =
       subst AreInOrder (sym (onto-append (steps_at o stage) (flat_map (steps_at o) stages) before))
       (with_stages stages (rank_of stage) (onto (steps_at o stage) before) ascend.1
-      (with_steps o.agreed o.macros stage (commands_of o stage) (each_at stage) rank before ascend.0 is))
+      (with_steps o.negotiated o.macros stage (commands_of o stage) (each_at stage) rank before ascend.0 is))
 
 -- ---- plans
 
-module _ (agreed : Agreed) (session : MailSession) (message : MailObject) where
+module _ (negotiated : Negotiated) (session : MailSession) (message : MailObject) where
   abbrev o : Outgoing
-  o = outgoing_of agreed session message
+  o = outgoing_of negotiated session message
 
-  pub plan-ordered : AreInOrder (onto (plan agreed session message) [])
+  pub plan-ordered : AreInOrder (onto (plan negotiated session message) [])
   plan-ordered =
-      subst (λ (p : List Command). AreInOrder (onto p [])) (plan_by_stages agreed session message)
+      subst (λ (p : List Command). AreInOrder (onto p [])) (plan_by_stages negotiated session message)
       (with_stages o (Connect ∷ stages_after Connect) 0 []
       (omega arith, (omega arith, (omega arith, (omega arith, (omega arith, (omega arith, (omega arith, (omega arith, (omega arith, tt)))))))))
       (record { order = tt; reach = tt }))
 
-  pub message-ordered : (before : List Command) → Reaches 2 before → AreInOrder (onto (message_steps agreed (macros_of agreed session) message) before)
+  pub message-ordered : (before : List Command) → Reaches 2 before → AreInOrder (onto (message_steps negotiated (macros_of negotiated session) message) before)
   message-ordered before is =
       subst (λ (p : List Command). AreInOrder (onto p before)) (message_by_stages o)
       (with_stages o (Mail ∷ stages_after Mail) 2 before
@@ -172,20 +172,20 @@ has_end-append (x ∷ xs) ys e = ap (λ (b : Bool). is_end_command x || b) (has_
     or_true false = refl
 
 -- what is sent of a message before its end
-abbrev before_end : Agreed → Macros → MailObject → List Command
-before_end agreed macros message =
-    step agreed macros Mail (commands.Mail message.sender)
-    ++ flat_map (λ recipient. step agreed macros Rcpt (commands.Rcpt recipient)) message.recipients
-    ++ step agreed macros DataCmd commands.DataCmd
-    ++ flat_map (λ header. step agreed macros Header (commands.Header (sent_header (has_leading_space agreed) header))) message.headers
-    ++ step agreed macros Eoh commands.Eoh
-    ++ flat_map (λ piece. step agreed macros Body (commands.Body piece)) (pieces_of message.body)
+abbrev before_end : Negotiated → Macros → MailObject → List Command
+before_end negotiated macros message =
+    step negotiated macros Mail (commands.Mail message.sender)
+    ++ flat_map (λ recipient. step negotiated macros Rcpt (commands.Rcpt recipient)) message.recipients
+    ++ step negotiated macros DataCmd commands.DataCmd
+    ++ flat_map (λ header. step negotiated macros Header (commands.Header (sent_header (has_leading_space negotiated) header))) message.headers
+    ++ step negotiated macros Eoh commands.Eoh
+    ++ flat_map (λ chunk. step negotiated macros Body (commands.Body chunk)) (chunks_of message.body)
 
-pub message-ends : (agreed : Agreed) (macros : Macros) (message : MailObject) → has_end (message_steps agreed macros message) ≡ true
-message-ends agreed macros message =
-    has_end-append (before_end agreed macros message) (step agreed macros Eob (commands.Eob []))
+pub message-ends : (negotiated : Negotiated) (macros : Macros) (message : MailObject) → has_end (message_steps negotiated macros message) ≡ true
+message-ends negotiated macros message =
+    has_end-append (before_end negotiated macros message) (step negotiated macros Eob (commands.Eob []))
     (has_end-append (macro_step (macro_command_of Eob) (macros_at macros Eob)) (commands.Eob [] ∷ []) refl)
 
-pub plan-ends : (agreed : Agreed) (session : MailSession) (message : MailObject) → has_end (plan agreed session message) ≡ true
-plan-ends agreed session message =
-    has_end-append (opening agreed session) (message_steps agreed (macros_of agreed session) message) (message-ends agreed (macros_of agreed session) message)
+pub plan-ends : (negotiated : Negotiated) (session : MailSession) (message : MailObject) → has_end (plan negotiated session message) ≡ true
+plan-ends negotiated session message =
+    has_end-append (opening negotiated session) (message_steps negotiated (macros_of negotiated session) message) (message-ends negotiated (macros_of negotiated session) message)

@@ -1,26 +1,26 @@
--- All recipients are refused by the verdicts that were acted on exactly where they are by the walk.
+-- All recipients are refused by the verdicts that were acted on exactly where they are by the dialogue.
 use Rattle.std.specs.Prelude.{if◌then◌else◌}
 use Rattle.std.proofs.Common.{◌≡◌, Bool, true, false, cond, not, ◌&&◌, ◌||◌, List, [], ◌∷◌, ◌++◌, is_some, Option, None, Some, refl, sym, ap, ◌∙◌}
 use Rattle.std.specs.List.{filter, list_all, list_any}
 use Rattle.std.proofs.lemmas.Bool.{true≢false}
 use Rattle.std.proofs.lemmas.List.Elements.{filter_map-append}
 use Rattle.milter_walk.proofs.TruthValues.{and-true}
-use Rattle.milter_wire.specs.declared.agreement.Agreed.{Agreed}
+use Rattle.milter_wire.specs.declared.negotiation.Negotiated.{Negotiated}
 use Rattle.milter_wire.specs.declared.command.Command.{Command}
 use Rattle.milter_wire.specs.declared.command.Command.TheVariants as commands
 use Rattle.milter_wire.specs.declared.stage.Stage.{Stage}
 use Rattle.milter_wire.specs.declared.stage.Stage.TheVariants.{Connect, Helo, Mail, Rcpt, DataCmd, Header, Eoh, Body, Eob}
 use Rattle.milter_wire.specs.declared.verdict.Verdict.{Verdict}
-use Rattle.milter_wire.specs.Agreement.{is_answered, is_asked_at}
+use Rattle.milter_wire.specs.Negotiation.{is_answered, is_asked_at}
 use Rattle.milter_wire.specs.Stages.{stage_of}
 use Rattle.milter_exchange.specs.declared.answer.Answer.{Answer}
 use Rattle.milter_exchange.specs.Exchanges.{Exchange}
-use Rattle.milter_exchange.specs.Talk.{is_body, is_kept_rcpt, is_rcpt, is_refused, is_skipping, sendable}
+use Rattle.milter_exchange.specs.Dialogue.{is_body, is_kept_rcpt, is_rcpt, is_refused, is_skipping, sendable}
 use Rattle.milter_exchange.specs.Verdicts.{has_verdict, is_refusal, is_skip}
-use Rattle.milter_outcome.specs.Acting.{rcpt_verdict, rcpt_verdicts}
-use Rattle.milter_outcome.specs.Walks.{acted, acted_at}
+use Rattle.milter_outcome.specs.ActedVerdicts.{rcpt_verdict, rcpt_verdicts}
+use Rattle.milter_outcome.specs.Dialogues.{acted, acted_at}
 use Rattle.milter_plan.specs.PlanCursor.{without_body}
-use Rattle.milter_plan.specs.TalkVerdicts.{is_rcpt_stage, left_after}
+use Rattle.milter_plan.specs.TransactionVerdicts.{is_rcpt_stage, left_after}
 use Rattle.milter_walk.specs.Order.{AreProper}
 
 -- ---- truth values
@@ -69,9 +69,9 @@ all_refuse-append (x ∷ xs) ys = ap (λ (b : Bool). is_refusal x && b) (all_ref
     regroup true b c = refl
     regroup false b c = refl
 
-module _ (agreed : Agreed) (answered : is_answered agreed Rcpt ≡ true) where
+module _ (negotiated : Negotiated) (answered : is_answered negotiated Rcpt ≡ true) where
   abbrev Agree : List Exchange → Type 0
-  Agree walk = all_refuse (rcpt_verdicts (acted walk)) ≡ not (list_any is_kept_rcpt walk)
+  Agree dialogue = all_refuse (rcpt_verdicts (acted dialogue)) ≡ not (list_any is_kept_rcpt dialogue)
 
   -- what the last exchange adds, by its stage and answer
   abbrev adds : Exchange → List Exchange → Option Stage → Option Answer → Type 0
@@ -79,7 +79,7 @@ module _ (agreed : Agreed) (answered : is_answered agreed Rcpt ≡ true) where
       all_refuse (rcpt_verdicts (acted before) ++ rcpt_verdicts (acted_at at answer (last ∷ before)))
       ≡ not ((is_rcpt_at at && not (has_verdict is_refusal answer)) || list_any is_kept_rcpt before)
 
-  more : (last : Exchange) (before : List Exchange) (at : Option Stage) (answer : Option Answer) → is_some answer ≡ is_asked_at agreed at
+  more : (last : Exchange) (before : List Exchange) (at : Option Stage) (answer : Option Answer) → is_some answer ≡ is_asked_at negotiated at
       → Agree before → adds last before at answer
   more last before None answer asked is = all_refuse-append (rcpt_verdicts (acted before)) [] ∙ and-true _ ∙ is
   more last before (Some Rcpt) None asked is = absurd (true≢false (sym answered ∙ sym asked))
@@ -106,11 +106,11 @@ module _ (agreed : Agreed) (answered : is_answered agreed Rcpt ≡ true) where
   more last before (Some Eob) None asked is = all_refuse-append (rcpt_verdicts (acted before)) [] ∙ and-true _ ∙ is
   more last before (Some Eob) (Some answer) asked is = all_refuse-append (rcpt_verdicts (acted before)) [] ∙ and-true _ ∙ is
 
-  pub refused_as_walked : (walk : List Exchange) → AreProper agreed walk → Agree walk
-  refused_as_walked [] all = refl
-  refused_as_walked (last ∷ before) all =
+  pub refused_as_dialogue : (dialogue : List Exchange) → AreProper negotiated dialogue → Agree dialogue
+  refused_as_dialogue [] all = refl
+  refused_as_dialogue (last ∷ before) all =
       ap all_refuse (filter_map-append rcpt_verdict (acted before) (acted_at (stage_of last.command) last.answer (last ∷ before)))
-      ∙ more last before (stage_of last.command) last.answer all.0.answered (refused_as_walked before all.1)
+      ∙ more last before (stage_of last.command) last.answer all.0.answered (refused_as_dialogue before all.1)
       ∙ ap (λ (b : Bool). not ((b && not (is_refused last)) || list_any is_kept_rcpt before)) (sym (rcpt_by_stage last.command))
 
 -- ---- what is left to send
@@ -119,8 +119,8 @@ module _ (agreed : Agreed) (answered : is_answered agreed Rcpt ≡ true) where
 abbrev pub keep_if : Bool → List Command → List Command
 keep_if skips left = filter (λ command. not (is_body command && skips)) left
 
-kept_by : (walk : List Exchange) (left : List Command) → sendable walk left ≡ keep_if (list_any is_skipping walk) left
-kept_by walk left = refl
+kept_by : (dialogue : List Exchange) (left : List Command) → sendable dialogue left ≡ keep_if (list_any is_skipping dialogue) left
+kept_by dialogue left = refl
 
 pub keep_all : (left : List Command) → keep_if false left ≡ left
 keep_all [] = refl
@@ -156,11 +156,11 @@ without_body-twice (command ∷ left) = by_body (is_body command) refl (without_
         ∙ ap (λ (b : Bool). cond (not b) (command ∷ without_body left) (without_body left)) (sym e)
 
 -- a verdict leaves what can be sent after it
-pub left-sendable : (last : Exchange) (walk : List Exchange) (left : List Command) (answer : Answer) → last.answer ≡ Some answer
-    → left_after answer.verdict (sendable walk left) ≡ sendable (last ∷ walk) left
-left-sendable last walk left answer answered =
-    by_skips (is_skip answer.verdict) (list_any is_skipping walk)
-    ∙ ap (λ (b : Bool). keep_if (b || list_any is_skipping walk) left) (sym (ap (has_verdict is_skip) answered))
+pub left-sendable : (last : Exchange) (dialogue : List Exchange) (left : List Command) (answer : Answer) → last.answer ≡ Some answer
+    → left_after answer.verdict (sendable dialogue left) ≡ sendable (last ∷ dialogue) left
+left-sendable last dialogue left answer answered =
+    by_skips (is_skip answer.verdict) (list_any is_skipping dialogue)
+    ∙ ap (λ (b : Bool). keep_if (b || list_any is_skipping dialogue) left) (sym (ap (has_verdict is_skip) answered))
   where
     by_skips : (skips before : Bool) → (if skips then without_body (keep_if before left) else keep_if before left) ≡ keep_if (skips || before) left
     by_skips false before = refl
@@ -168,5 +168,5 @@ left-sendable last walk left answer answered =
     by_skips true true = ap without_body (keep_none left) ∙ without_body-twice left ∙ sym (keep_none left)
 
 -- and so does an exchange without an answer
-pub same-sendable : (last : Exchange) (walk : List Exchange) (left : List Command) → last.answer ≡ None → sendable (last ∷ walk) left ≡ sendable walk left
-same-sendable last walk left unanswered = ap (λ (b : Bool). keep_if (b || list_any is_skipping walk) left) (ap (has_verdict is_skip) unanswered)
+pub same-sendable : (last : Exchange) (dialogue : List Exchange) (left : List Command) → last.answer ≡ None → sendable (last ∷ dialogue) left ≡ sendable dialogue left
+same-sendable last dialogue left unanswered = ap (λ (b : Bool). keep_if (b || list_any is_skipping dialogue) left) (ap (has_verdict is_skip) unanswered)

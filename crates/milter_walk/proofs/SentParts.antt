@@ -3,7 +3,7 @@ use Rattle.std.proofs.Common.{◌≡◌, ◌≢◌, Bool, true, false, cond, not
 use Rattle.std.specs.List.{filter, list_any}
 use Rattle.std.proofs.lemmas.Bool.{true≢false}
 use Rattle.milter_walk.proofs.TruthValues.{or-true}
-use Rattle.milter_wire.specs.declared.agreement.Agreed.{Agreed}
+use Rattle.milter_wire.specs.declared.negotiation.Negotiated.{Negotiated}
 use Rattle.milter_wire.specs.declared.command.Command.{Command}
 use Rattle.milter_message.specs.MailObject.{MailObject}
 use Rattle.milter_mail.specs.MailSession.{MailSession}
@@ -11,13 +11,13 @@ use Rattle.milter_mail.specs.Plan.{macros_of, opening, plan}
 use Rattle.milter_mail.specs.Steps.{message_steps}
 use Rattle.milter_exchange.specs.Commands.{is_of_connection}
 use Rattle.milter_exchange.specs.Exchanges.{Exchange, commands_of, onto}
-use Rattle.milter_exchange.specs.Talk.{is_body, is_skipping, sendable}
+use Rattle.milter_exchange.specs.Dialogue.{is_body, is_skipping, sendable}
 use Rattle.milter_exchange.proofs.Lists.{same-head, same-tail}
 use Rattle.milter_plan.specs.PlanCursor.{without_body}
 use Rattle.milter_walk.specs.Beginnings.{IsSentOf}
 use Rattle.milter_walk.specs.Order.{AreProper}
 use Rattle.milter_walk.specs.Settled.{ends_with_client}
-use Rattle.milter_walk.specs.Walks.{opening_of}
+use Rattle.milter_walk.specs.Dialogues.{opening_of}
 use Rattle.milter_walk.proofs.Opened.{AreOf, of-append, message_of, opening_is_of}
 use Rattle.milter_walk.proofs.Openings.{no_body, opening-sendable}
 use Rattle.milter_walk.proofs.Ordered.{onto-append}
@@ -29,7 +29,7 @@ sent-start all =
       sent = [];
       first = all;
       others = [];
-      walk_is = refl;
+      dialogue_is = refl;
       plan_is = sym (append-nil all);
       sent_is = sym (append-nil all);
       skip = λ some. absurd (some refl);
@@ -41,31 +41,31 @@ no_others : (others : List Command) (skips : Bool) → (others ≢ [] → skips 
 no_others [] skips some none = refl
 no_others (x ∷ xs) skips some none = absurd (true≢false (sym (some (λ e. absurd cc)) ∙ none))
 
-module _ (all : List Command) (walk : List Exchange) (last : Exchange) (left : List Command) (is : IsSentOf all walk (last.command ∷ left))
-    (kept : keep_if (list_any is_skipping walk) left ≡ left) where
+module _ (all : List Command) (dialogue : List Exchange) (last : Exchange) (left : List Command) (is : IsSentOf all dialogue (last.command ∷ left))
+    (kept : keep_if (list_any is_skipping dialogue) left ≡ left) where
   abbrev sent_now : List Command
   sent_now = is.sent ++ last.command ∷ []
 
-  walk-now : commands_of (last ∷ walk) ≡ onto sent_now []
-  walk-now = ap (λ (l : List Command). last.command ∷ l) is.walk_is ∙ sym (onto-append is.sent (last.command ∷ []) [])
+  dialogue-now : commands_of (last ∷ dialogue) ≡ onto sent_now []
+  dialogue-now = ap (λ (l : List Command). last.command ∷ l) is.dialogue_is ∙ sym (onto-append is.sent (last.command ∷ []) [])
 
   -- nothing more is left out
-  same : keep_if (is_skipping last || list_any is_skipping walk) left ≡ left → IsSentOf all (last ∷ walk) (keep_if (is_skipping last || list_any is_skipping walk) left)
+  same : keep_if (is_skipping last || list_any is_skipping dialogue) left ≡ left → IsSentOf all (last ∷ dialogue) (keep_if (is_skipping last || list_any is_skipping dialogue) left)
   same e =
       record {
         sent = sent_now;
         first = is.first;
         others = is.others;
-        walk_is = walk-now;
+        dialogue_is = dialogue-now;
         plan_is = is.plan_is;
         sent_is = ap (λ (l : List Command). sent_now ++ l) e ∙ append_assoc is.sent (last.command ∷ []) left ∙ is.sent_is;
-        skip = λ some. or-true (is_skipping last) (list_any is_skipping walk) (is.skip some);
+        skip = λ some. or-true (is_skipping last) (list_any is_skipping dialogue) (is.skip some);
       }
 
   -- the first skip
-  skips : is_skipping last ≡ true → list_any is_skipping walk ≡ false → IsSentOf all (last ∷ walk) (keep_if (is_skipping last || list_any is_skipping walk) left)
+  skips : is_skipping last ≡ true → list_any is_skipping dialogue ≡ false → IsSentOf all (last ∷ dialogue) (keep_if (is_skipping last || list_any is_skipping dialogue) left)
   skips e none =
-      let nothing : is.others ≡ [] = no_others is.others (list_any is_skipping walk) is.skip none in
+      let nothing : is.others ≡ [] = no_others is.others (list_any is_skipping dialogue) is.skip none in
       let whole : is.sent ++ last.command ∷ left ≡ all =
       is.sent_is ∙ ap (λ (l : List Command). is.first ++ without_body l) nothing ∙ append-nil is.first
       ∙ sym (is.plan_is ∙ ap (λ (l : List Command). is.first ++ l) nothing ∙ append-nil is.first) in
@@ -73,18 +73,18 @@ module _ (all : List Command) (walk : List Exchange) (last : Exchange) (left : L
         sent = sent_now;
         first = sent_now;
         others = left;
-        walk_is = walk-now;
+        dialogue_is = dialogue-now;
         plan_is = sym whole ∙ sym (append_assoc is.sent (last.command ∷ []) left);
-        sent_is = ap (λ (l : List Command). sent_now ++ l) (ap (λ (b : Bool). keep_if (b || list_any is_skipping walk) left) e ∙ keep_none left);
-        skip = λ some. ap (λ (b : Bool). b || list_any is_skipping walk) e;
+        sent_is = ap (λ (l : List Command). sent_now ++ l) (ap (λ (b : Bool). keep_if (b || list_any is_skipping dialogue) left) e ∙ keep_none left);
+        skip = λ some. ap (λ (b : Bool). b || list_any is_skipping dialogue) e;
       }
 
-  pub sent-more : IsSentOf all (last ∷ walk) (sendable (last ∷ walk) left)
-  sent-more = by_skips (is_skipping last) (list_any is_skipping walk) refl refl
+  pub sent-more : IsSentOf all (last ∷ dialogue) (sendable (last ∷ dialogue) left)
+  sent-more = by_skips (is_skipping last) (list_any is_skipping dialogue) refl refl
     where
-      by_skips : (now before : Bool) → is_skipping last ≡ now → list_any is_skipping walk ≡ before → IsSentOf all (last ∷ walk) (keep_if (is_skipping last || list_any is_skipping walk) left)
-      by_skips now true e before = same (ap (λ (b : Bool). keep_if b left) (or-true (is_skipping last) (list_any is_skipping walk) before ∙ sym before) ∙ kept)
-      by_skips false false e before = same (ap (λ (b : Bool). keep_if (b || list_any is_skipping walk) left) e ∙ kept)
+      by_skips : (now before : Bool) → is_skipping last ≡ now → list_any is_skipping dialogue ≡ before → IsSentOf all (last ∷ dialogue) (keep_if (is_skipping last || list_any is_skipping dialogue) left)
+      by_skips now true e before = same (ap (λ (b : Bool). keep_if b left) (or-true (is_skipping last) (list_any is_skipping dialogue) before ∙ sym before) ∙ kept)
+      by_skips false false e before = same (ap (λ (b : Bool). keep_if (b || list_any is_skipping dialogue) left) e ∙ kept)
       by_skips true false e before = skips e before
 
 -- ---- the next message
@@ -168,12 +168,12 @@ filter-onto (x ∷ xs) ys = filter-onto xs (x ∷ ys) ∙ by_test (is_of_connect
     by_test true = refl
     by_test false = refl
 
-commands-filter : (walk : List Exchange) → commands_of (opening_of walk) ≡ of_client (commands_of walk)
+commands-filter : (dialogue : List Exchange) → commands_of (opening_of dialogue) ≡ of_client (commands_of dialogue)
 commands-filter [] = refl
-commands-filter (e ∷ walk) = by_test (is_of_connection e.command) (commands-filter walk)
+commands-filter (e ∷ dialogue) = by_test (is_of_connection e.command) (commands-filter dialogue)
   where
-    by_test : (b : Bool) → commands_of (opening_of walk) ≡ of_client (commands_of walk)
-        → commands_of (cond b (e ∷ opening_of walk) (opening_of walk)) ≡ cond b (e.command ∷ of_client (commands_of walk)) (of_client (commands_of walk))
+    by_test : (b : Bool) → commands_of (opening_of dialogue) ≡ of_client (commands_of dialogue)
+        → commands_of (cond b (e ∷ opening_of dialogue) (opening_of dialogue)) ≡ cond b (e.command ∷ of_client (commands_of dialogue)) (of_client (commands_of dialogue))
     by_test true rest = ap (λ (l : List Command). e.command ∷ l) rest
     by_test false rest = rest
 
@@ -186,35 +186,35 @@ any-onto (x ∷ xs) ys some none = by_test (not (is_of_connection x)) refl (any-
     by_test true e rest = ap (λ (k : Bool). k || has_other xs) e
     by_test false e rest = ap (λ (k : Bool). k || has_other xs) e ∙ rest (ap (λ (k : Bool). k || has_other ys) e ∙ none)
 
-module _ (agreed : Agreed) (session : MailSession) (message : MailObject) (last : Exchange) (before : List Exchange) (left : List Command)
-    (is : IsSentOf (plan agreed session message) (last ∷ before) left) (client : ends_with_client (last ∷ before) ≡ false) where
+module _ (negotiated : Negotiated) (session : MailSession) (message : MailObject) (last : Exchange) (before : List Exchange) (left : List Command)
+    (is : IsSentOf (plan negotiated session message) (last ∷ before) left) (client : ends_with_client (last ∷ before) ≡ false) where
   abbrev begin : List Command
-  begin = opening agreed session
+  begin = opening negotiated session
 
   after : After begin (is.first ++ without_body is.others)
   after =
-      after-opening begin is.first is.others (message_steps agreed (macros_of agreed session) message) (opening_is_of agreed session)
-      (message_of agreed (macros_of agreed session) message) (sym is.plan_is)
+      after-opening begin is.first is.others (message_steps negotiated (macros_of negotiated session) message) (opening_is_of negotiated session)
+      (message_of negotiated (macros_of negotiated session) message) (sym is.plan_is)
 
   other_sent : has_other is.sent ≡ true
   other_sent =
-      any-onto is.sent [] (ap has_other (sym is.walk_is) ∙ ap (λ (b : Bool). not b || has_other (commands_of before)) client) refl
+      any-onto is.sent [] (ap has_other (sym is.dialogue_is) ∙ ap (λ (b : Bool). not b || has_other (commands_of before)) client) refl
 
   begun : of_client is.sent ≡ begin
   begun =
       let rest = after in
-      opening-sent begin is.sent left rest.rest (opening_is_of agreed session) rest.others (is.sent_is ∙ rest.all_is) other_sent
+      opening-sent begin is.sent left rest.rest (opening_is_of negotiated session) rest.others (is.sent_is ∙ rest.all_is) other_sent
 
-  pub sent-next : (other : MailObject) → AreProper agreed (last ∷ before)
-      → IsSentOf (plan agreed session other) (opening_of (last ∷ before)) (sendable (opening_of (last ∷ before)) (message_steps agreed (macros_of agreed session) other))
+  pub sent-next : (other : MailObject) → AreProper negotiated (last ∷ before)
+      → IsSentOf (plan negotiated session other) (opening_of (last ∷ before)) (sendable (opening_of (last ∷ before)) (message_steps negotiated (macros_of negotiated session) other))
   sent-next other all =
       record {
         sent = begin;
-        first = plan agreed session other;
+        first = plan negotiated session other;
         others = [];
-        walk_is = commands-filter (last ∷ before) ∙ ap of_client is.walk_is ∙ filter-onto is.sent [] ∙ ap (λ (l : List Command). onto l []) begun;
-        plan_is = sym (append-nil (plan agreed session other));
-        sent_is = ap (λ (l : List Command). begin ++ l) (opening-sendable agreed (last ∷ before) (message_steps agreed (macros_of agreed session) other) all) ∙ sym (append-nil (plan agreed session other));
+        dialogue_is = commands-filter (last ∷ before) ∙ ap of_client is.dialogue_is ∙ filter-onto is.sent [] ∙ ap (λ (l : List Command). onto l []) begun;
+        plan_is = sym (append-nil (plan negotiated session other));
+        sent_is = ap (λ (l : List Command). begin ++ l) (opening-sendable negotiated (last ∷ before) (message_steps negotiated (macros_of negotiated session) other) all) ∙ sym (append-nil (plan negotiated session other));
         skip = λ some. absurd (some refl);
       }
 
@@ -251,44 +251,44 @@ opening-part (y ∷ begin) (x ∷ z ∷ sent) left rest others e last =
       begin_is = ap (λ (c : Command). c ∷ begin) (sym (same-head x y (z ∷ (sent ++ left)) (begin ++ rest) e)) ∙ ap (λ (l : List Command). x ∷ l) is.begin_is;
     }
 
-module _ (agreed : Agreed) (session : MailSession) (message : MailObject) (last : Exchange) (before : List Exchange) (left : List Command)
-    (is : IsSentOf (plan agreed session message) (last ∷ before) left) (client : ends_with_client (last ∷ before) ≡ true) where
+module _ (negotiated : Negotiated) (session : MailSession) (message : MailObject) (last : Exchange) (before : List Exchange) (left : List Command)
+    (is : IsSentOf (plan negotiated session message) (last ∷ before) left) (client : ends_with_client (last ∷ before) ≡ true) where
   last_client : ends_client is.sent ≡ true
-  last_client = by_sent is.sent is.walk_is
+  last_client = by_sent is.sent is.dialogue_is
     where
       by_sent : (sent : List Command) → commands_of (last ∷ before) ≡ onto sent [] → ends_client sent ≡ true
       by_sent [] e = absurd cc
       by_sent (x ∷ xs) e = last-onto x xs [] (commands_of before) last.command (sym e) ∙ client
 
-  -- it is a walk through the plan of any message
-  pub sent-other : (other : MailObject) → (rest : List Command) × IsSentOf (plan agreed session other) (last ∷ before) rest
+  -- it is a dialogue through the plan of any message
+  pub sent-other : (other : MailObject) → (rest : List Command) × IsSentOf (plan negotiated session other) (last ∷ before) rest
   sent-other other =
-      let after : After (opening agreed session) (is.first ++ without_body is.others) =
-      after-opening (opening agreed session) is.first is.others (message_steps agreed (macros_of agreed session) message) (opening_is_of agreed session)
-      (message_of agreed (macros_of agreed session) message) (sym is.plan_is) in
-      let part = opening-part (opening agreed session) is.sent left after.rest after.others (is.sent_is ∙ after.all_is) last_client in
-      let steps = message_steps agreed (macros_of agreed session) other in (
+      let after : After (opening negotiated session) (is.first ++ without_body is.others) =
+      after-opening (opening negotiated session) is.first is.others (message_steps negotiated (macros_of negotiated session) message) (opening_is_of negotiated session)
+      (message_of negotiated (macros_of negotiated session) message) (sym is.plan_is) in
+      let part = opening-part (opening negotiated session) is.sent left after.rest after.others (is.sent_is ∙ after.all_is) last_client in
+      let steps = message_steps negotiated (macros_of negotiated session) other in (
         part.more ++ steps,
         record {
           sent = is.sent;
-          first = plan agreed session other;
+          first = plan negotiated session other;
           others = [];
-          walk_is = is.walk_is;
-          plan_is = sym (append-nil (plan agreed session other));
-          sent_is = sym (append_assoc is.sent part.more steps) ∙ ap (λ (l : List Command). l ++ steps) (sym part.begin_is) ∙ sym (append-nil (plan agreed session other));
+          dialogue_is = is.dialogue_is;
+          plan_is = sym (append-nil (plan negotiated session other));
+          sent_is = sym (append_assoc is.sent part.more steps) ∙ ap (λ (l : List Command). l ++ steps) (sym part.begin_is) ∙ sym (append-nil (plan negotiated session other));
           skip = λ some. absurd (some refl);
         },
       )
 
--- ---- any walk
+-- ---- any dialogue
 
-pub sent-next-walk : (agreed : Agreed) (session : MailSession) (message : MailObject) (walk : List Exchange) (left : List Command) → IsSentOf (plan agreed session message) walk left
-    → ends_with_client walk ≡ false → walk ≢ [] → AreProper agreed walk → (other : MailObject)
-    → IsSentOf (plan agreed session other) (opening_of walk) (sendable (opening_of walk) (message_steps agreed (macros_of agreed session) other))
-sent-next-walk agreed session message [] left is client some all other = absurd (some refl)
-sent-next-walk agreed session message (last ∷ before) left is client some all other = sent-next agreed session message last before left is client other all
+pub sent-next-dialogue : (negotiated : Negotiated) (session : MailSession) (message : MailObject) (dialogue : List Exchange) (left : List Command) → IsSentOf (plan negotiated session message) dialogue left
+    → ends_with_client dialogue ≡ false → dialogue ≢ [] → AreProper negotiated dialogue → (other : MailObject)
+    → IsSentOf (plan negotiated session other) (opening_of dialogue) (sendable (opening_of dialogue) (message_steps negotiated (macros_of negotiated session) other))
+sent-next-dialogue negotiated session message [] left is client some all other = absurd (some refl)
+sent-next-dialogue negotiated session message (last ∷ before) left is client some all other = sent-next negotiated session message last before left is client other all
 
-pub sent-other-walk : (agreed : Agreed) (session : MailSession) (message : MailObject) (walk : List Exchange) (left : List Command) → IsSentOf (plan agreed session message) walk left
-    → ends_with_client walk ≡ true → (other : MailObject) → (rest : List Command) × IsSentOf (plan agreed session other) walk rest
-sent-other-walk agreed session message [] left is client other = absurd (true≢false (sym client))
-sent-other-walk agreed session message (last ∷ before) left is client other = sent-other agreed session message last before left is client other
+pub sent-other-dialogue : (negotiated : Negotiated) (session : MailSession) (message : MailObject) (dialogue : List Exchange) (left : List Command) → IsSentOf (plan negotiated session message) dialogue left
+    → ends_with_client dialogue ≡ true → (other : MailObject) → (rest : List Command) × IsSentOf (plan negotiated session other) dialogue rest
+sent-other-dialogue negotiated session message [] left is client other = absurd (true≢false (sym client))
+sent-other-dialogue negotiated session message (last ∷ before) left is client other = sent-other negotiated session message last before left is client other

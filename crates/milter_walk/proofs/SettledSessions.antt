@@ -1,11 +1,11 @@
--- A session against one filter that is never lost: each message is settled by its own talk.
+-- A session against one filter that is never lost: each message is settled by its own dialogue.
 use Rattle.std.specs.Prelude.{if◌then◌else◌, option_map}
 use Rattle.std.proofs.Common.{◌≡◌, ◌≢◌, Bool, true, false, not, List, [], ◌∷◌, ◌++◌, map, is_some, Option, None, Some, refl, sym, ap, ◌∙◌, subst, append-nil, append_assoc}
 use Rattle.std.proofs.lemmas.Bool.{true≢false}
-use Rattle.milter_walk.proofs.Lists.{map-agree, map-append, map-map}
-use Rattle.milter_wire.specs.declared.agreement.Agreed.{Agreed}
+use Rattle.milter_walk.proofs.Lists.{map-negotiate, map-append, map-map}
+use Rattle.milter_wire.specs.declared.negotiation.Negotiated.{Negotiated}
 use Rattle.milter_wire.specs.declared.command.Command.{Command}
-use Rattle.milter_wire.specs.Agreement.{has_leading_space}
+use Rattle.milter_wire.specs.Negotiation.{has_leading_space}
 use Rattle.milter_message.specs.MailObject.{MailObject}
 use Rattle.milter_mail.specs.MailSession.{MailSession}
 use Rattle.milter_mail.specs.Plan.{macros_of}
@@ -13,31 +13,31 @@ use Rattle.milter_mail.specs.Steps.{message_steps}
 use Rattle.milter_exchange.specs.Behavior.{Behavior}
 use Rattle.milter_exchange.specs.Exchanges.{Exchange, commands_of, onto}
 use Rattle.milter_exchange.specs.Lawful.{IsLawful}
-use Rattle.milter_exchange.specs.Talk.{talk}
+use Rattle.milter_exchange.specs.Dialogue.{dialogue_with}
 use Rattle.milter_outcome.specs.declared.loss.By.{By}
 use Rattle.milter_outcome.specs.declared.loss.By.TheVariants.{Connection, Filter}
 use Rattle.milter_outcome.specs.declared.outcome.Outcome.{Outcome}
 use Rattle.milter_outcome.specs.declared.outcome.Outcome.TheVariants.{NoRecipients}
 use Rattle.milter_outcome.specs.declared.report.Report.{Report}
-use Rattle.milter_outcome.specs.Walks.{acted, ruled}
+use Rattle.milter_outcome.specs.Dialogues.{acted, ruled}
 use Rattle.milter_mta.specs.declared.want.Want.TheVariants as wants
-use Rattle.milter_mta.specs.Mta.{Link, Mta, Position, at_packet, link_at}
+use Rattle.milter_mta.specs.Mta.{FilterConnection, Mta, Position, at_packet, connection_at}
 use Rattle.milter_mta.specs.Mta.Position.{Ended, Quitting}
-use Rattle.milter_mta.specs.Receiving.{at}
-use Rattle.milter_mta.specs.Sending.{want}
-use Rattle.milter_mta.specs.Settling.{report}
+use Rattle.milter_mta.specs.Replies.{at}
+use Rattle.milter_mta.specs.Output.{want}
+use Rattle.milter_mta.specs.Dispositions.{report}
 use Rattle.milter_walk.specs.Lines.{Line, Plays, abort_line, line_of, quit_line}
-use Rattle.milter_walk.specs.Order.{IsWalk, IsWalked}
-use Rattle.milter_walk.specs.Sessions.{connection_after, lines_after, lines_from, report_by, settled_through, walk_of}
-use Rattle.milter_walk.specs.Settled.{AreAllSettled, ends_with_client, ends_with_message, next_position, walk_verdict}
-use Rattle.milter_walk.specs.Walks.{at_walk, opening_of, settled_by}
-use Rattle.milter_walk.proofs.Answers.{HearsReplies}
+use Rattle.milter_walk.specs.Order.{IsDialogue, IsDialogueSoFar}
+use Rattle.milter_walk.specs.Sessions.{connection_after, lines_after, lines_from, report_by, settled_through, dialogue_of}
+use Rattle.milter_walk.specs.Settled.{AreAllSettled, ends_with_client, ends_with_message, next_position, dialogue_verdict}
+use Rattle.milter_walk.specs.Dialogues.{at_dialogue, opening_of, settled_by}
+use Rattle.milter_walk.proofs.Answers.{ReceivesReplies}
 use Rattle.milter_walk.proofs.Bare.{aborted, quitted}
-use Rattle.milter_walk.proofs.Opened.{walk-next, walk-same}
+use Rattle.milter_walk.proofs.Opened.{dialogue-next, dialogue-same}
 use Rattle.milter_walk.proofs.Openings.{opening-proper, opening-reaches}
 use Rattle.milter_walk.proofs.Ordered.{message-ends, message-ordered}
 use Rattle.milter_walk.proofs.Played.{played}
-use Rattle.milter_walk.proofs.Settled.{all-settled-walk, one-settled-walk}
+use Rattle.milter_walk.proofs.Settled.{all-settled-dialogue, one-settled-dialogue}
 
 pub plays-append : (xs ys : List Line) (m n k : Mta) → Plays m xs n → Plays n ys k → Plays m (xs ++ ys) k
 plays-append [] ys m n k first more = subst (λ (z : Mta). Plays z ys k) (sym first) more
@@ -53,20 +53,20 @@ some-is (Some o) e = refl
 
 -- ---- to the end
 
-module _ (b : Behavior) (agreed : Agreed) (s : MailSession) where
+module _ (b : Behavior) (negotiated : Negotiated) (s : MailSession) where
   abbrev whole : MailObject → List Exchange
-  whole message = walk_of b agreed s message
+  whole message = dialogue_of b negotiated s message
 
   abbrev reported_by : List MailObject → List (Option Report)
-  reported_by messages = map (λ message. report_by agreed (whole message) message) messages
+  reported_by messages = map (λ message. report_by negotiated (whole message) message) messages
 
-  -- it comes to an end by these lines, and these messages are settled each by its own talk
+  -- it comes to an end by these lines, and these messages are settled each by its own dialogue
   pub record Finishes (old : Mta) (lines : List Line) (messages : List MailObject) : Type 0 where
     pub new : Mta
     pub plays : Plays old lines new
     pub ended : want new ≡ wants.Done
     pub reports : map Some new.reports ≡ map Some old.reports ++ reported_by messages
-    pub connection : new.connection ≡ connection_after b agreed s messages old.connection
+    pub connection : new.connection ≡ connection_after b negotiated s messages old.connection
 
   -- others before them
   after-lines : (first more : List Line) (old middle : Mta) (messages : List MailObject) → Plays old first middle → map Some middle.reports ≡ map Some old.reports
@@ -77,7 +77,7 @@ module _ (b : Behavior) (agreed : Agreed) (s : MailSession) where
         plays = plays-append first more old middle rest.new goes rest.plays;
         ended = rest.ended;
         reports = rest.reports ∙ ap (λ (l : List (Option Report)). l ++ reported_by messages) same;
-        connection = rest.connection ∙ ap (connection_after b agreed s messages) connected;
+        connection = rest.connection ∙ ap (connection_after b negotiated s messages) connected;
       }
 
   quits : (m : Mta) → Finishes (at (at_packet Quitting) m) (quit_line ∷ []) []
@@ -91,50 +91,50 @@ module _ (b : Behavior) (agreed : Agreed) (s : MailSession) where
       }
 
   module _ (messages : List MailObject) (message : MailObject) (w : List Exchange) (m : Mta) (e : m.session ≡ record s { messages = message ∷ messages })
-      (all : IsWalked agreed w) (same : w ≡ whole message) (rules : (each : MailObject) → is_some (ruled (has_leading_space agreed) each w) ≡ true) where
+      (all : IsDialogueSoFar negotiated w) (same : w ≡ whole message) (rules : (each : MailObject) → is_some (ruled (has_leading_space negotiated) each w) ≡ true) where
     abbrev outcome_of : MailObject → Outcome
-    outcome_of each = or_none (ruled (has_leading_space agreed) each w)
+    outcome_of each = or_none (ruled (has_leading_space negotiated) each w)
 
-    is_ruled : (each : MailObject) → ruled (has_leading_space agreed) each w ≡ Some (outcome_of each)
-    is_ruled each = some-is (ruled (has_leading_space agreed) each w) (rules each)
+    is_ruled : (each : MailObject) → ruled (has_leading_space negotiated) each w ≡ Some (outcome_of each)
+    is_ruled each = some-is (ruled (has_leading_space negotiated) each w) (rules each)
 
     all_messages : m.session.messages ≡ message ∷ messages
     all_messages = ap (λ (z : MailSession). z.messages) e
 
-    report-is : (by : By) → settled_through w ≡ by → (each : MailObject) → Some (report (acted w) (outcome_of each) by) ≡ report_by agreed w each
+    report-is : (by : By) → settled_through w ≡ by → (each : MailObject) → Some (report (acted w) (outcome_of each) by) ≡ report_by negotiated w each
     report-is by through each =
         ap (λ (x : By). Some (report (acted w) (outcome_of each) x)) (sym through)
         ∙ ap (λ (found : Option Outcome). option_map (λ o. report (acted w) o (settled_through w)) found) (sym (is_ruled each))
 
     -- ---- by the client
 
-    settled-all : ends_with_client w ≡ true → AreAllSettled w outcome_of m (settled_by agreed w m)
-    settled-all client = all-settled-walk agreed w m message outcome_of all client is_ruled
+    settled-all : ends_with_client w ≡ true → AreAllSettled w outcome_of m (settled_by negotiated w m)
+    settled-all client = all-settled-dialogue negotiated w m message outcome_of all client is_ruled
 
-    each-is : ends_with_client w ≡ true → (each : MailObject) → Some (report (acted w) (outcome_of each) Connection) ≡ report_by agreed (whole each) each
+    each-is : ends_with_client w ≡ true → (each : MailObject) → Some (report (acted w) (outcome_of each) Connection) ≡ report_by negotiated (whole each) each
     each-is client each =
         report-is Connection (ap (λ (k : Bool). if k then Connection else Filter) client) each
-        ∙ ap (λ (z : List Exchange). report_by agreed z each) (same ∙ sym (walk-same b agreed s message each (ap ends_with_client (sym same) ∙ client)))
+        ∙ ap (λ (z : List Exchange). report_by negotiated z each) (same ∙ sym (dialogue-same b negotiated s message each (ap ends_with_client (sym same) ∙ client)))
 
-    client-reports : ends_with_client w ≡ true → map Some (settled_by agreed w m).reports ≡ map Some m.reports ++ reported_by (message ∷ messages)
+    client-reports : ends_with_client w ≡ true → map Some (settled_by negotiated w m).reports ≡ map Some m.reports ++ reported_by (message ∷ messages)
     client-reports client =
         ap (map Some) (settled-all client).reported
         ∙ map-append Some m.reports (map (λ each. report (acted w) (outcome_of each) Connection) m.session.messages)
         ∙ ap (λ (l : List (Option Report)). map Some m.reports ++ l) (map-map Some (λ each. report (acted w) (outcome_of each) Connection) m.session.messages)
-        ∙ ap (λ (l : List (Option Report)). map Some m.reports ++ l) (map-agree (λ each. Some (report (acted w) (outcome_of each) Connection)) (λ each. report_by agreed (whole each) each) (each-is client) m.session.messages)
+        ∙ ap (λ (l : List (Option Report)). map Some m.reports ++ l) (map-negotiate (λ each. Some (report (acted w) (outcome_of each) Connection)) (λ each. report_by negotiated (whole each) each) (each-is client) m.session.messages)
         ∙ ap (λ (l : List MailObject). map Some m.reports ++ reported_by l) all_messages
 
-    client-connection : ends_with_client w ≡ true → (settled_by agreed w m).connection ≡ connection_after b agreed s (message ∷ messages) m.connection
+    client-connection : ends_with_client w ≡ true → (settled_by negotiated w m).connection ≡ connection_after b negotiated s (message ∷ messages) m.connection
     client-connection client =
         (settled-all client).connection
-        ∙ ap (λ (k : Bool). if k then walk_verdict w else m.connection) (sym client)
-        ∙ ap (λ (z : List Exchange). if ends_with_client z then walk_verdict z else m.connection) same
+        ∙ ap (λ (k : Bool). if k then dialogue_verdict w else m.connection) (sym client)
+        ∙ ap (λ (z : List Exchange). if ends_with_client z then dialogue_verdict z else m.connection) same
 
-    client-done : (next : List Line) → ends_with_client w ≡ true → (old : Mta) → (first : List Line) → old.reports ≡ m.reports → old.connection ≡ m.connection → Plays old first (settled_by agreed w m)
+    client-done : (next : List Line) → ends_with_client w ≡ true → (old : Mta) → (first : List Line) → old.reports ≡ m.reports → old.connection ≡ m.connection → Plays old first (settled_by negotiated w m)
         → Finishes old (first ++ lines_after w next) (message ∷ messages)
     client-done next client old first kept connected goes =
-        let n = settled_by agreed w m in
-        let n_is : n ≡ at (at_packet Quitting) n = ap (λ (l : Option Link). record n { link = l }) (settled-all client).quits in
+        let n = settled_by negotiated w m in
+        let n_is : n ≡ at (at_packet Quitting) n = ap (λ (l : Option FilterConnection). record n { filter_connection = l }) (settled-all client).quits in
         let quit : Plays n (quit_line ∷ []) (at (at_packet Ended) n) = subst (λ (z : Mta). Plays z (quit_line ∷ []) (at (at_packet Ended) n)) (sym n_is) (quitted n) in
         record {
           new = at (at_packet Ended) n;
@@ -142,7 +142,7 @@ module _ (b : Behavior) (agreed : Agreed) (s : MailSession) where
               (plays-append first (quit_line ∷ []) old n (at (at_packet Ended) n) goes quit);
           ended = refl;
           reports = client-reports client ∙ ap (λ (l : List Report). map Some l ++ reported_by (message ∷ messages)) (sym kept);
-          connection = client-connection client ∙ ap (connection_after b agreed s (message ∷ messages)) (sym connected);
+          connection = client-connection client ∙ ap (connection_after b negotiated s (message ∷ messages)) (sym connected);
         }
 
     -- ---- by the message
@@ -155,40 +155,40 @@ module _ (b : Behavior) (agreed : Agreed) (s : MailSession) where
     base = record m { session = record m.session { messages = messages }; reports = m.reports ++ r ∷ [] }
 
     abbrev goes_to : Position
-    goes_to = next_position agreed (opening_of w) m.session messages
+    goes_to = next_position negotiated (opening_of w) m.session messages
 
-    one-is : ends_with_client w ≡ false → settled_by agreed w m ≡ at (link_at (not (ends_with_message w)) goes_to) base
-    one-is client = one-settled-walk agreed w m message messages (outcome_of message) all.proper client all_messages (is_ruled message)
+    one-is : ends_with_client w ≡ false → settled_by negotiated w m ≡ at (connection_at (not (ends_with_message w)) goes_to) base
+    one-is client = one-settled-dialogue negotiated w m message messages (outcome_of message) all.proper client all_messages (is_ruled message)
 
     one-report : ends_with_client w ≡ false → map Some (m.reports ++ r ∷ []) ++ reported_by messages ≡ map Some m.reports ++ reported_by (message ∷ messages)
     one-report client =
         ap (λ (l : List (Option Report)). l ++ reported_by messages) (map-append Some m.reports (r ∷ []))
         ∙ append_assoc (map Some m.reports) (Some r ∷ []) (reported_by messages)
-        ∙ ap (λ (x : Option Report). map Some m.reports ++ x ∷ reported_by messages) (report-is Filter (ap (λ (k : Bool). if k then Connection else Filter) client) message ∙ ap (λ (z : List Exchange). report_by agreed z message) same)
+        ∙ ap (λ (x : Option Report). map Some m.reports ++ x ∷ reported_by messages) (report-is Filter (ap (λ (k : Bool). if k then Connection else Filter) client) message ∙ ap (λ (z : List Exchange). report_by negotiated z message) same)
 
     -- perhaps after an abort
     after-abort : (next : List Line) (over : Bool) → Finishes (at (at_packet goes_to) base) next messages
-        → Finishes (at (link_at (not over) goes_to) base) (if over then next else abort_line ∷ next) messages
+        → Finishes (at (connection_at (not over) goes_to) base) (if over then next else abort_line ∷ next) messages
     after-abort next true rest = rest
-    after-abort next false rest = after-lines (abort_line ∷ []) next (at (link_at true goes_to) base) (at (at_packet goes_to) base) messages (aborted base goes_to) refl refl rest
+    after-abort next false rest = after-lines (abort_line ∷ []) next (at (connection_at true goes_to) base) (at (at_packet goes_to) base) messages (aborted base goes_to) refl refl rest
 
-    -- nor does another message's walk end with the client
-    no_connection : (others : List MailObject) → ends_with_client w ≡ false → connection_after b agreed s others m.connection ≡ m.connection
+    -- nor does another message's dialogue end with the client
+    no_connection : (others : List MailObject) → ends_with_client w ≡ false → connection_after b negotiated s others m.connection ≡ m.connection
     no_connection [] client = refl
     no_connection (other ∷ others) client = by_other (ends_with_client (whole other)) refl
       where
-        by_other : (ends : Bool) → ends_with_client (whole other) ≡ ends → (if ends then walk_verdict (whole other) else m.connection) ≡ m.connection
+        by_other : (ends : Bool) → ends_with_client (whole other) ≡ ends → (if ends then dialogue_verdict (whole other) else m.connection) ≡ m.connection
         by_other false e = refl
-        by_other true e = absurd (true≢false (sym e ∙ ap ends_with_client (sym (walk-same b agreed s other message e) ∙ sym same) ∙ client))
+        by_other true e = absurd (true≢false (sym e ∙ ap ends_with_client (sym (dialogue-same b negotiated s other message e) ∙ sym same) ∙ client))
 
-    one-connection : ends_with_client w ≡ false → connection_after b agreed s messages m.connection ≡ connection_after b agreed s (message ∷ messages) m.connection
+    one-connection : ends_with_client w ≡ false → connection_after b negotiated s messages m.connection ≡ connection_after b negotiated s (message ∷ messages) m.connection
     one-connection client =
         no_connection messages client
-        ∙ ap (λ (k : Bool). if k then walk_verdict w else m.connection) (sym client)
-        ∙ ap (λ (z : List Exchange). if ends_with_client z then walk_verdict z else m.connection) same
+        ∙ ap (λ (k : Bool). if k then dialogue_verdict w else m.connection) (sym client)
+        ∙ ap (λ (z : List Exchange). if ends_with_client z then dialogue_verdict z else m.connection) same
 
     one-done : (next : List Line) → ends_with_client w ≡ false → Finishes (at (at_packet goes_to) base) next messages
-        → (old : Mta) → (first : List Line) → old.reports ≡ m.reports → old.connection ≡ m.connection → Plays old first (settled_by agreed w m)
+        → (old : Mta) → (first : List Line) → old.reports ≡ m.reports → old.connection ≡ m.connection → Plays old first (settled_by negotiated w m)
         → Finishes old (first ++ lines_after w next) (message ∷ messages)
     one-done next client rest old first kept connected goes =
         let more = after-abort next (ends_with_message w) rest in
@@ -199,11 +199,11 @@ module _ (b : Behavior) (agreed : Agreed) (s : MailSession) where
           plays = subst (λ (l : List Line). Plays old (first ++ l) more.new) (sym lines) (plays-append first _ old _ more.new goes_there more.plays);
           ended = more.ended;
           reports = more.reports ∙ one-report client ∙ ap (λ (l : List Report). map Some l ++ reported_by (message ∷ messages)) (sym kept);
-          connection = more.connection ∙ one-connection client ∙ ap (connection_after b agreed s (message ∷ messages)) (sym connected);
+          connection = more.connection ∙ one-connection client ∙ ap (connection_after b negotiated s (message ∷ messages)) (sym connected);
         }
 
     pub done : (next : List Line) → (ends_with_client w ≡ false → Finishes (at (at_packet goes_to) base) next messages)
-        → (old : Mta) → (first : List Line) → old.reports ≡ m.reports → old.connection ≡ m.connection → Plays old first (settled_by agreed w m)
+        → (old : Mta) → (first : List Line) → old.reports ≡ m.reports → old.connection ≡ m.connection → Plays old first (settled_by negotiated w m)
         → Finishes old (first ++ lines_after w next) (message ∷ messages)
     done next rest old first kept connected goes = by_end (ends_with_client w) refl
       where
@@ -213,7 +213,7 @@ module _ (b : Behavior) (agreed : Agreed) (s : MailSession) where
 
 -- ---- message after message
 
-module _ (hears : HearsReplies) (b : Behavior) (lawful : IsLawful b) (agreed : Agreed) (s : MailSession) where
+module _ (receives_bytes : ReceivesReplies) (b : Behavior) (lawful : IsLawful b) (negotiated : Negotiated) (s : MailSession) where
   some_messages : (message : MailObject) (messages : List MailObject) (m : Mta) → m.session ≡ record s { messages = message ∷ messages } → m.session.messages ≢ []
   some_messages message messages m e none =
       let no : message ∷ messages ≡ [] = sym (ap (λ (z : MailSession). z.messages) e) ∙ none in absurd cc
@@ -223,32 +223,32 @@ module _ (hears : HearsReplies) (b : Behavior) (lawful : IsLawful b) (agreed : A
   settled_alone w message messages m =
       record m {
         session = record m.session { messages = messages };
-        reports = m.reports ++ report (acted w) (or_none (ruled (has_leading_space agreed) message w)) Filter ∷ [];
+        reports = m.reports ++ report (acted w) (or_none (ruled (has_leading_space negotiated) message w)) Filter ∷ [];
       }
 
-  pub each : (messages : List MailObject) (message : MailObject) (walk : List Exchange) (left : List Command) (m : Mta)
-      → m.session ≡ record s { messages = message ∷ messages } → IsWalk agreed walk left → onto (talk b agreed walk left) walk ≡ walk_of b agreed s message
-      → Finishes b agreed s (at_walk agreed walk left m) (lines_from b agreed s messages walk left) (message ∷ messages)
-  each [] message walk left m e is same =
-      let p = played hears b lawful agreed m (some_messages message [] m e) left walk is.proper is.in_order is.ends in
-      let w = onto (talk b agreed walk left) walk in
+  pub each : (messages : List MailObject) (message : MailObject) (dialogue : List Exchange) (left : List Command) (m : Mta)
+      → m.session ≡ record s { messages = message ∷ messages } → IsDialogue negotiated dialogue left → onto (dialogue_with b negotiated dialogue left) dialogue ≡ dialogue_of b negotiated s message
+      → Finishes b negotiated s (at_dialogue negotiated dialogue left m) (lines_from b negotiated s messages dialogue left) (message ∷ messages)
+  each [] message dialogue left m e is same =
+      let p = played receives_bytes b lawful negotiated m (some_messages message [] m e) left dialogue is.proper is.in_order is.ends in
+      let w = onto (dialogue_with b negotiated dialogue left) dialogue in
       let n : Mta = settled_alone w message [] m in
-      done b agreed s [] message w m e (record { proper = p.all; in_order = p.order }) same (λ each. p.rules (has_leading_space agreed) each)
-      (quit_line ∷ []) (λ client. quits b agreed s n) (at_walk agreed walk left m) (map line_of (talk b agreed walk left)) refl refl p.plays
-  each (next ∷ messages) message walk left m e is same =
-      let p = played hears b lawful agreed m (some_messages message (next ∷ messages) m e) left walk is.proper is.in_order is.ends in
-      let w = onto (talk b agreed walk left) walk in
-      let steps = message_steps agreed (macros_of agreed s) next in
+      done b negotiated s [] message w m e (record { proper = p.all; in_order = p.order }) same (λ each. p.rules (has_leading_space negotiated) each)
+      (quit_line ∷ []) (λ client. quits b negotiated s n) (at_dialogue negotiated dialogue left m) (map line_of (dialogue_with b negotiated dialogue left)) refl refl p.plays
+  each (next ∷ messages) message dialogue left m e is same =
+      let p = played receives_bytes b lawful negotiated m (some_messages message (next ∷ messages) m e) left dialogue is.proper is.in_order is.ends in
+      let w = onto (dialogue_with b negotiated dialogue left) dialogue in
+      let steps = message_steps negotiated (macros_of negotiated s) next in
       let n : Mta = settled_alone w message (next ∷ messages) m in
-      let macros : message_steps agreed (macros_of agreed m.session) next ≡ steps = ap (λ (z : MailSession). message_steps agreed (macros_of agreed z) next) e in
-      done b agreed s (next ∷ messages) message w m e (record { proper = p.all; in_order = p.order }) same (λ each. p.rules (has_leading_space agreed) each)
-      (lines_from b agreed s messages (opening_of w) steps)
-      (λ client. subst (λ (l : List Command). Finishes b agreed s (at_walk agreed (opening_of w) l n) (lines_from b agreed s messages (opening_of w) steps) (next ∷ messages)) (sym macros)
+      let macros : message_steps negotiated (macros_of negotiated m.session) next ≡ steps = ap (λ (z : MailSession). message_steps negotiated (macros_of negotiated z) next) e in
+      done b negotiated s (next ∷ messages) message w m e (record { proper = p.all; in_order = p.order }) same (λ each. p.rules (has_leading_space negotiated) each)
+      (lines_from b negotiated s messages (opening_of w) steps)
+      (λ client. subst (λ (l : List Command). Finishes b negotiated s (at_dialogue negotiated (opening_of w) l n) (lines_from b negotiated s messages (opening_of w) steps) (next ∷ messages)) (sym macros)
       (each messages next (opening_of w) steps n (ap (λ (z : MailSession). record z { messages = next ∷ messages }) e)
       (record {
-        proper = opening-proper agreed w p.all;
-        in_order = message-ordered agreed s next (commands_of (opening_of w)) (opening-reaches w p.order);
-        ends = message-ends agreed (macros_of agreed s) next;
+        proper = opening-proper negotiated w p.all;
+        in_order = message-ordered negotiated s next (commands_of (opening_of w)) (opening-reaches w p.order);
+        ends = message-ends negotiated (macros_of negotiated s) next;
       })
-      (ap (λ (z : List Exchange). onto (talk b agreed (opening_of z) steps) (opening_of z)) same ∙ walk-next b agreed s message next (ap ends_with_client (sym same) ∙ client))))
-      (at_walk agreed walk left m) (map line_of (talk b agreed walk left)) refl refl p.plays
+      (ap (λ (z : List Exchange). onto (dialogue_with b negotiated (opening_of z) steps) (opening_of z)) same ∙ dialogue-next b negotiated s message next (ap ends_with_client (sym same) ∙ client))))
+      (at_dialogue negotiated dialogue left m) (map line_of (dialogue_with b negotiated dialogue left)) refl refl p.plays

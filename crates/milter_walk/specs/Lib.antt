@@ -1,6 +1,6 @@
 pub mod Lines
 pub mod Order
-pub mod Walks
+pub mod Dialogues
 pub mod Settled
 pub mod PartAnswers
 pub mod Beginnings

@@ -1,7 +1,7 @@
 -- What a mail server's end sends, packet by packet, where each is answered as these lines have it.
 use Rattle.std.specs.Prelude.{◌≡◌, ℕ, List, [], ◌∷◌, length, Option, None}
 use Rattle.std.specs.List.{flat_map}
-use Rattle.milter_wire.specs.declared.agreement.Agreed.{Agreed}
+use Rattle.milter_wire.specs.declared.negotiation.Negotiated.{Negotiated}
 use Rattle.milter_wire.specs.declared.command.Command.TheVariants as commands
 use Rattle.milter_wire.specs.Command as sent_to
 use Rattle.milter_wire.specs.Reply as replied
@@ -10,8 +10,8 @@ use Rattle.milter_exchange.specs.declared.answer.Answer.{Answer}
 use Rattle.milter_exchange.specs.Exchanges.{Exchange}
 use Rattle.milter_exchange.specs.Replies.{options_reply, replies_of_answer}
 use Rattle.milter_mta.specs.Mta.{Mta}
-use Rattle.milter_mta.specs.Receiving.{After, heard}
-use Rattle.milter_mta.specs.Sending.{advanced, pending, sent}
+use Rattle.milter_mta.specs.Replies.{After, received}
+use Rattle.milter_mta.specs.Output.{advanced, pending, sent}
 
 -- ---- lines
 
@@ -26,9 +26,9 @@ answer_bytes answer = flat_map replied.encoding (replies_of_answer answer)
 abbrev pub line_of : Exchange → Line
 line_of exchange = record { out = sent_to.encoding exchange.command; back = answer_bytes exchange.answer }
 
-abbrev pub offer_line : Options → Agreed → Line
-offer_line offer agreed =
-    record { out = sent_to.encoding (commands.Options offer); back = replied.encoding (options_reply agreed) }
+abbrev pub offer_line : Options → Negotiated → Line
+offer_line offer negotiated =
+    record { out = sent_to.encoding (commands.Options offer); back = replied.encoding (options_reply negotiated) }
 
 abbrev pub abort_line : Line
 abort_line = record { out = sent_to.encoding commands.Abort; back = [] }
@@ -48,7 +48,7 @@ sent_whole m = sent (length (next_packet m)) (advanced m)
 
 -- and these bytes came after it
 abbrev pub after_line : List ℕ → Mta → After
-after_line back m = heard (sent_whole m) back
+after_line back m = received (sent_whole m) back
 
 -- it sends the packet of each line, takes what comes after that without a loss, and has come to `new` then
 abbrev pub Plays : Mta → List Line → Mta → Type 0

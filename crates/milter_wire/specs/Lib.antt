@@ -4,5 +4,5 @@ pub mod Stages
 pub mod Reply
 pub mod Frames
 pub mod Verdicts
-pub mod Agreement
-pub mod LentCommand
+pub mod Negotiation
+pub mod BorrowedCommand

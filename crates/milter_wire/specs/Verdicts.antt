@@ -38,7 +38,7 @@ verdict_of replies.Skip = Ok Skip
 verdict_of (replies.Code text) = Ok (Code text)
 verdict_of other = Err other
 
--- A body's pieces alone can be skipped, and before there is a message nothing can be discarded.
+-- A body's chunks alone can be skipped, and before there is a message nothing can be discarded.
 abbrev pub given_at : Verdict → Stage → Bool
 given_at Skip stages.Body = true
 given_at Skip other = false

@@ -9,7 +9,7 @@ pub use milter_options::{
 /// The message is given up. Source: mfdef.h.
 pub const SMFIC_ABORT: u8 = b'A';
 
-/// A piece of the body. Source: mfdef.h.
+/// A chunk of the body. Source: mfdef.h.
 pub const SMFIC_BODY: u8 = b'B';
 
 /// A client has connected. Source: mfdef.h.
@@ -63,7 +63,7 @@ pub const SMFIR_ADDRCPT_PAR: u8 = b'2';
 /// Accept. Source: mfdef.h.
 pub const SMFIR_ACCEPT: u8 = b'a';
 
-/// A piece of another body. Source: mfdef.h.
+/// A chunk of another body. Source: mfdef.h.
 pub const SMFIR_REPLBODY: u8 = b'b';
 
 /// Continue. Source: mfdef.h.

@@ -6,7 +6,7 @@ ghost use Rattle.milter_wire.specs.Stages.{stage_of};
 ghost use Rattle.milter_stream.specs.Packet.{packet};
 ghost use Rattle.milter_wire.specs.Command.{is_code, Fits, IsEncodedAs, encoding, command_in};
 ghost use Rattle.milter_wire.specs.Tables.{Decodes};
-ghost use Rattle.milter_wire.specs.LentCommand.{command_of};
+ghost use Rattle.milter_wire.specs.BorrowedCommand.{command_of};
 
 use crate::command_ref::CommandRef;
 use crate::stage::Stage;
@@ -41,9 +41,9 @@ pub enum Command {
     Header(Header),
     /// `N`: the header has ended.
     Eoh,
-    /// `B`: a piece of the body, of up to 65,535 bytes of any kind.
+    /// `B`: a chunk of the body, of up to 65,535 bytes of any kind.
     Body(Text),
-    /// `E`: the message has ended, perhaps with a last piece of the body.
+    /// `E`: the message has ended, perhaps with a last chunk of the body.
     Eob(Text),
     /// `U`: the client has sent a command that the MTA doesn't know.
     Unknown(Text),
@@ -56,7 +56,7 @@ pub enum Command {
 }
 
 impl Command {
-    /// The same command, lent. No memory is taken.
+    /// The same command, borrowed. Doesn't allocate.
     pub fn as_ref(&self) -> CommandRef<'_>
         ensures { command_of result ≡ self.now }
     {
@@ -83,7 +83,7 @@ impl Command {
     }
 
     /// Whether the command has an encoding: its code and payload have at most 65,536 bytes, and no string in it has a
-    /// NUL. No memory is taken.
+    /// NUL. Doesn't allocate.
     pub fn fits(&self) -> bool
         ensures { IsTrue result ↔ Fits self.now }
     {
@@ -122,7 +122,7 @@ impl Command {
     }
 
     /// The stage that the command is, if it is one: options, macros, unknown commands and what ends a message or a
-    /// connection are none. No memory is taken. Source: the libmilter callback documentation.
+    /// connection are none. Doesn't allocate. Source: the libmilter callback documentation.
     pub fn stage(&self) -> Option<Stage>
         ensures { result ≡ stage_of self.now }
     {
@@ -130,7 +130,7 @@ impl Command {
     }
 }
 
-/// A copy of the command that the packet lends.
+/// A copy of the command that the packet holds.
 fn take_command(alloc: Global, code: u8, payload: &[u8]) -> Result<Command, WireFault>
     ensures { Decodes code (is_code code) (command_in code payload.now) result }
 {

@@ -1,8 +1,8 @@
-//! Commands that are lent: what a packet has, read in place, or what a mail server sends, encoded from where it is.
+//! Commands that are borrowed: what a packet has, read in place, or what a mail server sends, encoded from where it is.
 
 ghost use Rattle.std.specs.Prelude.{◌≡◌, ◌-◌, ◌^◌, ◌∷◌, ◌++◌, ◌↔◌, IfOk, IsTrue, OnErr, OnOk, length, min, if◌then◌else◌, option_map};
 ghost use Rattle.std.specs.List.{flat_map};
-ghost use Rattle.milter_stream.specs.Appending.{PutsBytes};
+ghost use Rattle.milter_stream.specs.AppendedBytes.{PutsBytes};
 ghost use Rattle.milter_stream.specs.declared.fault.WireFault.TheVariants as faults;
 ghost use Rattle.milter_wire.specs.declared.command.Command.TheVariants as commands;
 ghost use Rattle.milter_fields.specs.Layout.{pair};
@@ -10,7 +10,7 @@ ghost use Rattle.milter_wire.specs.Command.{code_of, payload_of, is_code, Fits, 
 ghost use Rattle.milter_fields.specs.Decoding.{macro_in};
 ghost use Rattle.milter_wire.specs.Tables.{map_ok};
 ghost use Rattle.milter_wire.specs.Frames.{frame_command};
-ghost use Rattle.milter_wire.specs.LentCommand.{command_of};
+ghost use Rattle.milter_wire.specs.BorrowedCommand.{command_of};
 ghost use Rattle.milter_wire.specs.Stages.{stage_of};
 
 use crate::codes::{
@@ -28,8 +28,8 @@ use milter_options::{OPTIONS_LEN, Options, options_fit, put_options, take_option
 use milter_stream::{NoMemory, PAYLOAD_MAX, WireFault, put_head};
 use std::alloc::Global;
 
-/// A command that is lent: by a packet, by a [`Command`], or by the parts of a session. Each variant is that of
-/// [`Command`] of the same name. Source: mfdef.h (the codes SMFIC_), and the layouts that libmilter reads.
+/// A command that is borrowed: from a packet, from a [`Command`], or from the parts of a session. Each variant is that
+/// of [`Command`] of the same name. Source: mfdef.h (the codes SMFIC_), and the layouts that libmilter reads.
 #[derive(Debug, Drop)]
 pub enum CommandRef<'a> {
     /// `O`: the versions, actions and protocol steps that the MTA offers.
@@ -55,9 +55,9 @@ pub enum CommandRef<'a> {
     Header(HeaderRef<'a>),
     /// `N`: the header has ended.
     Eoh,
-    /// `B`: a piece of the body, of up to 65,535 bytes of any kind.
+    /// `B`: a chunk of the body, of up to 65,535 bytes of any kind.
     Body(&'a [u8]),
-    /// `E`: the message has ended, perhaps with a last piece of the body.
+    /// `E`: the message has ended, perhaps with a last chunk of the body.
     Eob(&'a [u8]),
     /// `U`: the client has sent a command that the MTA doesn't know.
     Unknown(&'a [u8]),
@@ -70,9 +70,9 @@ pub enum CommandRef<'a> {
 }
 
 impl<'a> CommandRef<'a> {
-    /// The command that a packet's code and payload encode, lent by the payload. The fault is `UnknownCode(code)` where
-    /// no command has the code, and `Malformed(code)` where one has it and the payload isn't in its layout. No memory
-    /// is taken. Source: mfdef.h, and the layouts that libmilter reads.
+    /// The command that a packet's code and payload encode, borrowed from the payload. The fault is `UnknownCode(code)`
+    /// where no command has the code, and `Malformed(code)` where one has it and the payload isn't in its layout.
+    /// Doesn't allocate. Source: mfdef.h, and the layouts that libmilter reads.
     pub fn decode(code: u8, payload: &'a [u8]) -> Result<CommandRef<'a>, WireFault>
         ensures { map_ok command_of result ≡ frame_command (record { code = code; payload = payload.now }) }
     {
@@ -133,7 +133,7 @@ impl<'a> CommandRef<'a> {
         })
     }
 
-    /// Whether the command has an encoding, as [`Command::fits`]. No memory is taken.
+    /// Whether the command has an encoding, as [`Command::fits`]. Doesn't allocate.
     pub fn fits(&self) -> bool
         ensures { IsTrue result ↔ Fits (command_of self.now) }
     {
@@ -155,7 +155,7 @@ impl<'a> CommandRef<'a> {
         written
     }
 
-    /// The stage that the command is, as [`Command::stage`]. No memory is taken.
+    /// The stage that the command is, as [`Command::stage`]. Doesn't allocate.
     pub fn stage(&self) -> Option<Stage>
         ensures { result ≡ stage_of (command_of self.now) }
     {

@@ -6,17 +6,16 @@
 //! here reads, writes or waits.
 #![tactic(auto)]
 
-mod agreement;
 pub mod codes;
 mod command;
 mod command_ref;
 mod laws;
 mod lengths;
+mod negotiation;
 mod reply;
 mod stage;
 mod verdict;
 
-pub use agreement::{Agreed, agree};
 pub use command::Command;
 pub use command_ref::CommandRef;
 pub use laws::{
@@ -35,6 +34,7 @@ pub use milter_options::{Actions, MacroStage, Options, Protocol, SymList, SymLis
 pub use milter_stream::{
     CodeName, HEAD_LEN, NoMemory, PAYLOAD_MAX, Packet, Splitter, WireFault, hex_digit,
 };
+pub use negotiation::{Negotiated, negotiate};
 pub use reply::Reply;
 pub use stage::Stage;
 pub use verdict::Verdict;

@@ -2,7 +2,7 @@
 
 ghost use Rattle.std.specs.Prelude.{◌≡◌, ◌≤◌, ◌-◌, ◌^◌, ◌++◌, ◌↔◌, length, min, IsTrue, OnOk, OnErr, IfOk, IsErrOf, MatchResult};
 ghost use Rattle.milter_wire.specs.declared.reply.Reply.{Reply};
-ghost use Rattle.milter_stream.specs.Appending.{PutsBytes};
+ghost use Rattle.milter_stream.specs.AppendedBytes.{PutsBytes};
 ghost use Rattle.milter_stream.specs.Packet.{packet};
 ghost use Rattle.milter_wire.specs.Reply.{code_of, payload_of, is_code, Fits, FieldsFit, IsEncodedAs, encoding, reply_in};
 ghost use Rattle.milter_wire.specs.Tables.{Decodes};
@@ -48,7 +48,7 @@ pub enum Reply {
     },
     /// `a`: the message is taken as it is, and the filter isn't asked about it again.
     Accept,
-    /// `b`: a piece of the body that replaces the message's own, of up to 65,535 bytes of any kind.
+    /// `b`: a chunk of the body that replaces the message's own, of up to 65,535 bytes of any kind.
     ReplaceBody(Text),
     /// `c`: the MTA goes on.
     Continue,
@@ -83,7 +83,7 @@ pub enum Reply {
     Quarantine(Text),
     /// `r`: what was asked about is refused for good.
     Reject,
-    /// `s`: the MTA sends no further piece of this body.
+    /// `s`: the MTA sends no further chunk of this body.
     Skip,
     /// `t`: what was asked about is refused for now.
     Tempfail,
@@ -93,7 +93,7 @@ pub enum Reply {
 
 impl Reply {
     /// Whether the reply has an encoding: its code and payload have at most 65,536 bytes, no string in it has a NUL,
-    /// and a reply code begins with `4` or `5` and two digits. No memory is taken.
+    /// and a reply code begins with `4` or `5` and two digits. Doesn't allocate.
     pub fn fits(&self) -> bool
         ensures { IsTrue result ↔ Fits self.now }
     {

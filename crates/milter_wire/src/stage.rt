@@ -26,7 +26,7 @@ pub enum Stage {
     Header,
     /// The header has ended.
     Eoh,
-    /// A piece of the body.
+    /// A chunk of the body.
     Body,
     /// The message has ended.
     Eob,
@@ -102,7 +102,7 @@ impl Stage {
         Stage::Eob,
     ];
 
-    /// The word of the stage in text files. No memory is taken.
+    /// The word of the stage in text files. Doesn't allocate.
     pub fn name(self) -> &'static [u8]
         ensures { result.now ≡ name_of self }
     {
@@ -119,7 +119,7 @@ impl Stage {
         }
     }
 
-    /// The stage with this name, matched exactly; none where no stage has it. No memory is taken.
+    /// The stage with this name, matched exactly; none where no stage has it. Doesn't allocate.
     pub fn from_name(name: &[u8]) -> Option<Stage>
         ensures { result ≡ stage_named name.now }
     {
@@ -130,7 +130,7 @@ impl Stage {
     }
 
     /// The command byte of the macro packet that precedes the stage: the code of the stage's own command. A header
-    /// field and a piece of the body have none. Source: mfapi.h (SMFIM_CONNECT and those after it).
+    /// field and a chunk of the body have none. Source: mfapi.h (SMFIM_CONNECT and those after it).
     pub fn macro_command(self) -> Option<u8>
         ensures { result ≡ macro_command_of self }
     {

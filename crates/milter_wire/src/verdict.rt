@@ -23,14 +23,14 @@ pub enum Verdict {
     Tempfail,
     /// The message is taken and thrown away.
     Discard,
-    /// The MTA sends no further piece of this body.
+    /// The MTA sends no further chunk of this body.
     Skip,
     /// What was asked about is refused with this text, which has the form of [`Reply::Code`].
     Code(Text),
 }
 
 impl Verdict {
-    /// The word of the verdict in text files, without the text of a code. No memory is taken.
+    /// The word of the verdict in text files, without the text of a code. Doesn't allocate.
     pub fn name(&self) -> &'static [u8]
         ensures { result.now ≡ verdict_name self.now }
     {
@@ -45,8 +45,8 @@ impl Verdict {
         }
     }
 
-    /// Whether the verdict is an answer to the stage: only a piece of the body can be skipped, and nothing can be
-    /// thrown away before there is a message. No memory is taken. Source: the libmilter callback documentation (return
+    /// Whether the verdict is an answer to the stage: only a chunk of the body can be skipped, and nothing can be
+    /// thrown away before there is a message. Doesn't allocate. Source: the libmilter callback documentation (return
     /// values).
     pub fn is_given_at(&self, stage: Stage) -> bool
         ensures { result ≡ given_at self.now stage }
@@ -58,7 +58,7 @@ impl Verdict {
         }
     }
 
-    /// The reply that carries the verdict. No memory is taken. Source: mfdef.h.
+    /// The reply that carries the verdict. Doesn't allocate. Source: mfdef.h.
     pub fn into_reply(self) -> Reply
         ensures { result ≡ reply_of self }
     {
@@ -74,7 +74,7 @@ impl Verdict {
     }
 
     /// The verdict that a reply carries. A reply that carries none comes back: options, an edit of the message, or
-    /// progress. No memory is taken. Source: mfdef.h.
+    /// progress. Doesn't allocate. Source: mfdef.h.
     pub fn from_reply(reply: Reply) -> Result<Verdict, Reply>
         ensures { result ≡ verdict_of reply }
     {

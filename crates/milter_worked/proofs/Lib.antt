@@ -1,1 +1,1 @@
-mod Pieces
+mod Chunks

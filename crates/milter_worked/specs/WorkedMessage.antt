@@ -4,7 +4,7 @@ use Rattle.milter_fields.specs.declared.client.Client.{Client}
 use Rattle.milter_fields.specs.declared.client.Origin.TheVariants.{Unknown}
 use Rattle.milter_fields.specs.declared.header.Header.{Header}
 use Rattle.milter_options.specs.declared.options.Options.{Options}
-use Rattle.milter_wire.specs.declared.agreement.Agreed.{Agreed}
+use Rattle.milter_wire.specs.declared.negotiation.Negotiated.{Negotiated}
 use Rattle.milter_fields.specs.declared.pair.Pair.{Pair}
 use Rattle.milter_fields.specs.declared.path.Path.{Path}
 use Rattle.milter_mail.specs.declared.macros.Macros.{Macros}
@@ -40,9 +40,9 @@ one_macro = macros_with (record { name = codes "j"; value = codes "mx" } ∷ [])
 abbrev pub options : ℕ → ℕ → Options
 options version protocol = record { version = version; actions = record { 0 = 0 }; protocol = record { 0 = protocol } }
 
--- the same, agreed on without symbol lists
-abbrev pub agreed : ℕ → ℕ → Agreed
-agreed version protocol = record { options = options version protocol; lists = [] }
+-- the same, negotiated without symbol lists
+abbrev pub negotiated : ℕ → ℕ → Negotiated
+negotiated version protocol = record { options = options version protocol; lists = [] }
 
 -- a keyword, a blank, a text between quotes that holds nothing but itself, and LF
 abbrev pub line : List ℕ → List ℕ → List ℕ

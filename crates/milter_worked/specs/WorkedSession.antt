@@ -1,6 +1,6 @@
 -- A session with macros of each stage, symbol lists of three stages, and a message of any body: what is sent of it.
 use Rattle.std.specs.Prelude.{ℕ, List, [], ◌∷◌, ◌++◌, codes, drop, take}
-use Rattle.milter_wire.specs.declared.agreement.Agreed.{Agreed}
+use Rattle.milter_wire.specs.declared.negotiation.Negotiated.{Negotiated}
 use Rattle.milter_wire.specs.declared.command.Command.{Command}
 use Rattle.milter_wire.specs.declared.command.Command.TheVariants as commands
 use Rattle.milter_fields.specs.declared.pair.Pair.{Pair}
@@ -29,9 +29,9 @@ macros =
 abbrev pub lists : List SymList
 lists = list 0 (codes "j k") ∷ list 3 (codes "z") ∷ list 6 [] ∷ []
 
--- agreed on with these lists and protocol bits
-abbrev pub agreed_with_lists : ℕ → Agreed
-agreed_with_lists protocol = record { options = options 6 protocol; lists = lists }
+-- negotiated with these lists and protocol bits
+abbrev pub negotiated_with_lists : ℕ → Negotiated
+negotiated_with_lists protocol = record { options = options 6 protocol; lists = lists }
 
 -- two recipients, and two header fields of which one begins with a blank
 abbrev pub message_of : List ℕ → MailObject
@@ -76,7 +76,7 @@ commands_before =
 abbrev pub commands_after : List Command
 commands_after = commands.Macro 69 (one (codes "e")) ∷ commands.Eob [] ∷ []
 
--- the whole plan where the body has 65,536 bytes: the last of them is a piece of its own
+-- the whole plan where the body has 65,536 bytes: the last of them is a chunk of its own
 abbrev pub planned_commands : List ℕ → List Command
 planned_commands body =
     commands_before

@@ -3,20 +3,20 @@
 ghost use Rattle.std.specs.Prelude.{◌≡◌, [], ◌∷◌, ◌++◌, codes, false, drop, length, List, ℕ, None, Some, take, true};
 ghost use Rattle.milter_wire.specs.declared.command.Command.TheVariants as commands;
 ghost use Rattle.milter_message.specs.declared.edit.Edit.TheVariants.{AddHeader, AddRcpt, AddRcptPar, ChangeFrom, ChangeHeader, DelRcpt, Quarantine, ReplaceBody};
-ghost use Rattle.milter_options.specs.Agreement.{common};
+ghost use Rattle.milter_options.specs.Negotiation.{common};
 ghost use Rattle.milter_options.specs.Bits.{actions_table, bits_named, protocol_table};
 ghost use Rattle.milter_message.specs.EditedMessage.{edited_message, headers_after, recipients_after};
 ghost use Rattle.milter_mail.specs.HeldText.{held_text};
-ghost use Rattle.milter_message.specs.Pieces.{pieces_of};
+ghost use Rattle.milter_message.specs.Chunks.{chunks_of};
 ghost use Rattle.milter_message.specs.LeadingSpace.{sent_header};
 ghost use Rattle.milter_mail.specs.Steps.{message_steps, opening_steps};
-ghost use Rattle.milter_wire.specs.Agreement.{agree, is_asked};
+ghost use Rattle.milter_wire.specs.Negotiation.{negotiate, is_asked};
 ghost use Rattle.milter_wire.specs.Command.{encoding};
 ghost use Rattle.milter_mail.specs.Weight.{weight};
 ghost use Rattle.milter_worked.specs.WorkedEdits.{edits_of_fields, new_fields, new_fields_with_blanks, old_fields};
-ghost use Rattle.milter_worked.specs.WorkedMessage.{agreed, at, client, field, helo, line, message, no_macros, one_macro, options};
+ghost use Rattle.milter_worked.specs.WorkedMessage.{negotiated, at, client, field, helo, line, message, no_macros, one_macro, options};
 ghost use Rattle.milter_worked.specs.WorkedMacros.{blank_field, blank_field_packet, both_packets, client_packet, field_packet, list, listed_packets, message_with, one_packets, opened, other_j, tab_field, tab_field_packet, two_pairs};
-ghost use Rattle.milter_worked.specs.WorkedSession.{agreed_with_lists, message_of, opening_commands, planned_commands, session_of};
+ghost use Rattle.milter_worked.specs.WorkedSession.{negotiated_with_lists, message_of, opening_commands, planned_commands, session_of};
 ghost use Rattle.milter_mail.specs.Plan.{opening, plan};
 ghost use Rattle.milter_worked.specs.WorkedPlan.{all_macros, body, eob, full_message, header, mail, one, rcpt, short_message};
 
@@ -66,35 +66,35 @@ pub fn edited_messages()
 /// The commands of one small session, and their weight.
 #[tactic(auto, unfolding(milter_stream::specs::Number::number))]
 pub fn planned_sessions()
-    ensures opened { opening_steps (agreed 6 0) no_macros client helo
+    ensures opened { opening_steps (negotiated 6 0) no_macros client helo
         ≡ commands.Connect client ∷ commands.Helo helo ∷ [] }
-    ensures whole { message_steps (agreed 6 0) no_macros message
+    ensures whole { message_steps (negotiated 6 0) no_macros message
         ≡ commands.Mail (at (codes "a@x")) ∷ commands.Rcpt (at (codes "b@y")) ∷ commands.DataCmd ∷ commands.Eoh
         ∷ commands.Eob [] ∷ [] }
     // Before version 4 there was no DATA.
-    ensures version { message_steps (agreed 3 0) no_macros message
+    ensures version { message_steps (negotiated 3 0) no_macros message
         ≡ commands.Mail (at (codes "a@x")) ∷ commands.Rcpt (at (codes "b@y")) ∷ commands.Eoh ∷ commands.Eob [] ∷ [] }
     // A stage that isn't sent has no macros either.
-    ensures left_out { opening_steps (agreed 6 1) one_macro client helo ≡ commands.Helo helo ∷ [] }
-    ensures macros { opening_steps (agreed 6 2) one_macro client helo
+    ensures left_out { opening_steps (negotiated 6 1) one_macro client helo ≡ commands.Helo helo ∷ [] }
+    ensures macros { opening_steps (negotiated 6 2) one_macro client helo
         ≡ commands.Macro 67 (one_macro.connect) ∷ commands.Connect client ∷ [] }
     ensures weight { weight client helo no_macros message ≡ 59 }
     ensures weight_of_macros { weight client helo one_macro message ≡ 70 }
-    ensures pieces { (body : List ℕ) → length body ≡ 131071 → length (pieces_of body) ≡ 3 }
-    ensures two_pieces { (body : List ℕ) → length body ≡ 65536 → length (pieces_of body) ≡ 2 }
-    ensures two_pieces_are { (body : List ℕ) → length body ≡ 65536 →
-        pieces_of body ≡ take 65535 body ∷ take 65535 (drop 65535 body) ∷ [] }
-    ensures one_piece { (body : List ℕ) → length body ≡ 65535 → length (pieces_of body) ≡ 1 }
-    ensures no_pieces { pieces_of [] ≡ [] }
+    ensures chunks { (body : List ℕ) → length body ≡ 131071 → length (chunks_of body) ≡ 3 }
+    ensures two_chunks { (body : List ℕ) → length body ≡ 65536 → length (chunks_of body) ≡ 2 }
+    ensures two_chunks_are { (body : List ℕ) → length body ≡ 65536 →
+        chunks_of body ≡ take 65535 body ∷ take 65535 (drop 65535 body) ∷ [] }
+    ensures one_chunk { (body : List ℕ) → length body ≡ 65535 → length (chunks_of body) ≡ 1 }
+    ensures no_chunks { chunks_of [] ≡ [] }
 {}
 
 /// The commands with the macros of each stage, and of a message with each part.
 pub fn planned_macros()
-    ensures opened { opening_steps (agreed 6 0) all_macros client helo
+    ensures opened { opening_steps (negotiated 6 0) all_macros client helo
         ≡ commands.Macro 67 (one (codes "c")) ∷ commands.Connect client ∷ commands.Macro 72 (one (codes "h"))
         ∷ commands.Helo helo ∷ [] }
     // The macros of recipients come before each of them, and those of header fields and of the body are none.
-    ensures whole { message_steps (agreed 6 0) all_macros full_message
+    ensures whole { message_steps (negotiated 6 0) all_macros full_message
         ≡ commands.Macro 77 (one (codes "m")) ∷ mail ∷ commands.Macro 82 (one (codes "r")) ∷ rcpt
         ∷ commands.Macro 82 (one (codes "r")) ∷ commands.Rcpt (at (codes "c@z"))
         ∷ commands.Macro 84 (one (codes "t")) ∷ commands.DataCmd
@@ -104,58 +104,59 @@ pub fn planned_macros()
 
 /// The commands of a message with each NO bit: the stage of the bit is left out.
 pub fn planned_stages()
-    ensures none { message_steps (agreed 6 0) no_macros short_message ≡ mail ∷ rcpt ∷ commands.DataCmd ∷ header
+    ensures none { message_steps (negotiated 6 0) no_macros short_message ≡ mail ∷ rcpt ∷ commands.DataCmd ∷ header
         ∷ commands.Eoh ∷ body ∷ eob ∷ [] }
-    ensures mail { message_steps (agreed 6 4) no_macros short_message ≡ rcpt ∷ commands.DataCmd ∷ header
+    ensures mail { message_steps (negotiated 6 4) no_macros short_message ≡ rcpt ∷ commands.DataCmd ∷ header
         ∷ commands.Eoh ∷ body ∷ eob ∷ [] }
-    ensures rcpt { message_steps (agreed 6 8) no_macros short_message ≡ mail ∷ commands.DataCmd ∷ header
+    ensures rcpt { message_steps (negotiated 6 8) no_macros short_message ≡ mail ∷ commands.DataCmd ∷ header
         ∷ commands.Eoh ∷ body ∷ eob ∷ [] }
-    ensures data { message_steps (agreed 6 512) no_macros short_message ≡ mail ∷ rcpt ∷ header ∷ commands.Eoh ∷ body
+    ensures data { message_steps (negotiated 6 512) no_macros short_message ≡ mail ∷ rcpt ∷ header ∷ commands.Eoh ∷ body
         ∷ eob ∷ [] }
-    ensures header { message_steps (agreed 6 32) no_macros short_message ≡ mail ∷ rcpt ∷ commands.DataCmd
+    ensures header { message_steps (negotiated 6 32) no_macros short_message ≡ mail ∷ rcpt ∷ commands.DataCmd
         ∷ commands.Eoh ∷ body ∷ eob ∷ [] }
-    ensures eoh { message_steps (agreed 6 64) no_macros short_message ≡ mail ∷ rcpt ∷ commands.DataCmd ∷ header
+    ensures eoh { message_steps (negotiated 6 64) no_macros short_message ≡ mail ∷ rcpt ∷ commands.DataCmd ∷ header
         ∷ body ∷ eob ∷ [] }
-    ensures body { message_steps (agreed 6 16) no_macros short_message ≡ mail ∷ rcpt ∷ commands.DataCmd ∷ header
+    ensures body { message_steps (negotiated 6 16) no_macros short_message ≡ mail ∷ rcpt ∷ commands.DataCmd ∷ header
         ∷ commands.Eoh ∷ eob ∷ [] }
     // The end of a message is always sent, and NOUNKNOWN, SKIP and the NR bits leave nothing out.
-    ensures all { message_steps (agreed 6 636) all_macros short_message ≡ commands.Macro 69 (one (codes "e")) ∷ eob
+    ensures all { message_steps (negotiated 6 636) all_macros short_message ≡ commands.Macro 69 (one (codes "e")) ∷ eob
         ∷ [] }
-    ensures others { message_steps (agreed 6 1045888) no_macros short_message ≡ mail ∷ rcpt ∷ commands.DataCmd
+    ensures others { message_steps (negotiated 6 1045888) no_macros short_message ≡ mail ∷ rcpt ∷ commands.DataCmd
         ∷ header ∷ commands.Eoh ∷ body ∷ eob ∷ [] }
 {}
 
 /// Which commands are asked about, with each NR bit.
 pub fn asked_commands()
-    ensures connect { is_asked (agreed 6 0) (commands.Connect client) ≡ true }
-    ensures not_connect { is_asked (agreed 6 4096) (commands.Connect client) ≡ false }
-    ensures not_helo { is_asked (agreed 6 8192) (commands.Helo helo) ≡ false }
-    ensures not_mail { is_asked (agreed 6 16384) mail ≡ false }
-    ensures not_rcpt { is_asked (agreed 6 32768) rcpt ≡ false }
-    ensures not_data { is_asked (agreed 6 65536) commands.DataCmd ≡ false }
-    ensures not_header { is_asked (agreed 6 128) header ≡ false }
-    ensures not_eoh { is_asked (agreed 6 262144) commands.Eoh ≡ false }
-    ensures not_body { is_asked (agreed 6 524288) body ≡ false }
+    ensures connect { is_asked (negotiated 6 0) (commands.Connect client) ≡ true }
+    ensures not_connect { is_asked (negotiated 6 4096) (commands.Connect client) ≡ false }
+    ensures not_helo { is_asked (negotiated 6 8192) (commands.Helo helo) ≡ false }
+    ensures not_mail { is_asked (negotiated 6 16384) mail ≡ false }
+    ensures not_rcpt { is_asked (negotiated 6 32768) rcpt ≡ false }
+    ensures not_data { is_asked (negotiated 6 65536) commands.DataCmd ≡ false }
+    ensures not_header { is_asked (negotiated 6 128) header ≡ false }
+    ensures not_eoh { is_asked (negotiated 6 262144) commands.Eoh ≡ false }
+    ensures not_body { is_asked (negotiated 6 524288) body ≡ false }
     // Another bit leaves it asked, the end of a message always is, and macros and what is no stage never are.
-    ensures other { is_asked (agreed 6 1032191) mail ≡ true }
-    ensures eob { is_asked (agreed 6 1048575) eob ≡ true }
-    ensures macros { is_asked (agreed 6 0) (commands.Macro 67 (one (codes "c"))) ≡ false }
-    ensures quit { is_asked (agreed 6 0) commands.Quit ≡ false }
+    ensures other { is_asked (negotiated 6 1032191) mail ≡ true }
+    ensures eob { is_asked (negotiated 6 1048575) eob ≡ true }
+    ensures macros { is_asked (negotiated 6 0) (commands.Macro 67 (one (codes "c"))) ≡ false }
+    ensures quit { is_asked (negotiated 6 0) commands.Quit ≡ false }
 {}
 
 /// What is sent of a session with macros, symbol lists and a body of 65,536 bytes, and before its first message.
-pub fn planned_conversations()
-    ensures opening { opening (agreed_with_lists 0) (session_of (codes "hi")) ≡ opening_commands }
+pub fn planned_connections()
+    ensures opening { opening (negotiated_with_lists 0) (session_of (codes "hi")) ≡ opening_commands }
     ensures plan { (body : List ℕ) → length body ≡ 65536 →
-        plan (agreed_with_lists 0) (session_of body) (message_of body) ≡ planned_commands body }
+        plan (negotiated_with_lists 0) (session_of body) (message_of body) ≡ planned_commands body }
 {}
 
-/// What two ends agree on.
-pub fn agreed_options()
+/// What two ends negotiate.
+pub fn negotiated_options()
     ensures smaller { common (options 6 1047) (options 2 3) ≡ options 2 3 }
     ensures bits { common (options 3 5) (options 6 6) ≡ options 3 4 }
     // Without an offer to take symbol lists there are none.
-    ensures no_lists { agree (options 6 0) (options 6 0) (record { stage = 0; names = codes "j" } ∷ []) ≡ agreed 6 0 }
+    ensures no_lists { negotiate (options 6 0) (options 6 0) (record { stage = 0; names = codes "j" } ∷ [])
+        ≡ negotiated 6 0 }
 {}
 
 /// The sets of bits that texts name: names with bars between, in any order and repeated or not, or the word `none`.
@@ -209,9 +210,9 @@ pub fn sent_headers()
     ensures one_alone { sent_header false (field (codes "A") (codes "  x")) ≡ field (codes "A") (codes " x") }
     ensures tab { sent_header false (field (codes "A") (9 ∷ codes "hi")) ≡ field (codes "A") (9 ∷ codes "hi") }
     // In a message that is sent but for the other stages.
-    ensures planned { message_steps (agreed 6 604) no_macros (message_with blank_field)
+    ensures planned { message_steps (negotiated 6 604) no_macros (message_with blank_field)
         ≡ commands.Header (field (codes "Subject") (codes "hi")) ∷ commands.Eob [] ∷ [] }
-    ensures planned_with_blank { message_steps (agreed 6 1049180) no_macros (message_with blank_field)
+    ensures planned_with_blank { message_steps (negotiated 6 1049180) no_macros (message_with blank_field)
         ≡ commands.Header blank_field ∷ commands.Eob [] ∷ [] }
 {}
 

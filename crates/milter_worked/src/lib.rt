@@ -4,7 +4,7 @@
 mod definitions;
 
 pub use definitions::{
-    agreed_options, asked_commands, edited_fields, edited_messages, largest_messages,
-    message_texts, named_bits, planned_conversations, planned_macros, planned_sessions,
-    planned_stages, sent_headers, symbol_lists,
+    asked_commands, edited_fields, edited_messages, largest_messages, message_texts, named_bits,
+    negotiated_options, planned_connections, planned_macros, planned_sessions, planned_stages,
+    sent_headers, symbol_lists,
 };

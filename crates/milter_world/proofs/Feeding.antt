@@ -21,7 +21,7 @@ module _ {P : Type 0} (b : Behavior) (core new : Core P) (piece : List ℕ) (can
   -- what feed says
   pub fails-not : (result : Result ℕ FilterFault) (fault : FilterFault) → result ≡ Err fault → fault ≢ faults.NoMemory
       → (core.pending ≢ [] → result ≡ Ok 0)
-      → (core.pending ≡ [] → fault ≢ faults.NoMemory → GivesUp b core.standing (received_in (core.unread ++ piece)) fault) → ⊥
+      → (core.pending ≡ [] → fault ≢ faults.NoMemory → GivesUp b core.order_state (received_in (core.unread ++ piece)) fault) → ⊥
   fails-not result fault is other waits cause = by_pending core.pending refl
     where
       by_pending : (l : List ℕ) → core.pending ≡ l → ⊥

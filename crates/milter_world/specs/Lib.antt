@@ -1,3 +1,3 @@
 pub mod Reached
 pub mod Outcomes
-pub mod Playing
+pub mod PlayedSessions

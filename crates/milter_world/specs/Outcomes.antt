@@ -4,13 +4,13 @@ use Rattle.std.specs.List.{AllZip}
 use Rattle.milter_wire.specs.declared.verdict.Verdict.{Verdict}
 use Rattle.milter_message.specs.MailObject.{MailObject}
 use Rattle.milter_outcome.specs.declared.report.Report.{Report}
-use Rattle.milter_mta.specs.Accounts.{Settlement}
+use Rattle.milter_mta.specs.Accounts.{Disposition}
 use Rattle.milter_walk.specs.AnyFilter.{HaveLastVerdict, client_reports}
 use Rattle.milter_schedule.specs.Schedule.{Scenario}
-use Rattle.milter_schedule.specs.TalkReports.{WasGiven}
+use Rattle.milter_schedule.specs.DialogueReports.{WasGiven}
 
 -- a verdict on the connection is there exactly where it settled messages, and is the last verdict of their reports
-pub record ConnectionIsGiven (s : Settlement) : Type 0 where
+pub record ConnectionIsGiven (s : Disposition) : Type 0 where
   pub none : s.connection ≡ None → client_reports s.messages ≡ []
   pub some : (verdict : Verdict) → s.connection ≡ Some verdict →
       (client_reports s.messages ≢ []) × HaveLastVerdict verdict (client_reports s.messages)

@@ -40,4 +40,4 @@ pub record CanTake {P : Type 0} (b : Behavior) (core : Core P) (piece : List ℕ
   pub waits : core.pending ≢ [] → length piece ≡ 0
   pub all : (n : ℕ) (new : Core P) → core.pending ≡ [] → Takes b core piece n new → n ≡ length piece
   pub sound : (fault : FilterFault) → core.pending ≡ [] →
-      ¬ GivesUp b core.standing (received_in (core.unread ++ piece)) fault
+      ¬ GivesUp b core.order_state (received_in (core.unread ++ piece)) fault

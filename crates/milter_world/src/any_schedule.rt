@@ -2,7 +2,7 @@
 
 ghost use Rattle.std.specs.Prelude.{◌≡◌, ◌≤◌, ◌+◌, All, IfOk, length, min, true};
 ghost use Rattle.milter_schedule.specs.Schedule.{run_reports};
-ghost use Rattle.milter_schedule.specs.TalkReports.{AreAgreedOn, AreReported, agreed_of, by_reset, by_timeout, count_events, count_reports, is_known, is_lose, is_timeout, walk_about};
+ghost use Rattle.milter_schedule.specs.DialogueReports.{AreNegotiated, AreReported, negotiated_of, by_reset, by_timeout, count_events, count_reports, is_known, is_lose, is_timeout, dialogue_about};
 ghost use Rattle.milter_world.specs.Outcomes.{ConnectionIsGiven, WereGiven};
 ghost use Rattle.milter_world.specs.Reached.{scenario_of};
 
@@ -11,7 +11,7 @@ use milter_filter::Policy;
 use milter_mail::Session;
 use milter_mta::{Config, Reports};
 use milter_schedule::{
-    Event, defaults_are_counted, losses_settle_messages, schedules_report_talks,
+    Event, defaults_are_counted, losses_settle_messages, schedules_report_dialogues,
     verdicts_were_given,
 };
 use milter_wire::NoMemory;
@@ -22,7 +22,7 @@ use std::alloc::Global;
 ///
 /// Whatever the events, the outcome of each of these messages is what asking the policy directly, stage by stage, and
 /// applying its permitted edits in order to the original gives; or, at most once for each loss or timeout, the
-/// configured default after a beginning of that same talk. After `NoMemory` nothing is left of the session.
+/// configured default after a beginning of that same dialogue. After `NoMemory` nothing is left of the session.
 pub fn run<P: Policy>(
     alloc: Global,
     config: Config,
@@ -33,8 +33,8 @@ pub fn run<P: Policy>(
     // The reports are exactly those of the schedule that the events make.
     ensures reports { IfOk result (λ s.
         s.messages ≡ run_reports (scenario_of (P.behavior policy.now) config session) events.now) }
-    // The first messages are reported, in order, each as its own talk rules, or by default after a beginning of it.
-    ensures talks { IfOk result (λ s.
+    // The first messages are reported, in order, each as its own dialogue rules, or by default after a beginning of it.
+    ensures dialogues { IfOk result (λ s.
         AreReported (scenario_of (P.behavior policy.now) config session) session.messages s.messages) }
     // At most one report is by default for each loss,
     ensures resets { IfOk result (λ s. count_reports by_reset s.messages ≤ count_events is_lose events.now) }
@@ -49,16 +49,16 @@ pub fn run<P: Policy>(
     // Each verdict that was acted on was given by the filter at this step of this message,
     ensures given { IfOk result (λ s.
         WereGiven (scenario_of (P.behavior policy.now) config session) session.messages s.messages) }
-    // and each edit of a talk was agreed on.
+    // and each edit of a dialogue was negotiated.
     ensures edits { All (λ message. All
-        (AreAgreedOn (agreed_of (scenario_of (P.behavior policy.now) config session)))
-        (walk_about (scenario_of (P.behavior policy.now) config session) message)) session.messages }
+        (AreNegotiated (negotiated_of (scenario_of (P.behavior policy.now) config session)))
+        (dialogue_about (scenario_of (P.behavior policy.now) config session) message)) session.messages }
     // The verdict on the connection is there exactly where it settled messages.
     ensures connection { IfOk result ConnectionIsGiven }
 {
     defaults_are_counted();
     losses_settle_messages();
-    schedules_report_talks();
+    schedules_report_dialogues();
     verdicts_were_given();
     let mut world = World::new(alloc, config, session, policy)?;
     for event in events {

@@ -3,8 +3,8 @@
 ghost use Rattle.std.specs.Prelude.{◌≡◌, ◌≢◌, ◌++◌, [], IfOk, None, OnOk, drop, length, take, if◌then◌else◌};
 ghost use Rattle.milter_exchange.specs.declared.filter_state.FilterState.TheVariants.{Serving};
 ghost use Rattle.milter_filter.specs.Cores.{Takes};
-ghost use Rattle.milter_mta.specs.Receiving.{heard};
-ghost use Rattle.milter_mta.specs.Sending.{advanced, pending};
+ghost use Rattle.milter_mta.specs.Replies.{received};
+ghost use Rattle.milter_mta.specs.Output.{advanced, pending};
 ghost use Rattle.milter_ends.specs.Ends.{mta_sent, sent_count};
 ghost use Rattle.milter_world.specs.Reached.{CanTake};
 
@@ -41,7 +41,7 @@ pub(crate) fn feed_filter<P: Policy>(
     pipe: &mut Pipe,
     count: usize,
 ) -> Result<usize, NoMemory>
-    requires serves { filter.old.standing.state ≡ Serving }
+    requires serves { filter.old.order_state.state ≡ Serving }
     requires takes { CanTake (P.behavior filter.old.policy) filter.old (take count pipe.old) }
     ensures count { IfOk result (λ n. n ≡ length (take count pipe.old)) }
     ensures pipe { OnOk result (pipe.new ≡ drop count pipe.old) }
@@ -80,9 +80,9 @@ pub(crate) fn take_replies<P: Policy>(
 
 /// Hands at most `count` bytes to the mail server's end, and answers how many.
 pub(crate) fn feed_mta(mta: &mut MtaCore, pipe: &mut Pipe, count: usize) -> Result<usize, NoMemory>
-    requires { (heard mta.old (take count pipe.old)).loss ≡ None }
+    requires { (received mta.old (take count pipe.old)).loss ≡ None }
     ensures count { IfOk result (λ n. n ≡ length (take count pipe.old)) }
-    ensures mta { OnOk result (mta.new ≡ (heard mta.old (take count pipe.old)).mta) }
+    ensures mta { OnOk result (mta.new ≡ (received mta.old (take count pipe.old)).mta) }
     ensures pipe { OnOk result (pipe.new ≡ drop count pipe.old) }
 {
     let count = count.min(pipe.bytes().len());

@@ -4,7 +4,7 @@ ghost use Rattle.std.specs.Prelude.{◌≡◌, All, IfOk, OnOk, true};
 ghost use Rattle.std.specs.List.{AllZip};
 ghost use Rattle.milter_schedule.specs.Rounds.{round};
 ghost use Rattle.milter_schedule.specs.Schedule.{Scenario};
-ghost use Rattle.milter_schedule.specs.TalkReports.{HasAllVerdicts, IsRuledBy, is_by_verdict};
+ghost use Rattle.milter_schedule.specs.DialogueReports.{HasAllVerdicts, IsRuledBy, is_by_verdict};
 ghost use Rattle.milter_ends.specs.Ends.{AreEndsOf};
 ghost use Rattle.milter_world.specs.Outcomes.{ConnectionIsGiven};
 ghost use Rattle.milter_world.specs.Reached.{AreReached, Leads, scenario_of};
@@ -28,10 +28,10 @@ pub fn play<P: Policy>(
     session: Session,
     policy: &P,
 ) -> Result<Reports, NoMemory>
-    // There is a report for each message, in order, each with the outcome that its own talk with the filter rules,
-    ensures talks { IfOk result (λ s. AllZip
+    // There is a report for each message, in order, each with the outcome that its own dialogue with the filter rules,
+    ensures dialogues { IfOk result (λ s. AllZip
         (IsRuledBy (scenario_of (P.behavior policy.now) config session)) session.messages s.messages) }
-    // with all verdicts of the talk,
+    // with all verdicts of the dialogue,
     ensures verdicts { IfOk result (λ s. AllZip
         (HasAllVerdicts (scenario_of (P.behavior policy.now) config session)) session.messages s.messages) }
     // and by the filter's verdict on the message or on its client.

@@ -12,7 +12,7 @@ use crate::pipe::Pipe;
 use crate::scenario::possible_session;
 use milter_ends::{
     answered_bytes_step, dialled_ends_step, events_without_effect, fresh_ends_begin,
-    heard_bytes_step, lost_ends_step, sent_bytes_step, taken_bytes_step,
+    lost_ends_step, received_bytes_step, sent_bytes_step, taken_bytes_step,
 };
 use milter_filter::{FilterCore, Policy};
 use milter_mail::Session;
@@ -58,7 +58,7 @@ const NOTHING: Counts = Counts {
     sent: 0,
     taken: 0,
     answered: 0,
-    heard: 0,
+    received: 0,
     lives: true,
 };
 
@@ -262,12 +262,12 @@ impl<'p, P: Policy> World<'p, P> {
         ensures { OnOk result (StepsTo (P.behavior self.old.policy) self.old (events.ToMta count) self.new) }
     {
         events_without_effect::<P>();
-        heard_bytes_step::<P>();
+        received_bytes_step::<P>();
         match self.state {
             State::Linked(settled, counts) => {
-                let heard = feed_mta(&mut self.mta, &mut self.to_mta, count)?;
-                let heard = counts.heard + heard as u128;
-                self.state = State::Linked(settled, Counts { heard, ..counts });
+                let received = feed_mta(&mut self.mta, &mut self.to_mta, count)?;
+                let received = counts.received + received as u128;
+                self.state = State::Linked(settled, Counts { received, ..counts });
                 Ok(())
             }
             State::Idle(_) => Ok(()),

@@ -7,7 +7,7 @@ pub returns : goal.returns
 returns g c =
     record {
       answers = λ p ends settled k core n is at some.
-          answers p ends is.possible is.by_walks settled k at (at-state p ends is (Linked settled k) at) core some n c.cores_go_on.ensures.sends;
-      dies = λ p ends settled k is at. dies p ends is.possible is.by_walks settled k at (at-state p ends is (Linked settled k) at);
-      short = λ p ends settled k core n is at some. short_answered p ends is.possible is.by_walks settled k at (at-state p ends is (Linked settled k) at) core some n;
+          answers p ends is.possible is.by_dialogues settled k at (at-state p ends is (Linked settled k) at) core some n c.cores_go_on.ensures.sends;
+      dies = λ p ends settled k is at. dies p ends is.possible is.by_dialogues settled k at (at-state p ends is (Linked settled k) at);
+      short = λ p ends settled k core n is at some. short_answered p ends is.possible is.by_dialogues settled k at (at-state p ends is (Linked settled k) at) core some n;
     }

@@ -6,7 +6,7 @@ pub returns : goal.returns
 returns g c =
     record {
       begins = λ p policy possible. begins p policy possible (record {
-        walks = c.messages_are_settled_by_walks.ensures.stays (fresh p.config p.session) (c.messages_are_settled_by_walks.ensures.fresh p.config p.session);
+        dialogues = c.messages_are_settled_by_dialogues.ensures.stays (fresh p.config p.session) (c.messages_are_settled_by_dialogues.ensures.fresh p.config p.session);
         connection = c.connections_are_reported.ensures.fresh p.config p.session;
       });
       dials = λ p wanted. dials-first p wanted;

@@ -5,10 +5,10 @@ use Rattle.milter_ends.proofs.events.lost_ends_step.Goals as goal
 pub returns : goal.returns
 returns g c =
     let laws : LossLaws = record {
-      both = c.messages_are_settled_by_walks.ensures.goes_on;
-      lost_on = c.messages_are_settled_by_walks.ensures.lost;
+      both = c.messages_are_settled_by_dialogues.ensures.goes_on;
+      lost_on = c.messages_are_settled_by_dialogues.ensures.lost;
       lost_reported = c.connections_are_reported.ensures.lost;
-      unlinked = c.losses_settle_one.ensures.unlinked;
+      unconnected = c.losses_settle_one.ensures.unconnected;
       settles_nothing = c.sending_settles_nothing.ensures;
     } in
     record {

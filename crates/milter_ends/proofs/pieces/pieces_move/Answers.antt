@@ -1,6 +1,6 @@
 use Rattle.std.proofs.Common.{ap}
-use Rattle.milter_mta.specs.Receiving.{After}
-use Rattle.milter_ends.proofs.PieceMoves.{all-taken, answers-piece, counts-now, fails-not, hears-piece, none_on_way, sends-piece, takes-piece}
+use Rattle.milter_mta.specs.Replies.{After}
+use Rattle.milter_ends.proofs.PieceMoves.{all-taken, answers-piece, counts-now, fails-not, receives_bytes-piece, none_on_way, sends-piece, takes-piece}
 use Rattle.milter_ends.proofs.pieces.pieces_move.Goals as goal
 
 pub returns-clause-takes : goal.returns-clause-takes
@@ -22,9 +22,9 @@ pub returns-clause-answers : goal.returns-clause-answers
 returns-clause-answers g c b policy lines k core pipe n answers counts is =
     answers-piece b policy lines answers k counts core pipe is c.cores_go_on.ensures.sends n
 
-pub returns-clause-hears : goal.returns-clause-hears
-returns-clause-hears g c opened m lines k back piece rest follows counts is on_way cut =
-    let h = hears-piece opened lines follows k counts m is back piece rest on_way cut in
+pub returns-clause-receives_bytes : goal.returns-clause-receives_bytes
+returns-clause-receives_bytes g c opened m lines k back piece rest follows counts is on_way cut =
+    let h = receives_bytes-piece opened lines follows k counts m is back piece rest on_way cut in
     (ap (λ (a : After). a.loss) h.goes_on, h.is_at)
 
 pub returns-clause-sends : goal.returns-clause-sends

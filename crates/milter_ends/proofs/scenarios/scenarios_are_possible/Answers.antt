@@ -6,28 +6,28 @@ use Rattle.milter_ends.proofs.ShortLines.{AreShort, Each, short}
 use Rattle.milter_message.specs.MailObject.{MailObject}
 use Rattle.milter_mail.specs.MailSession.{IsSendable}
 use Rattle.milter_mta.specs.Mta.{Mta}
-use Rattle.milter_mta.specs.Sending.{dialled}
+use Rattle.milter_mta.specs.Output.{dialled}
 use Rattle.milter_walk.specs.Lines.{Line}
 use Rattle.milter_transcript.specs.Answered.{AnswersLines}
-use Rattle.milter_progress.specs.Following.{Follows}
-use Rattle.milter_transcript.specs.Transcript.{transcript}
+use Rattle.milter_progress.specs.FollowedLines.{Follows}
+use Rattle.milter_transcript.specs.ConnectionEntries.{connection_entries}
 use Rattle.milter_ends.proofs.scenarios.scenarios_are_possible.Goals as goal
 
 pub returns : goal.returns
 returns c p lawful is from to fits few =
     record {
       answered = λ settled.
-          subst (λ (l : List Line). AnswersLines p.filter l) (sym (c.transcripts_of_sessions.ensures.lines p.filter p.config.offer p.session (drop settled p.session.messages)))
+          subst (λ (l : List Line). AnswersLines p.filter l) (sym (c.entries_of_sessions.ensures.lines p.filter p.config.offer p.session (drop settled p.session.messages)))
           (c.sessions_are_answered.ensures p.filter p.config.offer p.session (drop settled p.session.messages) is from fits
           (All-drop (IsSendable p.session.client p.session.helo p.session.macros) settled p.session.messages is.are_sendable));
-      followed = λ settled m some unlinked same e. by_messages m unlinked same (drop settled p.session.messages) e (left-some settled p.session.messages some);
-      last_unanswered = λ settled heard. subst (λ (l : List Line). due l heard ≡ length (to_filter l) → length (to_mta l) ≤ heard)
-          (sym (c.transcripts_of_sessions.ensures.lines p.filter p.config.offer p.session (drop settled p.session.messages)))
-          (c.transcripts_of_sessions.ensures.ends p.filter p.config.offer p.session (drop settled p.session.messages) heard);
+      followed = λ settled m some unconnected same e. by_messages m unconnected same (drop settled p.session.messages) e (left-some settled p.session.messages some);
+      last_unanswered = λ settled received. subst (λ (l : List Line). due l received ≡ length (to_filter l) → length (to_mta l) ≤ received)
+          (sym (c.entries_of_sessions.ensures.lines p.filter p.config.offer p.session (drop settled p.session.messages)))
+          (c.entries_of_sessions.ensures.ends p.filter p.config.offer p.session (drop settled p.session.messages) received);
       short_to_filter = λ settled. subst (λ (l : List Line). length (to_filter l) < 2 ^ 128)
-          (sym (c.transcripts_of_sessions.ensures.lines p.filter p.config.offer p.session (drop settled p.session.messages))) (shorts settled).to_filter;
+          (sym (c.entries_of_sessions.ensures.lines p.filter p.config.offer p.session (drop settled p.session.messages))) (shorts settled).to_filter;
       short_to_mta = λ settled. subst (λ (l : List Line). length (to_mta l) < 2 ^ 128)
-          (sym (c.transcripts_of_sessions.ensures.lines p.filter p.config.offer p.session (drop settled p.session.messages))) (shorts settled).to_mta;
+          (sym (c.entries_of_sessions.ensures.lines p.filter p.config.offer p.session (drop settled p.session.messages))) (shorts settled).to_mta;
     }
   where
     each-of : (xs : List MailObject) → All (IsSendable p.session.client p.session.helo p.session.macros) xs → Each (IsSendable p.session.client p.session.helo p.session.macros) xs
@@ -36,15 +36,15 @@ returns c p lawful is from to fits few =
 
     shorts : (settled : ℕ) → AreShort (session_lines p.filter p.config.offer p.session (drop settled p.session.messages))
     shorts settled =
-        short p.filter p.config.offer p.session lawful is fits (c.lawful_filters_agree.ensures.fits p.config.offer p.filter lawful from to) (drop settled p.session.messages)
+        short p.filter p.config.offer p.session lawful is fits (c.lawful_filters_negotiate.ensures.fits p.config.offer p.filter lawful from to) (drop settled p.session.messages)
         (each-of (drop settled p.session.messages) (All-drop (IsSendable p.session.client p.session.helo p.session.macros) settled p.session.messages is.are_sendable))
         (let d = length-drop settled p.session.messages in omega arith)
 
     left-some : (settled : ℕ) (l : List MailObject) → settled < length l → drop settled l ≢ []
     left-some settled l less none = let d = length-drop settled l in let k = ap length none in absurd (let h : 0 < 0 = omega arith in omega arith)
 
-    by_messages : (m : Mta) → m.link ≡ None → m.config ≡ p.config → (l : List MailObject) → m.session ≡ record p.session { messages = l } → l ≢ []
-        → Follows p.config.on_loss (dialled m) (transcript p.filter p.config.offer p.session l)
-    by_messages m unlinked same [] e some = absurd (some refl)
-    by_messages m unlinked same (message ∷ messages) e some =
-        c.transcripts_are_followed.ensures p.filter p.session p.config m message messages lawful from to unlinked same e
+    by_messages : (m : Mta) → m.filter_connection ≡ None → m.config ≡ p.config → (l : List MailObject) → m.session ≡ record p.session { messages = l } → l ≢ []
+        → Follows p.config.on_loss (dialled m) (connection_entries p.filter p.config.offer p.session l)
+    by_messages m unconnected same [] e some = absurd (some refl)
+    by_messages m unconnected same (message ∷ messages) e some =
+        c.entries_are_followed.ensures p.filter p.session p.config m message messages lawful from to unconnected same e

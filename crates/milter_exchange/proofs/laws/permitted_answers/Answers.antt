@@ -4,7 +4,7 @@ use Rattle.milter_exchange.proofs.Permitting.{permitted-again}
 use Rattle.milter_exchange.proofs.laws.permitted_answers.Goals as goal
 
 pub returns-clause-edits : goal.returns-clause-edits
-returns-clause-edits c agreed answer = filter_passes (is_permitted agreed) answer.edits
+returns-clause-edits c negotiated answer = filter_passes (is_permitted negotiated) answer.edits
 
 pub returns-clause-again : goal.returns-clause-again
-returns-clause-again c agreed answer = permitted-again agreed answer
+returns-clause-again c negotiated answer = permitted-again negotiated answer

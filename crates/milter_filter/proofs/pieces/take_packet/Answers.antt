@@ -2,7 +2,7 @@ use Rattle.std.proofs.Common.{◌++◌, take, Ok, sym, ◌∙◌, ap, subst, ari
 use Rattle.milter_stream.specs.FirstPacket.{fed_len}
 use Rattle.milter_stream.specs.Splitter.{frame_of}
 use Rattle.milter_stream.specs.Stream.{IsUnfinished}
-use Rattle.milter_filter.specs.Replying.{IsUnread}
+use Rattle.milter_filter.specs.AnswerPackets.{IsUnread}
 use Rattle.milter_filter.proofs.FirstReplies.{serves}
 use Rattle.milter_filter.proofs.LengthFaults.{fed-bytes, fed-count, field-unread, no-bytes, piece-bytes}
 use Rattle.milter_filter.proofs.PieceStreams.{length-gives_up, one-packet, one-unfinished, packet-gives_up, replied-packet, replied-unfinished, rest-packet, rest-unfinished}
@@ -10,7 +10,7 @@ use Rattle.milter_filter.proofs.pieces.take_packet.Goals as goal
 
 pub returns-in-Err-clause-fails : goal.returns-in-Err-clause-fails
 returns-in-Err-clause-fails g c =
-    let s = c.args.replier.now.standing in
+    let s = c.args.replier.now.order_state in
     let b = g.P.Policy.behavior c.args.replier.now.policy in
     let unread = c.args.splitter.now in
     let is = (c.next.ensures.fault c.in-Err.fault).0 c.in-Err.is in
@@ -20,7 +20,7 @@ returns-in-Err-clause-fails g c =
     let left = rw c.in-Err.is at c.next.follows.holds-at-none in
     record {
       left_is = left ∙ field-unread unread c.args.piece.now c.feed.new.self c.in_ok-taken.taken c.in-Err.fault c.requires.unread.0 bytes count c.in_ok-taken.ensures.taken is;
-      cause = λ other. length-gives_up b s unread c.args.piece.now c.feed.new.self c.in_ok-taken.taken c.in_ok-taken.ensures.taken c.in-Err.fault c.requires.serving is;
+      cause = λ other. length-gives_up b s unread c.args.piece.now c.feed.new.self c.in_ok-taken.taken c.in_ok-taken.ensures.taken c.in-Err.fault c.requires.stream_server is;
     }
 
 pub returns-in-Ok-None-clause-takes : goal.returns-in-Ok-None-clause-takes
@@ -39,7 +39,7 @@ returns-in-Ok-None-clause-takes g c =
       is_unread =
           subst IsUnread (sym left)
           (unfinished, fed-bytes c.args.splitter.now c.args.piece.now c.feed.new.self c.in_ok-taken.taken c.requires.unread.1 piece c.in_ok-taken.ensures.taken);
-      going = λ fault failed. serves fault (sym c.requires.serving ∙ failed);
+      going = λ fault failed. serves fault (sym c.requires.stream_server ∙ failed);
     }
 
 pub returns-in-Ok-None-clause-one : goal.returns-in-Ok-None-clause-one
@@ -50,7 +50,7 @@ returns-in-Ok-None-clause-one g c =
 
 pub returns-in-Err-reply_to_packet-clause-fails : goal.returns-in-Err-reply_to_packet-clause-fails
 returns-in-Err-reply_to_packet-clause-fails g c =
-    let s = c.args.replier.now.standing in
+    let s = c.args.replier.now.order_state in
     let b = g.P.Policy.behavior c.args.replier.now.policy in
     let handed = rw c.in-Ok-Some.field-0-is at c.in-Ok-Some.ensures.packet in
     let left = rw (c.in-Ok-Some.is, c.in-Ok-Some.field-0-is) at c.next.follows.holds-at-none in

@@ -3,7 +3,7 @@ use Rattle.std.proofs.lemmas.List.{take_rest}
 use Rattle.milter_filter.proofs.FirstReplies.{Stops, nothing-replied, nothing-waits, serves, some-left, stop-step}
 use Rattle.milter_filter.proofs.Progress.{Progress, begin, bytes-all, bytes-more, fault-left, go_on}
 use Rattle.milter_filter.specs.Cores.{GivesUp}
-use Rattle.milter_filter.specs.Replying.{Replying, TakesBytes}
+use Rattle.milter_filter.specs.AnswerPackets.{Replying, TakesBytes}
 use Rattle.milter_filter.specs.Streams.{received_in}
 use Rattle.milter_filter.proofs.pieces.take_piece.Goals as goal
 
@@ -14,17 +14,17 @@ loop-taken-init g c =
     let u = c.args.splitter.now in
     record {
       within = omega arith;
-      began = λ none. (c.requires.nothing_pending, c.requires.serving);
-      going = λ fault failed. serves fault (sym c.requires.serving ∙ failed);
+      began = λ none. (c.requires.nothing_pending, c.requires.stream_server);
+      going = λ fault failed. serves fault (sym c.requires.stream_server ∙ failed);
       policy = refl;
       bytes = c.requires.unread.1;
       stops = inl c.requires.nothing_pending;
-      progress = subst (λ out. Progress b old.standing (u ++ []) old.standing u out) (sym c.requires.nothing_pending) (begin b old.standing u c.requires.unread.0);
+      progress = subst (λ out. Progress b old.order_state (u ++ []) old.order_state u out) (sym c.requires.nothing_pending) (begin b old.order_state u c.requires.unread.0);
     }
 
 pub returns-in-Err-clause-fails : goal.returns-in-Err-clause-fails
 returns-in-Err-clause-fails g c =
-    let s = c.args.replier.now.standing in
+    let s = c.args.replier.now.order_state in
     let b = g.P.Policy.behavior c.args.replier.now.policy in
     let u = c.args.splitter.now in
     let piece = c.args.piece.now in
@@ -37,15 +37,15 @@ returns-in-Err-clause-fails g c =
     record {
       left_is = fails.left_is;
       cause = λ other.
-          let cause = subst (λ policy. GivesUp (g.P.Policy.behavior policy) was.standing (received_in (c.loop-taken.splitter ++ drop i piece)) fault) inv.policy (fails.cause other) in
-          let left = fault-left b s was.standing (u ++ take i piece) (drop i piece) c.loop-taken.splitter was.pending fault
-          inv.progress (nothing-replied b s was.standing (u ++ take i piece) c.loop-taken.splitter was.pending inv.progress none) cause in
+          let cause = subst (λ policy. GivesUp (g.P.Policy.behavior policy) was.order_state (received_in (c.loop-taken.splitter ++ drop i piece)) fault) inv.policy (fails.cause other) in
+          let left = fault-left b s was.order_state (u ++ take i piece) (drop i piece) c.loop-taken.splitter was.pending fault
+          inv.progress (nothing-replied b s was.order_state (u ++ take i piece) c.loop-taken.splitter was.pending inv.progress none) cause in
           subst (λ bytes. GivesUp b s (received_in bytes) fault) (bytes-all u piece i) left;
     }
 
 pub loop-taken-preserved : goal.loop-taken-preserved
 loop-taken-preserved g c =
-    let s = c.args.replier.now.standing in
+    let s = c.args.replier.now.order_state in
     let b = g.P.Policy.behavior c.args.replier.now.policy in
     let u = c.args.splitter.now in
     let piece = c.args.piece.now in
@@ -58,13 +58,13 @@ loop-taken-preserved g c =
     let left = c.take_packet.new.splitter in
     let found = rw (take_rest piece i) at c.in-Ok.ensures.takes in
     let takes = subst (λ policy. TakesBytes (g.P.Policy.behavior policy) was c.loop-taken.splitter rest n new left) inv.policy found in
-    let standing = ap (λ (r : Replying g.row.P.Denot). r.standing) takes.replied in
+    let order_state = ap (λ (r : Replying g.row.P.Denot). r.order_state) takes.replied in
     let replied = ap (λ (r : Replying g.row.P.Denot). r.pending) takes.replied in
-    let now = go_on b s was.standing new.standing (u ++ take i piece) (take n rest) c.loop-taken.splitter left was.pending new.pending inv.progress standing takes.left_is takes.is_unread.0 replied in
+    let now = go_on b s was.order_state new.order_state (u ++ take i piece) (take n rest) c.loop-taken.splitter left was.pending new.pending inv.progress order_state takes.left_is takes.is_unread.0 replied in
     let none = nothing-waits was.pending c.pending.result.now c.is_empty.result c.pending.ensures c.is_empty.ensures c.if-not-is_empty.false in
-    let serving = c.is_serving.ensures.0 c.if-not-is_serving.false in
-    let stops = stop-step b s was.standing new.standing (u ++ take i piece) (take n rest) c.loop-taken.splitter was.pending new.pending
-    inv.progress none serving standing replied (rw (take_rest piece i) at c.in-Ok.ensures.one) in
+    let stream_server = c.is_serving.ensures.0 c.if-not-is_serving.false in
+    let stops = stop-step b s was.order_state new.order_state (u ++ take i piece) (take n rest) c.loop-taken.splitter was.pending new.pending
+    inv.progress none stream_server order_state replied (rw (take_rest piece i) at c.in-Ok.ensures.one) in
     let at = bytes-more u piece i n in
     let more-bytes = takes.progress (some-left piece i (omega arith)) in
     record {
@@ -73,6 +73,6 @@ loop-taken-preserved g c =
       going = takes.going;
       policy = ap (λ (r : Replying g.row.P.Denot). r.policy) takes.replied ∙ inv.policy;
       bytes = takes.is_unread.1;
-      stops = subst (λ bytes. Stops b s bytes new.standing new.pending) at stops;
-      progress = subst (λ bytes. Progress b s bytes new.standing left new.pending) at now;
+      stops = subst (λ bytes. Stops b s bytes new.order_state new.pending) at stops;
+      progress = subst (λ bytes. Progress b s bytes new.order_state left new.pending) at now;
     }

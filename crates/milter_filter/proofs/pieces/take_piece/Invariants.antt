@@ -1,7 +1,7 @@
 use Rattle.std.proofs.Common.{◌≡◌, ◌≤◌, ◌-◌, ◌++◌, [], length, take}
 use Rattle.milter_stream.specs.Number.{IsBytes}
 use Rattle.milter_exchange.specs.declared.filter_state.FilterState.TheVariants.{Serving}
-use Rattle.milter_filter.specs.Replying.{GoesOn}
+use Rattle.milter_filter.specs.AnswerPackets.{GoesOn}
 use Rattle.milter_filter.proofs.FirstReplies.{Stops}
 use Rattle.milter_filter.proofs.Progress.{Progress}
 use Rattle.milter_filter.proofs.pieces.take_piece.Given as goal
@@ -9,12 +9,12 @@ use Rattle.milter_filter.proofs.pieces.take_piece.Given as goal
 abbrev pub invariant-loop-taken : goal.invariant-loop-taken
 invariant-loop-taken g l = record {
   within : l.taken ≤ length l.piece;
-  began : l.taken ≡ 0 → (l.replier.pending ≡ []) × (l.replier.standing.state ≡ Serving);
-  going : GoesOn l.replier.standing;
+  began : l.taken ≡ 0 → (l.replier.pending ≡ []) × (l.replier.order_state.state ≡ Serving);
+  going : GoesOn l.replier.order_state;
   policy : l.replier.policy ≡ l.initial.replier.policy;
   bytes : IsBytes l.splitter;
-  stops : Stops (g.P.Policy.behavior l.initial.replier.policy) l.initial.replier.standing (l.initial.splitter ++ take l.taken l.piece) l.replier.standing l.replier.pending;
-  progress : Progress (g.P.Policy.behavior l.initial.replier.policy) l.initial.replier.standing (l.initial.splitter ++ take l.taken l.piece) l.replier.standing l.splitter l.replier.pending;
+  stops : Stops (g.P.Policy.behavior l.initial.replier.policy) l.initial.replier.order_state (l.initial.splitter ++ take l.taken l.piece) l.replier.order_state l.replier.pending;
+  progress : Progress (g.P.Policy.behavior l.initial.replier.policy) l.initial.replier.order_state (l.initial.splitter ++ take l.taken l.piece) l.replier.order_state l.splitter l.replier.pending;
 }
 
 abbrev pub decreases-loop-taken : goal.decreases-loop-taken

@@ -2,4 +2,4 @@ use Rattle.milter_mail.proofs.PlanWeight.{plan_weight}
 use Rattle.milter_mail.proofs.laws.weight_of_any_plan.Goals as goal
 
 pub returns : goal.returns
-returns c agreed session m = plan_weight agreed session m
+returns c negotiated session m = plan_weight negotiated session m

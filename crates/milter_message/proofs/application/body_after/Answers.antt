@@ -1,4 +1,4 @@
-use Rattle.milter_message.proofs.EditFolds.{no_piece, pieced_more, pieced_same}
+use Rattle.milter_message.proofs.EditFolds.{no_chunk, chunked_more, chunked_same}
 use Rattle.milter_message.proofs.application.body_after.Goals as goal
 use Rattle.milter_message.proofs.application.body_after.Goals.{in-ReplaceBody+in_ok-extend_from_slice, in_default}
 
@@ -10,8 +10,8 @@ loop-edit-preserved c =
     elim c.match-edit.branch [
       | in-ReplaceBody+in_ok-extend_from_slice w ↦
           rw (w.body-is, w.replaced-is, w.in_ok-extend_from_slice.ensures.items, w.as_slice.ensures)
-          (pieced_more c.loop-edit.replaced body w.in-ReplaceBody.piece position edits c.edit-item.result c.loop-edit.invariant c.loop-edit-test.true c.edit-item.is w.in-ReplaceBody.is)
+          (chunked_more c.loop-edit.replaced body w.in-ReplaceBody.chunk position edits c.edit-item.result c.loop-edit.invariant c.loop-edit-test.true c.edit-item.is w.in-ReplaceBody.is)
       | in_default w ↦
           rw (w.body-is, w.replaced-is)
-          (pieced_same c.loop-edit.replaced body position edits c.edit-item.result c.loop-edit.invariant c.loop-edit-test.true c.edit-item.is (no_piece c.edit-item.result w.in_default.not-ReplaceBody))
+          (chunked_same c.loop-edit.replaced body position edits c.edit-item.result c.loop-edit.invariant c.loop-edit-test.true c.edit-item.is (no_chunk c.edit-item.result w.in_default.not-ReplaceBody))
     ]

@@ -1,5 +1,5 @@
 use Rattle.std.proofs.Common.{◌≡◌, map, take}
-use Rattle.milter_stream.specs.Appending.{Extends}
+use Rattle.milter_stream.specs.AppendedBytes.{Extends}
 use Rattle.milter_options.proofs.NamesText.{Written}
 use Rattle.milter_options.proofs.bits.put_names_of.Given as goal
 

@@ -6,4 +6,4 @@ pub returns-clause-message : goal.returns-clause-message
 returns-clause-message c o = message_by_stages o
 
 pub returns-clause-plan : goal.returns-clause-plan
-returns-clause-plan c agreed session message = plan_by_stages (outgoing_of agreed session message)
+returns-clause-plan c negotiated session message = plan_by_stages (outgoing_of negotiated session message)

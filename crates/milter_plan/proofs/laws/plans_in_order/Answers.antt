@@ -3,10 +3,10 @@ use Rattle.milter_plan.proofs.PlanOrders.{plan-within, within-message, within-op
 use Rattle.milter_plan.proofs.laws.plans_in_order.Goals as goal
 
 pub returns-clause-opening : goal.returns-clause-opening
-returns-clause-opening c agreed session = within-opening agreed (macros_of agreed session) session.client session.helo
+returns-clause-opening c negotiated session = within-opening negotiated (macros_of negotiated session) session.client session.helo
 
 pub returns-clause-message : goal.returns-clause-message
-returns-clause-message c agreed macros message = within-message agreed macros message
+returns-clause-message c negotiated macros message = within-message negotiated macros message
 
 pub returns-clause-plan : goal.returns-clause-plan
-returns-clause-plan c agreed session message = plan-within agreed session message
+returns-clause-plan c negotiated session message = plan-within negotiated session message

@@ -1,6 +1,6 @@
 use Rattle.std.proofs.Common.{List, not, ap, arith, sym, ◌∙◌, slice_get}
 use Rattle.milter_wire.specs.declared.command.Command.{Command}
-use Rattle.milter_wire.specs.LentCommand.{command_of}
+use Rattle.milter_wire.specs.BorrowedCommand.{command_of}
 use Rattle.milter_plan.specs.OutgoingValue.{outgoing}
 use Rattle.milter_plan.proofs.Stepping.{at_end, at_first, fewer_after, in_next, none_found, some_found}
 use Rattle.milter_plan.proofs.plan_cursor.first_from.Goals as goal

@@ -1,7 +1,7 @@
 use Rattle.std.proofs.Common.{◌∙◌, ◌≡◌, is_some, slice_get}
 use Rattle.std.specs.List.{list_any}
-use Rattle.milter_wire.specs.LentCommand.{command_of}
-use Rattle.milter_exchange.specs.Talk.{is_rcpt}
+use Rattle.milter_wire.specs.BorrowedCommand.{command_of}
+use Rattle.milter_exchange.specs.Dialogue.{is_rcpt}
 use Rattle.milter_plan.specs.OutgoingValue.{outgoing}
 use Rattle.milter_plan.specs.PlanCursor.{steps_at, steps_from}
 use Rattle.milter_plan.proofs.CursorSteps.{as_found, recipients_left}

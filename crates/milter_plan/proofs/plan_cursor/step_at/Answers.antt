@@ -1,7 +1,7 @@
 use Rattle.std.proofs.Common.{Option, ap, sym, ◌∙◌, ◌%◌}
 use Rattle.std.specs.Option.{option_map, option_to_list}
 use Rattle.milter_wire.specs.declared.command_ref.CommandRef.{CommandRef}
-use Rattle.milter_wire.specs.LentCommand.{command_of}
+use Rattle.milter_wire.specs.BorrowedCommand.{command_of}
 use Rattle.milter_plan.specs.OutgoingValue.{outgoing}
 use Rattle.milter_plan.specs.PlanCursor.{commands_of, one_of_two}
 use Rattle.milter_plan.proofs.Stepping.{left_out, paired, plain}

@@ -1,8 +1,8 @@
-use Rattle.milter_progress.proofs.Pieces.{hears, pends, sends, wants-nothing, wants-receive, wants-send}
+use Rattle.milter_progress.proofs.Pieces.{receives_bytes, pends, sends, wants-nothing, wants-receive, wants-send}
 use Rattle.milter_progress.proofs.laws.pieces_are_followed.Goals as goal
 
-pub returns-clause-hears : goal.returns-clause-hears
-returns-clause-hears c = hears
+pub returns-clause-receives_bytes : goal.returns-clause-receives_bytes
+returns-clause-receives_bytes c = receives_bytes
 
 pub returns-clause-sends : goal.returns-clause-sends
 returns-clause-sends c = sends c.sent_bytes_add_up.ensures

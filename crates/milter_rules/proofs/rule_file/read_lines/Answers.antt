@@ -1,31 +1,31 @@
 use Rattle.std.proofs.Common.{ap, arith, subst, sym}
 use Rattle.std.proofs.lemmas.Result.{err_from_is_err_and}
-use Rattle.milter_rules.specs.RuleDraft.{LineFollows}
+use Rattle.milter_rules.specs.RuleBuilder.{LineFollows}
 use Rattle.milter_rules.specs.RuleFault.{of_line_fault}
 use Rattle.milter_rules.proofs.FileLines.{found_more, found_none, left_in_words, next_gives, only_more, only_none}
 use Rattle.milter_rules.proofs.LineBounds.{line_fits}
 use Rattle.milter_rules.proofs.rule_file.read_lines.Goals as goal
 
-pub loop-draft-init : goal.loop-draft-init
-loop-draft-init c =
+pub loop-builder-init : goal.loop-builder-init
+loop-builder-init c =
     let all = c.args.lines.now.lines in
     record {
-      found = found_none all c.new-draft.result c.new-draft.ensures;
-      only = only_none all c.new-draft.result c.new-draft.ensures;
+      found = found_none all c.new-builder.result c.new-builder.ensures;
+      only = only_none all c.new-builder.result c.new-builder.ensures;
       end = omega arith;
     }
 
 pub returns-in_err-line-clause-only : goal.returns-in_err-line-clause-only
 returns-in_err-line-clause-only c = λ values give can.
-    let left = c.loop-draft.invariant.only values give can in
+    let left = c.loop-builder.invariant.only values give can in
     let p = err_from_is_err_and c.from_residual.result c.from_residual.ensures.1 in
-    rw (p.1, p.2) (ap of_line_fault (c.in_err-line.ensures.only (left_in_words c.loop-draft.lines.lines left.after left.give)))
+    rw (p.1, p.2) (ap of_line_fault (c.in_err-line.ensures.only (left_in_words c.loop-builder.lines.lines left.after left.give)))
 
 pub returns-in_err-value-clause-only : goal.returns-in_err-value-clause-only
 returns-in_err-value-clause-only c = λ values give can.
     let next = rw c.in-Some.is at c.in_ok-line.ensures.found in
-    let n = next_gives c.args.lines.now.lines c.loop-draft.lines c.in-Some.line.number c.in-Some.line.words.items c.next.new.self
-    c.loop-draft.draft c.loop-draft.invariant.only next values give can in
+    let n = next_gives c.args.lines.now.lines c.loop-builder.lines c.in-Some.line.number c.in-Some.line.words.items c.next.new.self
+    c.loop-builder.builder c.loop-builder.invariant.only next values give can in
     let p = err_from_is_err_and c.from_residual-in_err-value.result c.from_residual-in_err-value.ensures.1 in
     rw (p.1, p.2) (c.in_err-value.ensures.only n.value n.gives)
 
@@ -35,15 +35,15 @@ add-requires c = line_fits c.in-Some.line.words.items c.in_ok-value.value c.in_o
 pub returns-in_err-add-clause-only : goal.returns-in_err-add-clause-only
 returns-in_err-add-clause-only c = λ values give can.
     let next = rw c.in-Some.is at c.in_ok-line.ensures.found in
-    let n = next_gives c.args.lines.now.lines c.loop-draft.lines c.in-Some.line.number c.in-Some.line.words.items c.next.new.self
-    c.loop-draft.draft c.loop-draft.invariant.only next values give can in
+    let n = next_gives c.args.lines.now.lines c.loop-builder.lines c.in-Some.line.number c.in-Some.line.words.items c.next.new.self
+    c.loop-builder.builder c.loop-builder.invariant.only next values give can in
     let same = c.in_ok-value.ensures.only n.value n.gives in
-    let follows = subst (λ v. LineFollows v c.loop-draft.draft) (sym same) n.follows in
+    let follows = subst (λ v. LineFollows v c.loop-builder.builder) (sym same) n.follows in
     let p = err_from_is_err_and c.from_residual-in_err-add.result c.from_residual-in_err-add.ensures.1 in
     rw (p.1, p.2) (c.in_err-add.ensures.only follows)
 
-pub loop-draft-preserved : goal.loop-draft-preserved
-loop-draft-preserved c =
+pub loop-builder-preserved : goal.loop-builder-preserved
+loop-builder-preserved c =
     let next = rw c.in-Some.is at c.in_ok-line.ensures.found in
     let all = c.args.lines.now.lines in
     let number = c.in-Some.line.number in
@@ -51,9 +51,9 @@ loop-draft-preserved c =
     let value = c.in_ok-value.value in
     let added = c.in_ok-add.ensures.found in
     record {
-      found = found_more all c.loop-draft.lines number words c.next.new.self value c.loop-draft.draft c.add.new.self
-          c.loop-draft.invariant.found next c.in_ok-value.ensures.found added.0 added.1;
-      only = only_more all c.loop-draft.lines number words c.next.new.self value c.loop-draft.draft c.add.new.self
-          c.loop-draft.invariant.only next c.in_ok-value.ensures.only added.1;
-      end = omega (arith, c.next.ensures.end, c.loop-draft.invariant.end);
+      found = found_more all c.loop-builder.lines number words c.next.new.self value c.loop-builder.builder c.add.new.self
+          c.loop-builder.invariant.found next c.in_ok-value.ensures.found added.0 added.1;
+      only = only_more all c.loop-builder.lines number words c.next.new.self value c.loop-builder.builder c.add.new.self
+          c.loop-builder.invariant.only next c.in_ok-value.ensures.only added.1;
+      end = omega (arith, c.next.ensures.end, c.loop-builder.invariant.end);
     }

@@ -3,7 +3,7 @@ use Rattle.std.proofs.lemmas.List.{take_rest}
 use Rattle.milter_exchange.specs.declared.filter_fault.FilterFault.{FilterFault}
 use Rattle.milter_exchange.specs.declared.filter_state.FilterState.TheVariants.{Failed, Serving}
 use Rattle.milter_filter.specs.Cores.{Core, GivesUp, Takes, given_up}
-use Rattle.milter_filter.specs.PieceServing.{Goes}
+use Rattle.milter_filter.specs.ServedPieces.{Goes}
 use Rattle.milter_filter.specs.Streams.{received_in}
 use Rattle.milter_filter.proofs.ServedBytes.{goes-failed, goes-none, goes-step, still-serving}
 use Rattle.milter_server.proofs.Turns.{waits-serving}
@@ -32,7 +32,7 @@ returns-in-Err-clause-cut_off g c =
     let serving = inv.serving (omega arith) in (
       λ other.
           let found = rw (take_rest piece i) at (c.in-Err.ensures.cause serving inv.nothing_pending other) in
-          let cause = subst (λ policy. GivesUp (g.P.Policy.behavior policy) core.standing (received_in (core.unread ++ rest)) c.in-Err.fault) inv.goes.goes_on.policy found in
+          let cause = subst (λ policy. GivesUp (g.P.Policy.behavior policy) core.order_state (received_in (core.unread ++ rest)) c.in-Err.fault) inv.goes.goes_on.policy found in
           let before = g.W.Write.contents c.args.writer.now in
           let written = g.W.Write.contents c.loop-taken.writer in
           subst (λ bytes. Goes b c.args.core.now bytes (given_up c.args.core.now c.in-Err.fault) before written) (take-append-drop i piece)
@@ -104,7 +104,7 @@ loop-taken-preserved g c =
     let taken = rw (take_rest piece i) at (c.in-Ok.ensures.takes serving inv.nothing_pending) in
     let takes = subst (λ policy. Takes (g.P.Policy.behavior policy) core rest n c.feed.new.self) inv.goes.goes_on.policy taken in
     let sends = c.in-Ok-true.ensures.sends in
-    let same = ap (λ (x : Core g.row.P.Denot). x.standing.state) sends.core in
+    let same = ap (λ (x : Core g.row.P.Denot). x.order_state.state) sends.core in
     let goes = goes-step b c.args.core.now core (take i piece) _ _ inv.goes inv.nothing_pending _ _ rest n _ _ takes sends in
     record {
       within = let m = takes.within in omega (arith, m, inv.within, length-drop i piece);

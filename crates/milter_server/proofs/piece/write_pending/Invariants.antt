@@ -1,5 +1,5 @@
 use Rattle.std.proofs.Common.{false, length}
-use Rattle.milter_filter.specs.PieceServing.{Sends}
+use Rattle.milter_filter.specs.ServedPieces.{Sends}
 use Rattle.milter_server.proofs.piece.write_pending.Given as goal
 
 -- what was sent so far

@@ -1,6 +1,6 @@
 use Rattle.std.proofs.Common.{[], append-nil, length, subst, sym, take, ◌∙◌, ap}
 use Rattle.std.proofs.KnownBytes.{Consumes-nil}
-use Rattle.milter_filter.specs.PieceServing.{CutOff, Goes}
+use Rattle.milter_filter.specs.ServedPieces.{CutOff, Goes}
 use Rattle.milter_server.specs.Connections.{GoesFrom, connected}
 use Rattle.milter_server.proofs.Turns.{cut-ends, drop-whole, going-serves, has-not, nothing-goes, quit-ends, same-kept, serving-goes, take-whole, taken-from}
 use Rattle.milter_server.proofs.steps.take_backlog.Goals as goal

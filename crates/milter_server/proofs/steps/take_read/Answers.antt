@@ -1,6 +1,6 @@
 use Rattle.std.proofs.Common.{ap, drop, refl, subst, sym, ◌++◌, ◌∙◌}
 use Rattle.std.proofs.lemmas.List.{take_rest}
-use Rattle.milter_filter.specs.PieceServing.{Goes}
+use Rattle.milter_filter.specs.ServedPieces.{Goes}
 use Rattle.milter_server.specs.Connections.{Completes, GoesFrom, connected}
 use Rattle.milter_server.proofs.Turns.{completes-piece, cut-ends, going-serves, has-not, nothing-goes, quit-ends, same-kept, serving-goes, take-whole, taken-from}
 use Rattle.milter_server.proofs.steps.take_read.Goals as goal

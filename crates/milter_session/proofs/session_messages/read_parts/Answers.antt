@@ -36,7 +36,7 @@ returns-in_err-body-clause-only c = λ m last rest parts end whole whole_fields.
     let r = c.in_ok-recipients.ensures.only parts.recipients headers m.recipients sender.1 parts.recipients_are whole.recipients (ends_recipients lines last rest m parts end) in
     let h = c.in_ok-headers.ensures.only parts.headers texts m.headers r.1 parts.headers_are whole_fields (ends_headers lines last rest m parts end) in
     let p = err_from_is_err_and c.from_residual-in_err-body.result c.from_residual-in_err-body.ensures.1 in
-    rw (p.1, p.2) (c.in_err-body.ensures.only parts.texts (last ∷ rest) parts.pieces h.1 parts.texts_are tt (ends_texts last rest end))
+    rw (p.1, p.2) (c.in_err-body.ensures.only parts.texts (last ∷ rest) parts.chunks h.1 parts.texts_are tt (ends_texts last rest end))
 
 pub returns-clause-only : goal.returns-clause-only
 returns-clause-only c = λ m last rest parts end whole whole_fields.
@@ -48,6 +48,6 @@ returns-clause-only c = λ m last rest parts end whole whole_fields.
     let sender = c.in_ok-sender.ensures.only parts.sender recipients m.sender first parts.sender_is whole.sender in
     let r = c.in_ok-recipients.ensures.only parts.recipients headers m.recipients sender.1 parts.recipients_are whole.recipients (ends_recipients lines last rest m parts end) in
     let h = c.in_ok-headers.ensures.only parts.headers texts m.headers r.1 parts.headers_are whole_fields (ends_headers lines last rest m parts end) in
-    let b = c.in_ok-body.ensures.only parts.texts (last ∷ rest) parts.pieces h.1 parts.texts_are tt (ends_texts last rest end) in
+    let b = c.in_ok-body.ensures.only parts.texts (last ∷ rest) parts.chunks h.1 parts.texts_are tt (ends_texts last rest end) in
     let body : c.in_ok-body.body.bytes.items ≡ m.body = b.0 ∙ sym parts.body_is in
     (c.from_parts.ensures ∙ λ i. record { sender = sender.0 i; recipients = r.0.0 i; headers = h.0.0 i; body = body i }, b.1)

@@ -6,8 +6,8 @@ use Rattle.milter_transcript.proofs.laws.sessions_are_answered.Goals as goal
 pub returns : goal.returns
 returns c = λ b offer s messages is known fits good.
     let to_end : GoToTheEnd = record {
-      steps = λ agreed s m. (c.plans_are_walked.ensures.next agreed [] s m (record { proper = tt; in_order = tt })).ends;
-      whole = λ agreed s m. (c.plans_are_walked.ensures.plan agreed s m).ends;
+      steps = λ negotiated s m. (c.plans_are_sent.ensures.next negotiated [] s m (record { proper = tt; in_order = tt })).ends;
+      whole = λ negotiated s m. (c.plans_are_sent.ensures.plan negotiated s m).ends;
     } in
     let ends = session to_end b offer s is known fits messages good in
     c.bytes_are_answered.ensures b (session_lines b offer s messages) ends.0 ends.1

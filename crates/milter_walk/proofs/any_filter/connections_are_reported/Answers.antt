@@ -1,5 +1,5 @@
 use Rattle.std.proofs.Common.{refl}
-use Rattle.milter_walk.proofs.Connections.{advanced-keeps, dialled-keeps, heard-keeps, lost-reported, sent-keeps}
+use Rattle.milter_walk.proofs.Connections.{advanced-keeps, dialled-keeps, received-keeps, lost-reported, sent-keeps}
 use Rattle.milter_walk.proofs.any_filter.connections_are_reported.Goals as goal
 
 pub returns-clause-fresh : goal.returns-clause-fresh
@@ -14,14 +14,14 @@ returns-clause-advanced c m is = advanced-keeps m is
 pub returns-clause-sent : goal.returns-clause-sent
 returns-clause-sent c m count is = sent-keeps m is count
 
-pub returns-clause-heard : goal.returns-clause-heard
-returns-clause-heard c m bytes on is =
-    heard-keeps (record {
-      given = c.heard_replies.ensures.verdict;
-      at_end = c.heard_replies.ensures.at_end;
-      permitted = c.heard_replies.ensures.permitted;
-      light = λ agreed stage weight reply edit e. (c.heard_replies.ensures.edit agreed stage weight reply edit e).1;
-      within = c.heard_options.ensures.within;
+pub returns-clause-received : goal.returns-clause-received
+returns-clause-received c m bytes on is =
+    received-keeps (record {
+      given = c.received_replies.ensures.verdict;
+      at_end = c.received_replies.ensures.at_end;
+      permitted = c.received_replies.ensures.permitted;
+      light = λ negotiated stage weight reply edit e. (c.received_replies.ensures.edit negotiated stage weight reply edit e).1;
+      within = c.received_options.ensures.within;
     }) m bytes on is
 
 pub returns-clause-lost : goal.returns-clause-lost

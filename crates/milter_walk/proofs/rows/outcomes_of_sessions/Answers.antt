@@ -1,19 +1,19 @@
 use Rattle.std.proofs.Common.{refl}
-use Rattle.milter_exchange.specs.Talk.{talk}
+use Rattle.milter_exchange.specs.Dialogue.{dialogue_with}
 use Rattle.milter_walk.proofs.rows.outcomes_of_sessions.Goals as goal
 
 pub returns-clause-passed : goal.returns-clause-passed
-unfolding talk
+unfolding dialogue_with
 returns-clause-passed c = refl
 
 pub returns-clause-discarded : goal.returns-clause-discarded
-unfolding talk
+unfolding dialogue_with
 returns-clause-discarded c = refl
 
 pub returns-clause-refused : goal.returns-clause-refused
-unfolding talk
+unfolding dialogue_with
 returns-clause-refused c = refl
 
 pub returns-clause-none_left : goal.returns-clause-none_left
-unfolding talk
+unfolding dialogue_with
 returns-clause-none_left c = refl

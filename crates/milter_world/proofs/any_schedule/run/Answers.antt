@@ -6,7 +6,7 @@ use Rattle.milter_outcome.specs.declared.report.Report.{Report}
 use Rattle.milter_schedule.specs.declared.event.Event.{Event}
 use Rattle.milter_schedule.specs.declared.event.Event.TheVariants.{Dial}
 use Rattle.milter_schedule.specs.Schedule.{After, Scenario, after_all, first, stays}
-use Rattle.milter_schedule.specs.TalkReports.{AreReported, IsReportOf, WasGiven, by_reset, by_timeout, count_events, count_reports, is_known, is_lose, is_timeout}
+use Rattle.milter_schedule.specs.DialogueReports.{AreReported, IsReportOf, WasGiven, by_reset, by_timeout, count_events, count_reports, is_known, is_lose, is_timeout}
 use Rattle.milter_world.specs.Reached.{after_of, scenario_of}
 use Rattle.milter_world.proofs.Leading.{leads-on}
 use Rattle.milter_world.proofs.any_schedule.run.Goals as goal
@@ -50,10 +50,10 @@ reports-are g c =
 pub returns-clause-reports : goal.returns-clause-reports
 returns-clause-reports = reports-are
 
-pub returns-clause-talks : goal.returns-clause-talks
-returns-clause-talks g c =
+pub returns-clause-dialogues : goal.returns-clause-dialogues
+returns-clause-dialogues g c =
     let p : Scenario = scenario_of (g.P.Policy.behavior c.args.policy.now) c.args.config c.args.session in
-    subst (λ (rs : List Report). AreReported p p.session.messages rs) (sym (reports-are g c)) (c.schedules_report_talks.ensures p c.args.events.now)
+    subst (λ (rs : List Report). AreReported p p.session.messages rs) (sym (reports-are g c)) (c.schedules_report_dialogues.ensures p c.args.events.now)
 
 pub returns-clause-resets : goal.returns-clause-resets
 returns-clause-resets g c =
@@ -82,12 +82,12 @@ returns-clause-settles g c =
 pub returns-clause-given : goal.returns-clause-given
 returns-clause-given g c =
     let p : Scenario = scenario_of (g.P.Policy.behavior c.args.policy.now) c.args.config c.args.session in
-    let talks : AreReported p p.session.messages c.finish.result.messages =
-    subst (λ (rs : List Report). AreReported p p.session.messages rs) (sym (reports-are g c)) (c.schedules_report_talks.ensures p c.args.events.now) in
+    let dialogues : AreReported p p.session.messages c.finish.result.messages =
+    subst (λ (rs : List Report). AreReported p p.session.messages rs) (sym (reports-are g c)) (c.schedules_report_dialogues.ensures p c.args.events.now) in
     record {
-      done = talks.done;
-      rest = talks.rest;
-      messages_are = talks.messages_are;
+      done = dialogues.done;
+      rest = dialogues.rest;
+      messages_are = dialogues.messages_are;
       each = zip-map (IsReportOf p) (λ message r. All (WasGiven p message) r.acted) (λ message r is. c.verdicts_were_given.ensures.verdicts p message r is)
-          talks.done c.finish.result.messages talks.each;
+          dialogues.done c.finish.result.messages dialogues.each;
     }

@@ -3,9 +3,9 @@ use Rattle.std.specs.List.{AllZip}
 use Rattle.milter_outcome.specs.declared.report.Report.{Report}
 use Rattle.milter_schedule.specs.declared.state.State.{State}
 use Rattle.milter_schedule.specs.Schedule.{After, Scenario, run_reports}
-use Rattle.milter_schedule.specs.TalkReports.{HasAllVerdicts, IsRuledBy, IsUndisturbed, is_by_verdict}
+use Rattle.milter_schedule.specs.DialogueReports.{HasAllVerdicts, IsRuledBy, IsUndisturbed, is_by_verdict}
 use Rattle.milter_ends.specs.Ends.{IsAt, IsLinked}
-use Rattle.milter_world.specs.Playing.{AreUndisturbed, Lives}
+use Rattle.milter_world.specs.PlayedSessions.{AreUndisturbed, Lives}
 use Rattle.milter_world.specs.Reached.{scenario_of}
 use Rattle.milter_world.proofs.Connections.{connection-given}
 use Rattle.milter_world.proofs.PlayedRounds.{dialled-lives, is-over, round-keeps}
@@ -55,11 +55,11 @@ returns g c =
     let over : IsUndisturbed p u.events = is-over p c.loop-world.world u (λ settled counts is. c.in_default.not-Linked settled counts (c.state.ensures ∙ is)) in
     let reports_are : c.finish.result.messages ≡ run_reports p u.events = c.finish.ensures.messages ∙ ap (λ (a : After). a.reports) u.after in
     record {
-      talks = subst (λ (rs : List Report). AllZip (IsRuledBy p) p.session.messages rs) (sym reports_are)
+      dialogues = subst (λ (rs : List Report). AllZip (IsRuledBy p) p.session.messages rs) (sym reports_are)
           (c.undisturbed_schedules_are_ruled.ensures.ruled p u.events over);
       verdicts = subst (λ (rs : List Report). AllZip (HasAllVerdicts p) p.session.messages rs) (sym reports_are)
           (c.undisturbed_schedules_are_ruled.ensures.verdicts p u.events over);
       causes = subst (λ (rs : List Report). All (λ r. is_by_verdict r.settled_by ≡ true) rs) (sym reports_are)
           (c.undisturbed_schedules_are_ruled.ensures.causes p u.events over);
-      connection = connection-given c.loop-world.world.mta c.finish.result c.finish.ensures.connection c.finish.ensures.messages u.are.by_walks.connection;
+      connection = connection-given c.loop-world.world.mta c.finish.result c.finish.ensures.connection c.finish.ensures.messages u.are.by_dialogues.connection;
     }

@@ -2,45 +2,45 @@ use Rattle.std.proofs.Common.{ℕ, List, [], Some, None, Ok, Err, sym, ◌∙◌
 use Rattle.std.proofs.lemmas.List.{append-nil}
 use Rattle.milter_stream.specs.Splitter.{frame_of}
 use Rattle.milter_stream.specs.Stream.{IsUnfinished}
-use Rattle.milter_mta.specs.Conversations.{mta_of}
-use Rattle.milter_mta.specs.Cores.{Hears}
-use Rattle.milter_mta.specs.Receiving.{goes_on}
-use Rattle.milter_mta.proofs.FedPieces.{heard-kept, heard-reply, hears-fault, hears-refused, hears-reply}
+use Rattle.milter_mta.specs.CoreParts.{mta_of}
+use Rattle.milter_mta.specs.Cores.{ReceivesBytes}
+use Rattle.milter_mta.specs.Replies.{goes_on}
+use Rattle.milter_mta.proofs.FedPieces.{received-kept, received-reply, receives_bytes-fault, receives_bytes-refused, receives_bytes-reply}
 use Rattle.milter_mta.proofs.session_state.SessionState.feed_some.Goals as goal
 
-pub returns-in_default-clause-hears : goal.returns-in_default-clause-hears
-returns-in_default-clause-hears c =
-    hears-refused c.args.self.now c.args.link.now c.args.splitter.now c.args.piece.now c.args.splitter.now 0 c.requires.owed (sym (append-nil c.args.splitter.now))
+pub returns-in_default-clause-receives_bytes : goal.returns-in_default-clause-receives_bytes
+returns-in_default-clause-receives_bytes c =
+    receives_bytes-refused c.args.self.now c.args.filter_connection.now c.args.splitter.now c.args.piece.now c.args.splitter.now 0 c.requires.owed (sym (append-nil c.args.splitter.now))
     c.lose_by.new.self c.lose_by.result c.requires.some c.lose_by.ensures.loss c.lose_by.ensures.lost
 
-pub returns-in-Err-clause-hears : goal.returns-in-Err-clause-hears
-returns-in-Err-clause-hears c =
+pub returns-in-Err-clause-receives_bytes : goal.returns-in-Err-clause-receives_bytes
+returns-in-Err-clause-receives_bytes c =
     let is = (c.next.ensures.fault c.in-Err.fault).0 c.in-Err.is in
-    hears-fault c.args.self.now c.args.link.now c.args.splitter.now c.args.piece.now c.feed.new.self c.in-Ok.taken c.requires.owed c.in-Ok.ensures.taken
+    receives_bytes-fault c.args.self.now c.args.filter_connection.now c.args.splitter.now c.args.piece.now c.feed.new.self c.in-Ok.taken c.requires.owed c.in-Ok.ensures.taken
     c.in-Err.fault c.lose_by-in-Err.new.self c.lose_by-in-Err.result c.requires.some c.requires.unfinished is c.lose_by-in-Err.ensures.loss c.lose_by-in-Err.ensures.lost
 
-pub returns-in-Ok-None-clause-hears : goal.returns-in-Ok-None-clause-hears
-returns-in-Ok-None-clause-hears c =
+pub returns-in-Ok-None-clause-receives_bytes : goal.returns-in-Ok-None-clause-receives_bytes
+returns-in-Ok-None-clause-receives_bytes c =
     let unfinished = (c.next.ensures.none).0 (c.in-Ok-None.is ∙ ap Ok c.in-Ok-None.field-0-is) in
     let left = rw (c.in-Ok-None.is, c.in-Ok-None.field-0-is) at c.next.follows.holds-at-none in
-    heard-kept c.args.self.now c.args.link.now c.args.splitter.now c.args.piece.now c.next.follows.lender-at-none c.in-Ok.taken c.requires.owed
+    received-kept c.args.self.now c.args.filter_connection.now c.args.splitter.now c.args.piece.now c.next.follows.lender-at-none c.in-Ok.taken c.requires.owed
     (left ∙ c.in-Ok.ensures.taken) (subst IsUnfinished (sym left) unfinished)
 
-pub returns-in_ok-receive_packet-in-Ok-Some-clause-hears : goal.returns-in_ok-receive_packet-in-Ok-Some-clause-hears
-returns-in_ok-receive_packet-in-Ok-Some-clause-hears c =
+pub returns-in_ok-receive_packet-in-Ok-Some-clause-receives_bytes : goal.returns-in_ok-receive_packet-in-Ok-Some-clause-receives_bytes
+returns-in_ok-receive_packet-in-Ok-Some-clause-receives_bytes c =
     let handed = rw c.in-Ok-Some.field-0-is at c.in-Ok-Some.ensures.packet in
     let left = rw (c.in-Ok-Some.is, c.in-Ok-Some.field-0-is) at c.next.follows.holds-at-none in
-    heard-reply c.args.self.now c.args.link.now c.args.splitter.now c.args.piece.now c.feed.new.self c.in-Ok.taken c.requires.owed c.in-Ok.ensures.taken
+    received-reply c.args.self.now c.args.filter_connection.now c.args.splitter.now c.args.piece.now c.feed.new.self c.in-Ok.taken c.requires.owed c.in-Ok.ensures.taken
     (frame_of c.in-Ok-Some.packet) c.requires.unfinished handed.0 handed.1
     ∙ c.in_ok-receive_packet-in-Ok-Some.ensures.leaves
-    ∙ ap (λ (unread : List ℕ). goes_on (mta_of c.receive_packet.new.self (Some c.receive_packet.new.link) [] unread)) (sym left)
+    ∙ ap (λ (unread : List ℕ). goes_on (mta_of c.receive_packet.new.self (Some c.receive_packet.new.filter_connection) [] unread)) (sym left)
 
-pub returns-in_err-receive_packet-in-Ok-Some-clause-hears : goal.returns-in_err-receive_packet-in-Ok-Some-clause-hears
-returns-in_err-receive_packet-in-Ok-Some-clause-hears c =
+pub returns-in_err-receive_packet-in-Ok-Some-clause-receives_bytes : goal.returns-in_err-receive_packet-in-Ok-Some-clause-receives_bytes
+returns-in_err-receive_packet-in-Ok-Some-clause-receives_bytes c =
     let handed = rw c.in-Ok-Some.field-0-is at c.in-Ok-Some.ensures.packet in
-    let hears : Hears (mta_of c.args.self.now (Some c.args.link.now) [] c.args.splitter.now) c.args.piece.now
+    let receives_bytes : ReceivesBytes (mta_of c.args.self.now (Some c.args.filter_connection.now) [] c.args.splitter.now) c.args.piece.now
     (mta_of c.receive_packet.new.self None [] []) (Err c.in_err-receive_packet-in-Ok-Some.field-0.0) =
-    hears-reply c.args.self.now c.args.link.now c.args.splitter.now c.args.piece.now c.feed.new.self c.in-Ok.taken c.requires.owed c.in-Ok.ensures.taken
+    receives_bytes-reply c.args.self.now c.args.filter_connection.now c.args.splitter.now c.args.piece.now c.feed.new.self c.in-Ok.taken c.requires.owed c.in-Ok.ensures.taken
     (frame_of c.in-Ok-Some.packet) c.receive_packet.new.self c.in_err-receive_packet-in-Ok-Some.field-0.0 c.requires.some c.requires.unfinished handed.0 handed.1
     c.in_err-receive_packet-in-Ok-Some.ensures.leaves in
     search rules

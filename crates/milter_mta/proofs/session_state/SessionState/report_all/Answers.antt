@@ -6,8 +6,8 @@ use Rattle.milter_outcome.specs.declared.loss.By.TheVariants.{Connection}
 use Rattle.milter_outcome.specs.Outcomes.{at_connection}
 use Rattle.milter_mta.specs.declared.session_state.SessionState.{SessionState}
 use Rattle.milter_mta.specs.Accounts.{Accounts}
-use Rattle.milter_mta.specs.Conversations.{with_all_reports, with_state_report}
-use Rattle.milter_mta.specs.Settling.{report}
+use Rattle.milter_mta.specs.CoreParts.{with_all_reports, with_state_report}
+use Rattle.milter_mta.specs.Dispositions.{report}
 use Rattle.milter_mta.proofs.Reported.{one_more, popped}
 use Rattle.milter_mta.proofs.session_state.SessionState.report_all.Goals as goal
 
@@ -16,15 +16,15 @@ loop-acted-preserved-in-Some-next_message c =
     let verdict = c.args.verdict.now in
     let message = c.in-Some-next_message.message in
     let left = c.pop.new.self.items in
-    let ledger = c.next_message.new.self in
-    let state : SessionState = record c.loop-acted.self { ledger = ledger } in
+    let queue = c.next_message.new.self in
+    let state : SessionState = record c.loop-acted.self { queue = queue } in
     let room = c.loop-acted.invariant.0 in
     let count = c.loop-acted.invariant.1 in
     let longer = ap (λ (l : List MailObject). length l) c.in-Some-next_message.ensures.some in
     let spare = ap (λ (l : Accounts). l.spare) c.next_message.ensures.same in
     let reports = ap (λ (l : Accounts). l.reports) c.next_message.ensures.same in
-    let waiting_then = ap (λ (s : SessionState). length s.ledger.waiting) c.report_at_connection.ensures in
-    let spare_then = ap (λ (s : SessionState). s.ledger.spare) c.report_at_connection.ensures in
+    let waiting_then = ap (λ (s : SessionState). length s.queue.waiting) c.report_at_connection.ensures in
+    let spare_then = ap (λ (s : SessionState). s.queue.spare) c.report_at_connection.ensures in
     let all_copies = ap (λ (l : List (List Acted)). length l) c.in-Some.ensures.items in
     let one_less = length-append left (c.in-Some.acted ∷ []) in (
       omega (arith, room, longer, spare, waiting_then, spare_then),
@@ -36,7 +36,7 @@ loop-acted-preserved-in-Some-next_message c =
           let taken = popped acted left c.in-Some.acted equal in (
             ap (with_all_reports acted verdict) c.report_at_connection.ensures
                 ∙ ap (λ (a : List Acted). with_all_reports acted verdict (with_state_report (report a (at_connection verdict message) Connection) state)) taken.1
-                ∙ one_more acted verdict c.loop-acted.self ledger message c.in-Some-next_message.ensures.some reports spare
+                ∙ one_more acted verdict c.loop-acted.self queue message c.in-Some-next_message.ensures.some reports spare
                 ∙ before.0,
             taken.0,
           ),

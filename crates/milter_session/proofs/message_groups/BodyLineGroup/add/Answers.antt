@@ -4,5 +4,5 @@ use Rattle.milter_session.proofs.message_groups.BodyLineGroup.add.Goals as goal
 
 pub returns-clause-found : goal.returns-clause-found
 returns-clause-found c = λ items made.
-    let piece = c.in_ok-piece_in.field-0.now in
-    (piece, c.in_ok-piece_in.ensures.found, c.in_ok-extend_from_slice.ensures.items ∙ ap (λ l. l ++ piece) made ∙ concat_more items piece)
+    let chunk = c.in_ok-chunk_in.field-0.now in
+    (chunk, c.in_ok-chunk_in.ensures.found, c.in_ok-extend_from_slice.ensures.items ∙ ap (λ l. l ++ chunk) made ∙ concat_more items chunk)

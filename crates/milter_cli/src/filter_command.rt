@@ -1,0 +1,83 @@
+//! The subcommand `filter`: a filter's end of connections that are served one after another.
+
+ghost use Rattle.std.specs.Prelude.{OnErr, OnOk};
+ghost use Rattle.milter_exchange.specs.Behavior.{Behavior};
+ghost use Rattle.milter_exchange.specs.declared.command_order.CommandOrder.{CommandOrder};
+ghost use Rattle.milter_filter.specs.declared.served.Served.{Served};
+ghost use Rattle.milter_text.specs.WrittenText.{WritesText};
+ghost use Rattle.milter_cli.specs.FilterRuns.{ServedAll, ServedSome, report_line};
+
+use crate::connection_report::ConnectionReport;
+use milter_filter::{CommandOrder, Policy, Served, serve_in_order};
+use milter_text::{TextFault, write_text};
+use std::alloc::Global;
+use std::io::Write;
+use std::net::TcpListener;
+use std::os::unix::net::UnixListener;
+
+/// Where connections of mail servers come from.
+pub trait Connections {
+    /// Holds of what there is, the order of commands, a policy's behavior, how the next connection may end under it,
+    /// and what there is then. It claims nothing where an impl leaves it out, as of sockets, of which no contract says
+    /// what they give or take.
+    ghost serves: { Self → CommandOrder → Behavior → Served → Self → Type 0 } = { λ _ _ _ _ _. Unit {0} };
+
+    /// Takes one connection and serves it by the policy, in this order of commands. A failed `accept` counts, and is a
+    /// `Served::ReadFault`.
+    fn serve_next<P: Policy>(&mut self, alloc: Global, policy: &P, order: CommandOrder) -> Served
+        ensures { serves self.old order (P.behavior policy.now) result self.new };
+}
+
+impl Connections for TcpListener {
+    fn serve_next<P: Policy>(&mut self, alloc: Global, policy: &P, order: CommandOrder) -> Served {
+        match self.accept() {
+            Ok((stream, _)) => serve_in_order(alloc, policy, order, &mut &stream, &mut &stream),
+            Err(_) => Served::ReadFault,
+        }
+    }
+}
+
+impl Connections for UnixListener {
+    fn serve_next<P: Policy>(&mut self, alloc: Global, policy: &P, order: CommandOrder) -> Served {
+        match self.accept() {
+            Ok((stream, _)) => serve_in_order(alloc, policy, order, &mut &stream, &mut &stream),
+            Err(_) => Served::ReadFault,
+        }
+    }
+}
+
+/// Serves so many connections by the policy in this order of commands, one after another, and writes a line for each as
+/// it ends. It goes on after a connection that failed. It ends early where a line is not written, or where memory is
+/// refused for it; no further connection is taken then.
+pub fn filter_run<P: Policy, C: Connections, W: Write>(
+    alloc: Global,
+    policy: &P,
+    order: CommandOrder,
+    connections: &mut C,
+    count: u32,
+    writer: &mut W,
+) -> Result<(), TextFault>
+    ensures done { OnOk result (ServedAll (λ it. C.serves it order) (P.behavior policy.now) count
+        connections.old connections.new (W.contents writer.old) (W.contents writer.new)) }
+    ensures cut_off { OnErr result (ServedSome (λ it. C.serves it order) (P.behavior policy.now) count
+        connections.old connections.new (W.contents writer.old) (W.contents writer.new)) }
+{
+    for number in 1..=count {
+        let served = connections.serve_next(alloc, policy, order);
+        write_report(alloc, ConnectionReport { number, served }, writer)?;
+    }
+    Ok(())
+}
+
+/// Writes the line of a connection.
+fn write_report<W: Write>(
+    alloc: Global,
+    report: ConnectionReport,
+    writer: &mut W,
+) -> Result<(), TextFault>
+    ensures { WritesText (report_line report.number report.served) (W.contents writer.old) (W.contents writer.new)
+        result }
+{
+    let line = format!(in alloc; "{report}\n")?;
+    write_text(writer, line.as_bytes())
+}

@@ -1,0 +1,97 @@
+//! The packets of a filter's answers.
+
+ghost use Rattle.std.specs.Prelude.{◌≡◌, ◌++◌, All, OnOk, Some, if◌then◌else◌, map};
+ghost use Rattle.std.specs.List.{filter, flat_map};
+ghost use Rattle.milter_message.specs.EditReplies as asked;
+ghost use Rattle.milter_wire.specs.declared.reply.Reply.TheVariants as Reply;
+ghost use Rattle.milter_wire.specs.Reply.{Fits, encoding};
+ghost use Rattle.milter_wire.specs.Verdicts as given;
+ghost use Rattle.milter_exchange.specs.Permitted.{is_permitted, permitted, permitted_verdict};
+ghost use Rattle.milter_exchange.specs.Replies.{replies_of_answer};
+
+use milter_exchange::{Answer, permits, permitted_verdict};
+use milter_message::Edit;
+use milter_wire::codes::SMFIR_CONTINUE;
+use milter_wire::{Negotiated, NoMemory, Verdict};
+use std::alloc::Global;
+
+/// The packet of `Reply::Continue`.
+const CONTINUE: [u8; 5] = [0, 0, 0, 1, SMFIR_CONTINUE];
+
+/// Appends the packets of the answer: of its edits that were negotiated, and of its verdict.
+pub(crate) fn put_answer(
+    alloc: Global,
+    negotiated: &Negotiated,
+    answer: Answer,
+    out: &mut Vec<u8>,
+) -> Result<(), NoMemory>
+    requires edits { All (λ edit. Fits (asked.reply_of edit)) answer.edits }
+    requires verdict { Fits (given.reply_of answer.verdict) }
+    ensures { OnOk result (out.new.items
+        ≡ out.old.items ++ flat_map encoding (replies_of_answer (Some (permitted negotiated.now answer)))) }
+{
+    let Answer { edits, verdict } = answer;
+    put_edits(alloc, negotiated, edits.into_vec(), out)?;
+    put_verdict(alloc, negotiated, verdict, out)
+}
+
+/// Appends the packets of the edits that were negotiated.
+fn put_edits(
+    alloc: Global,
+    negotiated: &Negotiated,
+    edits: Vec<Edit>,
+    out: &mut Vec<u8>,
+) -> Result<(), NoMemory>
+    requires { All (λ edit. Fits (asked.reply_of edit)) edits.items }
+    ensures { OnOk result (out.new.items
+        ≡ out.old.items ++ flat_map encoding (map asked.reply_of (filter (is_permitted negotiated.now) edits.items))) }
+{
+    for edit in edits {
+        put_edit(alloc, negotiated, edit, out)?;
+    }
+    Ok(())
+}
+
+/// Appends the packet of the edit, if it was negotiated.
+fn put_edit(
+    alloc: Global,
+    negotiated: &Negotiated,
+    edit: Edit,
+    out: &mut Vec<u8>,
+) -> Result<(), NoMemory>
+    requires { Fits (asked.reply_of edit) }
+    ensures { OnOk result (out.new.items
+        ≡ (if is_permitted negotiated.now edit then out.old.items ++ encoding (asked.reply_of edit)
+        else out.old.items)) }
+{
+    if !permits(negotiated, &edit) {
+        return Ok(());
+    }
+    edit.into_reply().encode(alloc, out)
+}
+
+/// Appends the packet of the verdict, as it may be sent.
+fn put_verdict(
+    alloc: Global,
+    negotiated: &Negotiated,
+    verdict: Verdict,
+    out: &mut Vec<u8>,
+) -> Result<(), NoMemory>
+    requires { Fits (given.reply_of verdict) }
+    ensures { OnOk result (out.new.items
+        ≡ out.old.items ++ encoding (given.reply_of (permitted_verdict negotiated.now verdict))) }
+{
+    match permitted_verdict(negotiated, verdict) {
+        Verdict::Continue => put_continue(out),
+        other => other.into_reply().encode(alloc, out),
+    }
+}
+
+/// Appends the packet that lets the message go on, which is most of what a filter sends.
+#[tactic(auto, unfolding(milter_stream::specs::Number::number))]
+pub(crate) fn put_continue(out: &mut Vec<u8>) -> Result<(), NoMemory>
+    ensures { OnOk result (out.new.items ≡ out.old.items ++ encoding Reply.Continue) }
+{
+    out.extend_from_slice(&CONTINUE)?;
+    Ok(())
+}

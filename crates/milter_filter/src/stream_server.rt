@@ -1,0 +1,147 @@
+//! A filter's end of a connection over a reader and a writer.
+
+ghost use Rattle.std.specs.Prelude.{◌≡◌, ◌<◌, ◌↔◌, [], IfErr, IfOk, IsTrue, OnOk, length};
+ghost use Rattle.milter_stream.specs.Stream.{IsUnfinished};
+ghost use Rattle.milter_exchange.specs.declared.filter_state.FilterState.TheVariants.{Quit, Serving};
+ghost use Rattle.milter_exchange.specs.declared.command_order.CommandOrder.TheVariants.{Strict};
+ghost use Rattle.milter_filter.specs.Cores.{fresh_core_in};
+ghost use Rattle.milter_filter.specs.ServedConnections.{Serves};
+ghost use Rattle.milter_filter.specs.ServedPieces.{CutOff, PieceServed, Sends};
+
+use crate::filter_core::FilterCore;
+use crate::policy::Policy;
+use crate::served::Served;
+use milter_exchange::{CommandOrder, FilterFault, FilterState};
+use std::alloc::{AllocError, Global};
+use std::io::{Read, Write};
+
+/// The most bytes that are read at once.
+const READ_LEN_MAX: usize = 65_536;
+/// The most reads of one connection.
+const READS_MAX: u64 = 1_073_741_824;
+
+/// The numbers of serving: the most bytes that are read at once, and the most reads of one connection.
+pub fn serving_limits()
+    ensures piece { READ_LEN_MAX ≡ 65536 }
+    ensures reads { READS_MAX ≡ 1073741824 }
+{}
+
+/// Serves one connection: reads what the mail server sends, at most 65,536 bytes at once, and writes what the policy
+/// replies, until the mail server quits, the input ends, or one of the faults of [`Served`]. All replies to what was
+/// read are written before more is read, each write is given all that waits, and no call that failed is made again. It
+/// neither flushes the writer nor closes either end. `Served::Failed` with `FilterFault::NoMemory` comes also where the
+/// memory for the bytes that are read was refused.
+pub fn serve<P: Policy, R: Read, W: Write>(
+    alloc: Global,
+    policy: &P,
+    reader: &mut R,
+    writer: &mut W,
+) -> Served
+    ensures { Serves Strict (P.behavior policy.now) (R.remaining reader.old) (R.remaining reader.new)
+        (W.contents writer.old) (W.contents writer.new) result }
+{
+    serve_in_order(alloc, policy, CommandOrder::Strict, reader, writer)
+}
+
+/// Serves one connection as [`serve`] does, and takes commands in this order.
+pub fn serve_in_order<P: Policy, R: Read, W: Write>(
+    alloc: Global,
+    policy: &P,
+    order: CommandOrder,
+    reader: &mut R,
+    writer: &mut W,
+) -> Served
+    ensures { Serves order (P.behavior policy.now) (R.remaining reader.old) (R.remaining reader.new)
+        (W.contents writer.old) (W.contents writer.new) result }
+{
+    let Ok(mut buffer) = read_buffer(alloc) else {
+        return Served::Failed(FilterFault::NoMemory);
+    };
+    match FilterCore::with_order(alloc, policy, order) {
+        Ok(mut core) => serve_reads(&mut core, buffer.as_mut_slice(), reader, writer),
+        Err(_) => Served::Failed(FilterFault::NoMemory),
+    }
+}
+
+/// A buffer for what is read at once, of 65,536 bytes.
+pub fn read_buffer(alloc: Global) -> Result<Vec<u8>, AllocError>
+    ensures { IfOk result (λ buffer. length buffer.items ≡ READ_LEN_MAX) }
+{
+    vec![in alloc; 0u8; READ_LEN_MAX]
+}
+
+/// Serves a connection of which nothing has come.
+fn serve_reads<P: Policy, R: Read, W: Write>(
+    core: &mut FilterCore<'_, P>,
+    buffer: &mut [u8],
+    reader: &mut R,
+    writer: &mut W,
+) -> Served
+    requires fresh { core.old ≡ fresh_core_in core.old.order_state.order core.old.policy }
+    requires room { 0 < length buffer.old }
+    ensures { Serves core.old.order_state.order (P.behavior core.old.policy) (R.remaining reader.old)
+        (R.remaining reader.new) (W.contents writer.old) (W.contents writer.new) result }
+{
+    for _ in 0..READS_MAX {
+        let Ok(count) = reader.read(buffer) else {
+            return Served::ReadFault;
+        };
+        if count == 0 {
+            return Served::Ended(core.unread());
+        }
+        if let Err(end) = serve_piece(core, &buffer[..count], writer) {
+            return end;
+        }
+        if has_quit(core) {
+            return Served::Quit;
+        }
+    }
+    Served::TurnLimit
+}
+
+/// Whether the mail server has quit.
+fn has_quit<P: Policy>(core: &FilterCore<'_, P>) -> bool
+    ensures { IsTrue result ↔ (core.now.order_state.state ≡ Quit) }
+{
+    matches!(core.state(), FilterState::Quit)
+}
+
+/// Takes a piece of the input and writes all replies to it, or answers how serving ended in it.
+fn serve_piece<P: Policy, W: Write>(
+    core: &mut FilterCore<'_, P>,
+    piece: &[u8],
+    writer: &mut W,
+) -> Result<(), Served>
+    requires stream_server { core.old.order_state.state ≡ Serving }
+    requires nothing_pending { core.old.pending ≡ [] }
+    requires unfinished { IsUnfinished core.old.unread }
+    ensures served { OnOk result (PieceServed (P.behavior core.old.policy) core.old piece.now core.new
+        (W.contents writer.old) (W.contents writer.new)) }
+    ensures cut_off { IfErr result (λ end. CutOff (P.behavior core.old.policy) core.old piece.now
+        (W.contents writer.old) (W.contents writer.new) end) }
+{
+    let mut taken = 0;
+    while taken < piece.len() {
+        match core.feed(&piece[taken..]) {
+            Ok(count) => taken += count,
+            Err(fault) => return Err(Served::Failed(fault)),
+        }
+        if !write_pending(core, writer) {
+            return Err(Served::WriteFault);
+        }
+    }
+    Ok(())
+}
+
+/// Writes what waits to be sent, and answers whether all of it was written.
+fn write_pending<P: Policy, W: Write>(core: &mut FilterCore<'_, P>, writer: &mut W) -> bool
+    ensures { Sends core.old core.new (W.contents writer.old) (W.contents writer.new) result }
+{
+    while !core.pending().is_empty() {
+        match writer.write(core.pending()) {
+            Ok(0) | Err(_) => return false,
+            Ok(count) => core.sent(count),
+        }
+    }
+    true
+}

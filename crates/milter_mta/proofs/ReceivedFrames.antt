@@ -1,0 +1,155 @@
+-- What is received of the bytes of a piece, up to the end of one packet.
+use Rattle.std.proofs.Common.{◌≡◌, ℕ, ◌+◌, true, List, [], ◌∷◌, ◌++◌, length, Option, None, Some, refl, sym, ◌∙◌, ap, subst, append_assoc, append-nil, arith, length-append}
+use Rattle.milter_stream.specs.declared.fault.WireFault.{WireFault}
+use Rattle.milter_stream.specs.Stream.{Frame, IsFrame, IsRest, IsUnfinished, fault_of, first_frame, frame_bytes, length_fault}
+use Rattle.milter_stream.proofs.Frames.{fault_of-valid, first_frame-packet, first_frame-rest}
+use Rattle.milter_stream.proofs.Numbers.{four_bytes}
+use Rattle.milter_stream.proofs.PacketLaws.{packet_cells}
+use Rattle.milter_stream.proofs.StreamLaws.{length_fault-unfinished, prefix-unfinished}
+use Rattle.milter_wire.specs.Frames.{frame_reply}
+use Rattle.milter_outcome.specs.declared.loss.Loss.{Loss}
+use Rattle.milter_outcome.specs.declared.loss.MtaFault.TheVariants.{Wire}
+use Rattle.milter_mta.specs.Mta.{FilterConnection, Mta}
+use Rattle.milter_mta.specs.Replies.{After, at, fails, framed, goes_on, received, received_byte, received_on, unread_is}
+
+-- ---- bytes that begin with no packet
+
+rest_of_unfinished : (bytes : List ℕ) → IsUnfinished bytes → IsRest bytes
+rest_of_unfinished (a ∷ b ∷ c ∷ d ∷ body) u = λ _. u.1
+rest_of_unfinished [] u = tt
+rest_of_unfinished (a ∷ []) u = tt
+rest_of_unfinished (a ∷ b ∷ []) u = tt
+rest_of_unfinished (a ∷ b ∷ c ∷ []) u = tt
+
+no_frame-unfinished : (bytes : List ℕ) → IsUnfinished bytes → first_frame bytes ≡ None
+no_frame-unfinished bytes u = first_frame-rest bytes (rest_of_unfinished bytes u)
+
+-- nor do fewer of them
+unfinished-before : (bytes more : List ℕ) → IsUnfinished (bytes ++ more) → IsUnfinished bytes
+unfinished-before (a ∷ b ∷ c ∷ d ∷ body) more u =
+    let less = u.1 in
+    (u.0, omega (arith, less, length-append body more))
+unfinished-before [] more u = tt
+unfinished-before (a ∷ []) more u = tt
+unfinished-before (a ∷ b ∷ []) more u = tt
+unfinished-before (a ∷ b ∷ c ∷ []) more u = tt
+
+no_frame_there : (first : Frame × List ℕ) (found : Option (Frame × List ℕ)) → found ≡ Some first → found ≡ None → ⊥
+no_frame_there first found some none = cc
+
+first-packet : (bytes : List ℕ) (f : Frame) → IsFrame f → bytes ≡ frame_bytes f → first_frame bytes ≡ Some (f, [])
+first-packet bytes f fits is = ap first_frame (is ∙ sym (append-nil (frame_bytes f))) ∙ first_frame-packet f [] fits
+
+-- a whole packet is no such bytes
+unfinished-no_packet : (bytes : List ℕ) (f : Frame) → IsFrame f → IsUnfinished bytes → bytes ≡ frame_bytes f → ⊥
+unfinished-no_packet bytes f fits u is = no_frame_there (f, []) (first_frame bytes) (first-packet bytes f fits is) (no_frame-unfinished bytes u)
+
+no_fault-packet : (bytes : List ℕ) (f : Frame) → IsFrame f → bytes ≡ frame_bytes f → length_fault bytes ≡ None
+no_fault-packet bytes f fits is =
+    let k = four_bytes (length f.payload + 1) (omega arith) in
+    ap length_fault (is ∙ packet_cells f k) ∙ ap fault_of k.value ∙ fault_of-valid (length f.payload + 1) (omega arith) (omega arith)
+
+-- ---- one byte
+
+abbrev pub with_unread : FilterConnection → List ℕ → FilterConnection
+with_unread filter_connection unread = record filter_connection { unread = unread }
+
+one_byte : (filter_connection : FilterConnection) (m : Mta) (x : ℕ) → filter_connection.owed ≡ true
+    → received_byte (goes_on (at filter_connection m)) x ≡ unread_is filter_connection (filter_connection.unread ++ x ∷ []) (length_fault (filter_connection.unread ++ x ∷ [])) (first_frame (filter_connection.unread ++ x ∷ [])) (at filter_connection m)
+one_byte filter_connection m x owed = rw owed refl
+
+unread_none : (filter_connection : FilterConnection) (m : Mta) (unread : List ℕ) (fault : Option WireFault) (first : Option (Frame × List ℕ)) → fault ≡ None → first ≡ None
+    → unread_is filter_connection unread fault first m ≡ goes_on (at (with_unread filter_connection unread) m)
+unread_none filter_connection m unread fault first f g = rw (f, g) refl
+
+unread_packet : (filter_connection : FilterConnection) (m : Mta) (unread : List ℕ) (fault : Option WireFault) (first : Option (Frame × List ℕ)) (packet : Frame) → fault ≡ None → first ≡ Some (packet, [])
+    → unread_is filter_connection unread fault first m ≡ framed filter_connection.position (frame_reply packet) m
+unread_packet filter_connection m unread fault first packet f g = rw (f, g) refl
+
+unread_fault : (filter_connection : FilterConnection) (m : Mta) (unread : List ℕ) (fault : Option WireFault) (first : Option (Frame × List ℕ)) (is : WireFault) → fault ≡ Some is
+    → unread_is filter_connection unread fault first m ≡ fails (Wire is) m
+unread_fault filter_connection m unread fault first is f = rw f refl
+
+-- ---- more bytes
+
+-- after a loss nothing more is received
+pub lost-stays : (m : Mta) (loss : Loss) (bytes : List ℕ) → received_on (record { mta = m; loss = Some loss }) bytes ≡ record { mta = m; loss = Some loss }
+lost-stays m loss [] = refl
+lost-stays m loss (x ∷ bytes) = lost-stays m loss bytes
+
+-- bytes that begin with no packet are only kept
+pub received-unfinished : (bytes unread : List ℕ) (filter_connection : FilterConnection) (m : Mta) → filter_connection.owed ≡ true → IsUnfinished (unread ++ bytes)
+    → received (at (with_unread filter_connection unread) m) bytes ≡ goes_on (at (with_unread filter_connection (unread ++ bytes)) m)
+received-unfinished [] unread filter_connection m owed u = ap (λ (us : List ℕ). goes_on (at (with_unread filter_connection us) m)) (sym (append-nil unread))
+received-unfinished (x ∷ bytes) unread filter_connection m owed u =
+    let whole : (unread ++ x ∷ []) ++ bytes ≡ unread ++ x ∷ bytes = append_assoc unread (x ∷ []) bytes in
+    let all : IsUnfinished ((unread ++ x ∷ []) ++ bytes) = subst IsUnfinished (sym whole) u in
+    let here = unfinished-before (unread ++ x ∷ []) bytes all in
+    let step : received_byte (goes_on (at (with_unread filter_connection unread) m)) x ≡ goes_on (at (with_unread filter_connection (unread ++ x ∷ [])) m) =
+    one_byte (with_unread filter_connection unread) m x owed
+    ∙ unread_none (with_unread filter_connection unread) (at (with_unread filter_connection unread) m) (unread ++ x ∷ []) _ _ (length_fault-unfinished _ here) (no_frame-unfinished _ here) in
+    ap (λ (after : After). received_on after bytes) step
+    ∙ received-unfinished bytes (unread ++ x ∷ []) filter_connection m owed all
+    ∙ ap (λ (us : List ℕ). goes_on (at (with_unread filter_connection us) m)) whole
+
+-- the last byte of a packet is received after some unread bytes
+pub record ReceivedPacket (filter_connection : FilterConnection) (m : Mta) (f : Frame) (after : After) : Type 0 where
+  pub before : List ℕ
+  pub received_is : after ≡ framed filter_connection.position (frame_reply f) (at (with_unread filter_connection before) m)
+
+pub received-packet : (bytes unread : List ℕ) (filter_connection : FilterConnection) (m : Mta) (f : Frame) → filter_connection.owed ≡ true → IsUnfinished unread → IsFrame f → unread ++ bytes ≡ frame_bytes f
+    → ReceivedPacket filter_connection m f (received (at (with_unread filter_connection unread) m) bytes)
+received-packet [] unread filter_connection m f owed u fits is = absurd (unfinished-no_packet unread f fits u (sym (append-nil unread) ∙ is))
+received-packet (x ∷ []) unread filter_connection m f owed u fits is =
+    record {
+      before = unread;
+      received_is =
+          one_byte (with_unread filter_connection unread) m x owed
+          ∙ unread_packet (with_unread filter_connection unread) (at (with_unread filter_connection unread) m) (unread ++ x ∷ []) _ _ f (no_fault-packet _ f fits is) (first-packet _ f fits is);
+    }
+received-packet (x ∷ y ∷ bytes) unread filter_connection m f owed u fits is =
+    let whole : (unread ++ x ∷ []) ++ y ∷ bytes ≡ unread ++ x ∷ y ∷ bytes = append_assoc unread (x ∷ []) (y ∷ bytes) in
+    let here = prefix-unfinished (unread ++ x ∷ []) (y ∷ bytes) f fits (λ none. absurd cc) (whole ∙ is) in
+    let step : received_byte (goes_on (at (with_unread filter_connection unread) m)) x ≡ goes_on (at (with_unread filter_connection (unread ++ x ∷ [])) m) =
+    one_byte (with_unread filter_connection unread) m x owed
+    ∙ unread_none (with_unread filter_connection unread) (at (with_unread filter_connection unread) m) (unread ++ x ∷ []) _ _ (length_fault-unfinished _ here) (no_frame-unfinished _ here) in
+    let rest = received-packet (y ∷ bytes) (unread ++ x ∷ []) filter_connection m f owed here fits (whole ∙ is) in
+    record { before = rest.before; received_is = ap (λ (after : After). received_on after (y ∷ bytes)) step ∙ rest.received_is }
+
+-- the fault of a length is received with its field's last byte, and what follows is not
+pub record ReceivedFault (filter_connection : FilterConnection) (m : Mta) (f : WireFault) (after : After) : Type 0 where
+  pub before : List ℕ
+  pub received_is : after ≡ fails (Wire f) (at (with_unread filter_connection before) m)
+
+received-fault_here : (bytes unread : List ℕ) (x : ℕ) (filter_connection : FilterConnection) (m : Mta) (f : WireFault) → filter_connection.owed ≡ true → length_fault (unread ++ x ∷ []) ≡ Some f
+    → ReceivedFault filter_connection m f (received (at (with_unread filter_connection unread) m) (x ∷ bytes))
+received-fault_here bytes unread x filter_connection m f owed is =
+    let step : received_byte (goes_on (at (with_unread filter_connection unread) m)) x ≡ fails (Wire f) (at (with_unread filter_connection unread) m) =
+    one_byte (with_unread filter_connection unread) m x owed
+    ∙ unread_fault (with_unread filter_connection unread) (at (with_unread filter_connection unread) m) (unread ++ x ∷ []) _ _ f is in
+    record {
+      before = unread;
+      received_is = ap (λ (after : After). received_on after bytes) step ∙ lost-stays _ _ bytes;
+    }
+
+no_fault_there : (f : WireFault) (found : Option WireFault) → found ≡ Some f → found ≡ None → ⊥
+no_fault_there f found some none = cc
+
+pub received-fault : (bytes unread : List ℕ) (filter_connection : FilterConnection) (m : Mta) (f : WireFault) → filter_connection.owed ≡ true → IsUnfinished unread → length_fault (unread ++ bytes) ≡ Some f
+    → ReceivedFault filter_connection m f (received (at (with_unread filter_connection unread) m) bytes)
+received-fault [] unread filter_connection m f owed u is =
+    absurd (no_fault_there f (length_fault unread) (ap length_fault (sym (append-nil unread)) ∙ is) (length_fault-unfinished unread u))
+received-fault (x ∷ bytes) (a ∷ b ∷ c ∷ d ∷ body) filter_connection m f owed u is = absurd (no_fault_there f (length_fault (a ∷ b ∷ c ∷ d ∷ body)) is u.0)
+received-fault (x ∷ bytes) (a ∷ b ∷ c ∷ []) filter_connection m f owed u is = received-fault_here bytes (a ∷ b ∷ c ∷ []) x filter_connection m f owed is
+received-fault (x ∷ bytes) [] filter_connection m f owed u is =
+    let step = one_byte (with_unread filter_connection []) m x owed ∙ unread_none (with_unread filter_connection []) (at (with_unread filter_connection []) m) (x ∷ []) _ _ refl (no_frame-unfinished (x ∷ []) tt) in
+    let rest = received-fault bytes (x ∷ []) filter_connection m f owed tt is in
+    record { before = rest.before; received_is = ap (λ (after : After). received_on after bytes) step ∙ rest.received_is }
+received-fault (x ∷ bytes) (a ∷ []) filter_connection m f owed u is =
+    let step = one_byte (with_unread filter_connection (a ∷ [])) m x owed ∙ unread_none (with_unread filter_connection (a ∷ [])) (at (with_unread filter_connection (a ∷ [])) m) (a ∷ x ∷ []) _ _ refl (no_frame-unfinished (a ∷ x ∷ []) tt) in
+    let rest = received-fault bytes (a ∷ x ∷ []) filter_connection m f owed tt is in
+    record { before = rest.before; received_is = ap (λ (after : After). received_on after bytes) step ∙ rest.received_is }
+received-fault (x ∷ bytes) (a ∷ b ∷ []) filter_connection m f owed u is =
+    let step = one_byte (with_unread filter_connection (a ∷ b ∷ [])) m x owed ∙ unread_none (with_unread filter_connection (a ∷ b ∷ [])) (at (with_unread filter_connection (a ∷ b ∷ [])) m) (a ∷ b ∷ x ∷ []) _ _ refl (no_frame-unfinished (a ∷ b ∷ x ∷ []) tt) in
+    let rest = received-fault bytes (a ∷ b ∷ x ∷ []) filter_connection m f owed tt is in
+    record { before = rest.before; received_is = ap (λ (after : After). received_on after bytes) step ∙ rest.received_is }
