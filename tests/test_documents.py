@@ -2,7 +2,7 @@
 """Checks the documents against the repository: each block of code in docs/LIBRARY.md, docs/FILTERS.md and
 docs/MAIL_SERVERS.md is lines of its example's program, each link between documents leads to a file, and each clause of
 docs/PROOFS.md and each definition of docs/DEFINITIONS.md is in the crate under which it is listed. And no line of the
-code or of the definitions is too long, but imports.
+code or of the definitions is too long, but imports, and no comment, document or module has a word that is no longer used.
 """
 import glob
 import os
@@ -69,7 +69,7 @@ def definitions():
     """Whether each definition of docs/DEFINITIONS.md stands in the files of specs/ that its row names."""
     crate = None
     for line in text_of('docs/DEFINITIONS.md').splitlines():
-        section = re.match(r'## .*`(milter_\w+)`', line)
+        section = re.match(r'## .*`(\w+)`', line)
         crate = section[1] if section else crate
         cells = line.split(' | ')
         if crate is None or len(cells) != 3 or not line.startswith('| ') or line.startswith('| File'):
@@ -90,10 +90,33 @@ def lines():
         yield '%s: too long: lines %s' % (os.path.relpath(path, TOP), long), not long
 
 
+def vocabulary():
+    """Whether no comment, no document and no module has a word that docs/CONTRIBUTING.md says is no longer used."""
+    table = text_of('docs/CONTRIBUTING.md').split('| No longer | Now |')[1].split('\n\n')[0]
+    cells = [line.split(' | ')[0].strip('| ') for line in table.splitlines() if line.startswith('| ')]
+    words = [word for cell in cells for word in re.sub(r' \(.*\)', '', cell).split(', ')]
+    pattern = re.compile(r'\b(%s)\b' % '|'.join(words), re.IGNORECASE)
+    for path in files_of('*'):
+        comments = ' '.join(re.findall(r'(?m)^\s*(?:///?|//!|--) ?(.*)$', text_of(path)))
+        names = re.sub('_|(?<=[a-z])(?=[A-Z])', ' ', os.path.splitext(os.path.basename(path))[0])
+        found = sorted({match.lower() for match in pattern.findall(comments + '. ' + names)})
+        yield '%s: %s' % (os.path.relpath(path, TOP), found), not found
+    for path in DOCUMENTS:
+        text = text_of(path) if path != 'CHANGELOG.md' else ''
+        if path == 'docs/CONTRIBUTING.md':
+            text = text.replace(table, '')
+        found = sorted({match.lower() for match in pattern.findall(' '.join(text.split()))})
+        yield '%s: %s' % (path, found), not found
+    for path in files_of('*'):
+        name = os.path.splitext(os.path.basename(path))[0]
+        yield '%s: a module is called by what it holds' % os.path.relpath(path, TOP), (
+            path.endswith('.antt') or not name.endswith('ing') or name in ('pending', 'string'))
+
+
 def play_of(check):
     """A play of a check: what it names is wrong where it isn't well."""
     return lambda: (None if is_well else what for what, is_well in check())
 
 
 if __name__ == '__main__':
-    sys.exit(runner.run_all(play_of(check) for check in (blocks, links, clauses, definitions, lines)))
+    sys.exit(runner.run_all(play_of(check) for check in (blocks, links, clauses, definitions, lines, vocabulary)))
