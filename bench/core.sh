@@ -1,12 +1,13 @@
 #!/usr/bin/env bash
 # Measures a mail server's end (`MtaCore`) in memory, alone and beside a filter's end that lets all mail go on
-# (`FilterCore` with `Pass`): crates/milter_pair plays a session file to such a filter, and `milter_test_driver mta`
-# answers each command by itself. A message has ten header fields, and so sixteen commands where its body has 4 KiB, and
-# 176 where it has 10 MiB. A line for each session has the user instructions of a message at both ends, and those at the
-# mail server's end alone. They are callgrind's, without those of a run that reads the session file and sends none of
-# its messages; callgrind counts a copy by `rep movsb` and a clearing by `rep stosb` a byte at a time, so that both are
-# turned off in the C library. Status 1 where a message of a session of 10,000 takes more than 1.1 times what one of a
-# session of 100 takes. It takes valgrind, Python and some minutes. The programs are built first where they have to be.
+# (`FilterCore` with `Pass`): crates/milter_tests_pair plays a session file to such a filter, and `milter_tests_driver
+# mta` answers each command by itself. A message has ten header fields, and so sixteen commands where its body has 4
+# KiB, and 176 where it has 10 MiB. A line for each session has the user instructions of a message at both ends, and
+# those at the mail server's end alone. They are callgrind's, without those of a run that reads the session file and
+# sends none of its messages; callgrind counts a copy by `rep movsb` and a clearing by `rep stosb` a byte at a time, so
+# that both are turned off in the C library. Status 1 where a message of a session of 10,000 takes more than 1.1 times
+# what one of a session of 100 takes. It takes valgrind, Python and some minutes. The programs are built first where
+# they have to be.
 #
 #     bash bench/core.sh
 set -eu
@@ -39,23 +40,23 @@ instructions() {
 # pass PACKETS: what the mail server's end takes for the first packets of the session, and their replies
 pass() {
     { cat "$work/session"; printf '%%%%\nconfig 0 0 tempfail\ndialled\npass %s\n' "$1"; } >"$work/script"
-    instructions milter_test_driver mta <"$work/script"
+    instructions milter_tests_driver mta <"$work/script"
 }
 
 # measure COUNT BODY COMMANDS: prints the line of a session, and leaves `both`, the instructions of both ends
 measure() {
     local alone
     python3 bench/session.py "$1" "$2" >"$work/session"
-    both=$(instructions milter_pair play <"$work/session")
-    both=$(((both - $(instructions milter_pair read <"$work/session")) / $1))
+    both=$(instructions milter_tests_pair play <"$work/session")
+    both=$(((both - $(instructions milter_tests_pair read <"$work/session")) / $1))
     alone=$((($(pass $((OPENING + $1 * $3))) - $(pass "$OPENING")) / $1))
     printf '%6d messages of %8d bytes: %9d, the mail server'"'"'s end alone %9d\n' "$1" "$2" "$both" "$alone"
 }
 
 python3 bench/session.py 1 "$SMALL" >"$work/session"
-program milter_pair read <"$work/session"
+program milter_tests_pair read <"$work/session"
 { cat "$work/session"; printf '%%%%\nconfig 0 0 tempfail\n'; } >"$work/script"
-program milter_test_driver mta <"$work/script"
+program milter_tests_driver mta <"$work/script"
 echo "user instructions of a message:"
 measure 1 "$SMALL" "$SMALL_COMMANDS"
 measure 100 "$SMALL" "$SMALL_COMMANDS"

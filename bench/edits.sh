@@ -1,17 +1,17 @@
 #!/usr/bin/env bash
-# Times `apply` over messages of 10,000 header fields or recipients and 10,000 edits of one kind: `milter_test_driver
+# Times `apply` over messages of 10,000 header fields or recipients and 10,000 edits of one kind: `milter_tests_driver
 # edits` reads a session file and the packets of the edits, decodes them, and applies them. This prints a line for each
 # kind: seconds of processor time (the least of three runs of the program) and the most memory; and the same for lists
 # of edits of 1 MiB of the kinds that cost most. Status 1 where a kind takes more than a second for 10,000 edits. The
 # program is built first where it has to be.
 set -eu
 cd "$(dirname "${BASH_SOURCE[0]}")/.."
-program=$PWD/crates/milter_test_driver/out/milter_test_driver
+program=$PWD/crates/milter_tests_driver/out/milter_tests_driver
 work=$(mktemp -d)
 trap 'rm -rf "$work"' EXIT
 if [ ! -x "$program" ] || [ -n "$(find crates/*/src crates/*/specs -newer "$program" -print -quit)" ]; then
     printf 'client U ""\nhelo ""\nmessage\nsender ""\nrecipient ""\nend\n\0' >"$work/empty"
-    (cd crates/milter_test_driver && rt run -- edits count <"$work/empty") >"$work/log" 2>&1 || {
+    (cd crates/milter_tests_driver && rt run -- edits count <"$work/empty") >"$work/log" 2>&1 || {
         cat "$work/log"
         exit 1
     }

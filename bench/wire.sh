@@ -1,5 +1,5 @@
 #!/usr/bin/env bash
-# Measures what it takes to read and to encode packets, with `milter_test_driver packets`: user instructions for a
+# Measures what it takes to read and to encode packets, with `milter_tests_driver packets`: user instructions for a
 # message of 16 packets, with ten header fields and 4 KiB of body, and MB of packets a second for bodies of 10 MiB,
 # beside a plain copy of the same bytes in the same run. The instructions are callgrind's, without those of a run over
 # the message once; callgrind counts a copy by `rep movsb` a byte at a time, so that this is turned off in the C
@@ -7,11 +7,11 @@
 # proves what it is made of.
 set -eu
 cd "$(dirname "${BASH_SOURCE[0]}")/.."
-(cd crates/milter_test_driver && rt run -- packets split 1 </dev/null >/dev/null 2>&1) || {
-    echo "milter_test_driver was not built: run rt run in crates/milter_test_driver"
+(cd crates/milter_tests_driver && rt run -- packets split 1 </dev/null >/dev/null 2>&1) || {
+    echo "milter_tests_driver was not built: run rt run in crates/milter_tests_driver"
     exit 1
 }
-program=crates/milter_test_driver/out/milter_test_driver
+program=crates/milter_tests_driver/out/milter_tests_driver
 work=$(mktemp -d)
 trap 'rm -rf "$work"' EXIT
 AGAIN=100

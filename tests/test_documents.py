@@ -14,7 +14,7 @@ from lib.programs import TOP
 
 # The documents with code of a crate.
 EXAMPLES = {
-    'docs/LIBRARY.md': 'milter_example', 'docs/FILTERS.md': 'milter_loop_guard', 'docs/MAIL_SERVERS.md': 'milter_pair'}
+    'docs/LIBRARY.md': 'example_mail', 'docs/FILTERS.md': 'example_loop_guard', 'docs/MAIL_SERVERS.md': 'milter_tests_pair'}
 COLUMNS = 120
 DOCUMENTS = ['README.md', 'CHANGELOG.md', 'SECURITY.md', 'cases/README.md', 'cases/tables/README.md'] + sorted(
     os.path.relpath(path, TOP) for path in glob.glob(os.path.join(TOP, 'docs', '*.md')))

@@ -13,12 +13,12 @@ BUILDS = ['', '.by-rattle']
 # What the tests call each program: its crate, and its first words.
 PROGRAMS = {
     'tool': ('milter_tool', []),
-    'loop guard': ('milter_loop_guard', []),
-    'edits': ('milter_test_driver', ['edits', 'text']),
-    'filter faults': ('milter_test_driver', ['faults']),
-    'payloads': ('milter_test_driver', ['packets']),
-    'mail server': ('milter_test_driver', ['mta']),
-    'links': ('milter_test_driver', ['links']),
+    'loop guard': ('example_loop_guard', []),
+    'edits': ('milter_tests_driver', ['edits', 'text']),
+    'filter faults': ('milter_tests_driver', ['faults']),
+    'payloads': ('milter_tests_driver', ['packets']),
+    'mail server': ('milter_tests_driver', ['mta']),
+    'links': ('milter_tests_driver', ['links']),
 }
 
 

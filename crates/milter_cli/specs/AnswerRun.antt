@@ -1,8 +1,8 @@
 -- How answering to a mail server ends.
 use Rattle.std.specs.Prelude.{ℕ, ◌==◌, List, ◌++◌, Result, Ok, Err, codes, decimal, if◌then◌else◌}
-use Rattle.milter_exchange.specs.FilterFault.{filter_fault_number}
-use Rattle.milter_exchange.specs.declared.filter_fault.FilterFault.{FilterFault}
-use Rattle.milter_exchange.specs.declared.filter_fault.FilterFault.TheVariants as faults
+use Rattle.milter_protocol.specs.FilterFault.{filter_fault_number}
+use Rattle.milter_protocol.specs.declared.filter_fault.FilterFault.{FilterFault}
+use Rattle.milter_protocol.specs.declared.filter_fault.FilterFault.TheVariants as faults
 use Rattle.milter_filter.specs.declared.served.Served.{Served}
 use Rattle.milter_filter.specs.declared.served.Served.TheVariants as served
 use Rattle.milter_cli.specs.declared.answer_error.AnswerError.{AnswerError}

@@ -1,8 +1,8 @@
 -- What the serving of connections one after another leaves.
 use Rattle.std.specs.Prelude.{◌≡◌, ℕ, ◌+◌, ◌<◌, List, [], ◌∷◌, ◌++◌, length, Option, codes, decimal}
 use Rattle.std.specs.Io.KnownBytes.{Appends}
-use Rattle.milter_exchange.specs.Behavior.{Behavior}
-use Rattle.milter_exchange.specs.FilterFault.{filter_fault_number}
+use Rattle.milter_protocol.specs.Behavior.{Behavior}
+use Rattle.milter_protocol.specs.FilterFault.{filter_fault_number}
 use Rattle.milter_filter.specs.declared.served.Served.{Served}
 use Rattle.milter_filter.specs.declared.served.Served.TheVariants.{Quit, Ended, Failed, ReadFault, WriteFault}
 use Rattle.milter_filter.specs.declared.served.Served.TheVariants.{TurnLimit}

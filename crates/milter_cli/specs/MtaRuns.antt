@@ -2,11 +2,11 @@
 use Rattle.std.specs.Prelude.{ℕ, List, Option, IfSome}
 use Rattle.std.specs.Io.KnownBytes.{Appends}
 use Rattle.milter_mail.specs.MailSession.{MailSession}
-use Rattle.milter_session.specs.SessionFile.{IsSessionFile}
+use Rattle.milter_mail_file.specs.SessionFile.{IsSessionFile}
 use Rattle.milter_mta.specs.Accounts.{Disposition}
 use Rattle.milter_mta.specs.Mta.{Configuration, fresh}
-use Rattle.milter_converse.specs.ClientRuns.{Converses}
-use Rattle.milter_reports.specs.ReportsText.{reports_text}
+use Rattle.milter_mta_client.specs.ClientRuns.{Converses}
+use Rattle.milter_mta_reports.specs.ReportsText.{reports_text}
 
 -- the file's session was played by a new mail server's end, and its reports were written and nothing else
 pub record PlaysSession (config : Configuration) (before after : Option (List ℕ)) (bytes : List ℕ) : Type 0 where

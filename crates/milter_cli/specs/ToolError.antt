@@ -14,10 +14,10 @@ use Rattle.milter_trace.specs.FaultText.{fault_text}
 use Rattle.milter_cli.specs.declared.tool_error.ToolError.{ToolError}
 use Rattle.milter_cli.specs.declared.tool_error.ToolError.TheVariants.{Usage, Trace, File, Answer}
 use Rattle.milter_cli.specs.declared.tool_error.ToolError.TheVariants.{Connect, Differs, Findings, Listen, Write, NoMemory}
-use Rattle.milter_request.specs.UsageError.{usage_lines}
-use Rattle.milter_service.specs.declared.service_error.ServiceError.{ServiceError}
-use Rattle.milter_service.specs.declared.service_error.ServiceError.TheVariants as services
-use Rattle.milter_request.specs.declared.usage_error.UsageError.TheVariants.{CommandLine, NotUtf8}
+use Rattle.milter_cli_request.specs.UsageError.{usage_lines}
+use Rattle.milter_filter_service.specs.declared.service_error.ServiceError.{ServiceError}
+use Rattle.milter_filter_service.specs.declared.service_error.ServiceError.TheVariants as services
+use Rattle.milter_cli_request.specs.declared.usage_error.UsageError.TheVariants.{CommandLine, NotUtf8}
 
 -- a wrong use of the program, or a fault
 abbrev pub error_status : ToolError → ℕ

@@ -1,6 +1,6 @@
 //! The subcommand `answer`: from what a mail server sends to what a filter replies.
 
-ghost use Rattle.milter_exchange.specs.declared.command_order.CommandOrder.TheVariants.{Strict};
+ghost use Rattle.milter_protocol.specs.declared.command_order.CommandOrder.TheVariants.{Strict};
 ghost use Rattle.milter_filter.specs.ServedConnections.{Serves};
 
 use milter_filter::{Policy, Served, serve};

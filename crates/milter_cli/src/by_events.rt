@@ -2,19 +2,19 @@
 //! memory while the events happen.
 
 ghost use Rattle.std.specs.Prelude.{IfErr, IfOk, OnErr, OnOk};
-ghost use Rattle.milter_events.specs.EventFile.{IsEventFile};
+ghost use Rattle.milter_world_events.specs.EventFile.{IsEventFile};
 ghost use Rattle.milter_world.specs.Reached.{scenario_of};
 ghost use Rattle.milter_cli.specs.FileRun.{Has, HasNone, IsFileFault, IsOf};
 ghost use Rattle.milter_cli.specs.InMemory.{IsRun, WritesAtMost, WritesReports};
 
 use crate::file_error::{FileError, InputFile, fault_error};
 use crate::file_input::read_file;
-use milter_events::read_events;
 use milter_filter::Policy;
 use milter_mail::Session;
 use milter_mta::Config;
-use milter_reports::{PlayFault, write_reports};
+use milter_mta_reports::{PlayFault, write_reports};
 use milter_world::{Event, run};
+use milter_world_events::read_events;
 use std::alloc::Global;
 use std::io::{Read, Write};
 

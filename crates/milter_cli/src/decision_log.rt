@@ -1,8 +1,8 @@
 //! The log of `serve`: a line for each decision that isn't to go on.
 
 use crate::file_error::FileError;
-use milter_exchange::Answer;
 use milter_filter::{Policy, Seen};
+use milter_protocol::Answer;
 use milter_text::{TextFault, TextWriter};
 use milter_wire::{NoMemory, Options, Stage, SymList, Verdict};
 use std::alloc::Global;

@@ -1,8 +1,8 @@
 //! The subcommand `filter`: a filter's end of connections that are served one after another.
 
 ghost use Rattle.std.specs.Prelude.{OnErr, OnOk};
-ghost use Rattle.milter_exchange.specs.Behavior.{Behavior};
-ghost use Rattle.milter_exchange.specs.declared.command_order.CommandOrder.{CommandOrder};
+ghost use Rattle.milter_protocol.specs.Behavior.{Behavior};
+ghost use Rattle.milter_protocol.specs.declared.command_order.CommandOrder.{CommandOrder};
 ghost use Rattle.milter_filter.specs.declared.served.Served.{Served};
 ghost use Rattle.milter_text.specs.WrittenText.{WritesText};
 ghost use Rattle.milter_cli.specs.FilterRuns.{ServedAll, ServedSome, report_line};

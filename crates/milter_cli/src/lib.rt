@@ -1,6 +1,6 @@
 //! What `milter_tool` does: the printing of session files and of rule files, the answering to mail servers over any
 //! reader and writer and over sockets, the playing of sessions to filters over sockets and in memory, and how the
-//! program ends. What it is asked for is read by `milter_request`.
+//! program ends. What it is asked for is read by `milter_cli_request`.
 #![tactic(auto)]
 
 mod answer_command;

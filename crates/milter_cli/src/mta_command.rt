@@ -1,15 +1,15 @@
 //! The subcommand `mta`: from a session file to what becomes of its messages, played to a filter.
 
 ghost use Rattle.std.specs.Prelude.{IfErr, OnOk};
-ghost use Rattle.milter_session.specs.SessionFile.{IsSessionFile};
+ghost use Rattle.milter_mail_file.specs.SessionFile.{IsSessionFile};
 ghost use Rattle.milter_cli.specs.FileRun.{HasNone, IsFileFault, IsOf};
 ghost use Rattle.milter_cli.specs.MtaRuns.{PlaysFile};
 
 use crate::file_error::{FileError, InputFile, text_error};
 use crate::session_run::load_session;
-use milter_converse::{Dial, converse};
 use milter_mta::{Config, MtaCore};
-use milter_reports::write_reports;
+use milter_mta_client::{Dial, converse};
+use milter_mta_reports::write_reports;
 use std::alloc::Global;
 use std::io::{Read, Write};
 

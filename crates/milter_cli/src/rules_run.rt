@@ -2,16 +2,16 @@
 
 ghost use Rattle.std.specs.Prelude.{◌≡◌, IfErr, IfOk, OnOk, false, true};
 ghost use Rattle.milter_rules.specs.RuleFile.{IsRuleFile};
-ghost use Rattle.milter_ruleset.specs.RulesValue.{case_of, rule_set};
-ghost use Rattle.milter_search.specs.declared.text_case.TextCase.TheVariants.{Exact, Ignored};
+ghost use Rattle.milter_filter_rules.specs.RulesValue.{case_of, rule_set};
+ghost use Rattle.milter_filter_search.specs.declared.text_case.TextCase.TheVariants.{Exact, Ignored};
 ghost use Rattle.milter_rules.specs.RulesText.{rules_text};
 ghost use Rattle.milter_cli.specs.FileRun.{Has, HasNone, IsFileFault, IsOf, WritesCanonical};
 
 use crate::file_error::{FileError, InputFile, fault_error, text_error};
 use crate::file_input::read_file;
 use crate::tool_error::{ToolError, output_error};
-use milter_rule_check::check_rules;
 use milter_rules::{Rules, read_rules, write_rules};
+use milter_rules_check::check_rules;
 use std::alloc::Global;
 use std::io::{Read, Write};
 

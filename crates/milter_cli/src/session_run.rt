@@ -1,14 +1,14 @@
 //! The subcommand `session`: from a session file to its canonical form; and the sessions that other subcommands play.
 
 ghost use Rattle.std.specs.Prelude.{IfErr, IfOk, OnOk};
-ghost use Rattle.milter_session.specs.SessionFile.{IsSessionFile};
-ghost use Rattle.milter_session.specs.SessionText.{session_text};
+ghost use Rattle.milter_mail_file.specs.SessionFile.{IsSessionFile};
+ghost use Rattle.milter_mail_file.specs.SessionText.{session_text};
 ghost use Rattle.milter_cli.specs.FileRun.{Has, HasNone, IsFileFault, IsOf, WritesCanonical};
 
 use crate::file_error::{FileError, InputFile, fault_error, text_error};
 use crate::file_input::read_file;
 use milter_mail::Session;
-use milter_session::{read_session, write_session};
+use milter_mail_file::{read_session, write_session};
 use std::alloc::Global;
 use std::io::{Read, Write};
 

@@ -8,8 +8,8 @@ ghost use Rattle.milter_cli.specs.ToolError.{EndsBy, IsShown, argument_error, er
 use crate::answer_error::AnswerError;
 use crate::file_error::FileError;
 use clap::error::ErrorKind;
-use milter_request::UsageError;
-use milter_service::ServiceError;
+use milter_cli_request::UsageError;
+use milter_filter_service::ServiceError;
 use milter_text::TextFault;
 use milter_trace::TraceFault;
 use std::error::Error;

@@ -1,6 +1,6 @@
 //! Connections to a filter that may not listen yet.
 
-use milter_converse::{Dial, DialFault};
+use milter_mta_client::{Dial, DialFault};
 use std::rt::Clock;
 use std::thread;
 use std::time::{Duration, Instant};

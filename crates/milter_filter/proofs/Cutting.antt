@@ -1,20 +1,20 @@
 -- A core goes on by pieces as by the whole.
 use Rattle.std.proofs.Common.{◌≡◌, ◌≢◌, ℕ, List, [], ◌++◌, take, drop, map, Option, None, Some, refl, sym, ◌∙◌, ap, subst, append_assoc, append-nil, flat_map, take-append-drop}
 use Rattle.std.proofs.lemmas.Grind.{flat_map-append}
-use Rattle.milter_stream.specs.declared.fault.WireFault.{WireFault}
-use Rattle.milter_stream.specs.Stream.{Division, IsUnfinished, divide, length_fault}
-use Rattle.milter_stream.proofs.StreamLaws.{divide-append, divide-fault, divide-unfinished, length_fault-fed, length_fault-unfinished}
+use Rattle.milter_wire_stream.specs.declared.fault.WireFault.{WireFault}
+use Rattle.milter_wire_stream.specs.Stream.{Division, IsUnfinished, divide, length_fault}
+use Rattle.milter_wire_stream.proofs.StreamLaws.{divide-append, divide-fault, divide-unfinished, length_fault-fed, length_fault-unfinished}
 use Rattle.milter_wire.specs.Frames.{frame_command}
 use Rattle.milter_wire.specs.Reply.{encoding}
-use Rattle.milter_exchange.specs.Behavior.{Behavior}
-use Rattle.milter_exchange.specs.declared.command_order.CommandOrder.{CommandOrder}
-use Rattle.milter_exchange.specs.declared.filter_fault.FilterFault.{FilterFault}
-use Rattle.milter_exchange.specs.declared.filter_state.FilterState.{FilterState}
-use Rattle.milter_exchange.specs.declared.filter_state.FilterState.TheVariants.{Failed, Quit, Serving}
-use Rattle.milter_exchange.specs.FilterEnds.{Received}
-use Rattle.milter_exchange.specs.OrderStates.{OrderState, fresh_in, order_state_after, order_state_replies}
-use Rattle.milter_exchange.proofs.Lenient.{orders-replies, orders-state}
-use Rattle.milter_exchange.proofs.Going.{order_state_after-append, order_state_replies-append}
+use Rattle.milter_protocol.specs.Behavior.{Behavior}
+use Rattle.milter_protocol.specs.declared.command_order.CommandOrder.{CommandOrder}
+use Rattle.milter_protocol.specs.declared.filter_fault.FilterFault.{FilterFault}
+use Rattle.milter_protocol.specs.declared.filter_state.FilterState.{FilterState}
+use Rattle.milter_protocol.specs.declared.filter_state.FilterState.TheVariants.{Failed, Quit, Serving}
+use Rattle.milter_protocol.specs.FilterEnds.{Received}
+use Rattle.milter_protocol.specs.OrderStates.{OrderState, fresh_in, order_state_after, order_state_replies}
+use Rattle.milter_protocol.proofs.Lenient.{orders-replies, orders-state}
+use Rattle.milter_protocol.proofs.Going.{order_state_after-append, order_state_replies-append}
 use Rattle.milter_filter.specs.Cores.{Core, GivesUp, GoesOn, Takes, fresh_core_in, given_up, unread_after}
 use Rattle.milter_filter.specs.Streams.{filter_end_of, fault_after, read_in, received_in, reply_bytes}
 use Rattle.milter_filter.proofs.Progress.{ended-stays, read-append}

@@ -2,22 +2,22 @@
 use Rattle.std.proofs.Common.{◌≡◌, ◌≢◌, ◌⊎◌, ℕ, suc, ◌+◌, ◌<◌, drop, length-drop, List, [], ◌∷◌, ◌++◌, length, Option, None, Some, Ok, Err, refl, sym, ◌∙◌, ap, inl, inr, flat_map, length-append, arith}
 use Rattle.std.specs.Prelude.{◌==◌, Bool, true}
 use Rattle.std.proofs.lemmas.Bool.{eqb-true}
-use Rattle.milter_stream.specs.Number.{number}
-use Rattle.milter_stream.specs.Stream.{Division, divide}
-use Rattle.milter_stream.proofs.StreamLaws.{divide-append}
+use Rattle.milter_wire_stream.specs.Number.{number}
+use Rattle.milter_wire_stream.specs.Stream.{Division, divide}
+use Rattle.milter_wire_stream.proofs.StreamLaws.{divide-append}
 use Rattle.milter_wire.specs.declared.negotiation.Negotiated.{Negotiated}
 use Rattle.milter_wire.specs.declared.command.Command.{Command}
 use Rattle.milter_wire.specs.declared.command.Command.TheVariants as commands
 use Rattle.milter_wire.specs.declared.reply.Reply.{Reply}
 use Rattle.milter_wire.specs.Reply.{code_of, encoding, payload_of}
-use Rattle.milter_exchange.specs.Behavior.{Behavior}
-use Rattle.milter_exchange.specs.declared.filter_fault.FilterFault.{FilterFault}
-use Rattle.milter_exchange.specs.declared.filter_state.FilterState.{FilterState}
-use Rattle.milter_exchange.specs.declared.filter_state.FilterState.TheVariants.{Failed, Quit, Serving}
-use Rattle.milter_exchange.specs.FilterEnds.{Received, state_after}
+use Rattle.milter_protocol.specs.Behavior.{Behavior}
+use Rattle.milter_protocol.specs.declared.filter_fault.FilterFault.{FilterFault}
+use Rattle.milter_protocol.specs.declared.filter_state.FilterState.{FilterState}
+use Rattle.milter_protocol.specs.declared.filter_state.FilterState.TheVariants.{Failed, Quit, Serving}
+use Rattle.milter_protocol.specs.FilterEnds.{Received, state_after}
 use Rattle.milter_filter.specs.Cores.{EndsAtReplies}
-use Rattle.milter_exchange.specs.Replies.{replies_to}
-use Rattle.milter_exchange.specs.OrderStates.{Part, OrderState, order_state_after, order_state_answer, order_state_before, order_state_by, order_state_fault, order_state_in, order_state_next, order_state_replies, order_state_replies_at, order_state_replies_by, order_state_replies_in}
+use Rattle.milter_protocol.specs.Replies.{replies_to}
+use Rattle.milter_protocol.specs.OrderStates.{Part, OrderState, order_state_after, order_state_answer, order_state_before, order_state_by, order_state_fault, order_state_in, order_state_next, order_state_replies, order_state_replies_at, order_state_replies_by, order_state_replies_in}
 use Rattle.milter_filter.specs.Streams.{IsOnePacketAtMost, read_in}
 use Rattle.milter_filter.proofs.Progress.{Progress, read-append}
 

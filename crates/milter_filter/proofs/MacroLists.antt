@@ -5,10 +5,10 @@ use Rattle.std.specs.Str.{bytes_eq}
 use Rattle.std.proofs.lemmas.List.{reverse-append, take_more}
 use Rattle.std.proofs.lemmas.List.Concat.{flat_map-cons}
 use Rattle.std.proofs.lemmas.List.Elements.{filter-append}
-use Rattle.milter_fields.specs.declared.pair.Pair.{Pair}
-use Rattle.milter_exchange.specs.Seen.{value_in}
-use Rattle.milter_exchange.proofs.Permitting.{filter-again}
-use Rattle.milter_exchange.proofs.Seeing.{value-append}
+use Rattle.milter_wire_fields.specs.declared.pair.Pair.{Pair}
+use Rattle.milter_protocol.specs.Seen.{value_in}
+use Rattle.milter_protocol.proofs.Permitting.{filter-again}
+use Rattle.milter_protocol.proofs.Seeing.{value-append}
 use Rattle.milter_filter.specs.declared.macro_list.MacroGroup.{MacroGroup}
 use Rattle.milter_filter.specs.MacroLists.{macros_of, macros_with, pairs_of, stays}
 

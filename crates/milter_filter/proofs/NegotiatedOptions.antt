@@ -2,18 +2,18 @@
 use Rattle.std.proofs.Common.{◌≡◌, ◌+◌, ◌≤◌, Bool, true, false, List, [], ◌++◌, length, arith, length-append, flat_map, if◌then◌else◌}
 use Rattle.std.proofs.lemmas.Nat.{and_le_l}
 use Rattle.std.proofs.lemmas.List.Elements.{All-nil}
-use Rattle.milter_stream.specs.declared.number.TheConstants.{PAYLOAD_MAX}
-use Rattle.milter_stream.specs.Number.{number}
-use Rattle.milter_stream.proofs.Numbers.{length-number}
-use Rattle.milter_options.specs.declared.options.Options.{Options}
-use Rattle.milter_options.specs.declared.options.TheConstants.Actions.{SETSYMLIST}
-use Rattle.milter_options.specs.Negotiation.{common}
+use Rattle.milter_wire_stream.specs.declared.number.TheConstants.{PAYLOAD_MAX}
+use Rattle.milter_wire_stream.specs.Number.{number}
+use Rattle.milter_wire_stream.proofs.Numbers.{length-number}
+use Rattle.milter_wire_options.specs.declared.options.Options.{Options}
+use Rattle.milter_wire_options.specs.declared.options.TheConstants.Actions.{SETSYMLIST}
+use Rattle.milter_wire_options.specs.Negotiation.{common}
 use Rattle.milter_wire.specs.declared.reply.Reply.TheVariants as replies
-use Rattle.milter_options.specs.declared.symbol_lists.SymList.{SymList}
+use Rattle.milter_wire_options.specs.declared.symbol_lists.SymList.{SymList}
 use Rattle.milter_wire.specs.Negotiation.{negotiate, has_bit}
-use Rattle.milter_options.specs.Payload.{OptionsFit, SymListFits, options_with_lists, sym_list}
+use Rattle.milter_wire_options.specs.Payload.{OptionsFit, SymListFits, options_with_lists, sym_list}
 use Rattle.milter_wire.specs.Reply.{Fits}
-use Rattle.milter_exchange.specs.Replies.{options_reply}
+use Rattle.milter_protocol.specs.Replies.{options_reply}
 
 lists-len : (o : Options) (lists : List SymList) → length (options_with_lists o lists) ≡ 12 + length (flat_map sym_list lists)
 lists-len o lists =

@@ -1,10 +1,10 @@
 -- The command of a packet.
 use Rattle.std.proofs.Common.{◌≡◌, ◌≢◌, if◌then◌else◌, [], ℕ, ◌+◌, ◌<◌, Bool, true, false, List, ◌∷◌, Option, None, Some, Result, Ok, Err, length, get_or, refl, sym, ◌∙◌, ap, arith, length-append, IfOk}
-use Rattle.milter_stream.specs.declared.fault.WireFault.{WireFault}
-use Rattle.milter_stream.specs.Number.{number}
-use Rattle.milter_stream.specs.Packet.{packet}
-use Rattle.milter_stream.specs.Stream.{Frame, IsFrame}
-use Rattle.milter_stream.proofs.Numbers.{length-number}
+use Rattle.milter_wire_stream.specs.declared.fault.WireFault.{WireFault}
+use Rattle.milter_wire_stream.specs.Number.{number}
+use Rattle.milter_wire_stream.specs.Packet.{packet}
+use Rattle.milter_wire_stream.specs.Stream.{Frame, IsFrame}
+use Rattle.milter_wire_stream.proofs.Numbers.{length-number}
 use Rattle.milter_wire.specs.declared.command.Command.{Command}
 use Rattle.milter_wire.specs.Command.{IsEncodedAs, command_in, encoding, is_code}
 use Rattle.milter_wire.specs.declared.command_ref.CommandRef.{CommandRef}
@@ -15,16 +15,16 @@ use Rattle.milter_wire.proofs.CommandGrammar.{commands_read}
 use Rattle.milter_wire.specs.declared.negotiation.Negotiated.{Negotiated}
 use Rattle.milter_wire.specs.declared.command.Command.TheVariants.{Abort}
 use Rattle.milter_wire.specs.declared.reply.Reply.{Reply}
-use Rattle.milter_exchange.specs.declared.command_order.CommandOrder.{CommandOrder}
-use Rattle.milter_exchange.specs.declared.command_order.CommandOrder.TheVariants.{Lenient, Strict}
-use Rattle.milter_exchange.specs.Aborts.{needs_abort}
-use Rattle.milter_exchange.specs.Behavior.{Behavior}
-use Rattle.milter_exchange.specs.declared.filter_fault.FilterFault.{FilterFault}
-use Rattle.milter_exchange.specs.declared.filter_state.FilterState.TheVariants.{Failed, Quit, Serving}
-use Rattle.milter_exchange.specs.Commands.{is_quit}
-use Rattle.milter_exchange.specs.FilterEnds.{Received}
-use Rattle.milter_exchange.specs.Faults.{fault_of}
-use Rattle.milter_exchange.specs.OrderStates.{OrderState, after_message, nothing_kept, order_state_before, order_state_by, order_state_fault, order_state_in, order_state_next, order_state_replies_at, order_state_replies_by, order_state_replies_in}
+use Rattle.milter_protocol.specs.declared.command_order.CommandOrder.{CommandOrder}
+use Rattle.milter_protocol.specs.declared.command_order.CommandOrder.TheVariants.{Lenient, Strict}
+use Rattle.milter_protocol.specs.Aborts.{needs_abort}
+use Rattle.milter_protocol.specs.Behavior.{Behavior}
+use Rattle.milter_protocol.specs.declared.filter_fault.FilterFault.{FilterFault}
+use Rattle.milter_protocol.specs.declared.filter_state.FilterState.TheVariants.{Failed, Quit, Serving}
+use Rattle.milter_protocol.specs.Commands.{is_quit}
+use Rattle.milter_protocol.specs.FilterEnds.{Received}
+use Rattle.milter_protocol.specs.Faults.{fault_of}
+use Rattle.milter_protocol.specs.OrderStates.{OrderState, after_message, nothing_kept, order_state_before, order_state_by, order_state_fault, order_state_in, order_state_next, order_state_replies_at, order_state_replies_by, order_state_replies_in}
 
 value-found : (code : ℕ) (known : Bool) (read : Option Command) (c : Command) → value_or_fault code known read ≡ Ok c → read ≡ Some c
 value-found code false read c e = absurd cc

@@ -1,22 +1,22 @@
 -- A stream of one packet, and one that begins with a packet or a fault.
 use Rattle.std.proofs.Common.{◌≡◌, ℕ, false, if◌then◌else◌, List, [], ◌∷◌, ◌++◌, take, drop, map, Option, None, Some, Ok, Err, refl, sym, ◌∙◌, ap, append-nil, inl, inr}
-use Rattle.milter_stream.specs.declared.fault.WireFault.{WireFault}
-use Rattle.milter_stream.specs.Stream.{Division, Frame, IsFrame, IsUnfinished, divide, first_frame, frame_bytes, length_fault, with_frame}
-use Rattle.milter_stream.proofs.Division.{divide-first}
-use Rattle.milter_stream.proofs.Frames.{first_frame-packet}
-use Rattle.milter_stream.proofs.StreamLaws.{divide-fault, divide-handed, divide-nil, divide-unfinished, length_fault-fed}
+use Rattle.milter_wire_stream.specs.declared.fault.WireFault.{WireFault}
+use Rattle.milter_wire_stream.specs.Stream.{Division, Frame, IsFrame, IsUnfinished, divide, first_frame, frame_bytes, length_fault, with_frame}
+use Rattle.milter_wire_stream.proofs.Division.{divide-first}
+use Rattle.milter_wire_stream.proofs.Frames.{first_frame-packet}
+use Rattle.milter_wire_stream.proofs.StreamLaws.{divide-fault, divide-handed, divide-nil, divide-unfinished, length_fault-fed}
 use Rattle.milter_wire.specs.Frames.{frame_command}
 use Rattle.milter_wire.specs.declared.negotiation.Negotiated.{Negotiated}
 use Rattle.milter_wire.specs.declared.command.Command.TheVariants.{Abort}
-use Rattle.milter_exchange.specs.declared.command_order.CommandOrder.{CommandOrder}
-use Rattle.milter_exchange.specs.declared.command_order.CommandOrder.TheVariants.{Lenient, Strict}
-use Rattle.milter_exchange.specs.Aborts.{needs_abort}
-use Rattle.milter_exchange.specs.Behavior.{Behavior}
-use Rattle.milter_exchange.specs.declared.filter_fault.FilterFault.{FilterFault}
-use Rattle.milter_exchange.specs.declared.filter_fault.FilterFault.TheVariants.{Wire}
-use Rattle.milter_exchange.specs.declared.filter_state.FilterState.TheVariants.{Failed, Serving}
-use Rattle.milter_exchange.specs.FilterEnds.{Received}
-use Rattle.milter_exchange.specs.OrderStates.{OrderState, nothing_kept, order_state_after, order_state_before, order_state_in, order_state_next, order_state_replies, order_state_replies_at, order_state_replies_in}
+use Rattle.milter_protocol.specs.declared.command_order.CommandOrder.{CommandOrder}
+use Rattle.milter_protocol.specs.declared.command_order.CommandOrder.TheVariants.{Lenient, Strict}
+use Rattle.milter_protocol.specs.Aborts.{needs_abort}
+use Rattle.milter_protocol.specs.Behavior.{Behavior}
+use Rattle.milter_protocol.specs.declared.filter_fault.FilterFault.{FilterFault}
+use Rattle.milter_protocol.specs.declared.filter_fault.FilterFault.TheVariants.{Wire}
+use Rattle.milter_protocol.specs.declared.filter_state.FilterState.TheVariants.{Failed, Serving}
+use Rattle.milter_protocol.specs.FilterEnds.{Received}
+use Rattle.milter_protocol.specs.OrderStates.{OrderState, nothing_kept, order_state_after, order_state_before, order_state_in, order_state_next, order_state_replies, order_state_replies_at, order_state_replies_in}
 use Rattle.milter_filter.specs.Cores.{GivesUp}
 use Rattle.milter_filter.specs.AnswerPackets.{Replying, replying_after, replying_next}
 use Rattle.milter_filter.specs.Streams.{IsOnePacketAtMost, fault_after, read_in, received_in}

@@ -2,22 +2,22 @@
 use Rattle.std.proofs.Common.{◌≡◌, ◌≢◌, ℕ, ◌+◌, ◌<◌, Bool, true, false, Ok, if◌then◌else◌, List, [], ◌∷◌, ◌++◌, length, take, take-add, drop, map, refl, sym, ◌∙◌, ap, subst, append_assoc, append-nil, flat_map, take_all, arith}
 use Rattle.std.proofs.lemmas.Grind.{flat_map-append}
 use Rattle.std.proofs.lemmas.List.{map-append, take-append-drop}
-use Rattle.milter_stream.specs.Stream.{Division, IsUnfinished, divide, length_fault}
-use Rattle.milter_stream.proofs.StreamLaws.{divide-append, divide-unfinished}
+use Rattle.milter_wire_stream.specs.Stream.{Division, IsUnfinished, divide, length_fault}
+use Rattle.milter_wire_stream.proofs.StreamLaws.{divide-append, divide-unfinished}
 use Rattle.milter_wire.specs.Frames.{frame_command}
 use Rattle.milter_wire.specs.Reply.{encoding}
 use Rattle.milter_wire.specs.declared.command.Command.TheVariants.{Abort}
-use Rattle.milter_exchange.specs.Aborts.{needs_abort}
-use Rattle.milter_exchange.specs.Behavior.{Behavior}
-use Rattle.milter_exchange.specs.declared.filter_fault.FilterFault.{FilterFault}
-use Rattle.milter_exchange.specs.declared.filter_state.FilterState.{FilterState}
-use Rattle.milter_exchange.specs.declared.filter_state.FilterState.TheVariants.{Failed, Quit, Serving}
-use Rattle.milter_exchange.specs.FilterEnds.{Received}
-use Rattle.milter_exchange.specs.OrderStates.{OrderState, order_state_after, order_state_in, order_state_next, order_state_replies, order_state_replies_at, order_state_replies_in}
+use Rattle.milter_protocol.specs.Aborts.{needs_abort}
+use Rattle.milter_protocol.specs.Behavior.{Behavior}
+use Rattle.milter_protocol.specs.declared.filter_fault.FilterFault.{FilterFault}
+use Rattle.milter_protocol.specs.declared.filter_state.FilterState.{FilterState}
+use Rattle.milter_protocol.specs.declared.filter_state.FilterState.TheVariants.{Failed, Quit, Serving}
+use Rattle.milter_protocol.specs.FilterEnds.{Received}
+use Rattle.milter_protocol.specs.OrderStates.{OrderState, order_state_after, order_state_in, order_state_next, order_state_replies, order_state_replies_at, order_state_replies_in}
 use Rattle.milter_filter.specs.Cores.{Core, GivesUp, Takes}
 use Rattle.milter_filter.specs.AnswerPackets.{Replying, TakesBytes}
 use Rattle.milter_filter.specs.Streams.{fault_after, read_in, received_in}
-use Rattle.milter_exchange.proofs.Going.{order_state_after-append, order_state_replies-append}
+use Rattle.milter_protocol.proofs.Going.{order_state_after-append, order_state_replies-append}
 
 -- what was made of the first bytes
 pub record Progress (b : Behavior) (s : OrderState) (bytes : List ℕ) (new : OrderState) (unread : List ℕ) (out : List ℕ) : Type 0 where

@@ -2,13 +2,13 @@
 use Rattle.std.proofs.Common.{◌≡◌, ◌≢◌, ℕ, List, [], ◌++◌, length, take, drop, Bool, true, false, Option, refl, sym, ◌∙◌, ap, subst, append_assoc, append-nil, take-append-drop}
 use Rattle.std.specs.Io.KnownBytes.{Appends, Consumes, IsAtEnd, Keeps}
 use Rattle.std.proofs.KnownBytes.{Appends-kept, Appends-nil, Appends-trans, Consumes-kept, Consumes-nil, Consumes-trans}
-use Rattle.milter_stream.specs.Stream.{IsUnfinished, divide}
-use Rattle.milter_exchange.specs.Behavior.{Behavior}
-use Rattle.milter_exchange.specs.declared.command_order.CommandOrder.{CommandOrder}
-use Rattle.milter_exchange.specs.declared.filter_fault.FilterFault.{FilterFault}
-use Rattle.milter_exchange.specs.declared.filter_state.FilterState.{FilterState}
-use Rattle.milter_exchange.specs.declared.filter_state.FilterState.TheVariants.{Failed, Quit, Serving}
-use Rattle.milter_exchange.specs.OrderStates.{OrderState}
+use Rattle.milter_wire_stream.specs.Stream.{IsUnfinished, divide}
+use Rattle.milter_protocol.specs.Behavior.{Behavior}
+use Rattle.milter_protocol.specs.declared.command_order.CommandOrder.{CommandOrder}
+use Rattle.milter_protocol.specs.declared.filter_fault.FilterFault.{FilterFault}
+use Rattle.milter_protocol.specs.declared.filter_state.FilterState.{FilterState}
+use Rattle.milter_protocol.specs.declared.filter_state.FilterState.TheVariants.{Failed, Quit, Serving}
+use Rattle.milter_protocol.specs.OrderStates.{OrderState}
 use Rattle.milter_filter.specs.declared.served.Served.{Served}
 use Rattle.milter_filter.specs.declared.served.Served.TheVariants as ends
 use Rattle.milter_filter.specs.Cores.{Core, GivesUp, GoesOn, Takes, fresh_core_in, given_up}

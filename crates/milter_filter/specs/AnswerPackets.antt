@@ -1,18 +1,18 @@
 -- What a filter's end replies, by its policy and by what is kept of a connection.
 use Rattle.std.specs.Prelude.{◌≡◌, ◌≢◌, ◌≤◌, ◌<◌, ℕ, List, [], ◌++◌, length, take, None, Ok}
 use Rattle.std.specs.List.{flat_map}
-use Rattle.milter_stream.specs.Number.{IsBytes}
-use Rattle.milter_stream.specs.Stream.{IsUnfinished, divide}
+use Rattle.milter_wire_stream.specs.Number.{IsBytes}
+use Rattle.milter_wire_stream.specs.Stream.{IsUnfinished, divide}
 use Rattle.milter_wire.specs.declared.command.Command.{Command}
 use Rattle.milter_wire.specs.declared.reply.Reply.{Reply}
 use Rattle.milter_wire.specs.Reply.{encoding}
-use Rattle.milter_exchange.specs.Behavior.{Behavior}
-use Rattle.milter_exchange.specs.declared.command_order.CommandOrder.{CommandOrder}
-use Rattle.milter_exchange.specs.declared.filter_fault.FilterFault.{FilterFault}
-use Rattle.milter_exchange.specs.declared.filter_fault.FilterFault.TheVariants.{NoMemory}
-use Rattle.milter_exchange.specs.declared.filter_state.FilterState.TheVariants.{Failed, Serving}
-use Rattle.milter_exchange.specs.FilterEnds.{Received}
-use Rattle.milter_exchange.specs.OrderStates.{OrderState, fresh_in, nothing_kept, order_state_after, order_state_by, order_state_next, order_state_replies, order_state_replies_at, order_state_replies_by}
+use Rattle.milter_protocol.specs.Behavior.{Behavior}
+use Rattle.milter_protocol.specs.declared.command_order.CommandOrder.{CommandOrder}
+use Rattle.milter_protocol.specs.declared.filter_fault.FilterFault.{FilterFault}
+use Rattle.milter_protocol.specs.declared.filter_fault.FilterFault.TheVariants.{NoMemory}
+use Rattle.milter_protocol.specs.declared.filter_state.FilterState.TheVariants.{Failed, Serving}
+use Rattle.milter_protocol.specs.FilterEnds.{Received}
+use Rattle.milter_protocol.specs.OrderStates.{OrderState, fresh_in, nothing_kept, order_state_after, order_state_by, order_state_next, order_state_replies, order_state_replies_at, order_state_replies_by}
 use Rattle.milter_filter.specs.Cores.{EndsAtReplies, GivesUp, unread_after}
 use Rattle.milter_filter.specs.Streams.{read_in, received_in}
 

@@ -1,18 +1,18 @@
 -- What a filter's core is to its callers.
 use Rattle.std.specs.Prelude.{◌≡◌, ◌≢◌, ◌≤◌, ◌<◌, ℕ, List, [], ◌∷◌, ◌++◌, length, take}
 use Rattle.std.specs.List.{flat_map}
-use Rattle.milter_stream.specs.declared.fault.WireFault.{WireFault}
-use Rattle.milter_stream.specs.declared.fault.WireFault.TheVariants.{ZeroLength, TooLong}
-use Rattle.milter_stream.specs.Number.{number}
-use Rattle.milter_stream.specs.Stream.{IsUnfinished, divide}
+use Rattle.milter_wire_stream.specs.declared.fault.WireFault.{WireFault}
+use Rattle.milter_wire_stream.specs.declared.fault.WireFault.TheVariants.{ZeroLength, TooLong}
+use Rattle.milter_wire_stream.specs.Number.{number}
+use Rattle.milter_wire_stream.specs.Stream.{IsUnfinished, divide}
 use Rattle.milter_wire.specs.Reply.{encoding}
-use Rattle.milter_exchange.specs.Behavior.{Behavior}
-use Rattle.milter_exchange.specs.declared.command_order.CommandOrder.{CommandOrder}
-use Rattle.milter_exchange.specs.declared.filter_fault.FilterFault.{FilterFault}
-use Rattle.milter_exchange.specs.declared.filter_fault.FilterFault.TheVariants.{Wire}
-use Rattle.milter_exchange.specs.declared.filter_state.FilterState.TheVariants.{Failed, Quit, Serving}
-use Rattle.milter_exchange.specs.FilterEnds.{Received}
-use Rattle.milter_exchange.specs.OrderStates.{OrderState, fresh, fresh_in, nothing_kept, order_state_after, order_state_replies}
+use Rattle.milter_protocol.specs.Behavior.{Behavior}
+use Rattle.milter_protocol.specs.declared.command_order.CommandOrder.{CommandOrder}
+use Rattle.milter_protocol.specs.declared.filter_fault.FilterFault.{FilterFault}
+use Rattle.milter_protocol.specs.declared.filter_fault.FilterFault.TheVariants.{Wire}
+use Rattle.milter_protocol.specs.declared.filter_state.FilterState.TheVariants.{Failed, Quit, Serving}
+use Rattle.milter_protocol.specs.FilterEnds.{Received}
+use Rattle.milter_protocol.specs.OrderStates.{OrderState, fresh, fresh_in, nothing_kept, order_state_after, order_state_replies}
 use Rattle.milter_filter.specs.Streams.{read_in, received_in}
 
 -- its policy, what is kept of the connection, the bytes that were taken and not handed out, and those that wait to be

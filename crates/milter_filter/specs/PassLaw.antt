@@ -2,15 +2,15 @@
 use Rattle.std.specs.Prelude.{◌≤◌, [], length, refl}
 use Rattle.std.proofs.Common.{arith}
 use Rattle.std.proofs.lemmas.List.Elements.{All-nil}
-use Rattle.milter_stream.specs.declared.number.TheConstants.{PAYLOAD_MAX}
-use Rattle.milter_stream.specs.Number.{number}
+use Rattle.milter_wire_stream.specs.declared.number.TheConstants.{PAYLOAD_MAX}
+use Rattle.milter_wire_stream.specs.Number.{number}
 use Rattle.milter_wire.specs.declared.reply.Reply.TheVariants as replies
-use Rattle.milter_options.specs.Payload.{SymListFits, options_with_lists}
+use Rattle.milter_wire_options.specs.Payload.{SymListFits, options_with_lists}
 use Rattle.milter_wire.specs.Reply.{Fits}
 use Rattle.milter_message.specs.declared.edit.Edit.{Edit}
 use Rattle.milter_message.specs.EditReplies.{reply_of}
-use Rattle.milter_exchange.specs.Lawful.{IsLawful, WantsWithin}
-use Rattle.milter_exchange.specs.Pass.{pass}
+use Rattle.milter_protocol.specs.Lawful.{IsLawful, WantsWithin}
+use Rattle.milter_protocol.specs.Pass.{pass}
 
 options_len : length (options_with_lists pass.wants []) ≤ PAYLOAD_MAX
 unfolding number

@@ -1,12 +1,12 @@
 -- What serving a connection does to a reader and a writer.
 use Rattle.std.specs.Prelude.{◌≡◌, ◌≢◌, ℕ, List, ◌++◌, length, Option}
 use Rattle.std.specs.Io.KnownBytes.{Appends, Consumes, IsAtEnd}
-use Rattle.milter_stream.specs.Stream.{divide}
-use Rattle.milter_exchange.specs.Behavior.{Behavior}
-use Rattle.milter_exchange.specs.declared.command_order.CommandOrder.{CommandOrder}
-use Rattle.milter_exchange.specs.declared.filter_fault.FilterFault.TheVariants.{NoMemory}
-use Rattle.milter_exchange.specs.declared.filter_state.FilterState.{FilterState}
-use Rattle.milter_exchange.specs.declared.filter_state.FilterState.TheVariants as states
+use Rattle.milter_wire_stream.specs.Stream.{divide}
+use Rattle.milter_protocol.specs.Behavior.{Behavior}
+use Rattle.milter_protocol.specs.declared.command_order.CommandOrder.{CommandOrder}
+use Rattle.milter_protocol.specs.declared.filter_fault.FilterFault.TheVariants.{NoMemory}
+use Rattle.milter_protocol.specs.declared.filter_state.FilterState.{FilterState}
+use Rattle.milter_protocol.specs.declared.filter_state.FilterState.TheVariants as states
 use Rattle.milter_filter.specs.declared.served.Served.{Served}
 use Rattle.milter_filter.specs.declared.served.Served.TheVariants.{Quit, Ended, Failed, ReadFault, WriteFault, TurnLimit}
 use Rattle.milter_filter.specs.Streams.{filter_end_of, reply_bytes}

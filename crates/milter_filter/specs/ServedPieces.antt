@@ -1,10 +1,10 @@
 -- What serving one piece of the input does, of which the contract of serving a connection is made.
 use Rattle.std.specs.Prelude.{◌≡◌, ◌≢◌, ℕ, Bool, true, List, [], ◌++◌, Option}
 use Rattle.std.specs.Io.KnownBytes.{Appends}
-use Rattle.milter_exchange.specs.Behavior.{Behavior}
-use Rattle.milter_exchange.specs.declared.filter_fault.FilterFault.{FilterFault as Fault}
-use Rattle.milter_exchange.specs.declared.filter_fault.FilterFault.TheVariants.{NoMemory}
-use Rattle.milter_exchange.specs.declared.filter_state.FilterState.TheVariants as states
+use Rattle.milter_protocol.specs.Behavior.{Behavior}
+use Rattle.milter_protocol.specs.declared.filter_fault.FilterFault.{FilterFault as Fault}
+use Rattle.milter_protocol.specs.declared.filter_fault.FilterFault.TheVariants.{NoMemory}
+use Rattle.milter_protocol.specs.declared.filter_state.FilterState.TheVariants as states
 use Rattle.milter_filter.specs.declared.served.Served.{Served}
 use Rattle.milter_filter.specs.declared.served.Served.TheVariants.{Failed, WriteFault}
 use Rattle.milter_filter.specs.Cores.{Core, GoesOn, given_up}

@@ -6,11 +6,11 @@ ghost use Rattle.milter_message.specs.EditReplies as asked;
 ghost use Rattle.milter_wire.specs.declared.reply.Reply.TheVariants as Reply;
 ghost use Rattle.milter_wire.specs.Reply.{Fits, encoding};
 ghost use Rattle.milter_wire.specs.Verdicts as given;
-ghost use Rattle.milter_exchange.specs.Permitted.{is_permitted, permitted, permitted_verdict};
-ghost use Rattle.milter_exchange.specs.Replies.{replies_of_answer};
+ghost use Rattle.milter_protocol.specs.Permitted.{is_permitted, permitted, permitted_verdict};
+ghost use Rattle.milter_protocol.specs.Replies.{replies_of_answer};
 
-use milter_exchange::{Answer, permits, permitted_verdict};
 use milter_message::Edit;
+use milter_protocol::{Answer, permits, permitted_verdict};
 use milter_wire::codes::SMFIR_CONTINUE;
 use milter_wire::{Negotiated, NoMemory, Verdict};
 use std::alloc::Global;
@@ -88,7 +88,7 @@ fn put_verdict(
 }
 
 /// Appends the packet that lets the message go on, which is most of what a filter sends.
-#[tactic(auto, unfolding(milter_stream::specs::Number::number))]
+#[tactic(auto, unfolding(milter_wire_stream::specs::Number::number))]
 pub(crate) fn put_continue(out: &mut Vec<u8>) -> Result<(), NoMemory>
     ensures { OnOk result (out.new.items ≡ out.old.items ++ encoding Reply.Continue) }
 {

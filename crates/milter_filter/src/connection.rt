@@ -4,17 +4,17 @@ ghost use Rattle.std.specs.Prelude.{◌≡◌, ◌≤◌, ◌+◌, ◌↔◌, []
 ghost use Rattle.std.specs.Option.{option_copied};
 ghost use Rattle.milter_wire.specs.Command.{encoding};
 ghost use Rattle.milter_wire.specs.BorrowedCommand.{command_of};
-ghost use Rattle.milter_exchange.specs.Commands.{is_shown};
-ghost use Rattle.milter_exchange.specs.Faults.{fault_in_message, fault_of};
-ghost use Rattle.milter_exchange.specs.Aborts.{needs_abort};
+ghost use Rattle.milter_protocol.specs.Commands.{is_shown};
+ghost use Rattle.milter_protocol.specs.Faults.{fault_in_message, fault_of};
+ghost use Rattle.milter_protocol.specs.Aborts.{needs_abort};
 ghost use Rattle.milter_filter.specs.Cores.{unread_after};
-ghost use Rattle.milter_exchange.specs.OrderStates.{after_client, after_message, after_options, fresh_in, nothing_kept, with_shown};
+ghost use Rattle.milter_protocol.specs.OrderStates.{after_client, after_message, after_options, fresh_in, nothing_kept, with_shown};
 
 use crate::commands::{is_greeting_or_sender, is_of_connection, is_shown};
 use crate::policy::Policy;
 use crate::seen::Seen;
-use milter_exchange::{CommandOrder, FilterFault, FilterState, VERSION_MIN, may_follow, rank_of};
 use milter_message::WEIGHT_MAX;
+use milter_protocol::{CommandOrder, FilterFault, FilterState, VERSION_MIN, may_follow, rank_of};
 use milter_wire::{CommandRef, Negotiated, NoMemory, Stage};
 use std::alloc::Global;
 use std::marker::Model;
@@ -37,7 +37,7 @@ pub(crate) struct Connection {
 impl Model for Connection {
     ghost use Rattle.std.specs.Prelude.{◌≤◌};
     ghost use Rattle.milter_message.specs.declared.message.TheConstants.{WEIGHT_MAX};
-    ghost use Rattle.milter_exchange.specs.OrderStates.{OrderState};
+    ghost use Rattle.milter_protocol.specs.OrderStates.{OrderState};
 
     ghost Value = { OrderState };
 

@@ -1,10 +1,10 @@
 //! Laws of cores, each the contract of a function that does nothing.
 
 ghost use Rattle.std.specs.Prelude.{◌≡◌, ◌≢◌, ◌++◌, [], List, ℕ, drop, take};
-ghost use Rattle.milter_exchange.specs.Behavior.{Behavior};
-ghost use Rattle.milter_exchange.specs.declared.command_order.CommandOrder.{CommandOrder as Order};
-ghost use Rattle.milter_exchange.specs.declared.filter_fault.FilterFault.{FilterFault as Fault};
-ghost use Rattle.milter_exchange.specs.declared.filter_state.FilterState.TheVariants.{Serving};
+ghost use Rattle.milter_protocol.specs.Behavior.{Behavior};
+ghost use Rattle.milter_protocol.specs.declared.command_order.CommandOrder.{CommandOrder as Order};
+ghost use Rattle.milter_protocol.specs.declared.filter_fault.FilterFault.{FilterFault as Fault};
+ghost use Rattle.milter_protocol.specs.declared.filter_state.FilterState.TheVariants.{Serving};
 ghost use Rattle.milter_filter.specs.Cores.{Core, GivesUp, GoesOn, Takes, fresh_core_in, given_up};
 ghost use Rattle.milter_filter.specs.Streams.{filter_end_of, received_in, reply_bytes};
 

@@ -1,15 +1,15 @@
 //! A filter's end of a connection, over any policy.
 
 ghost use Rattle.std.specs.Prelude.{◌≡◌, ◌≢◌, ◌≤◌, ◌++◌, [], Err, IfErr, IfOk, Ok, drop, length};
-ghost use Rattle.milter_exchange.specs.declared.filter_fault.FilterFault.{FilterFault as Fault};
-ghost use Rattle.milter_exchange.specs.declared.filter_fault.FilterFault.TheVariants as faults;
-ghost use Rattle.milter_exchange.specs.declared.filter_state.FilterState.TheVariants.{Failed, Quit, Serving};
+ghost use Rattle.milter_protocol.specs.declared.filter_fault.FilterFault.{FilterFault as Fault};
+ghost use Rattle.milter_protocol.specs.declared.filter_fault.FilterFault.TheVariants as faults;
+ghost use Rattle.milter_protocol.specs.declared.filter_state.FilterState.TheVariants.{Failed, Quit, Serving};
 ghost use Rattle.milter_filter.specs.Streams.{received_in};
 
 use crate::pieces::take_piece;
 use crate::policy::Policy;
 use crate::replier::Replier;
-use milter_exchange::{CommandOrder, FilterFault, FilterState};
+use milter_protocol::{CommandOrder, FilterFault, FilterState};
 use milter_wire::{NoMemory, Splitter};
 use std::alloc::Global;
 use std::marker::Model;
@@ -26,7 +26,7 @@ pub struct FilterCore<'p, P: Policy> {
 
 impl<'p, P: Policy> Model for FilterCore<'p, P> {
     ghost use Rattle.std.specs.Prelude.{◌≡◌, ◌≤◌, drop, length};
-    ghost use Rattle.milter_exchange.specs.declared.filter_state.FilterState.TheVariants.{Serving};
+    ghost use Rattle.milter_protocol.specs.declared.filter_state.FilterState.TheVariants.{Serving};
     ghost use Rattle.milter_filter.specs.Cores.{Core};
     ghost use Rattle.milter_filter.specs.AnswerPackets.{IsUnread};
 

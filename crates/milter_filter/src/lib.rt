@@ -20,10 +20,10 @@ mod stream_server;
 
 pub use cutting_laws::{cores_go_on, cores_reply};
 pub use filter_core::FilterCore;
-pub use milter_exchange::{
+pub use milter_filter_search::{Pattern, Test, TextCase};
+pub use milter_protocol::{
     ACTIONS_MAX, Answer, CommandOrder, Edits, FilterFault, FilterState, PROTOCOL_MAX, VERSION_MAX,
 };
-pub use milter_search::{Pattern, Test, TextCase};
 pub use pass::Pass;
 pub use policy::Policy;
 pub use seen::Seen;

@@ -3,7 +3,7 @@
 ghost use Rattle.std.specs.Prelude.{◌≡◌, [], OnErr, OnOk, option_map, reverse};
 ghost use Rattle.std.specs.List.{filter, flat_map};
 ghost use Rattle.std.specs.Str.{bytes_eq};
-ghost use Rattle.milter_exchange.specs.Seen.{value_in};
+ghost use Rattle.milter_protocol.specs.Seen.{value_in};
 
 use milter_wire::{NoMemory, Pair, Pairs, PairsRef};
 use std::alloc::Global;

@@ -1,11 +1,11 @@
 //! A policy that lets all mail go on.
 
-ghost use Rattle.milter_exchange.specs.Pass.{pass};
+ghost use Rattle.milter_protocol.specs.Pass.{pass};
 ghost use Rattle.milter_filter.specs.PassLaw.{pass_is_lawful};
 
 use crate::policy::Policy;
 use crate::seen::Seen;
-use milter_exchange::{Answer, VERSION_MAX};
+use milter_protocol::{Answer, VERSION_MAX};
 use milter_wire::{Actions, NoMemory, Options, Protocol, Stage, SymList, Verdict};
 use std::alloc::Global;
 

@@ -1,13 +1,13 @@
 //! What a filter's end does with a piece of a stream.
 
 ghost use Rattle.std.specs.Prelude.{◌≡◌, ◌++◌, [], IfErr, IfOk, take};
-ghost use Rattle.milter_exchange.specs.declared.filter_state.FilterState.TheVariants.{Serving};
+ghost use Rattle.milter_protocol.specs.declared.filter_state.FilterState.TheVariants.{Serving};
 ghost use Rattle.milter_filter.specs.AnswerPackets.{FailsIn, IsUnread, StopsAt, TakesBytes};
 ghost use Rattle.milter_filter.specs.Streams.{IsOnePacketAtMost};
 
 use crate::policy::Policy;
 use crate::replier::Replier;
-use milter_exchange::FilterFault;
+use milter_protocol::FilterFault;
 use milter_wire::Splitter;
 
 /// Takes bytes of a piece up to the end of one packet, replies to the packet if it is whole, and answers how many bytes

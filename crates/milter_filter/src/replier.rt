@@ -1,27 +1,27 @@
 //! What a filter's end replies to the commands of a connection.
 
 ghost use Rattle.std.specs.Prelude.{◌≡◌, ◌≤◌, ◌+◌, ◌↔◌, [], ◌∷◌, IfErr, IfOk, IsTrue, None, Ok, OnOk, Some, length, true};
-ghost use Rattle.milter_stream.specs.Packet.{packet};
-ghost use Rattle.milter_stream.specs.Splitter.{frame_of};
-ghost use Rattle.milter_stream.specs.Stream.{IsFrame};
-ghost use Rattle.milter_stream.specs.declared.number.TheConstants.{PAYLOAD_MAX};
+ghost use Rattle.milter_wire_stream.specs.Packet.{packet};
+ghost use Rattle.milter_wire_stream.specs.Splitter.{frame_of};
+ghost use Rattle.milter_wire_stream.specs.Stream.{IsFrame};
+ghost use Rattle.milter_wire_stream.specs.declared.number.TheConstants.{PAYLOAD_MAX};
 ghost use Rattle.milter_message.specs.declared.message.TheConstants.{WEIGHT_MAX};
-ghost use Rattle.milter_options.specs.Payload.{OptionsFit};
+ghost use Rattle.milter_wire_options.specs.Payload.{OptionsFit};
 ghost use Rattle.milter_wire.specs.Command.{Fits, IsEncodedAs, encoding};
 ghost use Rattle.milter_wire.specs.Frames.{frame_command};
 ghost use Rattle.milter_wire.specs.BorrowedCommand.{command_of};
 ghost use Rattle.milter_wire.specs.Stages.{stage_of};
 ghost use Rattle.milter_wire.specs.Tables.{map_ok};
 ghost use Rattle.milter_wire.specs.Negotiation.{negotiate};
-ghost use Rattle.milter_exchange.specs.declared.filter_state.FilterState.TheVariants.{Serving};
-ghost use Rattle.milter_exchange.specs.Commands.{is_end_at, is_end_by, is_shown};
-ghost use Rattle.milter_exchange.specs.OrderStates.{order_state_fault};
+ghost use Rattle.milter_protocol.specs.declared.filter_state.FilterState.TheVariants.{Serving};
+ghost use Rattle.milter_protocol.specs.Commands.{is_end_at, is_end_by, is_shown};
+ghost use Rattle.milter_protocol.specs.OrderStates.{order_state_fault};
 ghost use Rattle.milter_filter.specs.AskedPolicy.{answer_at};
 
 use crate::answer_packets::{put_answer, put_continue};
 use crate::connection::Connection;
 use crate::policy::Policy;
-use milter_exchange::{CommandOrder, FilterFault, FilterState, is_final_at};
+use milter_protocol::{CommandOrder, FilterFault, FilterState, is_final_at};
 use milter_wire::{
     CommandRef, HEAD_LEN, Negotiated, NoMemory, Options, Packet, Protocol, Reply, Stage, SymList,
     SymLists, Text, Verdict, WireFault, negotiate,
@@ -48,8 +48,8 @@ impl<'p, P: Policy> Model for Replier<'p, P> {
 }
 
 impl<'p, P: Policy> Replier<'p, P> {
-    ghost use Rattle.milter_exchange.specs.Replies.{options_reply, replies_of_answer, replies_to_unknown};
-    ghost use Rattle.milter_exchange.specs.OrderStates.{after_options, with_shown};
+    ghost use Rattle.milter_protocol.specs.Replies.{options_reply, replies_of_answer, replies_to_unknown};
+    ghost use Rattle.milter_protocol.specs.OrderStates.{after_options, with_shown};
     ghost use Rattle.milter_filter.specs.AskedPolicy.{shown_after_answer, stage_answer};
     ghost use Rattle.milter_filter.specs.AnswerPackets.{FailsAt, GoesOn, failed_replying, fresh_replying, replying_by, replying_next, replying_with};
 

@@ -3,12 +3,12 @@
 ghost use Rattle.std.specs.Prelude.{◌≡◌, [], OnErr, OnOk, false, option_map};
 ghost use Rattle.std.specs.Option.{option_copied};
 ghost use Rattle.milter_wire.specs.BorrowedCommand.{command_of};
-ghost use Rattle.milter_exchange.specs.Seen.{seen, value_in};
+ghost use Rattle.milter_protocol.specs.Seen.{seen, value_in};
 ghost use Rattle.milter_filter.specs.SeenParts.{nothing_seen, parts_with};
-ghost use Rattle.milter_search.specs.Texts.{finds, finds_named};
+ghost use Rattle.milter_filter_search.specs.Texts.{finds, finds_named};
 
 use crate::macro_list::MacroList;
-use milter_search::{Body, Headers, Pattern};
+use milter_filter_search::{Body, Headers, Pattern};
 use milter_wire::codes::{SMFIC_CONNECT, SMFIC_HELO};
 use milter_wire::{Client, CommandRef, Header, NoMemory, Path, Text};
 use std::alloc::Global;

@@ -1,9 +1,9 @@
 //! A filter's end of a connection over a reader and a writer.
 
 ghost use Rattle.std.specs.Prelude.{◌≡◌, ◌<◌, ◌↔◌, [], IfErr, IfOk, IsTrue, OnOk, length};
-ghost use Rattle.milter_stream.specs.Stream.{IsUnfinished};
-ghost use Rattle.milter_exchange.specs.declared.filter_state.FilterState.TheVariants.{Quit, Serving};
-ghost use Rattle.milter_exchange.specs.declared.command_order.CommandOrder.TheVariants.{Strict};
+ghost use Rattle.milter_wire_stream.specs.Stream.{IsUnfinished};
+ghost use Rattle.milter_protocol.specs.declared.filter_state.FilterState.TheVariants.{Quit, Serving};
+ghost use Rattle.milter_protocol.specs.declared.command_order.CommandOrder.TheVariants.{Strict};
 ghost use Rattle.milter_filter.specs.Cores.{fresh_core_in};
 ghost use Rattle.milter_filter.specs.ServedConnections.{Serves};
 ghost use Rattle.milter_filter.specs.ServedPieces.{CutOff, PieceServed, Sends};
@@ -11,7 +11,7 @@ ghost use Rattle.milter_filter.specs.ServedPieces.{CutOff, PieceServed, Sends};
 use crate::filter_core::FilterCore;
 use crate::policy::Policy;
 use crate::served::Served;
-use milter_exchange::{CommandOrder, FilterFault, FilterState};
+use milter_protocol::{CommandOrder, FilterFault, FilterState};
 use std::alloc::{AllocError, Global};
 use std::io::{Read, Write};
 

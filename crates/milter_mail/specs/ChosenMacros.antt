@@ -4,9 +4,9 @@ use Rattle.std.specs.Prelude.{ℕ, ◌==◌, Bool, not, List, [], ◌∷◌, ◌
 use Rattle.std.specs.List.{filter, last_or, slice_split}
 use Rattle.std.specs.Option.{option_to_list}
 use Rattle.std.specs.Str.{bytes_eq}
-use Rattle.milter_options.specs.declared.macro_stage.TheConstants.{SMFIM_CONNECT, SMFIM_DATA, SMFIM_ENVFROM, SMFIM_ENVRCPT, SMFIM_EOH, SMFIM_EOM, SMFIM_HELO}
-use Rattle.milter_fields.specs.declared.pair.Pair.{Pair}
-use Rattle.milter_options.specs.declared.symbol_lists.SymList.{SymList}
+use Rattle.milter_wire_options.specs.declared.macro_stage.TheConstants.{SMFIM_CONNECT, SMFIM_DATA, SMFIM_ENVFROM, SMFIM_ENVRCPT, SMFIM_EOH, SMFIM_EOM, SMFIM_HELO}
+use Rattle.milter_wire_fields.specs.declared.pair.Pair.{Pair}
+use Rattle.milter_wire_options.specs.declared.symbol_lists.SymList.{SymList}
 use Rattle.milter_mail.specs.declared.chosen_macros.TheConstants.{NAME_SEPARATOR}
 use Rattle.milter_mail.specs.declared.macros.Macros.{Macros}
 

@@ -118,7 +118,7 @@ impl Edit {
 
     /// The number of bytes of the packet that asks for the edit, its length field among them; or the greatest `usize`,
     /// where there are more. Doesn't allocate.
-    #[tactic(auto, unfolding(milter_stream::specs::Number::number))]
+    #[tactic(auto, unfolding(milter_wire_stream::specs::Number::number))]
     pub fn weight(&self) -> usize
         ensures { result ≡ min (weight_of self.now) (2 ^ 64 - 1) }
     {
@@ -157,7 +157,7 @@ impl Edit {
 }
 
 /// The number of bytes of the payload, or the greatest `usize`.
-#[tactic(auto, unfolding(milter_stream::specs::Number::number))]
+#[tactic(auto, unfolding(milter_wire_stream::specs::Number::number))]
 fn payload_len(edit: &Edit) -> usize
     ensures { result ≡ min (length (payload_of (reply_of edit.now))) (2 ^ 64 - 1) }
 {

@@ -4,10 +4,10 @@ use Rattle.milter_message.specs.MailObject.{MailObject}
 use Rattle.milter_wire.specs.declared.negotiation.Negotiated.{Negotiated}
 use Rattle.milter_wire.specs.declared.command.Command.{Command}
 use Rattle.milter_wire.specs.declared.stage.Stage.TheVariants.{Connect, Mail}
-use Rattle.milter_outcome.specs.declared.acted.Acted.{Acted}
+use Rattle.milter_mta_outcome.specs.declared.acted.Acted.{Acted}
 use Rattle.milter_mail.specs.MailSession.{MailSession}
-use Rattle.milter_plan.specs.PlanCursor.{outgoing_of}
-use Rattle.milter_plan.proofs.PlanLaws.{message_by_stages, plan_by_stages}
+use Rattle.milter_mta_transaction.specs.PlanCursor.{outgoing_of}
+use Rattle.milter_mta_transaction.proofs.PlanLaws.{message_by_stages, plan_by_stages}
 use Rattle.milter_mta.specs.declared.filter_connection.Next.{Next}
 use Rattle.milter_mta.specs.declared.session_state.SessionState.{SessionState}
 use Rattle.milter_mta.specs.CoreParts.{begun_position, messages_at, mta_of, position_of, session_of}

@@ -6,10 +6,10 @@ use Rattle.milter_wire.specs.declared.stage.Stage.{Stage}
 use Rattle.milter_wire.specs.declared.stage.Stage.TheVariants.{Connect, Mail}
 use Rattle.milter_mail.specs.ChosenMacros.{chosen_macros}
 use Rattle.milter_mail.specs.MailSession.{IsSendable, IsSession}
-use Rattle.milter_outcome.specs.declared.report.Report.{Report}
-use Rattle.milter_plan.specs.declared.cursor.Cursor.{Cursor}
-use Rattle.milter_plan.specs.declared.transaction.Transaction.{Transaction}
-use Rattle.milter_plan.proofs.PlanLaws.{begun_sends}
+use Rattle.milter_mta_outcome.specs.declared.report.Report.{Report}
+use Rattle.milter_mta_transaction.specs.declared.cursor.Cursor.{Cursor}
+use Rattle.milter_mta_transaction.specs.declared.transaction.Transaction.{Transaction}
+use Rattle.milter_mta_transaction.proofs.PlanLaws.{begun_sends}
 use Rattle.milter_mta.specs.declared.filter_connection.Next.TheVariants as nexts
 use Rattle.milter_mta.specs.declared.session_state.SessionState.{SessionState}
 use Rattle.milter_mta.specs.Accounts.{Accounts}

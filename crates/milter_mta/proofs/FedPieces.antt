@@ -2,10 +2,10 @@
 use Rattle.std.proofs.Common.{◌≡◌, ◌≢◌, ℕ, true, false, List, [], ◌∷◌, ◌++◌, Option, None, Some, Result, Ok, Err, refl, sym, ◌∙◌, ap, subst, take, drop, length, ◌+◌, ◌<◌, arith, take-add, take-append-drop, length-drop}
 use Rattle.std.specs.Prelude.{if◌then◌else◌}
 use Rattle.std.proofs.lemmas.List.Sums.{fold-append}
-use Rattle.milter_stream.specs.declared.fault.WireFault.{WireFault}
-use Rattle.milter_stream.specs.declared.fault.WireFault.TheVariants.{NoMemory}
-use Rattle.milter_stream.specs.Stream.{Frame, IsFrame, IsUnfinished, frame_bytes, length_fault}
-use Rattle.milter_stream.proofs.StreamLaws.{length_fault-fed}
+use Rattle.milter_wire_stream.specs.declared.fault.WireFault.{WireFault}
+use Rattle.milter_wire_stream.specs.declared.fault.WireFault.TheVariants.{NoMemory}
+use Rattle.milter_wire_stream.specs.Stream.{Frame, IsFrame, IsUnfinished, frame_bytes, length_fault}
+use Rattle.milter_wire_stream.proofs.StreamLaws.{length_fault-fed}
 use Rattle.milter_wire.specs.Frames.{frame_reply}
 use Rattle.milter_wire.specs.declared.negotiation.Negotiated.{Negotiated}
 use Rattle.milter_wire.specs.declared.reply.Reply.{Reply}
@@ -14,18 +14,18 @@ use Rattle.milter_wire.specs.declared.verdict.Verdict.{Verdict}
 use Rattle.milter_message.specs.declared.edit.Edit.{Edit}
 use Rattle.milter_message.specs.MailObject.{MailObject}
 use Rattle.milter_wire.specs.declared.command.Command.{Command}
-use Rattle.milter_outcome.specs.declared.acted.Acted.{Acted}
-use Rattle.milter_outcome.specs.declared.received_reply.ReceivedReply.{ReceivedReply}
-use Rattle.milter_outcome.specs.declared.received_reply.ReceivedReply.TheVariants as received_reply
-use Rattle.milter_outcome.specs.declared.loss.Loss.{Loss}
-use Rattle.milter_outcome.specs.declared.loss.Loss.TheVariants.{Fault, Memory, Reset, Timeout}
-use Rattle.milter_outcome.specs.declared.loss.MtaFault.{MtaFault}
-use Rattle.milter_outcome.specs.declared.loss.MtaFault.TheVariants.{Early, NotAtThisStage, Wire}
-use Rattle.milter_outcome.specs.ReceivedReplies.{options_received, reply_received}
-use Rattle.milter_plan.specs.EditWeights.{weight_of_all}
-use Rattle.milter_plan.specs.Transactions.{stage_first}
-use Rattle.milter_plan.specs.TransactionVerdicts.{ends_dialogue, is_of_connection, left_after, with_verdict}
-use Rattle.milter_plan.specs.declared.cursor.ClientInfo.{ClientInfo}
+use Rattle.milter_mta_outcome.specs.declared.acted.Acted.{Acted}
+use Rattle.milter_mta_outcome.specs.declared.received_reply.ReceivedReply.{ReceivedReply}
+use Rattle.milter_mta_outcome.specs.declared.received_reply.ReceivedReply.TheVariants as received_reply
+use Rattle.milter_mta_outcome.specs.declared.loss.Loss.{Loss}
+use Rattle.milter_mta_outcome.specs.declared.loss.Loss.TheVariants.{Fault, Memory, Reset, Timeout}
+use Rattle.milter_mta_outcome.specs.declared.loss.MtaFault.{MtaFault}
+use Rattle.milter_mta_outcome.specs.declared.loss.MtaFault.TheVariants.{Early, NotAtThisStage, Wire}
+use Rattle.milter_mta_outcome.specs.ReceivedReplies.{options_received, reply_received}
+use Rattle.milter_mta_transaction.specs.EditWeights.{weight_of_all}
+use Rattle.milter_mta_transaction.specs.Transactions.{stage_first}
+use Rattle.milter_mta_transaction.specs.TransactionVerdicts.{ends_dialogue, is_of_connection, left_after, with_verdict}
+use Rattle.milter_mta_transaction.specs.declared.cursor.ClientInfo.{ClientInfo}
 use Rattle.milter_mta.specs.declared.filter_connection.Next.{Next}
 use Rattle.milter_mta.specs.declared.filter_connection.Next.TheVariants as nexts
 use Rattle.milter_mta.specs.declared.filter_connection.FilterConnection.{FilterConnection as Connected}

@@ -2,15 +2,15 @@
 use Rattle.std.proofs.Common.{◌≡◌, Bool, true, false, List, [], ◌∷◌, ◌++◌, All, Some, arith, length-append, subst}
 use Rattle.std.proofs.lemmas.List.Elements.{All-head}
 use Rattle.std.proofs.lemmas.Option.{same_Some}
-use Rattle.milter_stream.specs.Number.{number}
-use Rattle.milter_stream.proofs.Numbers.{length-number}
-use Rattle.milter_options.specs.declared.options.Options.{Options}
-use Rattle.milter_options.specs.Payload.{OptionsFit}
+use Rattle.milter_wire_stream.specs.Number.{number}
+use Rattle.milter_wire_stream.proofs.Numbers.{length-number}
+use Rattle.milter_wire_options.specs.declared.options.Options.{Options}
+use Rattle.milter_wire_options.specs.Payload.{OptionsFit}
 use Rattle.milter_wire.specs.declared.command.Command.{Command}
 use Rattle.milter_wire.specs.declared.command.Command.TheVariants as commands
 use Rattle.milter_wire.specs.Command.{Fits}
-use Rattle.milter_plan.specs.declared.cursor.ClientInfo.{ClientInfo}
-use Rattle.milter_plan.specs.Transactions.{first_of, left_of}
+use Rattle.milter_mta_transaction.specs.declared.cursor.ClientInfo.{ClientInfo}
+use Rattle.milter_mta_transaction.specs.Transactions.{first_of, left_of}
 use Rattle.milter_mta.specs.declared.filter_connection.Next.{Next}
 use Rattle.milter_mta.specs.declared.filter_connection.Next.TheVariants as nexts
 use Rattle.milter_mta.specs.CoreParts.{CanSend, position_of}

@@ -1,14 +1,14 @@
 -- What is received of the bytes of a piece, up to the end of one packet.
 use Rattle.std.proofs.Common.{◌≡◌, ℕ, ◌+◌, true, List, [], ◌∷◌, ◌++◌, length, Option, None, Some, refl, sym, ◌∙◌, ap, subst, append_assoc, append-nil, arith, length-append}
-use Rattle.milter_stream.specs.declared.fault.WireFault.{WireFault}
-use Rattle.milter_stream.specs.Stream.{Frame, IsFrame, IsRest, IsUnfinished, fault_of, first_frame, frame_bytes, length_fault}
-use Rattle.milter_stream.proofs.Frames.{fault_of-valid, first_frame-packet, first_frame-rest}
-use Rattle.milter_stream.proofs.Numbers.{four_bytes}
-use Rattle.milter_stream.proofs.PacketLaws.{packet_cells}
-use Rattle.milter_stream.proofs.StreamLaws.{length_fault-unfinished, prefix-unfinished}
+use Rattle.milter_wire_stream.specs.declared.fault.WireFault.{WireFault}
+use Rattle.milter_wire_stream.specs.Stream.{Frame, IsFrame, IsRest, IsUnfinished, fault_of, first_frame, frame_bytes, length_fault}
+use Rattle.milter_wire_stream.proofs.Frames.{fault_of-valid, first_frame-packet, first_frame-rest}
+use Rattle.milter_wire_stream.proofs.Numbers.{four_bytes}
+use Rattle.milter_wire_stream.proofs.PacketLaws.{packet_cells}
+use Rattle.milter_wire_stream.proofs.StreamLaws.{length_fault-unfinished, prefix-unfinished}
 use Rattle.milter_wire.specs.Frames.{frame_reply}
-use Rattle.milter_outcome.specs.declared.loss.Loss.{Loss}
-use Rattle.milter_outcome.specs.declared.loss.MtaFault.TheVariants.{Wire}
+use Rattle.milter_mta_outcome.specs.declared.loss.Loss.{Loss}
+use Rattle.milter_mta_outcome.specs.declared.loss.MtaFault.TheVariants.{Wire}
 use Rattle.milter_mta.specs.Mta.{FilterConnection, Mta}
 use Rattle.milter_mta.specs.Replies.{After, at, fails, framed, goes_on, received, received_byte, received_on, unread_is}
 

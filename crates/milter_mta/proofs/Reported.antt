@@ -4,13 +4,13 @@ use Rattle.std.proofs.lemmas.List.{append-nil, append_assoc}
 use Rattle.std.proofs.lemmas.List.Elements.{All-cons, All-head, All-nil, All-tail}
 use Rattle.milter_message.specs.MailObject.{MailObject}
 use Rattle.milter_wire.specs.declared.verdict.Verdict.{Verdict}
-use Rattle.milter_outcome.specs.declared.acted.Acted.{Acted}
-use Rattle.milter_outcome.specs.declared.loss.By.TheVariants.{Connection}
-use Rattle.milter_outcome.specs.declared.report.Report.{Report}
-use Rattle.milter_outcome.specs.Outcomes.{at_connection}
+use Rattle.milter_mta_outcome.specs.declared.acted.Acted.{Acted}
+use Rattle.milter_mta_outcome.specs.declared.loss.By.TheVariants.{Connection}
+use Rattle.milter_mta_outcome.specs.declared.report.Report.{Report}
+use Rattle.milter_mta_outcome.specs.Outcomes.{at_connection}
 use Rattle.milter_mta.specs.declared.session_state.SessionState.{SessionState}
 use Rattle.milter_mail.specs.MailSession.{IsSendable}
-use Rattle.milter_plan.specs.declared.transaction.Transaction.{Transaction}
+use Rattle.milter_mta_transaction.specs.declared.transaction.Transaction.{Transaction}
 use Rattle.milter_mta.specs.declared.filter_connection.FilterConnection.{FilterConnection as Connected}
 use Rattle.milter_mta.specs.declared.filter_connection.Next.TheVariants as nexts
 use Rattle.milter_mta.specs.Mta.{Mta}

@@ -3,19 +3,19 @@ use Rattle.std.specs.Prelude.{◌≡◌, ◌≤◌, ◌+◌, ◌-◌, ℕ, true,
 use Rattle.milter_message.specs.MailObject.{MailObject}
 use Rattle.milter_mail.specs.ChosenMacros.{chosen_macros}
 use Rattle.milter_mail.specs.MailSession.{IsSession, MailSession}
-use Rattle.milter_outcome.specs.declared.acted.Acted.{Acted}
-use Rattle.milter_outcome.specs.declared.loss.By.TheVariants.{Connection}
-use Rattle.milter_outcome.specs.declared.loss.Loss.{Loss}
-use Rattle.milter_outcome.specs.declared.loss.Loss.TheVariants.{Memory}
-use Rattle.milter_plan.specs.declared.cursor.ClientInfo.{ClientInfo}
-use Rattle.milter_plan.specs.declared.transaction.Transaction.{Transaction}
-use Rattle.milter_outcome.specs.declared.report.Report.{Report}
+use Rattle.milter_mta_outcome.specs.declared.acted.Acted.{Acted}
+use Rattle.milter_mta_outcome.specs.declared.loss.By.TheVariants.{Connection}
+use Rattle.milter_mta_outcome.specs.declared.loss.Loss.{Loss}
+use Rattle.milter_mta_outcome.specs.declared.loss.Loss.TheVariants.{Memory}
+use Rattle.milter_mta_transaction.specs.declared.cursor.ClientInfo.{ClientInfo}
+use Rattle.milter_mta_transaction.specs.declared.transaction.Transaction.{Transaction}
+use Rattle.milter_mta_outcome.specs.declared.report.Report.{Report}
 use Rattle.milter_wire.specs.declared.negotiation.Negotiated.{Negotiated}
 use Rattle.milter_wire.specs.declared.stage.Stage.{Stage}
 use Rattle.milter_wire.specs.declared.verdict.Verdict.{Verdict}
-use Rattle.milter_outcome.specs.Outcomes.{at_connection}
-use Rattle.milter_plan.specs.PlanCursor.{outgoing_of, steps_from}
-use Rattle.milter_plan.specs.Transactions.{Sends, left_of}
+use Rattle.milter_mta_outcome.specs.Outcomes.{at_connection}
+use Rattle.milter_mta_transaction.specs.PlanCursor.{outgoing_of, steps_from}
+use Rattle.milter_mta_transaction.specs.Transactions.{Sends, left_of}
 use Rattle.milter_mta.specs.declared.filter_connection.Next.{Next}
 use Rattle.milter_mta.specs.declared.filter_connection.Next.TheVariants as nexts
 use Rattle.milter_mta.specs.declared.filter_connection.FilterConnection.{FilterConnection as Connected}

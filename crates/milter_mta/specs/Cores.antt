@@ -1,8 +1,8 @@
 -- What always holds of a mail server's end, and how it goes on by pieces.
 use Rattle.std.specs.Prelude.{◌≡◌, ◌<◌, ℕ, Bool, true, false, List, [], length, take, Option, None, Some, Result, Ok, Err}
-use Rattle.milter_stream.specs.Stream.{IsUnfinished}
-use Rattle.milter_outcome.specs.declared.loss.Loss.{Loss}
-use Rattle.milter_outcome.specs.declared.loss.Loss.TheVariants.{Memory}
+use Rattle.milter_wire_stream.specs.Stream.{IsUnfinished}
+use Rattle.milter_mta_outcome.specs.declared.loss.Loss.{Loss}
+use Rattle.milter_mta_outcome.specs.declared.loss.Loss.TheVariants.{Memory}
 use Rattle.milter_mta.specs.declared.filter_connection.FilterConnection.{FilterConnection as Connected}
 use Rattle.milter_mta.specs.declared.session_state.SessionState.{SessionState}
 use Rattle.milter_mta.specs.CoreParts.{IsConsistent}

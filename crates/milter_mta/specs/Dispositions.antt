@@ -6,21 +6,21 @@ use Rattle.milter_wire.specs.declared.verdict.Verdict.{Verdict}
 use Rattle.milter_wire.specs.Negotiation.{has_leading_space}
 use Rattle.milter_message.specs.declared.edit.Edit.{Edit}
 use Rattle.milter_message.specs.MailObject.{MailObject}
-use Rattle.milter_exchange.specs.declared.answer.Answer.{Answer}
+use Rattle.milter_protocol.specs.declared.answer.Answer.{Answer}
 use Rattle.milter_mail.specs.MailSession.{MailSession}
 use Rattle.milter_mail.specs.Plan.{macros_of}
 use Rattle.milter_mail.specs.Steps.{message_steps}
-use Rattle.milter_outcome.specs.declared.acted.Acted.{Acted}
-use Rattle.milter_outcome.specs.declared.fallback.OnLoss.{OnLoss}
-use Rattle.milter_outcome.specs.declared.loss.By.{By}
-use Rattle.milter_outcome.specs.declared.loss.By.TheVariants.{Filter, Connection, Default}
-use Rattle.milter_outcome.specs.declared.loss.Loss.{Loss}
-use Rattle.milter_outcome.specs.declared.outcome.Outcome.{Outcome}
-use Rattle.milter_outcome.specs.declared.report.Report.{Report}
-use Rattle.milter_outcome.specs.ActedVerdicts.{kept}
-use Rattle.milter_outcome.specs.ReceivedReplies.{is_end}
-use Rattle.milter_outcome.specs.Outcomes.{at_connection, fallback, outcome}
-use Rattle.milter_plan.specs.TransactionVerdicts.{is_of_connection, on_connection}
+use Rattle.milter_mta_outcome.specs.declared.acted.Acted.{Acted}
+use Rattle.milter_mta_outcome.specs.declared.fallback.OnLoss.{OnLoss}
+use Rattle.milter_mta_outcome.specs.declared.loss.By.{By}
+use Rattle.milter_mta_outcome.specs.declared.loss.By.TheVariants.{Filter, Connection, Default}
+use Rattle.milter_mta_outcome.specs.declared.loss.Loss.{Loss}
+use Rattle.milter_mta_outcome.specs.declared.outcome.Outcome.{Outcome}
+use Rattle.milter_mta_outcome.specs.declared.report.Report.{Report}
+use Rattle.milter_mta_outcome.specs.ActedVerdicts.{kept}
+use Rattle.milter_mta_outcome.specs.ReceivedReplies.{is_end}
+use Rattle.milter_mta_outcome.specs.Outcomes.{at_connection, fallback, outcome}
+use Rattle.milter_mta_transaction.specs.TransactionVerdicts.{is_of_connection, on_connection}
 use Rattle.milter_mta.specs.Mta.{FilterConnection, Mta, Position, at_packet, connection_at}
 use Rattle.milter_mta.specs.Mta.Position.{Sending, Quitting}
 

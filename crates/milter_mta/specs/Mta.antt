@@ -1,14 +1,14 @@
 -- A mail server's end of a connection to a filter: what is known of it at any time.
 use Rattle.std.specs.Prelude.{ℕ, Bool, false, List, [], Option, None}
-use Rattle.milter_options.specs.declared.options.Options.{Options}
+use Rattle.milter_wire_options.specs.declared.options.Options.{Options}
 use Rattle.milter_wire.specs.declared.negotiation.Negotiated.{Negotiated}
 use Rattle.milter_wire.specs.declared.command.Command.{Command}
 use Rattle.milter_wire.specs.declared.verdict.Verdict.{Verdict}
 use Rattle.milter_message.specs.declared.edit.Edit.{Edit}
 use Rattle.milter_mail.specs.MailSession.{MailSession}
-use Rattle.milter_outcome.specs.declared.acted.Acted.{Acted}
-use Rattle.milter_outcome.specs.declared.fallback.OnLoss.{OnLoss}
-use Rattle.milter_outcome.specs.declared.report.Report.{Report}
+use Rattle.milter_mta_outcome.specs.declared.acted.Acted.{Acted}
+use Rattle.milter_mta_outcome.specs.declared.fallback.OnLoss.{OnLoss}
+use Rattle.milter_mta_outcome.specs.declared.report.Report.{Report}
 
 -- what is offered to each filter, and what a lost one leaves
 pub record Configuration : Type 0 where

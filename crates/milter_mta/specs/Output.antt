@@ -1,11 +1,11 @@
 -- What a mail server's end wants, and the packets that it sends.
 use Rattle.std.specs.Prelude.{ℕ, Bool, true, false, List, [], ◌∷◌, drop, Option, None, Some, if◌then◌else◌}
-use Rattle.milter_options.specs.declared.options.Options.{Options}
+use Rattle.milter_wire_options.specs.declared.options.Options.{Options}
 use Rattle.milter_wire.specs.declared.command.Command.{Command}
 use Rattle.milter_wire.specs.declared.command.Command.TheVariants as commands
 use Rattle.milter_wire.specs.Command.{encoding}
 use Rattle.milter_message.specs.MailObject.{MailObject}
-use Rattle.milter_plan.specs.Transactions.{asks_first, first_of}
+use Rattle.milter_mta_transaction.specs.Transactions.{asks_first, first_of}
 use Rattle.milter_mta.specs.declared.want.Want.{Want}
 use Rattle.milter_mta.specs.declared.want.Want.TheVariants as wants
 use Rattle.milter_mta.specs.Mta.{Configuration, FilterConnection, Mta, Position, at_packet}

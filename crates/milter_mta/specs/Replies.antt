@@ -1,8 +1,8 @@
 -- What a mail server's end makes of what a filter sends, whatever filter it is: one byte after the other.
 use Rattle.std.specs.Prelude.{ℕ, true, List, [], ◌∷◌, ◌++◌, drop, Option, None, Some, Result, Ok, Err, if◌then◌else◌}
 use Rattle.std.specs.List.{fold}
-use Rattle.milter_stream.specs.declared.fault.WireFault.{WireFault}
-use Rattle.milter_stream.specs.Stream.{Frame, first_frame, length_fault}
+use Rattle.milter_wire_stream.specs.declared.fault.WireFault.{WireFault}
+use Rattle.milter_wire_stream.specs.Stream.{Frame, first_frame, length_fault}
 use Rattle.milter_wire.specs.declared.negotiation.Negotiated.{Negotiated}
 use Rattle.milter_wire.specs.declared.command.Command.{Command}
 use Rattle.milter_wire.specs.declared.reply.Reply.{Reply}
@@ -13,17 +13,17 @@ use Rattle.milter_message.specs.declared.edit.Edit.{Edit}
 use Rattle.milter_message.specs.MailObject.{MailObject}
 use Rattle.milter_mail.specs.MailSession.{MailSession}
 use Rattle.milter_mail.specs.Plan.{plan}
-use Rattle.milter_outcome.specs.declared.acted.Acted.{Acted}
-use Rattle.milter_outcome.specs.declared.received_reply.ReceivedReply.{ReceivedReply}
-use Rattle.milter_outcome.specs.declared.received_reply.ReceivedReply.TheVariants as received_reply
-use Rattle.milter_outcome.specs.declared.loss.Loss.{Loss}
-use Rattle.milter_outcome.specs.declared.loss.Loss.TheVariants.{Fault, Memory}
-use Rattle.milter_outcome.specs.declared.loss.MtaFault.{MtaFault}
-use Rattle.milter_outcome.specs.declared.loss.MtaFault.TheVariants.{Early, NotAtThisStage, Wire}
-use Rattle.milter_outcome.specs.ReceivedReplies.{options_received, reply_received}
-use Rattle.milter_plan.specs.EditWeights.{weight_of_all}
-use Rattle.milter_plan.specs.Transactions.{stage_first}
-use Rattle.milter_plan.specs.TransactionVerdicts.{ends_dialogue, left_after, with_verdict}
+use Rattle.milter_mta_outcome.specs.declared.acted.Acted.{Acted}
+use Rattle.milter_mta_outcome.specs.declared.received_reply.ReceivedReply.{ReceivedReply}
+use Rattle.milter_mta_outcome.specs.declared.received_reply.ReceivedReply.TheVariants as received_reply
+use Rattle.milter_mta_outcome.specs.declared.loss.Loss.{Loss}
+use Rattle.milter_mta_outcome.specs.declared.loss.Loss.TheVariants.{Fault, Memory}
+use Rattle.milter_mta_outcome.specs.declared.loss.MtaFault.{MtaFault}
+use Rattle.milter_mta_outcome.specs.declared.loss.MtaFault.TheVariants.{Early, NotAtThisStage, Wire}
+use Rattle.milter_mta_outcome.specs.ReceivedReplies.{options_received, reply_received}
+use Rattle.milter_mta_transaction.specs.EditWeights.{weight_of_all}
+use Rattle.milter_mta_transaction.specs.Transactions.{stage_first}
+use Rattle.milter_mta_transaction.specs.TransactionVerdicts.{ends_dialogue, left_after, with_verdict}
 use Rattle.milter_mta.specs.Mta.{FilterConnection, Mta, Position, at_packet}
 use Rattle.milter_mta.specs.Mta.Position.{Offering, Sending, Quitting}
 use Rattle.milter_mta.specs.Dispositions.{lost, settled}

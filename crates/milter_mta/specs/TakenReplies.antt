@@ -1,10 +1,10 @@
 -- What the reply to a command leaves of a message under way.
 use Rattle.std.specs.Prelude.{◌≡◌, Bool, Some}
-use Rattle.milter_outcome.specs.declared.loss.Loss.TheVariants.{Memory}
-use Rattle.milter_plan.specs.declared.cursor.ClientInfo.{ClientInfo}
-use Rattle.milter_plan.specs.declared.transaction.Transaction.{Transaction}
-use Rattle.milter_plan.specs.Transactions.{left_of}
-use Rattle.milter_plan.specs.TransactionVerdicts.{with_verdict}
+use Rattle.milter_mta_outcome.specs.declared.loss.Loss.TheVariants.{Memory}
+use Rattle.milter_mta_transaction.specs.declared.cursor.ClientInfo.{ClientInfo}
+use Rattle.milter_mta_transaction.specs.declared.transaction.Transaction.{Transaction}
+use Rattle.milter_mta_transaction.specs.Transactions.{left_of}
+use Rattle.milter_mta_transaction.specs.TransactionVerdicts.{with_verdict}
 use Rattle.milter_mta.specs.declared.filter_reply.Taken.{Taken}
 use Rattle.milter_mta.specs.declared.filter_reply.Taken.TheVariants.{GoesOn, Ends, Fails}
 use Rattle.milter_mta.specs.Mta.{Mta, at_packet}

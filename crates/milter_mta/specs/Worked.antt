@@ -1,19 +1,19 @@
 -- A worked session of one message, and replies to it.
 use Rattle.std.specs.Prelude.{ℕ, List, map, [], ◌∷◌, ◌++◌, codes, Option, None, Some}
 use Rattle.std.specs.Option.{option_to_list}
-use Rattle.milter_options.specs.declared.options.Options.{Options}
-use Rattle.milter_fields.specs.declared.client.Origin.TheVariants.{Unknown}
-use Rattle.milter_fields.specs.declared.path.Path.{Path}
+use Rattle.milter_wire_options.specs.declared.options.Options.{Options}
+use Rattle.milter_wire_fields.specs.declared.client.Origin.TheVariants.{Unknown}
+use Rattle.milter_wire_fields.specs.declared.path.Path.{Path}
 use Rattle.milter_wire.specs.declared.command.Command.{Command}
 use Rattle.milter_wire.specs.declared.reply.Reply.{Reply}
 use Rattle.milter_wire.specs.declared.reply.Reply.TheVariants as replies
-use Rattle.milter_exchange.specs.declared.limits.TheConstants.{ACTIONS_MAX, PROTOCOL_MAX, VERSION_MAX}
+use Rattle.milter_protocol.specs.declared.limits.TheConstants.{ACTIONS_MAX, PROTOCOL_MAX, VERSION_MAX}
 use Rattle.milter_wire.specs.declared.verdict.Verdict.{Verdict}
 use Rattle.milter_mail.specs.declared.macros.Macros.{Macros}
 use Rattle.milter_mail.specs.MailSession.{MailSession}
 use Rattle.milter_message.specs.MailObject.{MailObject}
-use Rattle.milter_outcome.specs.declared.fallback.OnLoss.{OnLoss}
-use Rattle.milter_outcome.specs.declared.outcome.Outcome.{Outcome}
+use Rattle.milter_mta_outcome.specs.declared.fallback.OnLoss.{OnLoss}
+use Rattle.milter_mta_outcome.specs.declared.outcome.Outcome.{Outcome}
 use Rattle.milter_mta.specs.Mta.{Configuration, FilterConnection, Mta, fresh}
 use Rattle.milter_mta.specs.Replies.{replied}
 use Rattle.milter_mta.specs.Output.{command_at, dialled, finished}

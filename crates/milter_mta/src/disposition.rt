@@ -1,21 +1,21 @@
 //! How a message is settled by the last verdict on it.
 
 ghost use Rattle.std.specs.Prelude.{◌≡◌, ◌≢◌, ◌<◌, ◌≤◌, ◌-◌, ◌++◌, ◌∷◌, [], All, IfErr, IfOk, List, OnOk, Some, length};
-ghost use Rattle.milter_outcome.specs.declared.acted.Acted.{Acted as ActedValue};
-ghost use Rattle.milter_outcome.specs.Outcomes.{at_connection, fallback};
-ghost use Rattle.milter_plan.specs.TransactionVerdicts.{on_connection, with_verdict};
+ghost use Rattle.milter_mta_outcome.specs.declared.acted.Acted.{Acted as ActedValue};
+ghost use Rattle.milter_mta_outcome.specs.Outcomes.{at_connection, fallback};
+ghost use Rattle.milter_mta_transaction.specs.TransactionVerdicts.{on_connection, with_verdict};
 ghost use Rattle.milter_mta.specs.declared.filter_connection.Next.TheVariants as nexts;
 ghost use Rattle.milter_mta.specs.CoreParts.{IsConsistent, IsConsistentAfter, awaiting, mta_of, with_all_reports, with_state_report};
 ghost use Rattle.milter_mta.specs.Dispositions.{default_report, lost, report, settled, settled_all, settled_first};
 
 use crate::filter_connection::{FilterConnection, Next};
 use crate::session_state::SessionState;
-use milter_exchange::Answer;
 use milter_mail::Message;
-use milter_outcome::{
+use milter_mta_outcome::{
     ActedVerdicts, By, Loss, Report, fall_back, finish, finish_at_connection, kept_message,
 };
-use milter_plan::{Transaction, begin_acted, copy_acted, without_last};
+use milter_mta_transaction::{Transaction, begin_acted, copy_acted, without_last};
+use milter_protocol::Answer;
 use milter_wire::{NoMemory, Stage, Verdict};
 
 impl SessionState {

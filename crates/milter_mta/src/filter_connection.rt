@@ -2,13 +2,13 @@
 
 ghost use Rattle.std.specs.Prelude.{◌≡◌, [], List, drop, false, option_map, true, ℕ};
 ghost use Rattle.milter_wire.specs.BorrowedCommand.{command_of};
-ghost use Rattle.milter_plan.specs.Transactions.{asks_first, left_of};
+ghost use Rattle.milter_mta_transaction.specs.Transactions.{asks_first, left_of};
 ghost use Rattle.milter_mta.specs.CoreParts.{CanSend, IsUnderWay, connection_of, messages_at, position_of};
 ghost use Rattle.milter_mta.specs.declared.filter_connection.Next.TheVariants as nexts;
 ghost use Rattle.milter_mta.specs.Output.{after_packet, asks_at, command_at, finished, want_at};
 
 use crate::want::Want;
-use milter_plan::{ClientInfo, Transaction};
+use milter_mta_transaction::{ClientInfo, Transaction};
 use milter_wire::{CommandRef, Options};
 use std::mem::replace;
 

@@ -1,15 +1,15 @@
 //! Laws of a mail server's end, each the contract of a function that does nothing.
 
 ghost use Rattle.std.specs.Prelude.{◌≡◌, ◌≢◌, ◌++◌, ◌∷◌, ◌↔◌, [], Err, List, None, Some, false, true, ℕ};
-ghost use Rattle.milter_stream.specs.declared.fault.WireFault.{WireFault};
-ghost use Rattle.milter_stream.specs.declared.fault.WireFault.TheVariants.{Malformed, UnknownCode};
-ghost use Rattle.milter_stream.specs.Stream.{Frame, IsFrame, IsUnfinished, frame_bytes, length_fault};
+ghost use Rattle.milter_wire_stream.specs.declared.fault.WireFault.{WireFault};
+ghost use Rattle.milter_wire_stream.specs.declared.fault.WireFault.TheVariants.{Malformed, UnknownCode};
+ghost use Rattle.milter_wire_stream.specs.Stream.{Frame, IsFrame, IsUnfinished, frame_bytes, length_fault};
 ghost use Rattle.milter_wire.specs.declared.reply.Reply.{Reply};
 ghost use Rattle.milter_wire.specs.Frames.{frame_reply};
 ghost use Rattle.milter_wire.specs.Reply.{Fits, encoding, is_code};
 ghost use Rattle.milter_message.specs.MailObject.{MailObject};
-ghost use Rattle.milter_outcome.specs.declared.loss.Loss.{Loss};
-ghost use Rattle.milter_outcome.specs.declared.loss.MtaFault.TheVariants.{Early, Wire};
+ghost use Rattle.milter_mta_outcome.specs.declared.loss.Loss.{Loss};
+ghost use Rattle.milter_mta_outcome.specs.declared.loss.MtaFault.TheVariants.{Early, Wire};
 ghost use Rattle.milter_mta.specs.Mta.{FilterConnection, Mta};
 ghost use Rattle.milter_mta.specs.Replies.{at, fails, goes_on, received, received_on, replied};
 ghost use Rattle.milter_mta.specs.Dispositions.{acted_in, default_report, lost};

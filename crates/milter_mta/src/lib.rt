@@ -32,7 +32,7 @@ pub use laws::{
     faults_are_received, losses_settle_one, pieces_go_on, replies_are_received,
     reply_prefixes_are_kept,
 };
-pub use milter_outcome::{
+pub use milter_mta_outcome::{
     Acted, ActedVerdicts, By, Loss, MtaFault, OnLoss, Outcome, Refusal, Report,
 };
 pub use mta_core::MtaCore;

@@ -6,14 +6,14 @@ ghost use Rattle.milter_mail.specs.ChosenMacros.{chosen_macros};
 ghost use Rattle.milter_mta.specs.CoreParts.{IsConsistent, Leaves, IsConsistentAfter, awaiting, begun_position, messages_at, mta_after, mta_of, position_of, session_of};
 ghost use Rattle.milter_mta.specs.declared.filter_connection.Next.TheVariants as nexts;
 ghost use Rattle.milter_mta.specs.Replies.{negotiated_on};
-ghost use Rattle.milter_outcome.specs.ReceivedReplies.{is_end};
+ghost use Rattle.milter_mta_outcome.specs.ReceivedReplies.{is_end};
 ghost use Rattle.milter_mta.specs.Dispositions.{after_message};
 
 use crate::filter_connection::{FilterConnection, Next};
 use crate::session_state::SessionState;
 use milter_mail::Macros;
-use milter_outcome::{ActedVerdicts, Loss};
-use milter_plan::{ReceivedEdits, Transaction};
+use milter_mta_outcome::{ActedVerdicts, Loss};
+use milter_mta_transaction::{ReceivedEdits, Transaction};
 use milter_wire::{Negotiated, Stage};
 
 /// Whether the stage is the end of a message.

@@ -3,7 +3,7 @@
 ghost use Rattle.std.specs.Prelude.{◌≡◌, ◌<◌, ◌≤◌, ◌-◌, ◌++◌, ◌∷◌, [], IfErr, IfOk, IfSome, None, length, reverse};
 
 use milter_mail::Message;
-use milter_outcome::{Acted, Report};
+use milter_mta_outcome::{Acted, Report};
 use milter_wire::NoMemory;
 use std::alloc::Global;
 use std::marker::Model;

@@ -1,8 +1,8 @@
 //! How pieces of what a filter sends are taken.
 
 ghost use Rattle.std.specs.Prelude.{◌≡◌, ◌<◌, ◌≤◌, [], IfOk, None, OnOk, Some, length, true};
-ghost use Rattle.milter_stream.specs.Splitter.{frame_of};
-ghost use Rattle.milter_stream.specs.Stream.{IsFrame, IsUnfinished};
+ghost use Rattle.milter_wire_stream.specs.Splitter.{frame_of};
+ghost use Rattle.milter_wire_stream.specs.Stream.{IsFrame, IsUnfinished};
 ghost use Rattle.milter_wire.specs.Frames.{frame_reply};
 ghost use Rattle.milter_mta.specs.CoreParts.{IsConsistent, Leaves, IsConsistentAfter, awaiting, mta_after, mta_of, owing, position_of};
 ghost use Rattle.milter_mta.specs.Cores.{ReceivesBytes, ReceivesSome};
@@ -11,7 +11,7 @@ ghost use Rattle.milter_mta.specs.Dispositions.{lost};
 
 use crate::filter_connection::FilterConnection;
 use crate::session_state::SessionState;
-use milter_outcome::{Loss, MtaFault};
+use milter_mta_outcome::{Loss, MtaFault};
 use milter_wire::{Packet, Reply, Splitter, WireFault};
 
 /// The loss by a packet that can't be read, or for which memory was refused.

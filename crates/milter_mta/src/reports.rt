@@ -3,7 +3,7 @@
 ghost use Rattle.std.specs.Prelude.{◌≡◌};
 ghost use Rattle.std.specs.Option.{option_copied};
 
-use milter_outcome::Report;
+use milter_mta_outcome::Report;
 use milter_wire::Verdict;
 use std::marker::Model;
 

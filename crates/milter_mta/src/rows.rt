@@ -4,11 +4,11 @@ ghost use Rattle.std.specs.Prelude.{◌≡◌, [], ◌∷◌, codes, None, Some}
 ghost use Rattle.milter_wire.specs.declared.command.Command.TheVariants as commands;
 ghost use Rattle.milter_wire.specs.declared.reply.Reply.TheVariants as replies;
 ghost use Rattle.milter_wire.specs.declared.verdict.Verdict.TheVariants as verdicts;
-ghost use Rattle.milter_outcome.specs.declared.fallback.OnLoss.TheVariants.{Accept, Tempfail};
-ghost use Rattle.milter_outcome.specs.declared.loss.Loss.TheVariants.{Reset};
-ghost use Rattle.milter_outcome.specs.declared.outcome.Outcome.TheVariants.{Discarded, NoRecipients, Refused, RefusedAtConnection};
-ghost use Rattle.milter_outcome.specs.declared.refusal.Refusal.TheVariants as refusals;
-ghost use Rattle.milter_outcome.specs.Outcomes.{released};
+ghost use Rattle.milter_mta_outcome.specs.declared.fallback.OnLoss.TheVariants.{Accept, Tempfail};
+ghost use Rattle.milter_mta_outcome.specs.declared.loss.Loss.TheVariants.{Reset};
+ghost use Rattle.milter_mta_outcome.specs.declared.outcome.Outcome.TheVariants.{Discarded, NoRecipients, Refused, RefusedAtConnection};
+ghost use Rattle.milter_mta_outcome.specs.declared.refusal.Refusal.TheVariants as refusals;
+ghost use Rattle.milter_mta_outcome.specs.Outcomes.{released};
 ghost use Rattle.milter_mta.specs.Dispositions.{lost};
 ghost use Rattle.milter_mta.specs.Worked.{acted_on, after_turns, negotiated, at, begun, commands_sent, continue, message, options, outcomes, reply, session, to_sender, two_recipients};
 

@@ -9,8 +9,8 @@ use crate::config::Config;
 use crate::filter_connection::{FilterConnection, Next};
 use crate::queue::Queue;
 use milter_mail::Message;
-use milter_outcome::{ActedVerdicts, By, Loss, Report, fall_back};
-use milter_plan::{ClientInfo, Transaction};
+use milter_mta_outcome::{ActedVerdicts, By, Loss, Report, fall_back};
+use milter_mta_transaction::{ClientInfo, Transaction};
 use milter_wire::Verdict;
 use std::alloc::Global;
 

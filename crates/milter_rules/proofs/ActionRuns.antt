@@ -7,15 +7,15 @@ use Rattle.std.specs.List.{list_all}
 use Rattle.std.proofs.lemmas.Bool.{and_from, and_parts, le-leb, lt-ltb, ltb-true}
 use Rattle.std.proofs.lemmas.Fmt.{decimal_by_steps, decimal_is_IsNumeral, decimal_nonempty, length-decimal-le}
 use Rattle.std.proofs.lemmas.List.Folds.{list_all-append}
-use Rattle.milter_fields.specs.Bind.{◌>>=◌}
+use Rattle.milter_wire_fields.specs.Bind.{◌>>=◌}
 use Rattle.milter_text.specs.WordValues.{keyword, number_of}
 use Rattle.milter_wire.specs.declared.verdict.Verdict.{Verdict}
 use Rattle.milter_wire.specs.declared.verdict.Verdict.TheVariants as verdicts
 use Rattle.milter_message.specs.declared.edit.Edit.{Edit}
 use Rattle.milter_message.specs.declared.edit.Edit.TheVariants as edits
-use Rattle.milter_ruleset.specs.declared.rule.Action.{Action}
-use Rattle.milter_ruleset.specs.declared.rule.Action.TheVariants as actions
-use Rattle.milter_ruleset.specs.ActionFits.{edit_fits, fields_fit, header_fits, is_index}
+use Rattle.milter_filter_rules.specs.declared.rule.Action.{Action}
+use Rattle.milter_filter_rules.specs.declared.rule.Action.TheVariants as actions
+use Rattle.milter_filter_rules.specs.ActionFits.{edit_fits, fields_fit, header_fits, is_index}
 use Rattle.milter_rules.specs.ActionText.{action_words, edit_words, verdict_words}
 use Rattle.milter_rules.specs.ActionWords.{action_of, action_shape, if_fields_fit, index_of}
 

@@ -10,35 +10,35 @@ use Rattle.std.proofs.lemmas.List.Elements.{filter_map-append}
 use Rattle.std.proofs.lemmas.List.Folds.{list_all-append}
 use Rattle.std.proofs.lemmas.List.Sums.{sum_by-append}
 use Rattle.std.proofs.lemmas.Nat.{and_or_self}
-use Rattle.milter_stream.specs.Number.{number}
-use Rattle.milter_stream.specs.declared.number.TheConstants.{PAYLOAD_MAX}
-use Rattle.milter_options.specs.declared.options.Actions.{Actions}
-use Rattle.milter_options.specs.declared.options.Options.{Options}
-use Rattle.milter_options.specs.declared.options.Protocol.{Protocol}
-use Rattle.milter_options.specs.declared.options.TheConstants.Actions.{SETSYMLIST}
-use Rattle.milter_options.specs.declared.payload.TheConstants.{OPTIONS_LEN}
-use Rattle.milter_options.specs.declared.symbol_lists.SymList.{SymList}
-use Rattle.milter_options.specs.Bits.{is_within}
-use Rattle.milter_options.specs.Payload.{options, options_with_lists, sym_list}
-use Rattle.milter_options.proofs.NamedSets.{within_or}
+use Rattle.milter_wire_stream.specs.Number.{number}
+use Rattle.milter_wire_stream.specs.declared.number.TheConstants.{PAYLOAD_MAX}
+use Rattle.milter_wire_options.specs.declared.options.Actions.{Actions}
+use Rattle.milter_wire_options.specs.declared.options.Options.{Options}
+use Rattle.milter_wire_options.specs.declared.options.Protocol.{Protocol}
+use Rattle.milter_wire_options.specs.declared.options.TheConstants.Actions.{SETSYMLIST}
+use Rattle.milter_wire_options.specs.declared.payload.TheConstants.{OPTIONS_LEN}
+use Rattle.milter_wire_options.specs.declared.symbol_lists.SymList.{SymList}
+use Rattle.milter_wire_options.specs.Bits.{is_within}
+use Rattle.milter_wire_options.specs.Payload.{options, options_with_lists, sym_list}
+use Rattle.milter_wire_options.proofs.NamedSets.{within_or}
 use Rattle.milter_wire.specs.declared.stage.Stage.{Stage}
 use Rattle.milter_wire.specs.declared.stage.Stage.TheVariants.{Connect, Helo, Mail, Rcpt, DataCmd, Header, Eoh, Body, Eob}
 use Rattle.milter_message.specs.declared.edit.Edit.TheVariants as edits
 use Rattle.milter_message.specs.declared.message.TheConstants.{WEIGHT_MAX}
 use Rattle.milter_message.specs.EditReplies.{weight_of}
-use Rattle.milter_exchange.specs.declared.limits.TheConstants.{ACTIONS_MAX, PROTOCOL_MAX, VERSION_MAX, VERSION_MIN}
-use Rattle.milter_ruleset.specs.declared.rule.Action.{Action}
-use Rattle.milter_ruleset.specs.declared.rule.Action.TheVariants as actions
-use Rattle.milter_ruleset.specs.declared.rule.Rule.{Rule}
+use Rattle.milter_protocol.specs.declared.limits.TheConstants.{ACTIONS_MAX, PROTOCOL_MAX, VERSION_MAX, VERSION_MIN}
+use Rattle.milter_filter_rules.specs.declared.rule.Action.{Action}
+use Rattle.milter_filter_rules.specs.declared.rule.Action.TheVariants as actions
+use Rattle.milter_filter_rules.specs.declared.rule.Rule.{Rule}
 use Rattle.milter_rules.specs.declared.rule_builder.TheConstants.{RULES_MAX}
-use Rattle.milter_ruleset.specs.declared.rule_list.StageRules.{StageRules}
-use Rattle.milter_ruleset.specs.ActionFits.{are_lawful_at, edit_in, edits_weight, may_act}
+use Rattle.milter_filter_rules.specs.declared.rule_list.StageRules.{StageRules}
+use Rattle.milter_filter_rules.specs.ActionFits.{are_lawful_at, edit_in, edits_weight, may_act}
 use Rattle.milter_rules.specs.RuleBuilder.{PartsFit, RuleFollows, edits_weight_at, with_rule_at}
 use Rattle.milter_rules.specs.RuleFile.{FileParts, is_skip, needed_actions, needed_for, needed_protocol, rules_of, wanted, with_lists}
 use Rattle.milter_rules.specs.RuleLines.{if_known}
-use Rattle.milter_ruleset.specs.RuleSet.{is_lawful, lists_wanted, options_have_room, options_known, rules_lawful}
-use Rattle.milter_ruleset.specs.RulesLaw.{EachFits, each_fits}
-use Rattle.milter_ruleset.specs.StageRules.{is_stage, rules_at, with_rule}
+use Rattle.milter_filter_rules.specs.RuleSet.{is_lawful, lists_wanted, options_have_room, options_known, rules_lawful}
+use Rattle.milter_filter_rules.specs.RulesLaw.{EachFits, each_fits}
+use Rattle.milter_filter_rules.specs.StageRules.{is_stage, rules_at, with_rule}
 
 -- ---- the weight of all edits
 

@@ -4,17 +4,17 @@ use Rattle.std.specs.Option.{option_map}
 use Rattle.std.specs.Str.{bytes_eq}
 use Rattle.std.proofs.Common.{ap, sym, subst, ◌∙◌}
 use Rattle.std.proofs.lemmas.Slice.Eq.{bytes_eq-Decides}
-use Rattle.milter_fields.specs.Bind.{◌>>=◌}
+use Rattle.milter_wire_fields.specs.Bind.{◌>>=◌}
 use Rattle.milter_text.specs.declared.word.Word.{Word}
 use Rattle.milter_text.specs.WordValues.{is_keyword, keyword, text_of}
-use Rattle.milter_ruleset.specs.declared.rule.Condition.{Condition}
-use Rattle.milter_ruleset.specs.declared.rule.Field.{Field}
-use Rattle.milter_ruleset.specs.declared.rule.Field.TheVariants.{Host, Address, Helo, Sender, Rcpt, Header, Body, Macro}
-use Rattle.milter_search.specs.declared.pattern.Test.{Test}
-use Rattle.milter_search.specs.declared.pattern.Test.TheVariants.{Is, Has, Lacks}
+use Rattle.milter_filter_rules.specs.declared.rule.Condition.{Condition}
+use Rattle.milter_filter_rules.specs.declared.rule.Field.{Field}
+use Rattle.milter_filter_rules.specs.declared.rule.Field.TheVariants.{Host, Address, Helo, Sender, Rcpt, Header, Body, Macro}
+use Rattle.milter_filter_search.specs.declared.pattern.Test.{Test}
+use Rattle.milter_filter_search.specs.declared.pattern.Test.TheVariants.{Is, Has, Lacks}
 use Rattle.milter_rules.specs.ConditionWords.{condition_at, condition_on, condition_words, field_at, field_of, lone_field, name_words, named_field, quoted_word, test_in, words_after}
-use Rattle.milter_ruleset.specs.RuleNames.{field_name}
-use Rattle.milter_search.specs.Texts.{test_name}
+use Rattle.milter_filter_rules.specs.RuleNames.{field_name}
+use Rattle.milter_filter_search.specs.Texts.{test_name}
 
 -- ---- from a condition to its words and back
 

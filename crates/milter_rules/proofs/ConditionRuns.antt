@@ -6,7 +6,7 @@ use Rattle.std.proofs.lemmas.Bool.{false≢true}
 use Rattle.std.proofs.lemmas.Slice.Eq.{bytes_eq-Decides}
 use Rattle.milter_text.specs.declared.word.Word.{Word}
 use Rattle.milter_text.specs.WordValues.{keyword}
-use Rattle.milter_ruleset.specs.declared.rule.Condition.{Condition}
+use Rattle.milter_filter_rules.specs.declared.rule.Condition.{Condition}
 use Rattle.milter_rules.specs.ConditionWords.{condition_at, condition_words, conditions_words, joined, words_after}
 use Rattle.milter_rules.proofs.ConditionGrammar.{after_keyword, append_words, condition_found, condition_read, keyword_after}
 

@@ -6,35 +6,35 @@ use Rattle.std.specs.List.{AllZip, filter_map, flat_map, list_all}
 use Rattle.std.specs.Int.RustNames.{bit_and}
 use Rattle.std.proofs.lemmas.Bool.{and_parts, eqb-true, leb-true}
 use Rattle.std.proofs.lemmas.List.Elements.{All-head, All-tail}
-use Rattle.milter_options.specs.Bits.{actions_table, bits_named, is_within, names_text, protocol_table}
-use Rattle.milter_options.specs.declared.macro_stage.MacroStage.{MacroStage}
-use Rattle.milter_options.specs.declared.macro_stage.MacroStage.TheVariants as macro_stages
-use Rattle.milter_options.specs.declared.symbol_lists.SymList.{SymList}
-use Rattle.milter_options.specs.MacroStages.{macro_stage_number}
-use Rattle.milter_options.proofs.KnownNames.{actions_within, protocol_within}
+use Rattle.milter_wire_options.specs.Bits.{actions_table, bits_named, is_within, names_text, protocol_table}
+use Rattle.milter_wire_options.specs.declared.macro_stage.MacroStage.{MacroStage}
+use Rattle.milter_wire_options.specs.declared.macro_stage.MacroStage.TheVariants as macro_stages
+use Rattle.milter_wire_options.specs.declared.symbol_lists.SymList.{SymList}
+use Rattle.milter_wire_options.specs.MacroStages.{macro_stage_number}
+use Rattle.milter_wire_options.proofs.KnownNames.{actions_within, protocol_within}
 use Rattle.milter_text.specs.declared.word.Word.{Word}
 use Rattle.milter_text.specs.Lines.{contents}
 use Rattle.milter_text.specs.Words.{HasWords}
 use Rattle.milter_text.specs.WordValues.{keyword}
 use Rattle.milter_wire.specs.declared.stage.Stage.{Stage}
 use Rattle.milter_wire.specs.Stages.{all_stages}
-use Rattle.milter_exchange.specs.declared.limits.TheConstants.{ACTIONS_MAX, PROTOCOL_MAX, VERSION_MAX, VERSION_MIN}
-use Rattle.milter_ruleset.specs.declared.rule.Rule.{Rule}
+use Rattle.milter_protocol.specs.declared.limits.TheConstants.{ACTIONS_MAX, PROTOCOL_MAX, VERSION_MAX, VERSION_MIN}
+use Rattle.milter_filter_rules.specs.declared.rule.Rule.{Rule}
 use Rattle.milter_rules.specs.declared.rule_line.RuleLine.{RuleLine}
 use Rattle.milter_rules.specs.declared.rule_line.RuleLine.TheVariants as lines
 use Rattle.milter_rules.specs.declared.rule_line.Setting.TheVariants as settings
-use Rattle.milter_ruleset.specs.declared.rule_list.StageRules.{StageRules}
-use Rattle.milter_ruleset.specs.ActionFits.{allowed_at, are_lawful_at, fields_fit, has_room, is_string, may_act}
+use Rattle.milter_filter_rules.specs.declared.rule_list.StageRules.{StageRules}
+use Rattle.milter_filter_rules.specs.ActionFits.{allowed_at, are_lawful_at, fields_fit, has_room, is_string, may_act}
 use Rattle.milter_rules.specs.ActionText.{action_words}
 use Rattle.milter_rules.specs.RuleFile.{AllGive}
 use Rattle.milter_rules.specs.RuleLines.{Gives, setting_of}
-use Rattle.milter_ruleset.specs.RuleSet.{RuleSet, is_lawful, list_fits, lists_wanted, options_have_room, options_known}
-use Rattle.milter_ruleset.specs.RuleSet.{rules_lawful, wants_within}
+use Rattle.milter_filter_rules.specs.RuleSet.{RuleSet, is_lawful, list_fits, lists_wanted, options_have_room, options_known}
+use Rattle.milter_filter_rules.specs.RuleSet.{rules_lawful, wants_within}
 use Rattle.milter_rules.specs.RulesGiven.{CanBeText, list_given, rules_given, stage_count, stage_given}
-use Rattle.milter_ruleset.specs.RulesLaw.{EachFits, each_fits}
+use Rattle.milter_filter_rules.specs.RulesLaw.{EachFits, each_fits}
 use Rattle.milter_rules.specs.RulesText.{macro_stage_numbered, rule_words, rules_lines}
 use Rattle.milter_rules.specs.RulesText.{rules_text, stage_lines, symbols_line, symbols_words, version_words}
-use Rattle.milter_ruleset.specs.StageRules.{rules_at}
+use Rattle.milter_filter_rules.specs.StageRules.{rules_at}
 use Rattle.milter_rules.proofs.ActionRuns.{action_read, number_read}
 use Rattle.milter_rules.proofs.WrittenRules.{rules_have_words, stage_lawful}
 

@@ -3,21 +3,21 @@ use Rattle.std.specs.Prelude.{◌≡◌, ℕ, IsUtf8, option_map, Bool, true, fa
 use Rattle.std.specs.Str.{bytes_eq}
 use Rattle.std.proofs.Common.{ap, sym, subst, ◌∙◌}
 use Rattle.std.proofs.lemmas.Slice.Eq.{bytes_eq-Decides}
-use Rattle.milter_fields.specs.Bind.{◌>>=◌}
+use Rattle.milter_wire_fields.specs.Bind.{◌>>=◌}
 use Rattle.milter_text.specs.declared.word.Word.{Word}
 use Rattle.milter_text.specs.WordValues.{keyword, plain_text}
-use Rattle.milter_options.specs.declared.options.Actions.{Actions}
-use Rattle.milter_options.specs.declared.options.Protocol.{Protocol}
-use Rattle.milter_options.specs.Bits.{actions_table, bits_named, protocol_table}
-use Rattle.milter_options.proofs.NamedSets.{actions_named, protocol_named}
+use Rattle.milter_wire_options.specs.declared.options.Actions.{Actions}
+use Rattle.milter_wire_options.specs.declared.options.Protocol.{Protocol}
+use Rattle.milter_wire_options.specs.Bits.{actions_table, bits_named, protocol_table}
+use Rattle.milter_wire_options.proofs.NamedSets.{actions_named, protocol_named}
 use Rattle.milter_wire.specs.declared.stage.Stage.{Stage}
 use Rattle.milter_wire.specs.declared.stage.Stage.TheVariants.{Connect, Helo, Mail, Rcpt, DataCmd, Header, Eoh, Body, Eob}
 use Rattle.milter_wire.specs.Stages.{name_of, stage_named}
-use Rattle.milter_ruleset.specs.declared.rule.Action.{Action}
-use Rattle.milter_ruleset.specs.declared.rule.Rule.{Rule}
+use Rattle.milter_filter_rules.specs.declared.rule.Action.{Action}
+use Rattle.milter_filter_rules.specs.declared.rule.Rule.{Rule}
 use Rattle.milter_rules.specs.declared.rule_line.RuleLine.{RuleLine}
 use Rattle.milter_rules.specs.declared.rule_line.RuleLine.TheVariants as lines
-use Rattle.milter_ruleset.specs.ActionFits.{fields_fit}
+use Rattle.milter_filter_rules.specs.ActionFits.{fields_fit}
 use Rattle.milter_rules.specs.ActionWords.{action_of, action_shape, if_fields_fit}
 use Rattle.milter_rules.specs.ConditionWords.{words_after}
 use Rattle.milter_rules.specs.RuleLines.{Gives, HasRule, IsNoText, actions_of, protocol_of, stage_at, setting_of}

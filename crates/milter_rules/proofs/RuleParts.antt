@@ -2,17 +2,17 @@
 use Rattle.std.proofs.Common.{◌≡◌, ℕ, List, [], ◌∷◌, ◌++◌, Option, None, Some, ap, append_assoc, map, refl, ◌∙◌}
 use Rattle.std.specs.List.{filter_map, flat_map}
 use Rattle.std.proofs.lemmas.List.Concat.{flat_map-append}
-use Rattle.milter_options.specs.declared.macro_stage.MacroStage.{MacroStage}
-use Rattle.milter_options.specs.declared.symbol_lists.SymList.{SymList}
+use Rattle.milter_wire_options.specs.declared.macro_stage.MacroStage.{MacroStage}
+use Rattle.milter_wire_options.specs.declared.symbol_lists.SymList.{SymList}
 use Rattle.milter_wire.specs.declared.stage.Stage.{Stage}
 use Rattle.milter_wire.specs.Stages.{all_stages}
-use Rattle.milter_ruleset.specs.declared.rule.Rule.{Rule}
-use Rattle.milter_ruleset.specs.declared.rule_list.StageRules.{StageRules}
-use Rattle.milter_ruleset.specs.RuleSet.{RuleSet}
+use Rattle.milter_filter_rules.specs.declared.rule.Rule.{Rule}
+use Rattle.milter_filter_rules.specs.declared.rule_list.StageRules.{StageRules}
+use Rattle.milter_filter_rules.specs.RuleSet.{RuleSet}
 use Rattle.milter_rules.specs.RulesText.{actions_words, macro_stage_numbered, options_text, protocol_words, rule_text}
 use Rattle.milter_rules.specs.RulesText.{rule_words, rules_text, stage_lines, stage_text, stages_text, symbols_at}
 use Rattle.milter_rules.specs.RulesText.{symbols_line, symbols_text, version_words}
-use Rattle.milter_ruleset.specs.StageRules.{rules_at}
+use Rattle.milter_filter_rules.specs.StageRules.{rules_at}
 use Rattle.milter_rules.specs.WordsText.{line_text}
 
 list_part : (stage : Option MacroStage) (lists : List SymList) (list : SymList)

@@ -8,26 +8,26 @@ use Rattle.std.specs.List.{filter, filter_map, flat_map, list_all}
 use Rattle.std.proofs.lemmas.Bool.{and_parts, cases_Bool, cases_lt, eq-eqb, eqb-true, false≢true, leb-true, not-true}
 use Rattle.std.proofs.lemmas.List.Elements.{filter-append, filter_map-append}
 use Rattle.std.proofs.lemmas.Nat.Bits.{and_pow, bit_at_or, bit_at-lt, bit_at-pow_other, same_from_bits}
-use Rattle.milter_stream.specs.declared.number.TheConstants.{PAYLOAD_MAX}
-use Rattle.milter_options.specs.declared.options.TheConstants.Actions.{SETSYMLIST}
-use Rattle.milter_options.specs.declared.symbol_lists.SymList.{SymList}
-use Rattle.milter_options.specs.Payload.{options_with_lists}
+use Rattle.milter_wire_stream.specs.declared.number.TheConstants.{PAYLOAD_MAX}
+use Rattle.milter_wire_options.specs.declared.options.TheConstants.Actions.{SETSYMLIST}
+use Rattle.milter_wire_options.specs.declared.symbol_lists.SymList.{SymList}
+use Rattle.milter_wire_options.specs.Payload.{options_with_lists}
 use Rattle.milter_wire.specs.Negotiation.{has_bit}
 use Rattle.milter_wire.specs.declared.stage.Stage.{Stage}
 use Rattle.milter_wire.specs.declared.stage.Stage.TheVariants as stages
 use Rattle.milter_wire.specs.Stages.{all_stages}
-use Rattle.milter_ruleset.specs.declared.rule.Rule.{Rule}
+use Rattle.milter_filter_rules.specs.declared.rule.Rule.{Rule}
 use Rattle.milter_rules.specs.declared.rule_line.RuleLine.{RuleLine}
 use Rattle.milter_rules.specs.declared.rule_line.RuleLine.TheVariants as lines
-use Rattle.milter_ruleset.specs.declared.rule_list.StageRules.{StageRules}
+use Rattle.milter_filter_rules.specs.declared.rule_list.StageRules.{StageRules}
 use Rattle.milter_rules.specs.RuleFile.{CanBeFile, IsRuleFile, actions_in, is_rule, list_in, parts_of, protocol_in}
 use Rattle.milter_rules.specs.RuleFile.{rule_in, rules_of, version_in, with_lists}
-use Rattle.milter_ruleset.specs.RuleSet.{RuleSet, is_lawful, list_fits, lists_wanted, options_have_room, options_known}
-use Rattle.milter_ruleset.specs.RuleSet.{rules_lawful, wants_within}
+use Rattle.milter_filter_rules.specs.RuleSet.{RuleSet, is_lawful, list_fits, lists_wanted, options_have_room, options_known}
+use Rattle.milter_filter_rules.specs.RuleSet.{rules_lawful, wants_within}
 use Rattle.milter_rules.specs.RulesGiven.{CanBeText, list_given, rules_given, stage_given}
-use Rattle.milter_ruleset.specs.RulesLaw.{each_fits}
+use Rattle.milter_filter_rules.specs.RulesLaw.{each_fits}
 use Rattle.milter_rules.specs.RulesText.{rules_text}
-use Rattle.milter_ruleset.specs.StageRules.{by_stage, is_stage, rules_at}
+use Rattle.milter_filter_rules.specs.StageRules.{by_stage, is_stage, rules_at}
 use Rattle.milter_rules.proofs.Builders.{reply_len}
 use Rattle.milter_rules.proofs.GivenRules.{rules_give}
 

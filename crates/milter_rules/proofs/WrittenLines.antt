@@ -6,7 +6,7 @@ use Rattle.std.specs.Io.BufRead.{ends_with_byte, strip_last}
 use Rattle.std.specs.List.{AllZip, filter, flat_map, list_all}
 use Rattle.std.proofs.lemmas.Bool.{and_parts, cases_Bool, cond_both, eqb-true, false≢true, leb-true, ltb-true}
 use Rattle.std.proofs.lemmas.List.Elements.{All-append, All-cons, All-get_or, All-head, All-nil, All-tail, All-weaker}
-use Rattle.milter_stream.specs.Code.{hex_digit}
+use Rattle.milter_wire_stream.specs.Code.{hex_digit}
 use Rattle.milter_text.specs.declared.word.Word.{Word}
 use Rattle.milter_text.specs.Lines.{HasNoLf, content, contents, is_skipped, lines_of}
 use Rattle.milter_text.specs.Quoting.{quoted, quoted_byte}

@@ -10,10 +10,10 @@ use Rattle.std.proofs.lemmas.Bool.{not_from_false, not-true}
 use Rattle.std.proofs.lemmas.Fmt.{decimal_by_steps, decimal_nonempty}
 use Rattle.std.proofs.lemmas.List.Elements.{All-cons, All-head, All-nil, All-tail}
 use Rattle.std.proofs.lemmas.List.Folds.{list_all-append}
-use Rattle.milter_options.specs.Bits.{actions_table, names_joined, names_text, protocol_table}
-use Rattle.milter_options.specs.declared.macro_stage.MacroStage.{MacroStage}
-use Rattle.milter_options.specs.declared.macro_stage.MacroStage.TheVariants as macro_stages
-use Rattle.milter_options.specs.declared.symbol_lists.SymList.{SymList}
+use Rattle.milter_wire_options.specs.Bits.{actions_table, names_joined, names_text, protocol_table}
+use Rattle.milter_wire_options.specs.declared.macro_stage.MacroStage.{MacroStage}
+use Rattle.milter_wire_options.specs.declared.macro_stage.MacroStage.TheVariants as macro_stages
+use Rattle.milter_wire_options.specs.declared.symbol_lists.SymList.{SymList}
 use Rattle.milter_text.specs.declared.word.Word.{Word}
 use Rattle.milter_text.specs.Lines.{contents, is_skipped}
 use Rattle.milter_text.specs.Words.{HasWords, is_plain}
@@ -25,28 +25,28 @@ use Rattle.milter_wire.specs.declared.verdict.Verdict.TheVariants as verdicts
 use Rattle.milter_wire.specs.Stages.{all_stages, name_of}
 use Rattle.milter_message.specs.declared.edit.Edit.{Edit}
 use Rattle.milter_message.specs.declared.edit.Edit.TheVariants as edits
-use Rattle.milter_exchange.specs.declared.limits.TheConstants.{VERSION_MAX, VERSION_MIN}
-use Rattle.milter_ruleset.specs.declared.rule.Action.{Action}
-use Rattle.milter_ruleset.specs.declared.rule.Action.TheVariants as actions
-use Rattle.milter_ruleset.specs.declared.rule.Condition.{Condition}
-use Rattle.milter_ruleset.specs.declared.rule.Field.{Field}
-use Rattle.milter_ruleset.specs.declared.rule.Field.TheVariants as fields
-use Rattle.milter_ruleset.specs.declared.rule.Rule.{Rule}
-use Rattle.milter_search.specs.declared.pattern.Test.{Test}
-use Rattle.milter_search.specs.declared.pattern.Test.TheVariants as tests
-use Rattle.milter_ruleset.specs.declared.rule_list.StageRules.{StageRules}
-use Rattle.milter_ruleset.specs.ActionFits.{allowed_at, are_lawful_at, edit_fits, fields_fit, has_room, header_fits}
-use Rattle.milter_ruleset.specs.ActionFits.{is_index, may_act}
+use Rattle.milter_protocol.specs.declared.limits.TheConstants.{VERSION_MAX, VERSION_MIN}
+use Rattle.milter_filter_rules.specs.declared.rule.Action.{Action}
+use Rattle.milter_filter_rules.specs.declared.rule.Action.TheVariants as actions
+use Rattle.milter_filter_rules.specs.declared.rule.Condition.{Condition}
+use Rattle.milter_filter_rules.specs.declared.rule.Field.{Field}
+use Rattle.milter_filter_rules.specs.declared.rule.Field.TheVariants as fields
+use Rattle.milter_filter_rules.specs.declared.rule.Rule.{Rule}
+use Rattle.milter_filter_search.specs.declared.pattern.Test.{Test}
+use Rattle.milter_filter_search.specs.declared.pattern.Test.TheVariants as tests
+use Rattle.milter_filter_rules.specs.declared.rule_list.StageRules.{StageRules}
+use Rattle.milter_filter_rules.specs.ActionFits.{allowed_at, are_lawful_at, edit_fits, fields_fit, has_room, header_fits}
+use Rattle.milter_filter_rules.specs.ActionFits.{is_index, may_act}
 use Rattle.milter_rules.specs.ActionText.{action_words, edit_words, verdict_words}
 use Rattle.milter_rules.specs.ConditionWords.{condition_words, conditions_words, joined, name_words}
 use Rattle.milter_rules.specs.ConditionWords.{quoted_word}
-use Rattle.milter_ruleset.specs.RuleNames.{field_name}
-use Rattle.milter_search.specs.Texts.{test_name}
-use Rattle.milter_ruleset.specs.RuleSet.{RuleSet, is_lawful, options_known, rules_lawful, wants_within}
-use Rattle.milter_ruleset.specs.RulesLaw.{EachFits, each_fits}
+use Rattle.milter_filter_rules.specs.RuleNames.{field_name}
+use Rattle.milter_filter_search.specs.Texts.{test_name}
+use Rattle.milter_filter_rules.specs.RuleSet.{RuleSet, is_lawful, options_known, rules_lawful, wants_within}
+use Rattle.milter_filter_rules.specs.RulesLaw.{EachFits, each_fits}
 use Rattle.milter_rules.specs.RulesText.{actions_words, macro_stage_numbered, protocol_words, rule_words, rules_lines}
 use Rattle.milter_rules.specs.RulesText.{rules_text, stage_lines, symbols_line, symbols_words, version_words}
-use Rattle.milter_ruleset.specs.StageRules.{rules_at}
+use Rattle.milter_filter_rules.specs.StageRules.{rules_at}
 use Rattle.milter_rules.specs.WordsText.{CanBeLine, CanBeWritten, HasBytes, IsTextOf, words_text}
 use Rattle.milter_rules.proofs.WrittenLines.{lines_have_words}
 

@@ -1,7 +1,7 @@
 -- The words of an action, as a rule file has them after `do`.
 use Rattle.std.specs.Prelude.{ℕ, List, [], ◌∷◌, codes, decimal, map, Option, None, Some}
 use Rattle.std.specs.Option.{option_to_list}
-use Rattle.milter_fields.specs.declared.header.Header.{Header}
+use Rattle.milter_wire_fields.specs.declared.header.Header.{Header}
 use Rattle.milter_text.specs.declared.word.Word.{Word}
 use Rattle.milter_text.specs.WordValues.{keyword}
 use Rattle.milter_wire.specs.declared.verdict.Verdict.{Verdict}
@@ -9,8 +9,8 @@ use Rattle.milter_wire.specs.declared.verdict.Verdict.TheVariants as verdicts
 use Rattle.milter_wire.specs.Verdicts.{verdict_name}
 use Rattle.milter_message.specs.declared.edit.Edit.{Edit}
 use Rattle.milter_message.specs.declared.edit.Edit.TheVariants as edits
-use Rattle.milter_ruleset.specs.declared.rule.Action.{Action}
-use Rattle.milter_ruleset.specs.declared.rule.Action.TheVariants as actions
+use Rattle.milter_filter_rules.specs.declared.rule.Action.{Action}
+use Rattle.milter_filter_rules.specs.declared.rule.Action.TheVariants as actions
 use Rattle.milter_rules.specs.ConditionWords.{quoted_word}
 
 -- a keyword, a text, and a second one if there is one

@@ -1,14 +1,14 @@
 -- The actions of rules by their words: each is a keyword, perhaps a number, and texts.
 use Rattle.std.specs.Prelude.{ℕ, ◌^◌, nat_lt, List, [], ◌∷◌, codes, Option, None, Some, if◌then◌else◌}
-use Rattle.milter_fields.specs.Bind.{◌>>=◌}
-use Rattle.milter_fields.specs.declared.header.Header.{Header}
+use Rattle.milter_wire_fields.specs.Bind.{◌>>=◌}
+use Rattle.milter_wire_fields.specs.declared.header.Header.{Header}
 use Rattle.milter_text.specs.declared.word.Word.{Word}
 use Rattle.milter_text.specs.WordValues.{is_keyword, number_of, text_of}
 use Rattle.milter_wire.specs.declared.verdict.Verdict.TheVariants.{Continue, Accept, Reject, Tempfail, Discard, Skip, Code}
 use Rattle.milter_message.specs.declared.edit.Edit.TheVariants.{AddHeader, InsertHeader, ChangeHeader, AddRcpt, AddRcptPar, DelRcpt, ChangeFrom, ReplaceBody, Quarantine, Progress}
-use Rattle.milter_ruleset.specs.declared.rule.Action.{Action}
-use Rattle.milter_ruleset.specs.declared.rule.Action.TheVariants.{Edit, Verdict}
-use Rattle.milter_ruleset.specs.ActionFits.{fields_fit}
+use Rattle.milter_filter_rules.specs.declared.rule.Action.{Action}
+use Rattle.milter_filter_rules.specs.declared.rule.Action.TheVariants.{Edit, Verdict}
+use Rattle.milter_filter_rules.specs.ActionFits.{fields_fit}
 
 -- without a text
 abbrev pub lone_action : Word → Option Action

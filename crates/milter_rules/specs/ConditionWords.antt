@@ -1,16 +1,16 @@
 -- The words of conditions, as a rule file has them: each word of them is written in one way only.
 use Rattle.std.specs.Prelude.{ℕ, List, [], ◌∷◌, ◌++◌, codes, true, Option, None, Some, if◌then◌else◌}
 use Rattle.std.specs.Option.{option_map}
-use Rattle.milter_fields.specs.Bind.{◌>>=◌}
+use Rattle.milter_wire_fields.specs.Bind.{◌>>=◌}
 use Rattle.milter_text.specs.declared.word.Word.{Word}
 use Rattle.milter_text.specs.WordValues.{is_keyword, keyword, text_of}
-use Rattle.milter_ruleset.specs.declared.rule.Condition.{Condition}
-use Rattle.milter_ruleset.specs.declared.rule.Field.{Field}
-use Rattle.milter_ruleset.specs.declared.rule.Field.TheVariants.{Host, Address, Helo, Sender, Rcpt, Header, Body, Macro}
-use Rattle.milter_search.specs.declared.pattern.Test.{Test}
-use Rattle.milter_search.specs.declared.pattern.Test.TheVariants.{Is, Has, Lacks}
-use Rattle.milter_ruleset.specs.RuleNames.{field_name}
-use Rattle.milter_search.specs.Texts.{test_name}
+use Rattle.milter_filter_rules.specs.declared.rule.Condition.{Condition}
+use Rattle.milter_filter_rules.specs.declared.rule.Field.{Field}
+use Rattle.milter_filter_rules.specs.declared.rule.Field.TheVariants.{Host, Address, Helo, Sender, Rcpt, Header, Body, Macro}
+use Rattle.milter_filter_search.specs.declared.pattern.Test.{Test}
+use Rattle.milter_filter_search.specs.declared.pattern.Test.TheVariants.{Is, Has, Lacks}
+use Rattle.milter_filter_rules.specs.RuleNames.{field_name}
+use Rattle.milter_filter_search.specs.Texts.{test_name}
 
 -- ---- how conditions are written
 

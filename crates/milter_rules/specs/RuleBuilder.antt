@@ -1,26 +1,26 @@
 -- The rules of a file as far as it was read: one more line at a time.
 use Rattle.std.specs.Prelude.{◌≡◌, ◌≤◌, ◌<◌, ◌+◌, ℕ, ◌==◌, true, false, List, [], ◌∷◌, ◌++◌, length, None, Some}
 use Rattle.std.specs.List.{flat_map, list_all, list_any}
-use Rattle.milter_stream.specs.declared.number.TheConstants.{PAYLOAD_MAX}
-use Rattle.milter_options.specs.declared.payload.TheConstants.{OPTIONS_LEN}
-use Rattle.milter_options.specs.declared.symbol_lists.SymList.{SymList}
-use Rattle.milter_options.specs.Bits.{is_within}
-use Rattle.milter_options.specs.Payload.{sym_list}
+use Rattle.milter_wire_stream.specs.declared.number.TheConstants.{PAYLOAD_MAX}
+use Rattle.milter_wire_options.specs.declared.payload.TheConstants.{OPTIONS_LEN}
+use Rattle.milter_wire_options.specs.declared.symbol_lists.SymList.{SymList}
+use Rattle.milter_wire_options.specs.Bits.{is_within}
+use Rattle.milter_wire_options.specs.Payload.{sym_list}
 use Rattle.milter_message.specs.declared.message.TheConstants.{WEIGHT_MAX}
-use Rattle.milter_exchange.specs.declared.limits.TheConstants.{ACTIONS_MAX, PROTOCOL_MAX}
+use Rattle.milter_protocol.specs.declared.limits.TheConstants.{ACTIONS_MAX, PROTOCOL_MAX}
 use Rattle.milter_wire.specs.declared.stage.Stage.{Stage}
 use Rattle.milter_wire.specs.declared.stage.Stage.TheVariants.{Eob}
-use Rattle.milter_ruleset.specs.declared.rule.Rule.{Rule}
+use Rattle.milter_filter_rules.specs.declared.rule.Rule.{Rule}
 use Rattle.milter_rules.specs.declared.rule_builder.TheConstants.{RULES_MAX}
 use Rattle.milter_rules.specs.declared.rule_line.RuleLine.{RuleLine}
 use Rattle.milter_rules.specs.declared.rule_line.RuleLine.TheVariants as lines
 use Rattle.milter_rules.specs.declared.rule_line.Setting.{Setting}
 use Rattle.milter_rules.specs.declared.rule_line.Setting.TheVariants as settings
-use Rattle.milter_ruleset.specs.ActionFits.{edits_weight, may_act}
+use Rattle.milter_filter_rules.specs.ActionFits.{edits_weight, may_act}
 use Rattle.milter_rules.specs.RuleFile.{FileParts}
 use Rattle.milter_rules.specs.RuleLines.{if_known}
-use Rattle.milter_ruleset.specs.RuleSet.{list_fits, rules_lawful}
-use Rattle.milter_ruleset.specs.StageRules.{with_rule}
+use Rattle.milter_filter_rules.specs.RuleSet.{list_fits, rules_lawful}
+use Rattle.milter_filter_rules.specs.StageRules.{with_rule}
 
 -- what a rule of the stage adds to the packets of all edits
 abbrev pub edits_weight_at : Stage → Rule → ℕ

@@ -3,35 +3,35 @@ use Rattle.std.specs.Prelude.{◌≡◌, ◌≤◌, ◌+◌, ℕ, ◌==◌, Bool
 use Rattle.std.specs.Int.RustNames.{bit_or}
 use Rattle.std.specs.List.{AllZip, filter, filter_map, flat_map, fold, list_any}
 use Rattle.std.specs.Option.{option_map, unwrap_or}
-use Rattle.milter_stream.specs.declared.number.TheConstants.{PAYLOAD_MAX}
+use Rattle.milter_wire_stream.specs.declared.number.TheConstants.{PAYLOAD_MAX}
 use Rattle.milter_text.specs.declared.word.Word.{Word}
 use Rattle.milter_text.specs.Lines.{contents}
 use Rattle.milter_text.specs.Words.{HasWords}
-use Rattle.milter_options.specs.declared.options.Actions.{Actions}
-use Rattle.milter_options.specs.declared.options.Options.{Options}
-use Rattle.milter_options.specs.declared.options.Protocol.{Protocol}
-use Rattle.milter_options.specs.declared.options.TheConstants.Actions.{SETSYMLIST}
-use Rattle.milter_options.specs.declared.options.TheConstants.Protocol.{SKIP}
-use Rattle.milter_options.specs.declared.payload.TheConstants.{OPTIONS_LEN}
-use Rattle.milter_options.specs.declared.symbol_lists.SymList.{SymList}
-use Rattle.milter_options.specs.Payload.{sym_list}
+use Rattle.milter_wire_options.specs.declared.options.Actions.{Actions}
+use Rattle.milter_wire_options.specs.declared.options.Options.{Options}
+use Rattle.milter_wire_options.specs.declared.options.Protocol.{Protocol}
+use Rattle.milter_wire_options.specs.declared.options.TheConstants.Actions.{SETSYMLIST}
+use Rattle.milter_wire_options.specs.declared.options.TheConstants.Protocol.{SKIP}
+use Rattle.milter_wire_options.specs.declared.payload.TheConstants.{OPTIONS_LEN}
+use Rattle.milter_wire_options.specs.declared.symbol_lists.SymList.{SymList}
+use Rattle.milter_wire_options.specs.Payload.{sym_list}
 use Rattle.milter_wire.specs.declared.stage.Stage.{Stage}
 use Rattle.milter_wire.specs.declared.verdict.Verdict.TheVariants as verdicts
 use Rattle.milter_message.specs.declared.message.TheConstants.{WEIGHT_MAX}
 use Rattle.milter_message.specs.EditReplies.{needed_by}
-use Rattle.milter_exchange.specs.declared.limits.TheConstants.{VERSION_MAX}
-use Rattle.milter_ruleset.specs.declared.rule.Action.{Action}
-use Rattle.milter_ruleset.specs.declared.rule.Action.TheVariants as actions
-use Rattle.milter_ruleset.specs.declared.rule.Rule.{Rule}
+use Rattle.milter_protocol.specs.declared.limits.TheConstants.{VERSION_MAX}
+use Rattle.milter_filter_rules.specs.declared.rule.Action.{Action}
+use Rattle.milter_filter_rules.specs.declared.rule.Action.TheVariants as actions
+use Rattle.milter_filter_rules.specs.declared.rule.Rule.{Rule}
 use Rattle.milter_rules.specs.declared.rule_builder.TheConstants.{RULES_MAX}
 use Rattle.milter_rules.specs.declared.rule_line.RuleLine.{RuleLine}
 use Rattle.milter_rules.specs.declared.rule_line.RuleLine.TheVariants as lines
 use Rattle.milter_rules.specs.declared.rule_line.Setting.TheVariants as settings
-use Rattle.milter_ruleset.specs.declared.rule_list.StageRules.{StageRules}
-use Rattle.milter_ruleset.specs.ActionFits.{edits_weight}
+use Rattle.milter_filter_rules.specs.declared.rule_list.StageRules.{StageRules}
+use Rattle.milter_filter_rules.specs.ActionFits.{edits_weight}
 use Rattle.milter_rules.specs.RuleLines.{Gives}
-use Rattle.milter_ruleset.specs.RuleSet.{RuleSet}
-use Rattle.milter_ruleset.specs.StageRules.{by_stage, is_stage}
+use Rattle.milter_filter_rules.specs.RuleSet.{RuleSet}
+use Rattle.milter_filter_rules.specs.StageRules.{by_stage, is_stage}
 
 -- ---- what one line gives of each kind
 

@@ -1,23 +1,23 @@
 -- What each line of a rule file gives, by its words. A keyword and a number are plain words, a text is a quoted one.
 use Rattle.std.specs.Prelude.{◌≡◌, ℕ, IsUtf8, nat_le, ◌&&◌, true, List, [], ◌∷◌, ◌++◌, codes, Option, None, Some, if◌then◌else◌}
 use Rattle.std.specs.Option.{option_map}
-use Rattle.milter_fields.specs.Bind.{◌>>=◌}
+use Rattle.milter_wire_fields.specs.Bind.{◌>>=◌}
 use Rattle.milter_text.specs.declared.word.Word.{Word}
 use Rattle.milter_text.specs.WordValues.{is_keyword, keyword, number_of, plain_text, text_of}
-use Rattle.milter_options.specs.declared.macro_stage.MacroStage.{MacroStage}
-use Rattle.milter_options.specs.declared.options.Actions.{Actions}
-use Rattle.milter_options.specs.declared.options.Protocol.{Protocol}
-use Rattle.milter_options.specs.Bits.{actions_table, bits_named, protocol_table}
-use Rattle.milter_options.specs.MacroStages.{macro_stage_named, macro_stage_number}
+use Rattle.milter_wire_options.specs.declared.macro_stage.MacroStage.{MacroStage}
+use Rattle.milter_wire_options.specs.declared.options.Actions.{Actions}
+use Rattle.milter_wire_options.specs.declared.options.Protocol.{Protocol}
+use Rattle.milter_wire_options.specs.Bits.{actions_table, bits_named, protocol_table}
+use Rattle.milter_wire_options.specs.MacroStages.{macro_stage_named, macro_stage_number}
 use Rattle.milter_wire.specs.declared.stage.Stage.{Stage}
 use Rattle.milter_wire.specs.Stages.{name_of, stage_named}
-use Rattle.milter_exchange.specs.declared.limits.TheConstants.{VERSION_MAX, VERSION_MIN}
-use Rattle.milter_ruleset.specs.declared.rule.Rule.{Rule}
+use Rattle.milter_protocol.specs.declared.limits.TheConstants.{VERSION_MAX, VERSION_MIN}
+use Rattle.milter_filter_rules.specs.declared.rule.Rule.{Rule}
 use Rattle.milter_rules.specs.declared.rule_line.RuleLine.{RuleLine}
 use Rattle.milter_rules.specs.declared.rule_line.RuleLine.TheVariants as lines
 use Rattle.milter_rules.specs.declared.rule_line.Setting.{Setting}
 use Rattle.milter_rules.specs.declared.rule_line.Setting.TheVariants as settings
-use Rattle.milter_ruleset.specs.ActionFits.{is_string, may_act}
+use Rattle.milter_filter_rules.specs.ActionFits.{is_string, may_act}
 use Rattle.milter_rules.specs.ActionWords.{action_of}
 use Rattle.milter_rules.specs.ConditionWords.{conditions_words}
 

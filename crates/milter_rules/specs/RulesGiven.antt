@@ -1,18 +1,18 @@
 -- What the lines of rules that are written give.
 use Rattle.std.specs.Prelude.{◌<◌, ◌≤◌, ℕ, List, ◌∷◌, ◌++◌, All, length, map}
 use Rattle.std.specs.List.{flat_map}
-use Rattle.milter_options.specs.declared.symbol_lists.SymList.{SymList}
+use Rattle.milter_wire_options.specs.declared.symbol_lists.SymList.{SymList}
 use Rattle.milter_wire.specs.declared.stage.Stage.{Stage}
 use Rattle.milter_wire.specs.Stages.{all_stages}
 use Rattle.milter_rules.specs.declared.rule_builder.TheConstants.{RULES_MAX}
 use Rattle.milter_rules.specs.declared.rule_line.RuleLine.{RuleLine}
 use Rattle.milter_rules.specs.declared.rule_line.RuleLine.TheVariants as lines
 use Rattle.milter_rules.specs.declared.rule_line.Setting.TheVariants as settings
-use Rattle.milter_ruleset.specs.declared.rule_list.StageRules.{StageRules}
+use Rattle.milter_filter_rules.specs.declared.rule_list.StageRules.{StageRules}
 use Rattle.milter_rules.specs.RuleFile.{lists_of}
-use Rattle.milter_ruleset.specs.RuleSet.{RuleSet}
+use Rattle.milter_filter_rules.specs.RuleSet.{RuleSet}
 use Rattle.milter_rules.specs.RulesText.{rules_lines}
-use Rattle.milter_ruleset.specs.StageRules.{rules_at}
+use Rattle.milter_filter_rules.specs.StageRules.{rules_at}
 use Rattle.milter_rules.specs.WordsText.{HasBytes}
 
 abbrev pub list_given : SymList → RuleLine

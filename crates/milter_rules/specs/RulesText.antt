@@ -3,21 +3,21 @@
 use Rattle.std.specs.Prelude.{ℕ, ◌==◌, List, [], ◌∷◌, ◌++◌, codes, decimal, find, map, Option, None, Some}
 use Rattle.std.specs.List.{filter_map, flat_map}
 use Rattle.std.specs.Option.{option_map}
-use Rattle.milter_options.specs.Bits.{actions_table, names_text, protocol_table}
-use Rattle.milter_options.specs.declared.macro_stage.MacroStage.{MacroStage}
-use Rattle.milter_options.specs.declared.options.Options.{Options}
-use Rattle.milter_options.specs.declared.symbol_lists.SymList.{SymList}
-use Rattle.milter_options.specs.MacroStages.{macro_stage_name, macro_stage_number, macro_stages}
+use Rattle.milter_wire_options.specs.Bits.{actions_table, names_text, protocol_table}
+use Rattle.milter_wire_options.specs.declared.macro_stage.MacroStage.{MacroStage}
+use Rattle.milter_wire_options.specs.declared.options.Options.{Options}
+use Rattle.milter_wire_options.specs.declared.symbol_lists.SymList.{SymList}
+use Rattle.milter_wire_options.specs.MacroStages.{macro_stage_name, macro_stage_number, macro_stages}
 use Rattle.milter_text.specs.declared.word.Word.{Word}
 use Rattle.milter_text.specs.WordValues.{keyword}
 use Rattle.milter_wire.specs.declared.stage.Stage.{Stage}
 use Rattle.milter_wire.specs.Stages.{all_stages, name_of}
-use Rattle.milter_ruleset.specs.declared.rule.Rule.{Rule}
-use Rattle.milter_ruleset.specs.declared.rule_list.StageRules.{StageRules}
+use Rattle.milter_filter_rules.specs.declared.rule.Rule.{Rule}
+use Rattle.milter_filter_rules.specs.declared.rule_list.StageRules.{StageRules}
 use Rattle.milter_rules.specs.ActionText.{action_words}
 use Rattle.milter_rules.specs.ConditionWords.{conditions_words, quoted_word}
-use Rattle.milter_ruleset.specs.RuleSet.{RuleSet}
-use Rattle.milter_ruleset.specs.StageRules.{rules_at}
+use Rattle.milter_filter_rules.specs.RuleSet.{RuleSet}
+use Rattle.milter_filter_rules.specs.StageRules.{rules_at}
 use Rattle.milter_rules.specs.WordsText.{line_text}
 
 -- ---- the options

@@ -3,8 +3,8 @@
 ghost use Rattle.std.specs.Prelude.{◌≡◌, IfOk, option_map};
 ghost use Rattle.milter_rules.specs.ActionWords.{action_of, action_shape, action_with_index, action_with_text, action_with_texts, index_of, lone_action};
 
+use milter_filter_rules::Action;
 use milter_message::Edit;
-use milter_ruleset::Action;
 use milter_text::Word;
 use milter_wire::{Header, NoMemory, Text, Verdict};
 use std::alloc::Global;

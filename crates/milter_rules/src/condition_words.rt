@@ -5,10 +5,10 @@ ghost use Rattle.std.specs.Prelude.{◌≡◌, ◌++◌, ◌∷◌, IfOk, IfSome
 ghost use Rattle.std.specs.Option.{IsSomeAnd};
 ghost use Rattle.milter_text.specs.declared.word.Word.{Word};
 ghost use Rattle.milter_text.specs.WordValues.{keyword};
-ghost use Rattle.milter_ruleset.specs.declared.rule.Condition.{Condition};
+ghost use Rattle.milter_filter_rules.specs.declared.rule.Condition.{Condition};
 ghost use Rattle.milter_rules.specs.ConditionWords.{condition_at, condition_on, conditions_words, field_at, lone_field, named_field, test_in, words_after};
 
-use milter_ruleset::{Condition, Conditions, Field, Test};
+use milter_filter_rules::{Condition, Conditions, Field, Test};
 use milter_text::Word;
 use milter_wire::{NoMemory, Text};
 use std::alloc::Global;

@@ -13,7 +13,7 @@ mod rules_text;
 mod words_text;
 
 pub use laws::{lines_of_written_words, rule_limit, words_of_actions, written_rules};
-pub use milter_ruleset::{
+pub use milter_filter_rules::{
     Action, Condition, Conditions, Field, Rule, RuleList, Rules, StageRules, Test,
 };
 pub use rule_builder::RULES_MAX;

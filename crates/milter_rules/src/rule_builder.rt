@@ -3,21 +3,21 @@
 ghost use Rattle.std.specs.Prelude.{◌≡◌, ◌+◌, ◌-◌, ◌^◌, ◌==◌, ◌++◌, ◌∷◌, IfErr, IsOk, None, OnErr, OnOk, [], Some, false, length, min, true};
 ghost use Rattle.std.specs.List.{list_any};
 ghost use Rattle.milter_rules.specs.declared.rule_fault.RuleFault.TheVariants as faults;
-ghost use Rattle.milter_ruleset.specs.ActionFits.{may_act};
+ghost use Rattle.milter_filter_rules.specs.ActionFits.{may_act};
 ghost use Rattle.milter_rules.specs.RuleBuilder.{edits_weight_at, LineFits, LineFollows, ListFollows, RuleFollows, SettingFits, SettingFollows, with_line, with_list, with_rule_at, with_setting};
 ghost use Rattle.milter_rules.specs.RuleFault.{IsAt};
 ghost use Rattle.milter_rules.specs.RuleFile.{needed_actions, needed_for, needed_protocol, is_skip, parts_of, rules_of, wanted};
-ghost use Rattle.milter_ruleset.specs.RuleSet.{is_lawful, list_fits};
-ghost use Rattle.milter_ruleset.specs.RulesValue.{case_of, rule_set};
-ghost use Rattle.milter_search.specs.declared.text_case.TextCase.TheVariants.{Exact};
+ghost use Rattle.milter_filter_rules.specs.RuleSet.{is_lawful, list_fits};
+ghost use Rattle.milter_filter_rules.specs.RulesValue.{case_of, rule_set};
+ghost use Rattle.milter_filter_search.specs.declared.text_case.TextCase.TheVariants.{Exact};
 
 use crate::rule_fault::RuleFault;
 use crate::rule_line::{RuleLine, Setting};
 use milter_filter::VERSION_MAX;
+use milter_filter_rules::{Action, Rule, Rules, StageRules};
 use milter_message::WEIGHT_MAX;
-use milter_options::{OPTIONS_LEN, sym_list_len, sym_lists_len};
-use milter_ruleset::{Action, Rule, Rules, StageRules};
 use milter_wire::{Actions, Options, PAYLOAD_MAX, Protocol, Stage, SymList, SymLists, Verdict};
+use milter_wire_options::{OPTIONS_LEN, sym_list_len, sym_lists_len};
 use std::alloc::Global;
 use std::marker::Model;
 
@@ -41,7 +41,7 @@ pub(crate) struct Builder {
 impl Model for Builder {
     ghost use Rattle.std.specs.Prelude.{◌≡◌, ◌≤◌};
     ghost use Rattle.milter_rules.specs.declared.rule_builder.TheConstants.{RULES_MAX};
-    ghost use Rattle.milter_ruleset.specs.ActionFits.{edits_weight};
+    ghost use Rattle.milter_filter_rules.specs.ActionFits.{edits_weight};
     ghost use Rattle.milter_rules.specs.RuleBuilder.{PartsFit};
     ghost use Rattle.milter_rules.specs.RuleFile.{FileParts};
 

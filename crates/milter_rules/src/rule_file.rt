@@ -6,14 +6,14 @@ ghost use Rattle.milter_rules.specs.declared.rule_fault.RuleFault.TheVariants as
 ghost use Rattle.milter_rules.specs.declared.rule_line.RuleLine.{RuleLine};
 ghost use Rattle.milter_rules.specs.RuleFault.{IsBefore, IsWithin};
 ghost use Rattle.milter_rules.specs.RuleFile.{AllGive, CanBeFile, FoundAll, IsRuleFile, parts_of};
-ghost use Rattle.milter_ruleset.specs.RuleSet.{RuleSet};
-ghost use Rattle.milter_ruleset.specs.RulesValue.{case_of, rule_set};
-ghost use Rattle.milter_search.specs.declared.text_case.TextCase.TheVariants.{Exact};
+ghost use Rattle.milter_filter_rules.specs.RuleSet.{RuleSet};
+ghost use Rattle.milter_filter_rules.specs.RulesValue.{case_of, rule_set};
+ghost use Rattle.milter_filter_search.specs.declared.text_case.TextCase.TheVariants.{Exact};
 
 use crate::rule_builder::Builder;
 use crate::rule_fault::RuleFault;
 use crate::rule_line::line_in;
-use milter_ruleset::Rules;
+use milter_filter_rules::Rules;
 use milter_text::LineCursor;
 use std::alloc::Global;
 

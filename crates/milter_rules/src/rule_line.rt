@@ -4,11 +4,11 @@ ghost use Rattle.std.specs.Prelude.{◌≡◌, IfErr, IfOk, IfSome, MatchResult,
 ghost use Rattle.milter_text.specs.declared.word.Word.{Word};
 ghost use Rattle.milter_text.specs.WordValues.{plain_text};
 ghost use Rattle.milter_wire.specs.declared.stage.Stage.{Stage};
-ghost use Rattle.milter_ruleset.specs.declared.rule.Action.{Action};
-ghost use Rattle.milter_ruleset.specs.declared.rule.Rule.{Rule};
+ghost use Rattle.milter_filter_rules.specs.declared.rule.Action.{Action};
+ghost use Rattle.milter_filter_rules.specs.declared.rule.Rule.{Rule};
 ghost use Rattle.milter_rules.specs.declared.rule_fault.RuleFault.TheVariants as faults;
 ghost use Rattle.milter_rules.specs.declared.rule_line.RuleLine.{RuleLine};
-ghost use Rattle.milter_ruleset.specs.ActionFits.{may_act};
+ghost use Rattle.milter_filter_rules.specs.ActionFits.{may_act};
 ghost use Rattle.milter_rules.specs.ActionWords.{action_of};
 ghost use Rattle.milter_rules.specs.RuleFault.{IsAt};
 ghost use Rattle.milter_rules.specs.RuleLines.{Gives, HasRule, IsNoText, actions_of, macro_stage_of, option_line, protocol_of, stage_at, symbols_line, symbols_of, version_of, setting_of};
@@ -16,9 +16,9 @@ ghost use Rattle.milter_rules.specs.RuleLines.{Gives, HasRule, IsNoText, actions
 use crate::action_words::action_in;
 use crate::condition_words::{conditions_in, words_after};
 use crate::rule_fault::RuleFault;
-use milter_exchange::VERSION_MIN;
 use milter_filter::VERSION_MAX;
-use milter_ruleset::{Action, Rule, is_string};
+use milter_filter_rules::{Action, Rule, is_string};
+use milter_protocol::VERSION_MIN;
 use milter_text::{FileLine, Word};
 use milter_wire::{Actions, MacroStage, NoMemory, Protocol, Stage, SymList, Text};
 use std::alloc::Global;

@@ -10,13 +10,13 @@ ghost use Rattle.milter_rules.specs.ActionText.{action_words, edit_words, indexe
 ghost use Rattle.milter_rules.specs.ConditionWords.{condition_words, conditions_words};
 ghost use Rattle.milter_rules.specs.RulesText.{macro_stage_numbered, options_text, rule_text, rules_text};
 ghost use Rattle.milter_rules.specs.RulesText.{stages_text, symbols_text};
-ghost use Rattle.milter_ruleset.specs.RulesValue.{rule_set};
+ghost use Rattle.milter_filter_rules.specs.RulesValue.{rule_set};
 ghost use Rattle.milter_rules.specs.WordsText.{spaced};
 
 use crate::words_text::{WordRef, put_line, put_words};
 use itoa::Buffer;
+use milter_filter_rules::{Action, Condition, Field, Rule, Rules};
 use milter_message::Edit;
-use milter_ruleset::{Action, Condition, Field, Rule, Rules};
 use milter_text::{TextFault, TextWriter};
 use milter_wire::{Header, MacroStage, Options, Stage, SymList, Text, Verdict};
 use std::alloc::Global;

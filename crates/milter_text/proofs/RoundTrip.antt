@@ -4,7 +4,7 @@ use Rattle.std.specs.List.{flat_map}
 use Rattle.std.proofs.lemmas.Bool.{cond_both, eqb-true}
 use Rattle.std.proofs.lemmas.Bool.Decides.{nat_tests}
 use Rattle.std.proofs.lemmas.List.Elements.{All-nil, All-head, All-tail}
-use Rattle.milter_stream.specs.Code.{hex_digit}
+use Rattle.milter_wire_stream.specs.Code.{hex_digit}
 use Rattle.milter_text.specs.declared.word.Word.{Word}
 use Rattle.milter_text.specs.Quoting.{quoted, quoted_byte}
 use Rattle.milter_text.specs.Words.{BeginsWith, HasWords, QuotesByte, IsQuotedWord, QuotesText, digit_value, is_bare}

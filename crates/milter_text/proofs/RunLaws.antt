@@ -9,7 +9,7 @@ use Rattle.std.proofs.lemmas.List.Folds.{length-prefix_len}
 use Rattle.std.proofs.lemmas.List.Sums.{prefix_len_passes}
 use Rattle.std.proofs.lemmas.List.Concat.{flat_map-append}
 use Rattle.std.proofs.lemmas.List.Elements.{All-from_get_or, All-head, All-tail}
-use Rattle.milter_stream.specs.AppendedBytes.{Extends}
+use Rattle.milter_wire_stream.specs.AppendedBytes.{Extends}
 use Rattle.milter_text.specs.Quoting.{quoted_byte}
 use Rattle.milter_text.specs.Runs.{is_in_run}
 use Rattle.milter_text.specs.Unquoting.{byte_at}

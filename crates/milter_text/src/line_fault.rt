@@ -4,7 +4,7 @@ ghost use Rattle.std.specs.Prelude.{◌≡◌};
 ghost use Rattle.milter_text.specs.declared.line_fault.LineFault.TheVariants as faults;
 ghost use Rattle.milter_text.specs.LineFault.{line_fault_line};
 
-use milter_stream::NoMemory;
+use milter_wire_stream::NoMemory;
 use std::alloc::{AllocError, AllocFailed};
 use thiserror::Error;
 

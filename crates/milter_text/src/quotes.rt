@@ -2,11 +2,11 @@
 
 ghost use Rattle.std.specs.Prelude.{◌≡◌, ◌≤◌, ◌++◌, OnOk, OnErr, length, take};
 ghost use Rattle.std.specs.List.{flat_map};
-ghost use Rattle.milter_stream.specs.AppendedBytes.{PutsBytes};
+ghost use Rattle.milter_wire_stream.specs.AppendedBytes.{PutsBytes};
 ghost use Rattle.milter_text.specs.Quoting.{quoted, quoted_byte};
 
 use crate::runs::run_len;
-use milter_stream::{NoMemory, hex_digit};
+use milter_wire_stream::{NoMemory, hex_digit};
 use std::alloc::Global;
 
 /// Appends the text in quotes, in its canonical form: a visible ASCII character and the blank as itself, but

@@ -4,7 +4,7 @@ ghost use Rattle.std.specs.Prelude.{◌≡◌};
 ghost use Rattle.milter_text.specs.declared.text_fault.TextFault.TheVariants as faults;
 ghost use Rattle.milter_text.specs.TextFault.{text_fault_number};
 
-use milter_stream::NoMemory;
+use milter_wire_stream::NoMemory;
 use std::alloc::AllocError;
 use thiserror::Error;
 

@@ -13,16 +13,16 @@ use milter_cli::{
     load_session, mta_run, output_error, play_run, print_rules, print_session, read_error, report,
     schedule_run, service_error, with_case_ignored,
 };
-use milter_converse::Dial;
-use milter_filter::{CommandOrder, Policy, serve_in_order};
-use milter_mail::Session;
-use milter_mta::Config;
-use milter_request::{
+use milter_cli_request::{
     Address, AnswerRequest, FilterRequest, MtaRequest, Offer, PlayRequest, Request, ServeRequest,
     Target, UsageError, parse, parse_mode,
 };
+use milter_filter::{CommandOrder, Policy, serve_in_order};
+use milter_filter_service::{Host, Limits, Listener, Service};
+use milter_mail::Session;
+use milter_mta::Config;
+use milter_mta_client::Dial;
 use milter_rules::Rules;
-use milter_service::{Host, Limits, Listener, Service};
 use milter_text::write_text;
 use milter_trace::trace_run;
 use milter_world::Event;

@@ -25,13 +25,13 @@ pub use laws::{
 pub use lengths::{
     connect_packet_len, header_packet_len, helo_packet_len, macro_packet_len, path_packet_len,
 };
-pub use milter_fields::{
+pub use milter_wire_fields::{
     Client, ClientRef, Header, HeaderRef, Origin, OriginRef, Pair, PairRef, Pairs, PairsRef,
     Params, ParamsRef, Path, PathRef, Text, arguments_len, has_no_nul, header_len, pair_len,
     string_len,
 };
-pub use milter_options::{Actions, MacroStage, Options, Protocol, SymList, SymLists};
-pub use milter_stream::{
+pub use milter_wire_options::{Actions, MacroStage, Options, Protocol, SymList, SymLists};
+pub use milter_wire_stream::{
     CodeName, HEAD_LEN, NoMemory, PAYLOAD_MAX, Packet, Splitter, WireFault, hex_digit,
 };
 pub use negotiation::{Negotiated, negotiate};

@@ -4,7 +4,7 @@ ghost use Rattle.std.specs.Prelude.{◌≡◌};
 ghost use Rattle.milter_wire.specs.Negotiation.{negotiate, has, has_leading_space, is_answered, is_of_version, is_sent};
 
 use crate::stage::Stage;
-use milter_options::{Actions, Options, Protocol, SymLists, common_options};
+use milter_wire_options::{Actions, Options, Protocol, SymLists, common_options};
 
 /// The first version of the protocol that has the stage of DATA. Source: mfdef.h (SMFIC_DATA).
 const DATA_VERSION: u32 = 4;

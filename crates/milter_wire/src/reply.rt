@@ -2,27 +2,27 @@
 
 ghost use Rattle.std.specs.Prelude.{◌≡◌, ◌≤◌, ◌-◌, ◌^◌, ◌++◌, ◌↔◌, length, min, IsTrue, OnOk, OnErr, IfOk, IsErrOf, MatchResult};
 ghost use Rattle.milter_wire.specs.declared.reply.Reply.{Reply};
-ghost use Rattle.milter_stream.specs.AppendedBytes.{PutsBytes};
-ghost use Rattle.milter_stream.specs.Packet.{packet};
+ghost use Rattle.milter_wire_stream.specs.AppendedBytes.{PutsBytes};
+ghost use Rattle.milter_wire_stream.specs.Packet.{packet};
 ghost use Rattle.milter_wire.specs.Reply.{code_of, payload_of, is_code, Fits, FieldsFit, IsEncodedAs, encoding, reply_in};
 ghost use Rattle.milter_wire.specs.Tables.{Decodes};
-ghost use Rattle.milter_fields.specs.Decoding.{DecodesOptional};
+ghost use Rattle.milter_wire_fields.specs.Decoding.{DecodesOptional};
 
 use crate::codes::{
     SMFIC_OPTNEG, SMFIR_ACCEPT, SMFIR_ADDHEADER, SMFIR_ADDRCPT, SMFIR_ADDRCPT_PAR, SMFIR_CHGFROM,
     SMFIR_CHGHEADER, SMFIR_CONTINUE, SMFIR_DELRCPT, SMFIR_DISCARD, SMFIR_INSHEADER, SMFIR_PROGRESS,
     SMFIR_QUARANTINE, SMFIR_REJECT, SMFIR_REPLBODY, SMFIR_REPLYCODE, SMFIR_SKIP, SMFIR_TEMPFAIL,
 };
-use milter_fields::{
+use milter_wire_fields::{
     Header, Text, arguments_fit, arguments_len, has_no_nul, header_fits, header_len, is_reply_code,
     put_addressed, put_bytes, put_header, put_indexed, put_string, string_len, take_addressed,
     take_header, take_indexed, take_reply_code, take_text,
 };
-use milter_options::{
+use milter_wire_options::{
     Options, SymLists, options_with_lists_fit, options_with_lists_len, put_options_with_lists,
     take_options_with_lists,
 };
-use milter_stream::{NoMemory, PAYLOAD_MAX, WireFault, put_head};
+use milter_wire_stream::{NoMemory, PAYLOAD_MAX, WireFault, put_head};
 use std::alloc::Global;
 
 /// A packet that a filter sends to an MTA. Source: mfdef.h (the codes SMFIR_), and the layouts that libmilter writes.
@@ -194,7 +194,7 @@ fn code(reply: &Reply) -> u8
 }
 
 /// The number of bytes of the payload, or the greatest `usize`.
-#[tactic(auto, unfolding(milter_stream::specs::Number::number))]
+#[tactic(auto, unfolding(milter_wire_stream::specs::Number::number))]
 fn payload_len(reply: &Reply) -> usize
     ensures { result ≡ min (length (payload_of reply.now)) (2 ^ 64 - 1) }
 {

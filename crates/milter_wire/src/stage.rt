@@ -6,7 +6,7 @@ ghost use Rattle.milter_wire.specs.Stages.{macro_command_of, name_of, not_answer
 use crate::codes::{
     SMFIC_BODYEOB, SMFIC_CONNECT, SMFIC_DATA, SMFIC_EOH, SMFIC_HELO, SMFIC_MAIL, SMFIC_RCPT,
 };
-use milter_options::Protocol;
+use milter_wire_options::Protocol;
 
 /// A stage at which a filter is asked, in the order of a connection and of each of its messages. Source: the libmilter
 /// callback documentation (order of callbacks).

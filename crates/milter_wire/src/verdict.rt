@@ -5,8 +5,8 @@ ghost use Rattle.milter_wire.specs.Verdicts.{given_at, reply_of, verdict_name, v
 
 use crate::reply::Reply;
 use crate::stage::Stage;
-use milter_fields::Text;
-use milter_stream::NoMemory;
+use milter_wire_fields::Text;
+use milter_wire_stream::NoMemory;
 use std::alloc::Global;
 
 /// A filter's answer to a stage. Source: mfdef.h (SMFIR_CONTINUE and those after it), and the libmilter callback

@@ -2,10 +2,10 @@
 use Rattle.std.proofs.Common.{◌≡◌, ℕ, List, Option}
 use Rattle.milter_mta.specs.Mta.{Mta}
 use Rattle.milter_filter.specs.Cores.{Core}
-use Rattle.milter_schedule.specs.declared.event.Event.{Event}
-use Rattle.milter_schedule.specs.declared.state.State.{State}
-use Rattle.milter_schedule.specs.Schedule.{Scenario}
-use Rattle.milter_ends.specs.Ends.{AreEndsOf, Ends, Steps}
+use Rattle.milter_world_schedule.specs.declared.event.Event.{Event}
+use Rattle.milter_world_schedule.specs.declared.state.State.{State}
+use Rattle.milter_world_schedule.specs.Schedule.{Scenario}
+use Rattle.milter_world_ends.specs.Ends.{AreEndsOf, Ends, Steps}
 
 pub steps-as : {P : Type 0} (p : Scenario) (old : Ends P) (event : Event) (new : Ends P) (policy : P) (mta : Mta) (filter : Option (Core P))
     (to_filter to_mta : List ℕ) (state : State) → policy ≡ new.policy → mta ≡ new.mta → filter ≡ new.filter → to_filter ≡ new.to_filter → to_mta ≡ new.to_mta

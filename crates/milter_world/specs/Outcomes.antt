@@ -3,11 +3,11 @@ use Rattle.std.specs.Prelude.{◌≡◌, ◌≢◌, All, List, [], ◌++◌, Non
 use Rattle.std.specs.List.{AllZip}
 use Rattle.milter_wire.specs.declared.verdict.Verdict.{Verdict}
 use Rattle.milter_message.specs.MailObject.{MailObject}
-use Rattle.milter_outcome.specs.declared.report.Report.{Report}
+use Rattle.milter_mta_outcome.specs.declared.report.Report.{Report}
 use Rattle.milter_mta.specs.Accounts.{Disposition}
-use Rattle.milter_walk.specs.AnyFilter.{HaveLastVerdict, client_reports}
-use Rattle.milter_schedule.specs.Schedule.{Scenario}
-use Rattle.milter_schedule.specs.DialogueReports.{WasGiven}
+use Rattle.milter_mta_laws.specs.AnyFilter.{HaveLastVerdict, client_reports}
+use Rattle.milter_world_schedule.specs.Schedule.{Scenario}
+use Rattle.milter_world_schedule.specs.DialogueReports.{WasGiven}
 
 -- a verdict on the connection is there exactly where it settled messages, and is the last verdict of their reports
 pub record ConnectionIsGiven (s : Disposition) : Type 0 where

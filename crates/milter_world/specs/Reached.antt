@@ -1,14 +1,14 @@
 -- Where a world is, and where an event takes it.
 use Rattle.std.specs.Prelude.{◌≡◌, ◌≢◌, ℕ, List, [], ◌++◌, length}
 use Rattle.milter_mail.specs.MailSession.{MailSession}
-use Rattle.milter_exchange.specs.Behavior.{Behavior}
-use Rattle.milter_exchange.specs.declared.filter_fault.FilterFault.{FilterFault}
+use Rattle.milter_protocol.specs.Behavior.{Behavior}
+use Rattle.milter_protocol.specs.declared.filter_fault.FilterFault.{FilterFault}
 use Rattle.milter_mta.specs.Mta.{Configuration}
 use Rattle.milter_filter.specs.Cores.{Core, GivesUp, Takes}
 use Rattle.milter_filter.specs.Streams.{received_in}
-use Rattle.milter_schedule.specs.declared.event.Event.{Event}
-use Rattle.milter_schedule.specs.Schedule.{After, Scenario, after_all}
-use Rattle.milter_ends.specs.Ends.{AreEndsOf, Ends, Steps}
+use Rattle.milter_world_schedule.specs.declared.event.Event.{Event}
+use Rattle.milter_world_schedule.specs.Schedule.{After, Scenario, after_all}
+use Rattle.milter_world_ends.specs.Ends.{AreEndsOf, Ends, Steps}
 
 abbrev pub scenario_of : Behavior → Configuration → MailSession → Scenario
 scenario_of filter config session = record { filter = filter; config = config; session = session }

@@ -14,6 +14,6 @@ mod scenario;
 mod world;
 
 pub use any_schedule::run;
-pub use milter_schedule::{Counts, Event, State};
+pub use milter_world_schedule::{Counts, Event, State};
 pub use one_connection::play;
 pub use world::World;

@@ -1,11 +1,11 @@
 //! Bytes that move between an end and a pipe.
 
 ghost use Rattle.std.specs.Prelude.{◌≡◌, ◌≢◌, ◌++◌, [], IfOk, None, OnOk, drop, length, take, if◌then◌else◌};
-ghost use Rattle.milter_exchange.specs.declared.filter_state.FilterState.TheVariants.{Serving};
+ghost use Rattle.milter_protocol.specs.declared.filter_state.FilterState.TheVariants.{Serving};
 ghost use Rattle.milter_filter.specs.Cores.{Takes};
 ghost use Rattle.milter_mta.specs.Replies.{received};
 ghost use Rattle.milter_mta.specs.Output.{advanced, pending};
-ghost use Rattle.milter_ends.specs.Ends.{mta_sent, sent_count};
+ghost use Rattle.milter_world_ends.specs.Ends.{mta_sent, sent_count};
 ghost use Rattle.milter_world.specs.Reached.{CanTake};
 
 use crate::pipe::Pipe;

@@ -2,10 +2,10 @@
 
 ghost use Rattle.std.specs.Prelude.{◌≡◌, All, IfOk, OnOk, true};
 ghost use Rattle.std.specs.List.{AllZip};
-ghost use Rattle.milter_schedule.specs.Rounds.{round};
-ghost use Rattle.milter_schedule.specs.Schedule.{Scenario};
-ghost use Rattle.milter_schedule.specs.DialogueReports.{HasAllVerdicts, IsRuledBy, is_by_verdict};
-ghost use Rattle.milter_ends.specs.Ends.{AreEndsOf};
+ghost use Rattle.milter_world_schedule.specs.Rounds.{round};
+ghost use Rattle.milter_world_schedule.specs.Schedule.{Scenario};
+ghost use Rattle.milter_world_schedule.specs.DialogueReports.{HasAllVerdicts, IsRuledBy, is_by_verdict};
+ghost use Rattle.milter_world_ends.specs.Ends.{AreEndsOf};
 ghost use Rattle.milter_world.specs.Outcomes.{ConnectionIsGiven};
 ghost use Rattle.milter_world.specs.Reached.{AreReached, Leads, scenario_of};
 
@@ -13,8 +13,8 @@ use crate::world::World;
 use milter_filter::Policy;
 use milter_mail::Session;
 use milter_mta::{Config, Reports};
-use milter_schedule::{Event, State, rounds_move_on, undisturbed_schedules_are_ruled};
 use milter_wire::NoMemory;
+use milter_world_schedule::{Event, State, rounds_move_on, undisturbed_schedules_are_ruled};
 use std::alloc::Global;
 
 /// All bytes that are there.

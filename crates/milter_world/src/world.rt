@@ -1,24 +1,24 @@
 //! Both ends and what is on its way between them.
 
 ghost use Rattle.std.specs.Prelude.{◌≡◌, IfOk, OnOk, []};
-ghost use Rattle.milter_schedule.specs.declared.event.Event.TheVariants as events;
-ghost use Rattle.milter_schedule.specs.declared.event.Event.{Event};
-ghost use Rattle.milter_schedule.specs.Schedule.{Scenario};
-ghost use Rattle.milter_ends.specs.Ends.{AreEndsOf, IsLossBy, Steps, fresh_ends};
+ghost use Rattle.milter_world_schedule.specs.declared.event.Event.TheVariants as events;
+ghost use Rattle.milter_world_schedule.specs.declared.event.Event.{Event};
+ghost use Rattle.milter_world_schedule.specs.Schedule.{Scenario};
+ghost use Rattle.milter_world_ends.specs.Ends.{AreEndsOf, IsLossBy, Steps, fresh_ends};
 ghost use Rattle.milter_world.specs.Reached.{AreReached, StepsTo};
 
 use crate::moves::{feed_filter, feed_mta, send_bytes, take_replies};
 use crate::pipe::Pipe;
 use crate::scenario::possible_session;
-use milter_ends::{
-    answered_bytes_step, dialled_ends_step, events_without_effect, fresh_ends_begin,
-    lost_ends_step, received_bytes_step, sent_bytes_step, taken_bytes_step,
-};
 use milter_filter::{FilterCore, Policy};
 use milter_mail::Session;
 use milter_mta::{Config, Loss, MtaCore, Reports, Want};
-use milter_schedule::{Counts, Event, State};
 use milter_wire::NoMemory;
+use milter_world_ends::{
+    answered_bytes_step, dialled_ends_step, events_without_effect, fresh_ends_begin,
+    lost_ends_step, received_bytes_step, sent_bytes_step, taken_bytes_step,
+};
+use milter_world_schedule::{Counts, Event, State};
 use std::alloc::Global;
 use std::marker::Model;
 
@@ -39,7 +39,7 @@ pub struct World<'p, P: Policy> {
 }
 
 impl<'p, P: Policy> Model for World<'p, P> {
-    ghost use Rattle.milter_ends.specs.Ends.{Ends};
+    ghost use Rattle.milter_world_ends.specs.Ends.{Ends};
 
     ghost Value = { Ends P };
 

@@ -1,6 +1,6 @@
 use Rattle.std.proofs.Common.{ap, ◌∙◌}
-use Rattle.milter_session.specs.SessionFault.{session_fault_line}
-use Rattle.milter_session.specs.SessionFile.{IsSessionFile}
+use Rattle.milter_mail_file.specs.SessionFault.{session_fault_line}
+use Rattle.milter_mail_file.specs.SessionFile.{IsSessionFile}
 use Rattle.milter_cli.specs.declared.file_error.InputFile.TheVariants.{Session}
 use Rattle.milter_cli.proofs.FileLaws.{fault_error-none, has_none}
 use Rattle.milter_cli.proofs.session_run.load_session.Goals as goal

@@ -1,6 +1,6 @@
 use Rattle.std.proofs.Common.{reverse, sym, ◌∙◌, ap, option_map}
 use Rattle.std.specs.Option.{option_or}
-use Rattle.milter_exchange.specs.Seen.{value_in}
+use Rattle.milter_protocol.specs.Seen.{value_in}
 use Rattle.milter_filter.proofs.MacroLists.{map-or, value-more_groups}
 use Rattle.milter_filter.proofs.macro_list.last_value.Goals as goal
 

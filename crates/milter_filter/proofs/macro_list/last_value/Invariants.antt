@@ -1,5 +1,5 @@
 use Rattle.std.proofs.Common.{◌≡◌, option_map, take}
-use Rattle.milter_exchange.specs.Seen.{value_in}
+use Rattle.milter_protocol.specs.Seen.{value_in}
 use Rattle.milter_filter.specs.MacroLists.{pairs_of}
 use Rattle.milter_filter.proofs.macro_list.last_value.Given as goal
 

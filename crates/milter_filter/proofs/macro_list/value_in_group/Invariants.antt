@@ -1,5 +1,5 @@
 use Rattle.std.proofs.Common.{◌≡◌, option_map, reverse, take}
-use Rattle.milter_exchange.specs.Seen.{value_in}
+use Rattle.milter_protocol.specs.Seen.{value_in}
 use Rattle.milter_filter.proofs.macro_list.value_in_group.Given as goal
 
 -- the last value among the macros so far

@@ -1,7 +1,7 @@
 use Rattle.std.proofs.Common.{◌++◌, take, Ok, sym, ◌∙◌, ap, subst, arith}
-use Rattle.milter_stream.specs.FirstPacket.{fed_len}
-use Rattle.milter_stream.specs.Splitter.{frame_of}
-use Rattle.milter_stream.specs.Stream.{IsUnfinished}
+use Rattle.milter_wire_stream.specs.FirstPacket.{fed_len}
+use Rattle.milter_wire_stream.specs.Splitter.{frame_of}
+use Rattle.milter_wire_stream.specs.Stream.{IsUnfinished}
 use Rattle.milter_filter.specs.AnswerPackets.{IsUnread}
 use Rattle.milter_filter.proofs.FirstReplies.{serves}
 use Rattle.milter_filter.proofs.LengthFaults.{fed-bytes, fed-count, field-unread, no-bytes, piece-bytes}

@@ -1,6 +1,6 @@
 use Rattle.std.proofs.Common.{◌≡◌, ◌≤◌, ◌-◌, ◌++◌, [], length, take}
-use Rattle.milter_stream.specs.Number.{IsBytes}
-use Rattle.milter_exchange.specs.declared.filter_state.FilterState.TheVariants.{Serving}
+use Rattle.milter_wire_stream.specs.Number.{IsBytes}
+use Rattle.milter_protocol.specs.declared.filter_state.FilterState.TheVariants.{Serving}
 use Rattle.milter_filter.specs.AnswerPackets.{GoesOn}
 use Rattle.milter_filter.proofs.FirstReplies.{Stops}
 use Rattle.milter_filter.proofs.Progress.{Progress}

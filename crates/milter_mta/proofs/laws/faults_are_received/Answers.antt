@@ -1,12 +1,12 @@
 use Rattle.std.proofs.Common.{◌≡◌, Bool, true, false, ℕ, List, [], ◌∷◌, Option, None, Some, Result, Err, ap, arith, refl, sym, ◌∙◌}
 use Rattle.std.proofs.lemmas.List.Sums.{fold-append}
-use Rattle.milter_stream.specs.declared.fault.WireFault.{WireFault}
-use Rattle.milter_stream.specs.declared.fault.WireFault.TheVariants.{Malformed, UnknownCode}
+use Rattle.milter_wire_stream.specs.declared.fault.WireFault.{WireFault}
+use Rattle.milter_wire_stream.specs.declared.fault.WireFault.TheVariants.{Malformed, UnknownCode}
 use Rattle.milter_wire.specs.declared.reply.Reply.{Reply}
 use Rattle.milter_wire.specs.Frames.{value_or_fault}
 use Rattle.milter_wire.specs.Reply.{is_code, reply_in}
-use Rattle.milter_outcome.specs.declared.loss.Loss.{Loss}
-use Rattle.milter_outcome.specs.declared.loss.MtaFault.TheVariants.{Wire}
+use Rattle.milter_mta_outcome.specs.declared.loss.Loss.{Loss}
+use Rattle.milter_mta_outcome.specs.declared.loss.MtaFault.TheVariants.{Wire}
 use Rattle.milter_mta.specs.Replies.{After, at, framed, goes_on, received, received_byte, received_on}
 use Rattle.milter_mta.proofs.FedPieces.{early, early-at_none, fails-over}
 use Rattle.milter_mta.proofs.ReceivedFrames.{received-fault, received-packet, lost-stays, with_unread}

@@ -4,7 +4,7 @@ use Rattle.milter_text.proofs.Writing.{Progress-fail, Progress-last, Progress-ne
 use Rattle.milter_wire.specs.declared.stage.Stage.{Stage}
 use Rattle.milter_wire.specs.Stages.{name_of}
 use Rattle.milter_rules.proofs.WordRuns.{spaced_parts}
-use Rattle.milter_ruleset.specs.declared.rule.Rule.{Rule}
+use Rattle.milter_filter_rules.specs.declared.rule.Rule.{Rule}
 use Rattle.milter_rules.specs.ActionText.{action_words}
 use Rattle.milter_rules.specs.ConditionWords.{conditions_words}
 use Rattle.milter_rules.specs.RulesText.{rule_text}

@@ -3,7 +3,7 @@ use Rattle.std.specs.List.{flat_map}
 use Rattle.milter_text.proofs.Writing.{Progress-fail, Progress-last, Progress-next, Progress-none}
 use Rattle.milter_rules.proofs.RuleParts.{rules_parts}
 use Rattle.milter_rules.specs.RulesText.{options_text, stages_text, symbols_text}
-use Rattle.milter_ruleset.specs.RulesValue.{rule_set}
+use Rattle.milter_filter_rules.specs.RulesValue.{rule_set}
 use Rattle.milter_rules.proofs.rules_text.put_rules.Goals as goal
 
 pub returns-in_err-put_options : goal.returns-in_err-put_options

@@ -4,7 +4,7 @@ use Rattle.milter_text.proofs.Writing.{Progress-fail, Progress-next, Progress-no
 use Rattle.milter_wire.specs.declared.stage.Stage.{Stage}
 use Rattle.milter_wire.specs.declared.stage.Stage.TheVariants.{Connect}
 use Rattle.milter_wire.specs.Stages.{all_stages}
-use Rattle.milter_ruleset.specs.declared.rule_list.StageRules.{StageRules}
+use Rattle.milter_filter_rules.specs.declared.rule_list.StageRules.{StageRules}
 use Rattle.milter_rules.specs.RulesText.{stage_text}
 use Rattle.milter_rules.proofs.rules_text.put_stages.Goals as goal
 

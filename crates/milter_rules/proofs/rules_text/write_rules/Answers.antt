@@ -1,6 +1,6 @@
 use Rattle.std.proofs.Common.{◌≡◌, [], append-nil, refl, rules, sym}
 use Rattle.milter_rules.specs.RulesText.{rules_text}
-use Rattle.milter_ruleset.specs.RulesValue.{rule_set}
+use Rattle.milter_filter_rules.specs.RulesValue.{rule_set}
 use Rattle.milter_text.proofs.Writing.{Progress-fail, Progress-last, Progress-next, Progress-none, Puts-appends}
 use Rattle.milter_text.proofs.Writing.{Puts-prefix}
 use Rattle.milter_rules.proofs.rules_text.write_rules.Goals as goal

@@ -1,6 +1,6 @@
 use Rattle.std.proofs.Common.{◌≡◌, ◌++◌, length}
 use Rattle.std.specs.List.{flat_map}
-use Rattle.milter_stream.specs.AppendedBytes.{Extends}
+use Rattle.milter_wire_stream.specs.AppendedBytes.{Extends}
 use Rattle.milter_text.specs.Quoting.{quoted_byte}
 use Rattle.milter_text.proofs.quotes.put_escaped.Given as goal
 

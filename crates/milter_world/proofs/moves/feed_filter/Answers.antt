@@ -1,6 +1,6 @@
 use Rattle.std.proofs.Common.{◌≡◌, ℕ, List, Result, Ok, min, length, take, ap, sym, ◌∙◌, subst}
 use Rattle.std.proofs.lemmas.List.{take_min}
-use Rattle.milter_exchange.specs.declared.filter_fault.FilterFault.{FilterFault}
+use Rattle.milter_protocol.specs.declared.filter_fault.FilterFault.{FilterFault}
 use Rattle.milter_world.specs.Reached.{CanTake}
 use Rattle.milter_world.proofs.Feeding.{all, fails-not, same-drop}
 use Rattle.milter_world.proofs.moves.feed_filter.Goals as goal

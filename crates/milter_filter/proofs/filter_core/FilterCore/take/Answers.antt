@@ -1,5 +1,5 @@
 use Rattle.std.proofs.Common.{◌≢◌, [], drop, false, length, subst, IsTrue}
-use Rattle.milter_exchange.specs.declared.filter_state.FilterState.TheVariants.{Serving}
+use Rattle.milter_protocol.specs.declared.filter_state.FilterState.TheVariants.{Serving}
 use Rattle.milter_filter.specs.Cores.{Core, Takes}
 use Rattle.milter_filter.specs.AnswerPackets.{Replying, StopsAt, TakesBytes}
 use Rattle.milter_filter.proofs.Progress.{all-taken}

@@ -1,6 +1,6 @@
 use Rattle.std.proofs.Common.{sym, subst}
 use Rattle.milter_wire.specs.Reply.{Fits}
-use Rattle.milter_exchange.specs.Replies.{options_reply}
+use Rattle.milter_protocol.specs.Replies.{options_reply}
 use Rattle.milter_filter.proofs.NegotiatedOptions.{negotiated_fits}
 use Rattle.milter_filter.proofs.replier.Replier.negotiate_on.Goals as goal
 

@@ -1,7 +1,7 @@
 use Rattle.std.proofs.Common.{◌≡◌, ◌∙◌, Ok, ap, ap₂, subst}
-use Rattle.milter_exchange.specs.OrderStates.{order_state_before}
-use Rattle.milter_exchange.specs.declared.filter_state.FilterState.TheVariants.{Serving}
-use Rattle.milter_stream.specs.Splitter.{frame_of}
+use Rattle.milter_protocol.specs.OrderStates.{order_state_before}
+use Rattle.milter_protocol.specs.declared.filter_state.FilterState.TheVariants.{Serving}
+use Rattle.milter_wire_stream.specs.Splitter.{frame_of}
 use Rattle.milter_wire.specs.Frames.{frame_command}
 use Rattle.milter_wire.specs.BorrowedCommand.{command_of}
 use Rattle.milter_filter.specs.AnswerPackets.{FailsAt, Replying, replying_next, replying_with}

@@ -1,6 +1,6 @@
 use Rattle.std.proofs.Common.{◌≡◌, ◌<◌, ◌==◌, ℕ, zero, suc, Bool, true, false, Option, Some, ap, arith, length, sym, ◌∙◌}
-use Rattle.milter_outcome.specs.declared.loss.Loss.TheVariants.{Fault}
-use Rattle.milter_outcome.specs.declared.loss.MtaFault.TheVariants.{Early}
+use Rattle.milter_mta_outcome.specs.declared.loss.Loss.TheVariants.{Fault}
+use Rattle.milter_mta_outcome.specs.declared.loss.MtaFault.TheVariants.{Early}
 use Rattle.milter_mta.specs.declared.filter_connection.FilterConnection.{FilterConnection as Connected}
 use Rattle.milter_mta.specs.CoreParts.{mta_of}
 use Rattle.milter_mta.specs.Mta.{Mta}

@@ -1,5 +1,5 @@
 use Rattle.std.proofs.Common.{◌≡◌, ◌≤◌, ◌-◌, [], length, take, Some}
-use Rattle.milter_stream.specs.Stream.{IsUnfinished}
+use Rattle.milter_wire_stream.specs.Stream.{IsUnfinished}
 use Rattle.milter_mta.specs.CoreParts.{IsConsistent, mta_of}
 use Rattle.milter_mta.specs.Replies.{goes_on, received}
 use Rattle.milter_mta.proofs.session_state.SessionState.feed_piece.Given as goal

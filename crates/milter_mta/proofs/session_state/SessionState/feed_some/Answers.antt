@@ -1,7 +1,7 @@
 use Rattle.std.proofs.Common.{ℕ, List, [], Some, None, Ok, Err, sym, ◌∙◌, ap, subst, rules}
 use Rattle.std.proofs.lemmas.List.{append-nil}
-use Rattle.milter_stream.specs.Splitter.{frame_of}
-use Rattle.milter_stream.specs.Stream.{IsUnfinished}
+use Rattle.milter_wire_stream.specs.Splitter.{frame_of}
+use Rattle.milter_wire_stream.specs.Stream.{IsUnfinished}
 use Rattle.milter_mta.specs.CoreParts.{mta_of}
 use Rattle.milter_mta.specs.Cores.{ReceivesBytes}
 use Rattle.milter_mta.specs.Replies.{goes_on}

@@ -3,8 +3,8 @@ use Rattle.milter_mta.specs.declared.filter_connection.FilterConnection.{FilterC
 use Rattle.milter_mta.specs.declared.session_state.SessionState.{SessionState}
 use Rattle.milter_mta.specs.CoreParts.{IsConsistent, mta_of, with_state_report}
 use Rattle.milter_mta.specs.Dispositions.{report}
-use Rattle.milter_outcome.specs.declared.loss.By.TheVariants.{Connection}
-use Rattle.milter_outcome.specs.Outcomes.{at_connection}
+use Rattle.milter_mta_outcome.specs.declared.loss.By.TheVariants.{Connection}
+use Rattle.milter_mta_outcome.specs.Outcomes.{at_connection}
 use Rattle.milter_mta.proofs.Reported.{all_settled, all_stand}
 use Rattle.milter_mta.proofs.session_state.SessionState.finish_all.Goals as goal
 

@@ -3,14 +3,14 @@ use Rattle.milter_message.specs.declared.edit.Edit.{Edit}
 use Rattle.milter_message.specs.MailObject.{MailObject}
 use Rattle.milter_mail.specs.MailSession.{MailSession}
 use Rattle.milter_wire.specs.Negotiation.{has_leading_space}
-use Rattle.milter_outcome.specs.declared.acted.Acted.{Acted}
-use Rattle.milter_outcome.specs.declared.loss.By.TheVariants.{Default, Filter}
-use Rattle.milter_outcome.specs.declared.loss.Loss.TheVariants.{Memory}
-use Rattle.milter_outcome.specs.declared.outcome.Outcome.{Outcome}
-use Rattle.milter_outcome.specs.ActedVerdicts.{kept}
-use Rattle.milter_outcome.specs.ReceivedReplies.{is_end}
-use Rattle.milter_outcome.specs.Outcomes.{fallback, outcome}
-use Rattle.milter_plan.specs.TransactionVerdicts.{last_verdict, number_after, on_connection}
+use Rattle.milter_mta_outcome.specs.declared.acted.Acted.{Acted}
+use Rattle.milter_mta_outcome.specs.declared.loss.By.TheVariants.{Default, Filter}
+use Rattle.milter_mta_outcome.specs.declared.loss.Loss.TheVariants.{Memory}
+use Rattle.milter_mta_outcome.specs.declared.outcome.Outcome.{Outcome}
+use Rattle.milter_mta_outcome.specs.ActedVerdicts.{kept}
+use Rattle.milter_mta_outcome.specs.ReceivedReplies.{is_end}
+use Rattle.milter_mta_outcome.specs.Outcomes.{fallback, outcome}
+use Rattle.milter_mta_transaction.specs.TransactionVerdicts.{last_verdict, number_after, on_connection}
 use Rattle.milter_mta.specs.declared.session_state.SessionState.{SessionState}
 use Rattle.milter_mta.specs.Accounts.{Accounts}
 use Rattle.milter_mta.specs.CoreParts.{mta_of, session_of, with_state_report}

@@ -1,7 +1,7 @@
 use Rattle.std.proofs.Common.{List, [], None, Some, false, ap, sym, ◌∙◌, ◌≡◌}
 use Rattle.milter_wire.specs.declared.stage.Stage.TheVariants.{Connect}
 use Rattle.milter_mail.specs.MailSession.{MailSession}
-use Rattle.milter_outcome.specs.declared.acted.Acted.{Acted}
+use Rattle.milter_mta_outcome.specs.declared.acted.Acted.{Acted}
 use Rattle.milter_mta.specs.declared.filter_connection.FilterConnection.{FilterConnection as Connected}
 use Rattle.milter_mta.specs.declared.session_state.SessionState.{SessionState}
 use Rattle.milter_mta.specs.Accounts.{Accounts}

@@ -1,6 +1,6 @@
 use Rattle.std.proofs.Common.{◌≡◌, true, subst, sym}
 use Rattle.milter_rules.specs.RuleFile.{wanted}
-use Rattle.milter_ruleset.specs.RuleSet.{is_lawful}
+use Rattle.milter_filter_rules.specs.RuleSet.{is_lawful}
 use Rattle.milter_rules.proofs.Builders.{parts_lawful}
 use Rattle.milter_rules.proofs.rule_builder.Builder.into_rules.Goals as goal
 

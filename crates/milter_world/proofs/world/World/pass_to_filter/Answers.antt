@@ -1,11 +1,11 @@
 use Rattle.std.proofs.Common.{◌≡◌, ◌≢◌, ℕ, ◌+◌, List, [], ◌∷◌, Some, arith, take, drop, length, refl, sym, ap, ◌∙◌, subst}
-use Rattle.milter_schedule.specs.declared.event.Event.TheVariants as events
-use Rattle.milter_schedule.specs.declared.state.State.TheVariants.{Linked}
-use Rattle.milter_ends.specs.Ends.{AreEndsOf, Steps}
-use Rattle.milter_schedule.specs.Schedule.{Scenario}
+use Rattle.milter_world_schedule.specs.declared.event.Event.TheVariants as events
+use Rattle.milter_world_schedule.specs.declared.state.State.TheVariants.{Linked}
+use Rattle.milter_world_ends.specs.Ends.{AreEndsOf, Steps}
+use Rattle.milter_world_schedule.specs.Schedule.{Scenario}
 use Rattle.milter_world.proofs.EndsByParts.{steps-as}
 use Rattle.milter_world.proofs.world.World.pass_to_filter.Goals as goal
-use Rattle.milter_exchange.specs.Behavior.{Behavior}
+use Rattle.milter_protocol.specs.Behavior.{Behavior}
 use Rattle.milter_filter.specs.Cores.{Takes}
 use Rattle.milter_world.specs.Reached.{CanTake}
 use Rattle.milter_world.proofs.Feeding.{same-drop}

@@ -1,0 +1,360 @@
+//! The command line: what the program is asked to do.
+
+ghost use Rattle.std.specs.Prelude.{◌≡◌, ◌-◌, ◌^◌, ◌↔◌, IfOk, IsTrue, Some, codes, map};
+ghost use Rattle.clap.specs.Words.{found_of, rows_of, subcommand_rows_of};
+ghost use Rattle.milter_cli_request.specs.CommandLine.{AreLossWords, IsLoss, IsNumberOr, IsRequestOf, IsRequestOfNamed};
+ghost use Rattle.milter_cli_request.specs.CommandLine.{MatchesAs, ParsesAs, text_of};
+
+use crate::subcommands::command;
+use clap::{ArgMatches, Error};
+use milter_mta_outcome::OnLoss;
+use std::alloc::{AllocError, Global};
+use std::convert::AsStr;
+
+/// The version of the program.
+pub(crate) const VERSION: &str = "0.1.0";
+
+/// How many connections are served where the command line has no number of them.
+const COUNT_DEFAULT: u32 = 1;
+
+/// The most connections that one run serves.
+pub(crate) const COUNT_MAX: u64 = 1_000_000;
+
+/// How many seconds a read or a write may take where the command line has no number of them.
+const TIMEOUT_DEFAULT: u32 = 30;
+
+/// The most seconds that a read or a write may be given.
+pub(crate) const TIMEOUT_MAX: u64 = 3600;
+
+/// The most seconds for which connecting is tried again.
+pub(crate) const WAIT_MAX: u64 = 3600;
+
+/// How many connections are open at once where the command line has no number of them.
+const AT_ONCE_DEFAULT: u32 = 200;
+
+/// The most connections that are open at once.
+pub(crate) const AT_ONCE_MAX: u64 = 10_000;
+
+/// After how many seconds an idle connection is closed where the command line has no number of them: as libmilter.
+const IDLE_DEFAULT: u32 = 7_210;
+
+/// The most seconds that a connection may be idle.
+pub(crate) const IDLE_MAX: u64 = 86_400;
+
+/// The digits of a Unix socket's mode where the command line has none.
+const MODE_DEFAULT: u32 = 660;
+
+/// The greatest digits of a mode.
+pub(crate) const MODE_MAX: u64 = 777;
+
+/// The numbers that the definitions name: how many connections are served, and how many seconds a read or a write may
+/// take, where the command line has no such number and at most; for how many seconds connecting is tried again at most;
+/// and the same two numbers of how many connections are open at once, of how many seconds they may be idle, and of the
+/// digits of a mode.
+pub fn command_line_limits()
+    ensures count_default { COUNT_DEFAULT ≡ 1 }
+    ensures count_most { COUNT_MAX ≡ 1000000 }
+    ensures timeout_default { TIMEOUT_DEFAULT ≡ 30 }
+    ensures timeout_most { TIMEOUT_MAX ≡ 3600 }
+    ensures wait_most { WAIT_MAX ≡ 3600 }
+    ensures at_once_default { AT_ONCE_DEFAULT ≡ 200 }
+    ensures at_once_most { AT_ONCE_MAX ≡ 10000 }
+    ensures idle_default { IDLE_DEFAULT ≡ 7210 }
+    ensures idle_most { IDLE_MAX ≡ 86400 }
+    ensures mode_default { MODE_DEFAULT ≡ 660 }
+    ensures mode_most { MODE_MAX ≡ 777 }
+{}
+
+/// The words of `--loss`.
+const LOSS_WORDS: &[&str] = &["accept", "tempfail", "reject"];
+
+/// What the program is asked to do.
+#[derive(Debug, PartialEq, Eq, Drop)]
+pub enum Request<'a> {
+    /// To print the packets of the trace on standard input.
+    Trace,
+    /// To print the session of a file in canonical form.
+    Session {
+        /// The path of the file.
+        file: &'a str,
+    },
+    /// To print the rules of a file in canonical form, or what is to be said of them.
+    Rules {
+        /// The path of the file.
+        file: &'a str,
+        /// Whether what is to be said of the rules is printed in place of them.
+        check: bool,
+    },
+    /// To reply to the mail server on standard input, as a filter.
+    Answer(AnswerRequest<'a>),
+    /// To serve connections of mail servers one after another, as a filter.
+    Filter(FilterRequest<'a>),
+    /// To serve connections of mail servers at once, as a filter, until it is ended.
+    Serve(ServeRequest<'a>),
+    /// To play the session of a file to a filter, as a mail server, and to print what becomes of its messages.
+    Mta(MtaRequest<'a>),
+    /// To play the session of a file to a filter in memory, and to print what becomes of its messages.
+    Play(PlayRequest<'a>),
+}
+
+/// A connection that is served by standard input and output.
+#[derive(Clone, Copy, Debug, PartialEq, Eq)]
+pub struct AnswerRequest<'a> {
+    /// The path of a rule file. Without one all mail goes on.
+    pub rules: Option<&'a str>,
+    /// Whether a greeting or a sender within a message ends that message.
+    pub lenient: bool,
+    /// Whether the case of ASCII letters doesn't count in the texts of conditions.
+    pub ignore_case: bool,
+}
+
+/// Connections that are served one after another.
+#[derive(Clone, Copy, Debug, PartialEq, Eq)]
+pub struct FilterRequest<'a> {
+    /// The text of the address of the socket.
+    pub address: &'a str,
+    /// The path of a rule file. Without one all mail goes on.
+    pub rules: Option<&'a str>,
+    /// How many connections, from 1 to 1,000,000.
+    pub count: u32,
+    /// Whether a greeting or a sender within a message ends that message.
+    pub lenient: bool,
+    /// Whether the case of ASCII letters doesn't count in the texts of conditions.
+    pub ignore_case: bool,
+}
+
+/// A service of many connections.
+#[derive(Debug, PartialEq, Eq, Drop)]
+pub struct ServeRequest<'a> {
+    /// The texts of the addresses of the sockets, at least one.
+    pub addresses: Vec<&'a str>,
+    /// The path of a rule file. Without one all mail goes on.
+    pub rules: Option<&'a str>,
+    /// How many connections are open at once, from 1 to 10,000.
+    pub at_once: u32,
+    /// After how many seconds an idle connection is closed, from 1 to 86,400.
+    pub timeout: u32,
+    /// The digits of a Unix socket's mode, up to 777.
+    pub mode: u32,
+    /// Whether a line is written for each decision that isn't to go on.
+    pub log: bool,
+    /// Whether the case of ASCII letters doesn't count in the texts of conditions.
+    pub ignore_case: bool,
+}
+
+/// A session that is to be played to a filter.
+#[derive(Clone, Copy, Debug, PartialEq, Eq)]
+pub struct MtaRequest<'a> {
+    /// The text of the address of the filter's socket.
+    pub address: &'a str,
+    /// The path of the session file.
+    pub session: &'a str,
+    /// What becomes of a message whose filter is lost.
+    pub loss: OnLoss,
+    /// How many seconds a read or a write may take, from 1 to 3,600.
+    pub timeout: u32,
+    /// The names of the actions that are offered. Without them all are.
+    pub actions: Option<&'a str>,
+    /// The names of the protocol bits that are offered. Without them all are.
+    pub protocol: Option<&'a str>,
+    /// For how many seconds connecting is tried again before the first message, up to 3,600; 0 where it is tried once.
+    pub wait: u32,
+    /// The path of a file with the reports that are expected.
+    pub expect: Option<&'a str>,
+}
+
+/// A session that is to be played to a filter in memory.
+#[derive(Clone, Copy, Debug, PartialEq, Eq)]
+pub struct PlayRequest<'a> {
+    /// The path of the session file.
+    pub session: &'a str,
+    /// The path of a rule file. Without one all mail goes on.
+    pub rules: Option<&'a str>,
+    /// Whether the case of ASCII letters doesn't count in the texts of conditions.
+    pub ignore_case: bool,
+    /// The names of the actions that are offered. Without them all are.
+    pub actions: Option<&'a str>,
+    /// The names of the protocol bits that are offered. Without them all are.
+    pub protocol: Option<&'a str>,
+    /// The path of an event file. Without one everything arrives over one connection.
+    pub events: Option<&'a str>,
+    /// What becomes of a message whose filter is lost.
+    pub loss: OnLoss,
+    /// The path of a file with the reports that are expected.
+    pub expect: Option<&'a str>,
+}
+
+/// What the words of a command line ask for, the program's name first. An error has a text and a kind: a wrong use,
+/// what was asked for (help, the version), or memory that was refused.
+pub fn parse<'a, S: AsStr>(alloc: Global, words: &'a [S]) -> Result<Request<'a>, Error>
+    ensures { ParsesAs (map S.text words.entry.now) result }
+{
+    let matches = parse_matches(alloc, words)?;
+    Ok(request_of(alloc, &matches)?.unwrap())
+}
+
+fn parse_matches<'a, S: AsStr>(alloc: Global, words: &'a [S]) -> Result<ArgMatches<'a>, Error>
+    ensures { MatchesAs (map S.text words.entry.now) result }
+{
+    command(alloc, loss_words())?.try_get_matches_from(words)
+}
+
+/// The words of `--loss`.
+fn loss_words<'a>() -> &'a [&'a str]
+    ensures { AreLossWords result }
+{
+    LOSS_WORDS
+}
+
+/// What parsed words ask for: nothing only where they name no subcommand, or one without a word that it has to have.
+fn request_of<'a>(
+    alloc: Global,
+    matches: &ArgMatches<'a>,
+) -> Result<Option<Request<'a>>, AllocError>
+    ensures { IfOk result (IsRequestOf (subcommand_rows_of matches.now)) }
+{
+    match matches.subcommand() {
+        Some(("trace", _)) => Ok(Some(Request::Trace)),
+        Some(("session", given)) => Ok(session_request(given)),
+        Some(("rules", given)) => Ok(rules_request(given)),
+        Some(("answer", given)) => Ok(Some(answer_request(given))),
+        Some(("filter", given)) => Ok(filter_request(given)),
+        Some(("serve", given)) => serve_request(alloc, given),
+        Some(("mta", given)) => Ok(mta_request(given)),
+        Some(("play", given)) => Ok(play_request(given)),
+        _ => Ok(None),
+    }
+}
+
+/// What the words after `session` ask for.
+fn session_request<'a>(given: &ArgMatches<'a>) -> Option<Request<'a>>
+    ensures { IsRequestOfNamed (codes "session") (rows_of (found_of given.now)) result }
+{
+    match given.get_str("file") {
+        Some(file) => Some(Request::Session { file }),
+        None => None,
+    }
+}
+
+/// What the words after `rules` ask for.
+fn rules_request<'a>(given: &ArgMatches<'a>) -> Option<Request<'a>>
+    ensures { IsRequestOfNamed (codes "rules") (rows_of (found_of given.now)) result }
+{
+    match given.get_str("file") {
+        Some(file) => Some(Request::Rules {
+            file,
+            check: is_set(given.get_str("check")),
+        }),
+        None => None,
+    }
+}
+
+/// What the words after `answer` ask for.
+fn answer_request<'a>(given: &ArgMatches<'a>) -> Request<'a>
+    ensures { IsRequestOfNamed (codes "answer") (rows_of (found_of given.now)) (Some result) }
+{
+    Request::Answer(AnswerRequest {
+        rules: given.get_str("rules"),
+        lenient: is_set(given.get_str("lenient")),
+        ignore_case: is_set(given.get_str("ignore-case")),
+    })
+}
+
+/// What the words after `filter` ask for.
+fn filter_request<'a>(given: &ArgMatches<'a>) -> Option<Request<'a>>
+    ensures { IsRequestOfNamed (codes "filter") (rows_of (found_of given.now)) result }
+{
+    let address = given.get_str("address")?;
+    Some(Request::Filter(FilterRequest {
+        address,
+        rules: given.get_str("rules"),
+        count: number_or(COUNT_DEFAULT, given.get_str("count")),
+        lenient: is_set(given.get_str("lenient")),
+        ignore_case: is_set(given.get_str("ignore-case")),
+    }))
+}
+
+/// What the words after `serve` ask for.
+fn serve_request<'a>(
+    alloc: Global,
+    given: &ArgMatches<'a>,
+) -> Result<Option<Request<'a>>, AllocError>
+    ensures { IfOk result (IsRequestOfNamed (codes "serve") (rows_of (found_of given.now))) }
+{
+    let Some(addresses) = given.get_strs("address") else {
+        return Ok(None);
+    };
+    let addresses = Vec::from_slice(alloc, addresses)?;
+    Ok(Some(Request::Serve(ServeRequest {
+        addresses,
+        rules: given.get_str("rules"),
+        at_once: number_or(AT_ONCE_DEFAULT, given.get_str("at-once")),
+        timeout: number_or(IDLE_DEFAULT, given.get_str("timeout")),
+        mode: number_or(MODE_DEFAULT, given.get_str("mode")),
+        log: is_set(given.get_str("log")),
+        ignore_case: is_set(given.get_str("ignore-case")),
+    })))
+}
+
+/// What the words after `mta` ask for.
+fn mta_request<'a>(given: &ArgMatches<'a>) -> Option<Request<'a>>
+    ensures { IsRequestOfNamed (codes "mta") (rows_of (found_of given.now)) result }
+{
+    let address = given.get_str("address")?;
+    let session = given.get_str("session")?;
+    Some(Request::Mta(MtaRequest {
+        address,
+        session,
+        loss: loss_named(given.get_str("loss")),
+        timeout: number_or(TIMEOUT_DEFAULT, given.get_str("timeout")),
+        actions: given.get_str("actions"),
+        protocol: given.get_str("protocol"),
+        wait: number_or(0, given.get_str("wait")),
+        expect: given.get_str("expect"),
+    }))
+}
+
+/// What the words after `play` ask for.
+fn play_request<'a>(given: &ArgMatches<'a>) -> Option<Request<'a>>
+    ensures { IsRequestOfNamed (codes "play") (rows_of (found_of given.now)) result }
+{
+    let session = given.get_str("session")?;
+    Some(Request::Play(PlayRequest {
+        session,
+        rules: given.get_str("rules"),
+        ignore_case: is_set(given.get_str("ignore-case")),
+        actions: given.get_str("actions"),
+        protocol: given.get_str("protocol"),
+        events: given.get_str("events"),
+        loss: loss_named(given.get_str("loss")),
+        expect: given.get_str("expect"),
+    }))
+}
+
+/// Whether a flag is set, by its text.
+fn is_set(text: Option<&str>) -> bool
+    ensures { IsTrue result ↔ (text_of text.entry ≡ Some (codes "true")) }
+{
+    matches!(text, Some("true"))
+}
+
+/// The number in the text of an option, which parsing has looked at, or the default where it isn't given.
+fn number_or(default: u32, text: Option<&str>) -> u32
+    ensures { IsNumberOr default 0 (2 ^ 32 - 1) (text_of text.entry) result }
+{
+    match text {
+        Some(text) => text.parse().unwrap_or(default),
+        None => default,
+    }
+}
+
+/// What the text of the option `loss` names, which parsing has looked at, or what becomes of messages without it.
+fn loss_named(text: Option<&str>) -> OnLoss
+    ensures { IsLoss (text_of text.entry) result }
+{
+    match text {
+        Some("accept") => OnLoss::Accept,
+        Some("reject") => OnLoss::Reject,
+        _ => OnLoss::Tempfail,
+    }
+}

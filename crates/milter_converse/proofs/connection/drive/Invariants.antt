@@ -1,6 +1,0 @@
-use Rattle.milter_converse.specs.ConnectionRuns.{Moves}
-use Rattle.milter_converse.proofs.connection.drive.Given as goal
-
--- the connection is still there
-abbrev pub invariant-loop : goal.invariant-loop
-invariant-loop g l = record { moves : Moves l.fn.core l.core }

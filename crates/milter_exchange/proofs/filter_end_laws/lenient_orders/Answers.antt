@@ -1,8 +1,0 @@
-use Rattle.milter_exchange.proofs.Lenient.{orders-replies, orders-state}
-use Rattle.milter_exchange.proofs.filter_end_laws.lenient_orders.Goals as goal
-
-pub returns-clause-state : goal.returns-clause-state
-returns-clause-state c = orders-state
-
-pub returns-clause-replies : goal.returns-clause-replies
-returns-clause-replies c = orders-replies

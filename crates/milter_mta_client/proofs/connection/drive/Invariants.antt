@@ -1,0 +1,6 @@
+use Rattle.milter_mta_client.specs.ConnectionRuns.{Moves}
+use Rattle.milter_mta_client.proofs.connection.drive.Given as goal
+
+-- the connection is still there
+abbrev pub invariant-loop : goal.invariant-loop
+invariant-loop g l = record { moves : Moves l.fn.core l.core }

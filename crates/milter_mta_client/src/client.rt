@@ -1,0 +1,97 @@
+//! How a mail server's end is driven over connections to filters, until every message is settled.
+
+ghost use Rattle.std.specs.Prelude.{◌≡◌, ◌↔◌, IfOk, IsTrue, length};
+ghost use Rattle.milter_mta.specs.declared.want.Want.TheVariants as wants;
+ghost use Rattle.milter_mta.specs.Output.{want};
+ghost use Rattle.milter_mta_client.specs.ClientRuns.{Converses, first_events};
+ghost use Rattle.milter_mta_client.specs.ConnectionRuns.{IsBetween, Steps};
+ghost use Rattle.milter_mta_client.specs.Events.{Runs};
+
+use crate::connection::drive;
+use crate::dialer::Dial;
+use crate::laws::{events_keep_to_dialogues, events_report_connections};
+use milter_mta::{MtaCore, Reports, Want};
+use milter_mta_laws::messages_are_settled_by_dialogues;
+use milter_mta_outcome::Loss;
+use std::alloc::{AllocError, Global};
+
+/// The most bytes that are read at once.
+const BUFFER_LEN: usize = 65_536;
+
+/// Plays a session to filters over the connections that `dial` makes, until every message is settled, and answers what
+/// became of each. All memory but what the core takes itself is a buffer of 65,536 bytes; where that is refused nothing
+/// is dialled, and every message is settled by default, with the cause [`Loss::Memory`].
+///
+/// A filter is lost with the cause [`Loss::Reset`] where no connection is made, where the filter closed it, and where a
+/// read or a write fails; with [`Loss::Timeout`] where it fails with the kind `WouldBlock` or `TimedOut`. A call that
+/// fails with the kind `Interrupted` is made again, up to 100 times in a row, and the connection is lost then. So it is
+/// after 1,099,511,627,776 reads and writes. Where memory is refused for a packet, or for what was read, the cause is
+/// [`Loss::Memory`]. Each loss settles the first message that is left by default, and closes the connection; the next
+/// message is played over a new one. A core that has a connection when it is passed is given `Loss::Reset` first,
+/// unless it is [`Want::Done`].
+pub fn converse<D: Dial>(alloc: Global, core: MtaCore, dial: &mut D) -> Reports
+    ensures { Converses core result }
+{
+    events_keep_to_dialogues();
+    events_report_connections();
+    messages_are_settled_by_dialogues();
+    let mut core = core;
+    give_up_connection(&mut core);
+    match take_buffer(alloc) {
+        Ok(mut buffer) => drive_all(&mut core, dial, buffer.as_mut_slice()),
+        Err(_) => give_up_messages(&mut core),
+    }
+    core.finish()
+}
+
+/// The buffer for what is read at once.
+fn take_buffer(alloc: Global) -> Result<Vec<u8>, AllocError>
+    ensures { IfOk result (λ buffer. length buffer.items ≡ BUFFER_LEN) }
+{
+    vec![in alloc; 0u8; BUFFER_LEN]
+}
+
+/// Gives up a connection that was made before.
+fn give_up_connection(core: &mut MtaCore)
+    ensures events { Runs core.old (first_events (want core.old)) core.new }
+    ensures between { IsBetween core.new }
+{
+    if matches!(core.want(), Want::Send | Want::Receive) {
+        core.lost(Loss::Reset);
+    }
+}
+
+/// Whether a connection is wanted.
+fn wants_dial(core: &MtaCore) -> bool
+    ensures { IsTrue result ↔ (want core.now ≡ wants.Dial) }
+{
+    matches!(core.want(), Want::Dial)
+}
+
+/// Drives a mail server's end over one connection after another, until every message is settled.
+fn drive_all<D: Dial>(core: &mut MtaCore, dial: &mut D, buffer: &mut [u8])
+    requires { IsBetween core.old }
+    ensures steps { Steps core.old core.new }
+    ensures done { want core.new ≡ wants.Done }
+{
+    while wants_dial(core) {
+        match dial.dial() {
+            Ok(link) => {
+                core.dialled();
+                drive(core, link, buffer);
+            }
+            Err(_) => core.lost(Loss::Reset),
+        }
+    }
+}
+
+/// Gives up all messages that are left, for memory that was refused.
+fn give_up_messages(core: &mut MtaCore)
+    requires { IsBetween core.old }
+    ensures steps { Steps core.old core.new }
+    ensures done { want core.new ≡ wants.Done }
+{
+    while wants_dial(core) {
+        core.lost(Loss::Memory);
+    }
+}

@@ -1,0 +1,26 @@
+//! Laws of a mail server's end that is driven over connections, each the contract of a function that does nothing.
+
+ghost use Rattle.std.specs.Prelude.{List};
+ghost use Rattle.milter_mta.specs.Mta.{Mta};
+ghost use Rattle.milter_mta_laws.specs.AnyFilter.{ConnectionIsReported, GoesOnDialogues, IsOnDialogue};
+ghost use Rattle.milter_mta_client.specs.Events.{Event, Runs};
+
+use milter_mta_laws::{connections_are_reported, messages_are_settled_by_dialogues};
+
+/// Whatever happens to it, the verdicts that a mail server's end acts on are those of a dialogue through the plan of
+/// the message that is sent, and each report is by a dialogue through its message's plan.
+pub fn events_keep_to_dialogues()
+    ensures { (old new : Mta) (events : List Event) → IsOnDialogue old → Runs old events new → GoesOnDialogues old new }
+{
+    messages_are_settled_by_dialogues();
+}
+
+/// Whatever happens to it, there is a verdict on the connection exactly where it settled messages.
+pub fn events_report_connections()
+    ensures { (old new : Mta) (events : List Event) → IsOnDialogue old → ConnectionIsReported old →
+        Runs old events new →
+        ConnectionIsReported new }
+{
+    messages_are_settled_by_dialogues();
+    connections_are_reported();
+}

@@ -1,0 +1,47 @@
+//! How a mail server refuses a message.
+
+ghost use Rattle.std.specs.Prelude.{◌≡◌};
+ghost use Rattle.milter_mta_outcome.specs.Refusals.{refusal_of, refusal_text};
+
+use milter_wire::{Text, Verdict};
+
+/// The reply to a client whose message is refused for now.
+const TEMPFAIL_TEXT: &[u8] = b"451 4.3.2 Please try again later";
+/// The reply to a client whose message is refused for good.
+const REJECT_TEXT: &[u8] = b"550 5.7.1 Command rejected";
+
+/// How a message is refused. Source: the libmilter callback documentation (return values, smfi_setreply).
+#[derive(Clone, Debug, PartialEq, Eq, Drop)]
+pub enum Refusal {
+    /// For good.
+    Reject,
+    /// For now.
+    Tempfail,
+    /// With this text, which begins with a reply code.
+    Code(Text),
+}
+
+impl Refusal {
+    /// The reply for the client: `550 5.7.1 Command rejected`, `451 4.3.2 Please try again later`, or the text of the
+    /// code. Doesn't allocate.
+    pub fn text(&self) -> &[u8]
+        ensures { result.now ≡ refusal_text self.now }
+    {
+        match self {
+            Refusal::Reject => REJECT_TEXT,
+            Refusal::Tempfail => TEMPFAIL_TEXT,
+            Refusal::Code(text) => text.as_slice(),
+        }
+    }
+
+    /// The refusal by a verdict that refuses; by any other it is `Reject`. Doesn't allocate.
+    pub(crate) fn of_verdict(verdict: Verdict) -> Self
+        ensures { result ≡ refusal_of verdict }
+    {
+        match verdict {
+            Verdict::Code(text) => Refusal::Code(text),
+            Verdict::Tempfail => Refusal::Tempfail,
+            _ => Refusal::Reject,
+        }
+    }
+}

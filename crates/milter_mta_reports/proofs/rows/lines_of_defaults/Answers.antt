@@ -1,0 +1,18 @@
+use Rattle.std.proofs.Common.{refl}
+use Rattle.std.specs.Fmt.{digits}
+use Rattle.milter_text.specs.Quoting.{quoted}
+use Rattle.milter_mail.specs.HeldText.{held_text, line_of}
+use Rattle.milter_mta_reports.specs.ReportsText.{report_text, reports_text}
+use Rattle.milter_mta_reports.proofs.rows.lines_of_defaults.Goals as goal
+
+pub returns-clause-reset : goal.returns-clause-reset
+unfolding digits held_text line_of quoted report_text reports_text
+returns-clause-reset c = refl
+
+pub returns-clause-timeout : goal.returns-clause-timeout
+unfolding digits held_text line_of quoted report_text reports_text
+returns-clause-timeout c = refl
+
+pub returns-clause-others : goal.returns-clause-others
+unfolding digits held_text line_of quoted report_text reports_text
+returns-clause-others c = refl

@@ -1,0 +1,192 @@
+//! A message under way to a filter.
+
+ghost use Rattle.std.specs.Prelude.{◌≡◌, ◌≤◌, ◌+◌, [], IfOk, Ok, OnErr, OnOk, Some, drop, false, length, option_map, true};
+ghost use Rattle.milter_message.specs.declared.message.TheConstants.{WEIGHT_MAX};
+ghost use Rattle.milter_wire.specs.declared.stage.Stage.{Stage as StageValue};
+ghost use Rattle.milter_wire.specs.BorrowedCommand.{command_of};
+ghost use Rattle.milter_wire.specs.Verdicts.{given_at};
+ghost use Rattle.milter_mta_transaction.specs.OutgoingValue.{outgoing};
+ghost use Rattle.milter_mta_transaction.specs.PlanCursor.{steps_from};
+ghost use Rattle.milter_mta_transaction.specs.Transactions.{Sends, asks_first, first_of, left_of, outgoing_transaction, stage_first};
+ghost use Rattle.milter_mta_transaction.specs.TransactionVerdicts.{are_all_refused, ends_dialogue, left_after, with_verdict};
+
+use crate::acted_verdicts::{act, are_refused};
+use crate::cursor::{ClientInfo, Cursor};
+use crate::plan_cursor::{OutgoingRef, after_body, first_from, has_recipient, next, step_at};
+use crate::received_edits::ReceivedEdits;
+use milter_mail::{Macros, Message};
+use milter_mta_outcome::ActedVerdicts;
+use milter_protocol::is_final_at;
+use milter_wire::{CommandRef, Negotiated, NoMemory, Stage, Verdict};
+use std::alloc::Global;
+
+/// A message under way to a filter, by what was negotiated with it.
+#[derive(Debug, Drop)]
+pub struct Transaction {
+    /// What was negotiated.
+    pub negotiated: Negotiated,
+    /// The macros that the filter asked for.
+    pub macros: Macros,
+    /// The message.
+    pub message: Message,
+    /// The verdicts that were acted on, in order: those on the client and its greeting first.
+    pub acted: ActedVerdicts,
+    /// The edits that came since the last verdict.
+    pub edits: ReceivedEdits,
+    /// The next command, or one of those before it that aren't sent.
+    pub cursor: Cursor,
+}
+
+impl Transaction {
+    /// The message, of which the commands from this stage on are sent after these verdicts. Doesn't allocate.
+    pub fn new(
+        negotiated: Negotiated,
+        macros: Macros,
+        message: Message,
+        acted: ActedVerdicts,
+        edits: ReceivedEdits,
+        stage: Stage,
+    ) -> Self
+        ensures { result ≡ record {
+          negotiated = negotiated;
+          macros = macros;
+          message = message;
+          acted = acted;
+          edits = edits;
+          cursor = record { stage = stage; step = 0 };
+        } }
+    {
+        Transaction {
+            negotiated,
+            macros,
+            message,
+            acted,
+            edits,
+            cursor: Cursor { stage, step: 0 },
+        }
+    }
+
+    /// The same without the edits that came. Doesn't allocate.
+    pub fn without_edits(self, alloc: Global) -> Self
+        ensures { result ≡ record self { edits = [] } }
+    {
+        Transaction {
+            negotiated: self.negotiated,
+            macros: self.macros,
+            message: self.message,
+            acted: self.acted,
+            edits: ReceivedEdits::new(alloc),
+            cursor: self.cursor,
+        }
+    }
+
+    /// What is sent of the message.
+    fn outgoing<'a>(&'a self, client_info: &'a ClientInfo) -> OutgoingRef<'a>
+        ensures { outgoing result ≡ outgoing_transaction client_info.now self.now }
+    {
+        OutgoingRef {
+            negotiated: &self.negotiated,
+            macros: &self.macros,
+            client: &client_info.client,
+            helo: &client_info.helo,
+            message: &self.message,
+        }
+    }
+
+    /// The next command; none after the last one. Doesn't allocate.
+    pub fn command<'a>(&'a self, client_info: &'a ClientInfo) -> Option<CommandRef<'a>>
+        ensures { option_map command_of result ≡ first_of (left_of client_info.now self.now) }
+    {
+        let of = self.outgoing(client_info);
+        let first = first_from(&of, self.cursor);
+        step_at(&of, first.stage, first.step)
+    }
+
+    /// The stage that the next command is; none for macros. Doesn't allocate.
+    pub fn stage(&self, client_info: &ClientInfo) -> Option<Stage>
+        ensures { result ≡ stage_first (left_of client_info.now self.now) }
+    {
+        self.command(client_info)?.stage()
+    }
+
+    /// Whether the filter answers the next command. Doesn't allocate.
+    pub fn is_asked(&self, client_info: &ClientInfo) -> bool
+        ensures { result ≡ asks_first self.now.negotiated (left_of client_info.now self.now) }
+    {
+        match self.stage(client_info) {
+            Some(stage) => self.negotiated.is_answered(stage),
+            None => false,
+        }
+    }
+
+    /// The cursor after the next command.
+    fn cursor_after(&self, client_info: &ClientInfo) -> Cursor
+        requires { Sends client_info.now self.now }
+        ensures left { steps_from (outgoing_transaction client_info.now self.now) result.stage result.step
+            ≡ drop 1 (left_of client_info.now self.now) }
+        ensures stage { (stage : StageValue) → stage_first (left_of client_info.now self.now) ≡ Some stage →
+            result.stage ≡ stage }
+        ensures room { result.step + length (drop 1 (left_of client_info.now self.now)) ≤ WEIGHT_MAX }
+    {
+        let of = self.outgoing(client_info);
+        let first = first_from(&of, self.cursor);
+        match step_at(&of, first.stage, first.step) {
+            Some(_) => next(&of, first),
+            None => first,
+        }
+    }
+
+    /// Goes on to the command after the next one. Doesn't allocate.
+    pub fn advance(&mut self, client_info: &ClientInfo)
+        requires { Sends client_info.now self.old }
+        ensures left { left_of client_info.now self.new ≡ drop 1 (left_of client_info.now self.old) }
+        ensures same { self.new ≡ record self.old { cursor = self.new.cursor } }
+        ensures sends { Sends client_info.now self.new }
+    {
+        self.cursor = self.cursor_after(client_info);
+    }
+
+    /// Whether each recipient was refused, after a verdict at this stage.
+    fn are_all_refused(&self, client_info: &ClientInfo, stage: Stage) -> bool
+        requires { stage ≡ StageValue.Rcpt → self.now.cursor.stage ≡ StageValue.Rcpt }
+        ensures { result ≡ are_all_refused stage self.now.acted (left_of client_info.now self.now) }
+    {
+        stage == Stage::Rcpt
+            && !has_recipient(&self.outgoing(client_info), self.cursor)
+            && are_refused(self.acted.as_slice())
+    }
+
+    /// Acts on a verdict on the next command, which is of this stage, and answers whether nothing more of the message
+    /// is sent. Where it goes on, it goes on to the command after that, or after the whole body where it is skipped.
+    /// After `NoMemory` it is as it was.
+    pub fn act(
+        &mut self,
+        client_info: &ClientInfo,
+        stage: Stage,
+        verdict: Verdict,
+    ) -> Result<bool, NoMemory>
+        requires sends { Sends client_info.now self.old }
+        requires stage { stage_first (left_of client_info.now self.old) ≡ Some stage }
+        requires given { given_at verdict stage ≡ true }
+        ensures ends { IfOk result (λ ends. ends ≡ ends_dialogue stage verdict self.new.acted
+            (drop 1 (left_of client_info.now self.old))) }
+        ensures acted { OnOk result (self.new.acted ≡ with_verdict stage verdict self.old.acted) }
+        ensures left { result ≡ Ok false →
+            left_of client_info.now self.new ≡ left_after verdict (drop 1 (left_of client_info.now self.old)) }
+        ensures sends { Sends client_info.now self.new }
+        ensures same { self.new ≡ record self.old { acted = self.new.acted; cursor = self.new.cursor } }
+        ensures err { OnErr result (self.new ≡ self.old) }
+    {
+        let is_final = is_final_at(stage, &verdict);
+        let skips = matches!(verdict, Verdict::Skip);
+        act(&mut self.acted, stage, verdict)?;
+        self.cursor = self.cursor_after(client_info);
+        if is_final || self.are_all_refused(client_info, stage) {
+            return Ok(true);
+        }
+        if skips {
+            self.cursor = after_body(&self.outgoing(client_info), self.cursor);
+        }
+        Ok(false)
+    }
+}

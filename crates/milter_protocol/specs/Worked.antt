@@ -1,0 +1,76 @@
+-- Worked connections: what mail servers send, and filters that want more than to pass.
+use Rattle.std.specs.Prelude.{ℕ, List, [], codes, map, length, Ok, replicate}
+use Rattle.milter_wire_options.specs.declared.options.Options.{Options}
+use Rattle.milter_wire_fields.specs.declared.client.Client.{Client}
+use Rattle.milter_wire_fields.specs.declared.client.Origin.TheVariants.{Unknown}
+use Rattle.milter_wire.specs.declared.command.Command.{Command}
+use Rattle.milter_wire.specs.declared.command.Command.TheVariants as commands
+use Rattle.milter_wire_fields.specs.declared.path.Path.{Path}
+use Rattle.milter_wire.specs.declared.reply.Reply.{Reply}
+use Rattle.milter_wire.specs.declared.reply.Reply.TheVariants as replies_with
+use Rattle.milter_wire.specs.declared.stage.Stage.{Stage}
+use Rattle.milter_wire.specs.declared.stage.Stage.TheVariants.{Eob}
+use Rattle.milter_wire.specs.declared.verdict.Verdict.{Verdict}
+use Rattle.milter_wire.specs.declared.verdict.Verdict.TheVariants.{Code, Continue}
+use Rattle.milter_message.specs.declared.edit.Edit.{Edit}
+use Rattle.milter_protocol.specs.Behavior.{Behavior}
+use Rattle.milter_protocol.specs.Seen.{Seen}
+use Rattle.milter_protocol.specs.declared.answer.Answer.{Answer}
+use Rattle.milter_protocol.specs.declared.filter_state.FilterState.{FilterState}
+use Rattle.milter_protocol.specs.FilterEnds.{after, replies, start}
+
+abbrev pub options : ℕ → ℕ → ℕ → Options
+options version actions protocol =
+    record { version = version; actions = record { 0 = actions }; protocol = record { 0 = protocol } }
+
+-- what a usual mail server offers
+abbrev pub offer : Command
+offer = commands.Options (options 6 511 2095103)
+
+abbrev pub at : List ℕ → Path
+at address = record { address = address; params = [] }
+
+abbrev pub client : Client
+client = record { host = codes "h.example"; origin = Unknown }
+
+abbrev pub helo : Command
+helo = commands.Helo (codes "mail")
+
+abbrev pub mail : Command
+mail = commands.Mail (at (codes "a@x"))
+
+abbrev pub rcpt : Command
+rcpt = commands.Rcpt (at (codes "b@y"))
+
+abbrev pub field : List ℕ → List ℕ → Command
+field name value = commands.Header (record { name = name; value = value })
+
+-- the reply to options
+abbrev pub negotiated : ℕ → ℕ → ℕ → Reply
+negotiated version actions protocol = replies_with.Options (options version actions protocol) []
+
+-- ---- what comes of it
+
+abbrev pub replied : Behavior → List Command → List Reply
+replied b sent = replies b start (map Ok sent)
+
+abbrev pub state : Behavior → List Command → FilterState
+state b sent = (after b start (map Ok sent)).state
+
+-- ---- filters
+
+-- a filter that wants all that there is, and decides so
+abbrev pub deciding : ℕ → (Stage → Seen → Answer) → Behavior
+deciding protocol decide = record { wants = options 6 511 protocol; lists = []; decide = decide }
+
+abbrev pub always : Verdict → Stage → Seen → Answer
+always verdict stage seen = record { edits = []; verdict = verdict }
+
+-- at the end of a message as many pluses as it had header fields
+abbrev pub count_fields : Stage → Seen → Answer
+count_fields Eob seen = record { edits = []; verdict = Code (replicate (length seen.headers) 43) }
+count_fields stage seen = record { edits = []; verdict = Continue }
+
+abbrev pub edits_at_end : List Edit → Verdict → Stage → Seen → Answer
+edits_at_end edits verdict Eob seen = record { edits = edits; verdict = verdict }
+edits_at_end edits verdict stage seen = record { edits = []; verdict = Continue }

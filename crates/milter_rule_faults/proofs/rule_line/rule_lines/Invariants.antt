@@ -1,5 +1,0 @@
-use Rattle.std.proofs.Common.{length}
-use Rattle.milter_rule_faults.proofs.rule_line.rule_lines.Given as goal
-
-abbrev pub decreases-loop-found : goal.decreases-loop-found
-decreases-loop-found l = length l.lines.lines

@@ -1,0 +1,125 @@
+//! What is said of the rules of a file that is read.
+
+use crate::action_findings::say_action;
+use crate::condition_findings::{say_condition_names, say_conditions};
+use crate::file_findings::say_stages;
+use crate::sent_stages::{bit_among, has_stage};
+use milter_filter_rules::{Action, Rule, Rules};
+use milter_protocol::rank_of;
+use milter_rules_faults::{Notes, Piece, RuleLine, rule_lines};
+use milter_wire::{NoMemory, Options, Stage};
+use std::alloc::Global;
+
+/// How far the rules of a stage were looked at.
+#[derive(Clone, Copy, Debug)]
+struct Progress {
+    /// How many were.
+    count: usize,
+    /// The line of the first of them after which no other is looked at.
+    last: Option<u64>,
+}
+
+/// Says what is to be said of the rules, and of their file, which is these bytes.
+pub(crate) fn say_findings(
+    alloc: Global,
+    notes: &mut Notes<'_>,
+    bytes: &[u8],
+    rules: &Rules,
+) -> Result<(), NoMemory> {
+    let lines = rule_lines(alloc, bytes)?;
+    // The stages by their ranks, of which none is 0.
+    let mut stages = [Progress {
+        count: 0,
+        last: None,
+    }; 10];
+    for line in &lines {
+        let rank = usize::from(rank_of(line.stage));
+        stages[rank] = say_next(alloc, notes, rules, line, stages[rank])?;
+    }
+    notes.go_to(None);
+    say_stages(alloc, notes, rules)
+}
+
+/// Says what is to be said of the next rule of its stage, which is this line.
+fn say_next(
+    alloc: Global,
+    notes: &mut Notes<'_>,
+    rules: &Rules,
+    line: &RuleLine,
+    progress: Progress,
+) -> Result<Progress, NoMemory> {
+    let Some(rule) = rules.at(line.stage).get(progress.count) else {
+        return Ok(progress);
+    };
+    notes.go_to(Some(line.number));
+    say_rule(
+        alloc,
+        notes,
+        rules.options(),
+        line.stage,
+        progress.last,
+        rule,
+    )?;
+    let last = match progress.last {
+        None if is_last(rule) => Some(line.number),
+        last => last,
+    };
+    let count = progress.count.saturating_add(1);
+    Ok(Progress { count, last })
+}
+
+/// Whether no rule after it is looked at, whatever is shown.
+fn is_last(rule: &Rule) -> bool {
+    rule.conditions.as_slice().is_empty() && matches!(rule.action, Action::Verdict(_))
+}
+
+/// Says what is to be said of a rule, before which the rule in line `last` is the last one that is looked at.
+fn say_rule(
+    alloc: Global,
+    notes: &mut Notes<'_>,
+    options: Options,
+    stage: Stage,
+    last: Option<u64>,
+    rule: &Rule,
+) -> Result<(), NoMemory> {
+    let conditions = rule.conditions.as_slice();
+    if !say_lost(alloc, notes, options, stage, last)? {
+        say_conditions(alloc, notes, options, stage, conditions)?;
+    }
+    say_condition_names(alloc, notes, conditions)?;
+    say_action(alloc, notes, options, &rule.action)
+}
+
+/// Says why a rule of this stage never applies, whatever its conditions; answers whether that is so.
+fn say_lost(
+    alloc: Global,
+    notes: &mut Notes<'_>,
+    options: Options,
+    stage: Stage,
+    last: Option<u64>,
+) -> Result<bool, NoMemory> {
+    let never = Piece::Plain(b"this rule never applies: ");
+    let name = Piece::Plain(stage.name());
+    let by_line = Piece::Plain(b" in the protocol line");
+    if let Some(bit) = bit_among(options, stage.not_sent()) {
+        let sent = Piece::Plain(b" isn't sent, by ");
+        notes.say(alloc, &[never, name, sent, Piece::Protocol(bit), by_line])?;
+    } else if !has_stage(options, stage) {
+        let sent = Piece::Plain(b" isn't sent before version 4");
+        notes.say(alloc, &[never, name, sent])?;
+    } else if let Some(bit) = bit_among(options, stage.not_answered()) {
+        let no_effect = Piece::Plain(b"this rule has no effect: ");
+        let answered = Piece::Plain(b" isn't answered, by ");
+        notes.say(
+            alloc,
+            &[no_effect, name, answered, Piece::Protocol(bit), by_line],
+        )?;
+    } else if let Some(line) = last {
+        let rule = Piece::Plain(b"the rule in line ");
+        let ends = Piece::Plain(b" ends those of ");
+        notes.say(alloc, &[never, rule, Piece::Number(line), ends, name])?;
+    } else {
+        return Ok(false);
+    }
+    Ok(true)
+}

@@ -1,0 +1,175 @@
+//! The lines that are said of a rule file.
+
+use itoa::Buffer;
+use milter_filter_rules::{Condition, Field};
+use milter_text::{Word, quote};
+use milter_wire::{Actions, NoMemory, Protocol};
+use std::alloc::Global;
+
+/// The most bytes that are shown of a word of the file.
+const SHOWN_MAX: usize = 80;
+
+/// A piece of a line that is said.
+#[derive(Clone, Copy)]
+pub enum Piece<'a> {
+    /// These bytes as they are.
+    Plain(&'a [u8]),
+    /// These bytes as a text in quotes; of many bytes the first, and two dots.
+    Quoted(&'a [u8]),
+    /// A word as it stands in the file; of a long one its beginning, and two dots.
+    Word(&'a Word),
+    /// A condition as it is written.
+    Condition(&'a Condition),
+    /// The names in this text, which are joined by `|`, as a list.
+    List(&'a str),
+    /// The names of the actions.
+    Actions(Actions),
+    /// The names of the bits of the protocol.
+    Protocol(Protocol),
+    /// The number in decimal.
+    Number(u64),
+}
+
+/// The lines that are said of a rule file, as far as it was looked at.
+#[derive(Drop)]
+pub struct Notes<'n> {
+    /// The name of the file.
+    name: &'n str,
+    /// The line of the file that is looked at; none where that is the file as a whole.
+    line: Option<u64>,
+    /// The lines that were said.
+    text: Vec<u8>,
+}
+
+impl<'n> Notes<'n> {
+    /// No lines, of a file of this name.
+    pub fn new(alloc: Global, name: &'n str) -> Self {
+        Notes {
+            name,
+            line: None,
+            text: Vec::new(alloc),
+        }
+    }
+
+    /// Goes to the line with this number, or to the file as a whole.
+    pub fn go_to(&mut self, line: Option<u64>) {
+        self.line = line;
+    }
+
+    /// The lines that were said.
+    pub fn text(&self) -> &[u8] {
+        self.text.as_slice()
+    }
+
+    /// Says a line of these pieces.
+    pub fn say(&mut self, alloc: Global, pieces: &[Piece<'_>]) -> Result<(), NoMemory> {
+        self.put_place()?;
+        for piece in pieces {
+            self.put(alloc, piece)?;
+        }
+        self.text.push(b'\n')?;
+        Ok(())
+    }
+
+    /// Puts the name of the file and the number of the line.
+    fn put_place(&mut self) -> Result<(), NoMemory> {
+        self.text.extend_from_slice(self.name.as_bytes())?;
+        if let Some(line) = self.line {
+            self.text.push(b':')?;
+            self.put_number(line)?;
+        }
+        self.text.extend_from_slice(b": ")?;
+        Ok(())
+    }
+
+    /// Puts a piece.
+    fn put(&mut self, alloc: Global, piece: &Piece<'_>) -> Result<(), NoMemory> {
+        match piece {
+            Piece::Plain(bytes) => self.put_plain(bytes),
+            Piece::Quoted(bytes) => self.put_quoted(alloc, bytes),
+            Piece::Word(word) => self.put_word(alloc, word),
+            Piece::Condition(condition) => self.put_condition(alloc, condition),
+            Piece::List(names) => self.put_list(names),
+            Piece::Actions(actions) => actions.put_names(&mut self.text),
+            Piece::Protocol(protocol) => protocol.put_names(&mut self.text),
+            Piece::Number(number) => self.put_number(*number),
+        }
+    }
+
+    /// Puts bytes as they are.
+    fn put_plain(&mut self, bytes: &[u8]) -> Result<(), NoMemory> {
+        self.text.extend_from_slice(bytes)?;
+        Ok(())
+    }
+
+    /// Puts bytes as a text in quotes.
+    fn put_quoted(&mut self, alloc: Global, bytes: &[u8]) -> Result<(), NoMemory> {
+        quote(alloc, shown(bytes), &mut self.text)?;
+        self.put_dots(bytes)
+    }
+
+    /// Puts a word as it stands in the file.
+    fn put_word(&mut self, alloc: Global, word: &Word) -> Result<(), NoMemory> {
+        let bytes = word.text.as_slice();
+        if word.quoted {
+            return self.put_quoted(alloc, bytes);
+        }
+        self.put_plain(shown(bytes))?;
+        self.put_dots(bytes)
+    }
+
+    /// Puts dots after the beginning of bytes that aren't shown whole.
+    fn put_dots(&mut self, bytes: &[u8]) -> Result<(), NoMemory> {
+        if bytes.len() > SHOWN_MAX {
+            self.put_plain(b"..")?;
+        }
+        Ok(())
+    }
+
+    /// Puts a condition as it is written.
+    fn put_condition(&mut self, alloc: Global, condition: &Condition) -> Result<(), NoMemory> {
+        self.put_plain(condition.field.name())?;
+        if let Field::Header(name) | Field::Macro(name) = &condition.field {
+            self.put_plain(b" ")?;
+            self.put_quoted(alloc, name.as_slice())?;
+        }
+        self.put_plain(b" ")?;
+        self.put_plain(condition.test.name())?;
+        self.put_plain(b" ")?;
+        self.put_quoted(alloc, condition.text.as_slice())
+    }
+
+    /// Puts names as a list: a comma between two of them, but `and` before the last.
+    fn put_list(&mut self, names: &str) -> Result<(), NoMemory> {
+        match names.rsplit_once('|') {
+            Some((before, last)) => {
+                self.put_names(before)?;
+                self.put_plain(b" and ")?;
+                self.put_plain(last.as_bytes())
+            }
+            None => self.put_plain(names.as_bytes()),
+        }
+    }
+
+    /// Puts names with a comma between two of them.
+    fn put_names(&mut self, names: &str) -> Result<(), NoMemory> {
+        let mut joint: &[u8] = b"";
+        for name in names.split('|') {
+            self.put_plain(joint)?;
+            self.put_plain(name.as_bytes())?;
+            joint = b", ";
+        }
+        Ok(())
+    }
+
+    /// Puts a number in decimal.
+    fn put_number(&mut self, number: u64) -> Result<(), NoMemory> {
+        let mut digits = Buffer::new();
+        self.put_plain(digits.format(number).as_bytes())
+    }
+}
+
+/// What is shown of these bytes: the first of them.
+fn shown(bytes: &[u8]) -> &[u8] {
+    &bytes[..bytes.len().min(SHOWN_MAX)]
+}

@@ -1,0 +1,145 @@
+//! What is said of a line that is no rule.
+
+use crate::known_words::{
+    FIRST_WORD, Kind, MACRO_STAGE, STAGE, VERSION, has_name, is_one_of, say_unknown,
+    say_unknown_name, say_unquoted,
+};
+use crate::notes::{Notes, Piece};
+use milter_protocol::{ACTIONS_MAX, PROTOCOL_MAX};
+use milter_text::Word;
+use milter_wire::{Actions, NoMemory, Protocol};
+use std::alloc::Global;
+use std::str;
+
+/// Says what is wrong with a line of these words, which is a repeated line of options, or none.
+pub(crate) fn say_bad_option(
+    alloc: Global,
+    notes: &mut Notes<'_>,
+    words: &[Word],
+    is_repeated: bool,
+) -> Result<(), NoMemory> {
+    let [first, rest @ ..] = words else {
+        return Ok(());
+    };
+    if is_repeated {
+        return say_repeated(alloc, notes, first, rest);
+    }
+    match first.keyword() {
+        Some(b"version") => say_bad_version(alloc, notes, rest),
+        Some(b"actions") => say_bad_actions(alloc, notes, first, rest),
+        Some(b"protocol") => say_bad_protocol(alloc, notes, first, rest),
+        Some(b"symbols") => say_bad_symbols(alloc, notes, rest),
+        _ if is_one_of(first, STAGE.names) => {
+            let begin = Piece::Plain(b"at is missing before the stage ");
+            notes.say(alloc, &[begin, Piece::Quoted(first.text.as_slice())])
+        }
+        _ => say_unknown(alloc, notes, &FIRST_WORD, first),
+    }
+}
+
+/// Says that the line is there already.
+fn say_repeated<'x>(
+    alloc: Global,
+    notes: &mut Notes<'_>,
+    first: &'x Word,
+    rest: &'x [Word],
+) -> Result<(), NoMemory> {
+    let end = Piece::Plain(b" is given a second time; it is given once in a file");
+    match rest {
+        [stage, _] => {
+            let blank = Piece::Plain(b" ");
+            notes.say(alloc, &[Piece::Word(first), blank, Piece::Word(stage), end])
+        }
+        _ => notes.say(alloc, &[Piece::Word(first), end]),
+    }
+}
+
+/// Says what is wrong with the words after `version`.
+fn say_bad_version(alloc: Global, notes: &mut Notes<'_>, rest: &[Word]) -> Result<(), NoMemory> {
+    let text = b"version is followed by one number from 2 to 6";
+    match rest {
+        [version] => say_unknown(alloc, notes, &VERSION, version),
+        _ => notes.say(alloc, &[Piece::Plain(text)]),
+    }
+}
+
+/// Says what is wrong with the words after `actions`.
+fn say_bad_actions(
+    alloc: Global,
+    notes: &mut Notes<'_>,
+    first: &Word,
+    rest: &[Word],
+) -> Result<(), NoMemory> {
+    let mut known = Vec::new(alloc);
+    Actions(ACTIONS_MAX).put_names(&mut known)?;
+    say_bad_names(alloc, notes, first, rest, b"action", known.as_slice())
+}
+
+/// Says what is wrong with the words after `protocol`.
+fn say_bad_protocol(
+    alloc: Global,
+    notes: &mut Notes<'_>,
+    first: &Word,
+    rest: &[Word],
+) -> Result<(), NoMemory> {
+    let mut known = Vec::new(alloc);
+    Protocol(PROTOCOL_MAX).put_names(&mut known)?;
+    say_bad_names(alloc, notes, first, rest, b"protocol bit", known.as_slice())
+}
+
+/// Says what is wrong with the words after the first one, which are to be one: of these known names, joined by `|`.
+fn say_bad_names(
+    alloc: Global,
+    notes: &mut Notes<'_>,
+    first: &Word,
+    rest: &[Word],
+    called: &[u8],
+    known: &[u8],
+) -> Result<(), NoMemory> {
+    let names = match rest {
+        [names] => names.keyword(),
+        _ => None,
+    };
+    let Some(names) = names else {
+        let end = b" is followed by one word without quotes: names joined by |, or none";
+        return notes.say(alloc, &[Piece::Word(first), Piece::Plain(end)]);
+    };
+    let (Ok(names), Ok(known)) = (str::from_utf8(names), str::from_utf8(known)) else {
+        return Ok(());
+    };
+    let kind = Kind {
+        called,
+        names: known,
+        others: &[],
+    };
+    match names.split('|').find(|name| is_no_name(known, name)) {
+        Some(name) => say_unknown_name(alloc, notes, &kind, name.as_bytes()),
+        None => notes.say(
+            alloc,
+            &[Piece::Plain(b"none isn't joined with other names")],
+        ),
+    }
+}
+
+/// Whether the name is neither among the known ones nor `none`.
+fn is_no_name(known: &str, name: &str) -> bool {
+    name != "none" && !has_name(known, name.as_bytes())
+}
+
+/// Says what is wrong with the words after `symbols`.
+fn say_bad_symbols(alloc: Global, notes: &mut Notes<'_>, rest: &[Word]) -> Result<(), NoMemory> {
+    match rest {
+        [stage, _] if !is_one_of(stage, MACRO_STAGE.names) => {
+            say_unknown(alloc, notes, &MACRO_STAGE, stage)
+        }
+        [_, names] if names.quoted => {
+            let text = b"the names of macros can't have a NUL";
+            notes.say(alloc, &[Piece::Plain(text)])
+        }
+        [stage, _] => say_unquoted(alloc, notes, b"a text", stage, &rest[1..]),
+        _ => {
+            let text = b"symbols is followed by a stage and a text in double quotes";
+            notes.say(alloc, &[Piece::Plain(text)])
+        }
+    }
+}

@@ -1,5 +1,0 @@
-use Rattle.milter_transcript.proofs.ByteCounting.{owed-due}
-use Rattle.milter_transcript.proofs.laws.counts_of_bytes.Goals as goal
-
-pub returns : goal.returns
-returns c = owed-due

@@ -1,0 +1,25 @@
+use Rattle.std.proofs.Common.{ℕ, [], ap, Ok}
+use Rattle.milter_wire_stream.proofs.FirstPackets.{fed, takes_some}
+use Rattle.milter_wire_stream.proofs.splitter.Splitter.feed.Goals as goal
+
+pub returns-clause-count : goal.returns-clause-count
+returns-clause-count c =
+    let f = c.take_known-first.ensures in
+    let s = c.take_known-second.ensures in
+    ap (λ (n : ℕ). Ok n) (fed _ c.args.piece.now _ _ _ _ f.one_packet f.count f.taken s.count s.taken).count
+
+pub returns-clause-taken : goal.returns-clause-taken
+returns-clause-taken c =
+    let f = c.take_known-first.ensures in
+    let s = c.take_known-second.ensures in
+    (fed _ c.args.piece.now _ _ _ _ f.one_packet f.count f.taken s.count s.taken).taken
+
+pub returns-clause-progress : goal.returns-clause-progress
+returns-clause-progress c = λ unfinished some.
+    let f = c.take_known-first.ensures in
+    let s = c.take_known-second.ensures in
+    let count = (fed _ c.args.piece.now _ _ _ _ f.one_packet f.count f.taken s.count s.taken).count in
+    takes_some _ c.args.piece.now _ unfinished some count
+
+pub returns-then-unread-eq0-clause-progress : goal.returns-then-unread-eq0-clause-progress
+returns-then-unread-eq0-clause-progress c = λ unfinished some. takes_some [] c.args.piece.now _ tt some c.take_first.ensures.count

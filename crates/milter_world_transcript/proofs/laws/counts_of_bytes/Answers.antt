@@ -1,0 +1,5 @@
+use Rattle.milter_world_transcript.proofs.ByteCounting.{owed-due}
+use Rattle.milter_world_transcript.proofs.laws.counts_of_bytes.Goals as goal
+
+pub returns : goal.returns
+returns c = owed-due
