@@ -1,6 +1,6 @@
 //! A message under way to a filter.
 
-ghost use Rattle.std.specs.Prelude.{◌≡◌, ◌≤◌, ◌+◌, [], IfOk, Ok, OnErr, OnOk, Some, drop, false, length, option_map, true};
+ghost use Rattle.std.specs.Prelude.{◌≡◌, ◌≤◌, ◌+◌, IfOk, Ok, OnErr, OnOk, Some, drop, false, length, option_map, true};
 ghost use Rattle.milter_message.specs.declared.message.TheConstants.{WEIGHT_MAX};
 ghost use Rattle.milter_wire.specs.declared.stage.Stage.{Stage as StageValue};
 ghost use Rattle.milter_wire.specs.BorrowedCommand.{command_of};
@@ -18,7 +18,6 @@ use milter_mail::{Macros, Message};
 use milter_mta_outcome::ActedVerdicts;
 use milter_protocol::is_final_at;
 use milter_wire::{CommandRef, Negotiated, NoMemory, Stage, Verdict};
-use std::alloc::Global;
 
 /// A message under way to a filter, by what was negotiated with it.
 #[derive(Debug, Drop)]
@@ -63,20 +62,6 @@ impl Transaction {
             acted,
             edits,
             cursor: Cursor { stage, step: 0 },
-        }
-    }
-
-    /// The same without the edits that came. Doesn't allocate.
-    pub fn without_edits(self, alloc: Global) -> Self
-        ensures { result ≡ record self { edits = [] } }
-    {
-        Transaction {
-            negotiated: self.negotiated,
-            macros: self.macros,
-            message: self.message,
-            acted: self.acted,
-            edits: ReceivedEdits::new(alloc),
-            cursor: self.cursor,
         }
     }
 
