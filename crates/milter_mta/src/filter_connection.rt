@@ -105,7 +105,7 @@ impl Next {
     fn finish(&mut self, client_info: &ClientInfo) -> bool
         requires { CanSend client_info.now self.old }
         ensures asks { result ≡ asks_at (position_of client_info.now self.old) }
-        ensures same { result ≡ true → self.new ≡ self.old }
+        ensures same { result ≡ true → position_of client_info.now self.new ≡ position_of client_info.now self.old }
         ensures after { result ≡ false →
             position_of client_info.now self.new ≡ after_packet (position_of client_info.now self.old) }
         ensures can_send { CanSend client_info.now self.new }
@@ -127,7 +127,7 @@ impl Next {
 fn finish_command(transaction: &mut Transaction, client_info: &ClientInfo) -> bool
     requires { IsUnderWay client_info.now transaction.old }
     ensures asks { result ≡ asks_first transaction.old.negotiated (left_of client_info.now transaction.old) }
-    ensures same { result ≡ true → transaction.new ≡ transaction.old }
+    ensures same { result ≡ true → left_of client_info.now transaction.new ≡ left_of client_info.now transaction.old }
     ensures after { result ≡ false → left_of client_info.now transaction.new
         ≡ drop 1 (left_of client_info.now transaction.old) }
     ensures kept { transaction.new ≡ record transaction.old { cursor = transaction.new.cursor } }

@@ -8,7 +8,7 @@ ghost use Rattle.milter_message.specs.declared.message.TheConstants.{WEIGHT_MAX}
 ghost use Rattle.milter_message.specs.EditReplies.{weight_of};
 ghost use Rattle.milter_mta_outcome.specs.ReceivedReplies.{options_received};
 ghost use Rattle.milter_mta_transaction.specs.EditWeights.{weight_of_all};
-ghost use Rattle.milter_mta_transaction.specs.Transactions.{left_of, stage_first};
+ghost use Rattle.milter_mta_transaction.specs.Transactions.{IsThere, left_of, stage_first};
 ghost use Rattle.milter_mta_transaction.specs.TransactionVerdicts.{with_verdict};
 ghost use Rattle.milter_mta.specs.declared.filter_connection.Next.TheVariants as nexts;
 ghost use Rattle.milter_mta.specs.CoreParts.{IsConsistent, IsUnderWay, Leaves, IsConsistentAfter, awaiting, mta_after, mta_of, owing, position_of};
@@ -60,7 +60,7 @@ fn take_reply(
     ensures under_way { IsUnderWay client_info.now transaction.new }
 {
     received_replies();
-    let Some(stage) = transaction.stage(client_info) else {
+    let Some(stage) = transaction.find(client_info) else {
         return Taken::Fails(Loss::Fault(MtaFault::NotAtThisStage));
     };
     match on_reply(
@@ -106,6 +106,7 @@ fn take_verdict(
 ) -> Taken
     requires under_way { IsUnderWay client_info.now transaction.old }
     requires stage { stage_first (left_of client_info.now transaction.old) ≡ Some stage }
+    requires there { IsThere client_info.now transaction.old }
     requires given { given_at verdict stage ≡ true }
     ensures takes { (m : Mta) → Takes client_info.now transaction.new result
         (goes_on (ruled_on transaction.old.negotiated stage (with_verdict stage verdict transaction.old.acted)

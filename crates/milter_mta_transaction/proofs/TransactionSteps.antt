@@ -1,18 +1,37 @@
 -- What is left of a transaction after its next command.
-use Rattle.std.proofs.Common.{◌≡◌, ◌≤◌, ◌+◌, suc, Bool, true, false, List, [], ◌∷◌, All, Some, drop, length, slice_get, refl, sym, arith, subst, if◌then◌else◌}
+use Rattle.std.proofs.Common.{◌≡◌, ◌≢◌, ◌≤◌, ◌+◌, suc, Bool, true, false, List, [], ◌∷◌, All, Option, None, Some, drop, length, slice_get, refl, sym, arith, subst, if◌then◌else◌}
 use Rattle.std.specs.List.{filter}
+use Rattle.std.specs.Prelude.{IsSome}
 use Rattle.std.proofs.lemmas.List.Elements.{All-drop, All-filter}
 use Rattle.milter_wire.specs.declared.command.Command.{Command}
+use Rattle.milter_wire.specs.declared.stage.Stage.{Stage}
 use Rattle.milter_wire.specs.Command.{Fits}
 use Rattle.milter_message.specs.declared.message.TheConstants.{WEIGHT_MAX}
 use Rattle.milter_mta_transaction.specs.declared.cursor.ClientInfo.{ClientInfo}
 use Rattle.milter_mta_transaction.specs.declared.transaction.Transaction.{Transaction}
 use Rattle.milter_mta_transaction.specs.PlanCursor.{without_body}
-use Rattle.milter_mta_transaction.specs.Transactions.{Sends, left_of}
+use Rattle.milter_mta_transaction.specs.Transactions.{Sends, first_of, left_of, stage_first}
 
 pub one_less : (left : List Command) (command : Command) → slice_get left 0 ≡ Some command → suc (length (drop 1 left)) ≡ length left
 one_less [] command e = absurd cc
 one_less (x ∷ left) command e = refl
+
+pub less_by_one : (left : List Command) → left ≢ [] → suc (length (drop 1 left)) ≡ length left
+less_by_one [] some = absurd (some refl)
+less_by_one (x ∷ left) some = refl
+
+pub found_some : (left : List Command) (found : Option Command) → left ≢ [] → found ≡ first_of left → IsSome found
+found_some [] found some e = absurd (some refl)
+found_some (x ∷ left) (Some command) some e = cc
+found_some (x ∷ left) None some e = absurd cc
+
+pub first_is : (left : List Command) → first_of left ≡ slice_get left 0
+first_is [] = refl
+first_is (x ∷ left) = refl
+
+pub stage_some : (left : List Command) (stage : Stage) → stage_first left ≡ Some stage → left ≢ []
+stage_some [] stage e none = absurd cc
+stage_some (x ∷ left) stage e none = absurd cc
 
 pub no_more : (left : List Command) → length (drop 1 left) ≤ length left
 no_more [] = omega arith

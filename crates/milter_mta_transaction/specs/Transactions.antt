@@ -1,5 +1,5 @@
 -- What is left to send of a message under way.
-use Rattle.std.specs.Prelude.{◌≤◌, ◌+◌, Bool, false, List, [], ◌∷◌, All, length, Option, None, Some}
+use Rattle.std.specs.Prelude.{◌≡◌, ◌≤◌, ◌+◌, Bool, false, List, [], ◌∷◌, All, length, slice_get, Option, None, Some}
 use Rattle.milter_wire.specs.declared.negotiation.Negotiated.{Negotiated}
 use Rattle.milter_wire.specs.declared.command.Command.{Command}
 use Rattle.milter_wire.specs.declared.stage.Stage.{Stage}
@@ -9,7 +9,7 @@ use Rattle.milter_wire.specs.Stages.{stage_of}
 use Rattle.milter_message.specs.declared.message.TheConstants.{WEIGHT_MAX}
 use Rattle.milter_mta_transaction.specs.declared.cursor.ClientInfo.{ClientInfo}
 use Rattle.milter_mta_transaction.specs.declared.transaction.Transaction.{Transaction}
-use Rattle.milter_mta_transaction.specs.PlanCursor.{Outgoing, steps_from}
+use Rattle.milter_mta_transaction.specs.PlanCursor.{Outgoing, steps_at, steps_from}
 
 abbrev pub outgoing_transaction : ClientInfo → Transaction → Outgoing
 outgoing_transaction client_info transaction =
@@ -45,3 +45,9 @@ asks_first negotiated (command ∷ left) = is_asked negotiated command
 abbrev pub stage_first : List Command → Option Stage
 stage_first [] = None
 stage_first (command ∷ left) = stage_of command
+
+-- the cursor stands on it
+abbrev pub IsThere : ClientInfo → Transaction → Type 0
+IsThere client_info transaction =
+    slice_get (steps_at (outgoing_transaction client_info transaction) transaction.cursor.stage) transaction.cursor.step
+    ≡ first_of (left_of client_info transaction)

@@ -1,6 +1,6 @@
 //! The plan of a message as a cursor: which command of which stage is the next one.
 
-ghost use Rattle.std.specs.Prelude.{◌≡◌, ◌<◌, ◌≤◌, ◌+◌, ◌-◌, ◌^◌, IsSome, drop, map, option_map, slice_get};
+ghost use Rattle.std.specs.Prelude.{◌≡◌, ◌<◌, ◌≤◌, ◌+◌, ◌-◌, ◌^◌, IfSome, IsSome, Some, drop, map, option_map, slice_get};
 ghost use Rattle.std.specs.List.{list_any};
 ghost use Rattle.std.specs.Option.{option_to_list};
 ghost use Rattle.milter_wire.specs.declared.command.Command.TheVariants as commands;
@@ -135,22 +135,31 @@ fn stage_after(stage: Stage) -> Option<Stage>
     }
 }
 
-/// The first command from here on, by its stage and its number there: the same commands are left from it on.
-pub(crate) fn first_from(of: &OutgoingRef<'_>, cursor: Cursor) -> Cursor
-    ensures left { steps_from (outgoing of.now) result.stage result.step
-        ≡ steps_from (outgoing of.now) cursor.stage cursor.step }
-    ensures found { slice_get (steps_at (outgoing of.now) result.stage) result.step
+/// A command of a plan, and where it stands.
+#[derive(Drop)]
+pub(crate) struct Step<'a> {
+    pub(crate) at: Cursor,
+    pub(crate) command: CommandRef<'a>,
+}
+
+/// The first command from here on, if one is left. The same commands are left from it on.
+pub(crate) fn first_from<'a>(of: &OutgoingRef<'a>, cursor: Cursor) -> Option<Step<'a>>
+    ensures command { option_map (λ step. command_of step.command) result
         ≡ slice_get (steps_from (outgoing of.now) cursor.stage cursor.step) 0 }
-    ensures within { result.step ≤ cursor.step }
+    ensures there { IfSome result (λ step. slice_get (steps_at (outgoing of.now) step.at.stage) step.at.step
+        ≡ Some (command_of step.command)) }
+    ensures left { IfSome result (λ step. steps_from (outgoing of.now) step.at.stage step.at.step
+        ≡ steps_from (outgoing of.now) cursor.stage cursor.step) }
+    ensures within { IfSome result (λ step. step.at.step ≤ cursor.step) }
 {
-    let mut first = cursor;
-    while step_at(of, first.stage, first.step).is_none() {
-        let Some(stage) = stage_after(first.stage) else {
-            break;
-        };
-        first = Cursor { stage, step: 0 };
+    let mut at = cursor;
+    loop {
+        if let Some(command) = step_at(of, at.stage, at.step) {
+            return Some(Step { at, command });
+        }
+        let stage = stage_after(at.stage)?;
+        at = Cursor { stage, step: 0 };
     }
-    first
 }
 
 /// The command after this one.

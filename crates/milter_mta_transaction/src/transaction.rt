@@ -1,18 +1,18 @@
 //! A message under way to a filter.
 
-ghost use Rattle.std.specs.Prelude.{◌≡◌, ◌≤◌, ◌+◌, IfOk, Ok, OnErr, OnOk, Some, drop, false, length, option_map, true};
+ghost use Rattle.std.specs.Prelude.{◌≡◌, ◌≢◌, ◌≤◌, ◌+◌, [], IfOk, IfSome, Ok, OnErr, OnOk, Some, drop, false, length, option_map, true};
 ghost use Rattle.milter_message.specs.declared.message.TheConstants.{WEIGHT_MAX};
 ghost use Rattle.milter_wire.specs.declared.stage.Stage.{Stage as StageValue};
 ghost use Rattle.milter_wire.specs.BorrowedCommand.{command_of};
 ghost use Rattle.milter_wire.specs.Verdicts.{given_at};
 ghost use Rattle.milter_mta_transaction.specs.OutgoingValue.{outgoing};
 ghost use Rattle.milter_mta_transaction.specs.PlanCursor.{steps_from};
-ghost use Rattle.milter_mta_transaction.specs.Transactions.{Sends, asks_first, first_of, left_of, outgoing_transaction, stage_first};
+ghost use Rattle.milter_mta_transaction.specs.Transactions.{IsThere, Sends, asks_first, first_of, left_of, outgoing_transaction, stage_first};
 ghost use Rattle.milter_mta_transaction.specs.TransactionVerdicts.{are_all_refused, ends_dialogue, left_after, with_verdict};
 
 use crate::acted_verdicts::{act, are_refused};
 use crate::cursor::{ClientInfo, Cursor};
-use crate::plan_cursor::{OutgoingRef, after_body, first_from, has_recipient, next, step_at};
+use crate::plan_cursor::{OutgoingRef, after_body, first_from, has_recipient, next};
 use crate::received_edits::ReceivedEdits;
 use milter_mail::{Macros, Message};
 use milter_mta_outcome::ActedVerdicts;
@@ -82,42 +82,65 @@ impl Transaction {
     pub fn command<'a>(&'a self, client_info: &'a ClientInfo) -> Option<CommandRef<'a>>
         ensures { option_map command_of result ≡ first_of (left_of client_info.now self.now) }
     {
-        let of = self.outgoing(client_info);
-        let first = first_from(&of, self.cursor);
-        step_at(&of, first.stage, first.step)
+        let first = first_from(&self.outgoing(client_info), self.cursor)?;
+        Some(first.command)
     }
 
-    /// The stage that the next command is; none for macros. Doesn't allocate.
-    pub fn stage(&self, client_info: &ClientInfo) -> Option<Stage>
-        ensures { result ≡ stage_first (left_of client_info.now self.now) }
+    /// Passes over what isn't sent, up to the next command, and answers its stage; none for macros, and where no
+    /// command is left. Doesn't allocate.
+    pub fn find(&mut self, client_info: &ClientInfo) -> Option<Stage>
+        requires { Sends client_info.now self.old }
+        ensures stage { result ≡ stage_first (left_of client_info.now self.old) }
+        ensures there { IfSome result (λ stage. IsThere client_info.now self.new) }
+        ensures left { left_of client_info.now self.new ≡ left_of client_info.now self.old }
+        ensures same { self.new ≡ record self.old { cursor = self.new.cursor } }
+        ensures sends { Sends client_info.now self.new }
     {
-        self.command(client_info)?.stage()
+        let first = first_from(&self.outgoing(client_info), self.cursor)?;
+        let stage = first.command.stage();
+        self.cursor = first.at;
+        stage
     }
 
-    /// Whether the filter answers the next command. Doesn't allocate.
-    pub fn is_asked(&self, client_info: &ClientInfo) -> bool
-        ensures { result ≡ asks_first self.now.negotiated (left_of client_info.now self.now) }
+    /// Whether the filter answers the next command, which is found. Doesn't allocate.
+    pub fn is_asked(&mut self, client_info: &ClientInfo) -> bool
+        requires { Sends client_info.now self.old }
+        ensures asks { result ≡ asks_first self.old.negotiated (left_of client_info.now self.old) }
+        ensures left { left_of client_info.now self.new ≡ left_of client_info.now self.old }
+        ensures same { self.new ≡ record self.old { cursor = self.new.cursor } }
+        ensures sends { Sends client_info.now self.new }
     {
-        match self.stage(client_info) {
+        match self.find(client_info) {
             Some(stage) => self.negotiated.is_answered(stage),
             None => false,
         }
     }
 
-    /// The cursor after the next command.
+    /// The cursor after the next command, on which it stands.
     fn cursor_after(&self, client_info: &ClientInfo) -> Cursor
-        requires { Sends client_info.now self.now }
+        requires sends { Sends client_info.now self.now }
+        requires some { left_of client_info.now self.now ≢ [] }
+        requires there { IsThere client_info.now self.now }
         ensures left { steps_from (outgoing_transaction client_info.now self.now) result.stage result.step
             ≡ drop 1 (left_of client_info.now self.now) }
         ensures stage { (stage : StageValue) → stage_first (left_of client_info.now self.now) ≡ Some stage →
             result.stage ≡ stage }
         ensures room { result.step + length (drop 1 (left_of client_info.now self.now)) ≤ WEIGHT_MAX }
     {
+        next(&self.outgoing(client_info), self.cursor)
+    }
+
+    /// The cursor after the next command; the same where none is left.
+    fn cursor_past(&self, client_info: &ClientInfo) -> Cursor
+        requires { Sends client_info.now self.now }
+        ensures left { steps_from (outgoing_transaction client_info.now self.now) result.stage result.step
+            ≡ drop 1 (left_of client_info.now self.now) }
+        ensures room { result.step + length (drop 1 (left_of client_info.now self.now)) ≤ WEIGHT_MAX }
+    {
         let of = self.outgoing(client_info);
-        let first = first_from(&of, self.cursor);
-        match step_at(&of, first.stage, first.step) {
-            Some(_) => next(&of, first),
-            None => first,
+        match first_from(&of, self.cursor) {
+            Some(first) => next(&of, first.at),
+            None => self.cursor,
         }
     }
 
@@ -128,7 +151,7 @@ impl Transaction {
         ensures same { self.new ≡ record self.old { cursor = self.new.cursor } }
         ensures sends { Sends client_info.now self.new }
     {
-        self.cursor = self.cursor_after(client_info);
+        self.cursor = self.cursor_past(client_info);
     }
 
     /// Whether each recipient was refused, after a verdict at this stage.
@@ -141,9 +164,9 @@ impl Transaction {
             && are_refused(self.acted.as_slice())
     }
 
-    /// Acts on a verdict on the next command, which is of this stage, and answers whether nothing more of the message
-    /// is sent. Where it goes on, it goes on to the command after that, or after the whole body where it is skipped.
-    /// After `NoMemory` it is as it was.
+    /// Acts on a verdict on the next command, which is of this stage and was found, and answers whether nothing more of
+    /// the message is sent. Where it goes on, it goes on to the command after that, or after the whole body where it is
+    /// skipped. After `NoMemory` it is as it was.
     pub fn act(
         &mut self,
         client_info: &ClientInfo,
@@ -152,6 +175,7 @@ impl Transaction {
     ) -> Result<bool, NoMemory>
         requires sends { Sends client_info.now self.old }
         requires stage { stage_first (left_of client_info.now self.old) ≡ Some stage }
+        requires there { IsThere client_info.now self.old }
         requires given { given_at verdict stage ≡ true }
         ensures ends { IfOk result (λ ends. ends ≡ ends_dialogue stage verdict self.new.acted
             (drop 1 (left_of client_info.now self.old))) }

@@ -2,7 +2,7 @@ use Rattle.std.proofs.Common.{arith, sym, ap, ◌∙◌, ◌≡◌, drop}
 use Rattle.milter_mta_transaction.specs.PlanCursor.{Outgoing, steps_from, without_body}
 use Rattle.milter_mta_transaction.specs.Transactions.{left_of, outgoing_transaction}
 use Rattle.milter_mta_transaction.specs.OutgoingValue.{outgoing}
-use Rattle.milter_mta_transaction.proofs.TransactionSteps.{body_fits, body_length, fits_after, sends_by}
+use Rattle.milter_mta_transaction.proofs.TransactionSteps.{body_fits, body_length, fits_after, sends_by, stage_some}
 use Rattle.milter_mta_transaction.proofs.transaction.Transaction.act.Goals as goal
 
 pub returns-then-is_final-clause-sends : goal.returns-then-is_final-clause-sends
@@ -29,3 +29,6 @@ returns-then-skips-clause-sends c =
 pub returns-else-skips-clause-sends : goal.returns-else-skips-clause-sends
 returns-else-skips-clause-sends c =
     sends_by _ _ _ c.cursor_after-self.ensures.left (fits_after _ c.requires.sends.fits) c.cursor_after-self.ensures.room
+
+pub cursor_after-self-requires-clause-some : goal.cursor_after-self-requires-clause-some
+cursor_after-self-requires-clause-some c = stage_some (left_of c.args.client_info.now c.args.self.now) c.args.stage c.requires.stage
