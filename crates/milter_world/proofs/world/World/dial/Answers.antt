@@ -8,7 +8,7 @@ use Rattle.milter_world.proofs.world.World.dial.Goals as goal
 pub returns-in_ok-filter-in-Idle : goal.returns-in_ok-filter-in-Idle
 returns-in_ok-filter-in-Idle g c = λ p b is.
     let v = c.self.view_is in
-    let u = c.self-in-Idle-3.view_is ∙ c.clear_pipes.ensures in
+    let u = c.self-in-Idle-4.view_is ∙ c.clear_pipes.ensures in
     steps-as p c.args.self.now events.Dial _ _ _ _ _ _ _
     (ap (λ s. s.policy) u ∙ ap (λ s. s.policy) v)
     (ap (λ s. s.mta) u ∙ c.dialled.ensures ∙ ap (λ s. dialled s.mta) v)

@@ -9,7 +9,7 @@ use Rattle.milter_world.proofs.world.World.lose.Goals.{in-Dial, in_default-want}
 pub returns-after-want : goal.returns-after-want
 returns-after-want g c = λ p event b is kind.
     let v = c.self.view_is in
-    let u = c.self-in_default-3.view_is ∙ c.clear_pipes.ensures in
+    let u = c.self-in_default-4.view_is ∙ c.clear_pipes.ensures in
     let going : c.args.self.now.state ≢ Done = λ done. c.in_default.not-Done (ap (λ s. s.state) v ∙ done) in
     let mta_is = ap (λ s. s.mta) u ∙ c.lost.ensures ∙ ap (λ s. lost c.args.loss s.mta) v in
     let want_is = sym (c.want.ensures ∙ ap want mta_is) in
