@@ -317,7 +317,7 @@ of a session file, after a line quarantine TEXT where it is quarantined. With
   fault 3                        an answer with actions that weren't offered
   fault 4                        an answer with protocol bits that weren't offered
   fault 5                        a reply that can't be at its stage
-  fault 6                        an edit that wasn't negotiated on
+  fault 6                        an edit that wasn't agreed on
   fault 7                        the edits of a message have more than 16,777,216
                                  bytes
   fault 8                        a reply where none was due
