@@ -41,7 +41,7 @@ class Server(postfix.Postfix):
 
     def client(self, address='192.0.2.1', helo='mail.example.org', login=None, kind='inet'):
         """A client at this address that has greeted so, and that has logged in where a login is given."""
-        # Whether it is of Postfix's own host is told by where it connects from, whatever XCLIENT says.
+        # Postfix takes it for a client of its own host by where it connects from, whatever XCLIENT says.
         client = self.connected(kind, 'test.example.org', '127.0.0.1' if address == '127.0.0.1' else '127.0.0.2')
         client.ehlo()
         words = ['XCLIENT', 'ADDR=' + address, 'NAME=mail.example.org'] + (['LOGIN=' + login] if login else [])
@@ -68,21 +68,21 @@ def running(program, main=ANYONE, tables=()):
             yield server
 
 
-def told(code, text):
+def smtp_reply(code, text):
     """A reply of SMTP, or 'taken' where nothing is refused."""
     return '%d %s' % (code, text.decode()) if code >= 400 else 'taken'
 
 
 def said(client, sender, recipients, message=None):
     """The replies to a sender, to each recipient, and to a message, up to the one after which nothing is left."""
-    replies = [told(*client.docmd('MAIL FROM:' + sender))]
+    replies = [smtp_reply(*client.docmd('MAIL FROM:' + sender))]
     if replies == ['taken']:
-        replies += [told(*client.docmd('RCPT TO:' + recipient)) for recipient in recipients]
+        replies += [smtp_reply(*client.docmd('RCPT TO:' + recipient)) for recipient in recipients]
         if message is not None and 'taken' in replies[1:]:
             try:
-                replies.append(told(*client.data(message.encode())))
+                replies.append(smtp_reply(*client.data(message.encode())))
             except smtplib.SMTPDataError as error:
-                replies.append(told(error.smtp_code, error.smtp_error))
+                replies.append(smtp_reply(error.smtp_code, error.smtp_error))
     client.rset()
     return replies
 

@@ -215,7 +215,7 @@ def play_submitted(checks, server):
                         (['at eob do code "550 5.7.1 Not eob"'], 'Not eob')]:
         with server.asking(rules):
             server.submit('ceo@example.net', 'brook@example.net', message)
-            # Who submitted it is told.
+            # Who submitted it gets a notice.
             found = [(mail_server.envelope(each)[1], 'Diagnostic-Code: X-Postfix; ' + text in each)
                      for each in server.arrived()]
             checks.check('submitted, and refused: ' + text, found, [(['<ceo@example.net>'], True)])

@@ -27,7 +27,7 @@ REPLIES = {FIRST: '250', **mail_server.MESSAGES_REFUSED}
 
 
 class Client:
-    """A client of SMTP that says what it is told, and knows what its replies are by the rules. The recipient that a
+    """A client of SMTP that sends what it is given, and knows what its replies are by the rules. The recipient that a
     rule at data looks at is the last one that was asked for."""
 
     def __init__(self, server, kind):
