@@ -83,7 +83,7 @@ replies-add b order input more =
 settled : (b : Behavior) (s : OrderState) (f : Option WireFault) → (s.state ≡ Serving → f ≡ None) → (order_state_after b s (fault_after f) ≡ s) × (bytes_of b s (fault_after f) ≡ [])
 settled b s None quiet = (refl, refl)
 settled b s (Some f) quiet =
-    let ended : s.state ≢ Serving = λ stream_server. some_fault f (quiet stream_server) in
+    let ended : s.state ≢ Serving = λ serving. some_fault f (quiet serving) in
     let stays = ended-stays b s (fault_after (Some f)) ended in (stays.0, ap (flat_map encoding) stays.1)
   where
     some_fault : (g : WireFault) → Some g ≡ None → ⊥
@@ -105,7 +105,7 @@ same_fault fault other e = cc
 
 module _ {P : Type 0} (b : Behavior) where
   pub stays : (core : Core P) → IsUnfinished core.unread → core.order_state.state ≡ Serving → GoesOn b core [] [] core
-  stays core unfinished stream_server =
+  stays core unfinished serving =
       let d = ap divide (append-nil core.unread) ∙ divide-unfinished core.unread unfinished in
       let none : received_in (core.unread ++ []) ≡ [] =
       ap (λ (x : Division). map frame_command x.frames ++ fault_after (length_fault x.rest)) d ∙ ap fault_after (length_fault-unfinished core.unread unfinished) in
@@ -115,8 +115,8 @@ module _ {P : Type 0} (b : Behavior) where
         replied = sym (append-nil core.pending) ∙ ap (λ rs. core.pending ++ bytes_of b core.order_state rs) (sym none);
         unread = λ still. ap (λ (x : Division). x.rest) (sym d);
         unfinished = λ still. unfinished;
-        nothing_unread = λ quit. absurd (quit_serving (sym quit ∙ stream_server));
-        at_fault = λ fault failed. absurd (failed_serving fault (sym failed ∙ stream_server));
+        nothing_unread = λ quit. absurd (quit_serving (sym quit ∙ serving));
+        at_fault = λ fault failed. absurd (failed_serving fault (sym failed ∙ serving));
       }
 
   pub fresh-begins : (order : CommandOrder) (policy : P) → GoesOn b (fresh_core_in order policy) [] [] (fresh_core_in order policy)
@@ -131,8 +131,8 @@ module _ {P : Type 0} (b : Behavior) where
         policy = refl;
         order_state = sym still.0;
         replied = sym (append-nil core.pending) ∙ ap (λ xs. core.pending ++ flat_map encoding xs) (sym still.1);
-        unread = λ stream_server. absurd (ended stream_server);
-        unfinished = λ stream_server. absurd (ended stream_server);
+        unread = λ serving. absurd (ended serving);
+        unfinished = λ serving. absurd (ended serving);
         nothing_unread = nothing;
         at_fault = at_fault;
       }
@@ -142,9 +142,9 @@ module _ {P : Type 0} (b : Behavior) where
   goes_on-stays old core input sent p = by_state core.order_state.state refl
     where
       by_state : (state : FilterState) → core.order_state.state ≡ state → GoesOn b core [] [] core
-      by_state Serving stream_server = stays core (p.unfinished stream_server) stream_server
-      by_state Quit quit = ended-step core [] (λ stream_server. quit_serving (sym quit ∙ stream_server)) p.nothing_unread p.at_fault
-      by_state (Failed fault) failed = ended-step core [] (λ stream_server. failed_serving fault (sym failed ∙ stream_server)) p.nothing_unread p.at_fault
+      by_state Serving serving = stays core (p.unfinished serving) serving
+      by_state Quit quit = ended-step core [] (λ serving. quit_serving (sym quit ∙ serving)) p.nothing_unread p.at_fault
+      by_state (Failed fault) failed = ended-step core [] (λ serving. failed_serving fault (sym failed ∙ serving)) p.nothing_unread p.at_fault
 
   -- ---- from the beginning
 
@@ -158,7 +158,7 @@ module _ {P : Type 0} (b : Behavior) where
   takes-step old new piece n none t =
       let bytes = old.unread ++ take n piece in
       let f = length_fault (divide bytes).rest in
-      let quiet : new.order_state.state ≡ Serving → f ≡ None = λ stream_server. ap length_fault (sym (t.unread stream_server)) ∙ length_fault-unfinished new.unread t.unfinished in
+      let quiet : new.order_state.state ≡ Serving → f ≡ None = λ serving. ap length_fault (sym (t.unread serving)) ∙ length_fault-unfinished new.unread t.unfinished in
       let end = settled b new.order_state f quiet in
       record {
         policy = t.policy;
@@ -174,7 +174,7 @@ module _ {P : Type 0} (b : Behavior) where
             ∙ ap (λ ps. ps ++ bytes_of b old.order_state (received_in bytes)) (sym none);
         unread = t.unread;
         unfinished = λ still. t.unfinished;
-        nothing_unread = λ quit. t.nothing_unread (λ stream_server. quit_serving (sym quit ∙ stream_server));
+        nothing_unread = λ quit. t.nothing_unread (λ serving. quit_serving (sym quit ∙ serving));
         at_fault = λ fault failed. absurd (t.going fault failed);
       }
 
@@ -184,8 +184,8 @@ module _ {P : Type 0} (b : Behavior) where
     policy = refl;
     order_state = sym g.failed;
     replied = ap (flat_map encoding) (sym g.silent) ∙ ap (λ ps. ps ++ bytes_of b core.order_state (received_in (core.unread ++ piece))) (sym none);
-    unread = λ stream_server. absurd (failed_serving fault stream_server);
-    unfinished = λ stream_server. absurd (failed_serving fault stream_server);
+    unread = λ serving. absurd (failed_serving fault serving);
+    unfinished = λ serving. absurd (failed_serving fault serving);
     nothing_unread = λ quit. absurd (failed_quit fault quit);
     at_fault = λ other is. ap unread_after (same_fault fault other is);
   }
@@ -217,7 +217,7 @@ module _ {P : Type 0} (b : Behavior) where
               ∙ ap (λ xs. xs ++ bytes_of b (order_state_after b old.order_state (received_in bytes)) rs) p.replied
               ∙ append_assoc old.pending _ _
               ∙ ap (λ xs. old.pending ++ xs) (sym (bytes-append b old.order_state (received_in bytes) rs) ∙ ap (bytes_of b old.order_state) (sym all));
-          unread = λ stream_server. rest stream_server ∙ ap (λ xs. (divide xs).rest) (append_assoc old.unread input more);
+          unread = λ serving. rest serving ∙ ap (λ xs. (divide xs).rest) (append_assoc old.unread input more);
           unfinished = q.unfinished;
           nothing_unread = q.nothing_unread;
           at_fault = q.at_fault;
@@ -229,17 +229,17 @@ module _ {P : Type 0} (b : Behavior) where
         let still = ended-stays b mid.order_state then ended in
         let same = ended-stays b mid.order_state begin.0 ended in
         with-more begin.0 begin.1 (still.0 ∙ sym same.0) (ap (flat_map encoding) (still.1 ∙ sym same.1))
-        (λ stream_server. absurd (ended (ap (λ (s : OrderState). s.state) (sym (q.order_state ∙ still.0)) ∙ stream_server)))
+        (λ serving. absurd (ended (ap (λ (s : OrderState). s.state) (sym (q.order_state ∙ still.0)) ∙ serving)))
 
     pub goes_on-joins : GoesOn b old (input ++ more) (sent ++ sent_then) new
     goes_on-joins = by_state mid.order_state.state refl
       where
         by_state : (state : FilterState) → mid.order_state.state ≡ state → GoesOn b old (input ++ more) (sent ++ sent_then) new
-        by_state Serving stream_server =
-            with-more then (joined bytes more mid.unread (p.unread stream_server) (length_fault-unfinished mid.unread (p.unfinished stream_server))) refl refl
-            (λ still. q.unread still ∙ ap (λ us. (divide (us ++ more)).rest) (p.unread stream_server) ∙ ap (λ (x : Division). x.rest) (sym (divide-append bytes more)))
-        by_state Quit quit = after-end (λ stream_server. quit_serving (sym quit ∙ stream_server))
-        by_state (Failed fault) failed = after-end (λ stream_server. failed_serving fault (sym failed ∙ stream_server))
+        by_state Serving serving =
+            with-more then (joined bytes more mid.unread (p.unread serving) (length_fault-unfinished mid.unread (p.unfinished serving))) refl refl
+            (λ still. q.unread still ∙ ap (λ us. (divide (us ++ more)).rest) (p.unread serving) ∙ ap (λ (x : Division). x.rest) (sym (divide-append bytes more)))
+        by_state Quit quit = after-end (λ serving. quit_serving (sym quit ∙ serving))
+        by_state (Failed fault) failed = after-end (λ serving. failed_serving fault (sym failed ∙ serving))
 
   module _ (old core : Core P) (input sent : List ℕ) (p : GoesOn b old input sent core) where
     silently : (new : Core P) (more : List ℕ) → GoesOn b core more [] new → GoesOn b old (input ++ more) sent new

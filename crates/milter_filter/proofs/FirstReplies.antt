@@ -105,7 +105,7 @@ pub stops-silent : (b : Behavior) (s new : OrderState) (bytes out : List ℕ) �
 stops-silent b s new bytes out (inl none) ended = none
 stops-silent b s new bytes out (inr ends) ended = absurd (ended ends.1)
 
-module _ (b : Behavior) (s new after : OrderState) (bytes more unread out written : List ℕ) (p : Progress b s bytes new unread out) (none : out ≡ []) (stream_server : new.state ≡ Serving)
+module _ (b : Behavior) (s new after : OrderState) (bytes more unread out written : List ℕ) (p : Progress b s bytes new unread out) (none : out ≡ []) (serving : new.state ≡ Serving)
     (order_state : after ≡ order_state_after b new (read_in (unread ++ more))) (replied : written ≡ out ++ flat_map encoding (order_state_replies b new (read_in (unread ++ more)))) where
   written-by : (received : List Received) → read_in (unread ++ more) ≡ received → written ≡ flat_map encoding (order_state_replies b new received)
   written-by received is =
@@ -125,8 +125,8 @@ module _ (b : Behavior) (s new after : OrderState) (bytes more unread out writte
 
       by_state : (state : FilterState) → after.state ≡ state → after.state ≡ Serving
       by_state Serving at = at
-      by_state Quit at = absurd (loud (λ stream_server. absurd cc))
-      by_state (Failed fault) at = absurd (loud (λ stream_server. absurd cc))
+      by_state Quit at = absurd (loud (λ serving. absurd cc))
+      by_state (Failed fault) at = absurd (loud (λ serving. absurd cc))
 
   pub stop-step : IsOnePacketAtMost (unread ++ more) → Stops b s (bytes ++ more) after written
   stop-step (inl nothing) = inl (written-by [] nothing)

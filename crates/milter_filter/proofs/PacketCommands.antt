@@ -57,7 +57,7 @@ abort-ends b s negotiated = refl
 
 pub ready-is : (b : Behavior) (s : OrderState) (received : Received) → s.state ≡ Serving
     → (if needs_abort s.order s.negotiated s.last_rank received then after_message s else s) ≡ order_state_before b s received
-ready-is b s received stream_server = by_need (needs_abort s.order s.negotiated s.last_rank received) refl
+ready-is b s received serving = by_need (needs_abort s.order s.negotiated s.last_rank received) refl
   where
     none : (order : CommandOrder) → needs_abort order None s.last_rank received ≡ false
     none Strict = refl
@@ -67,7 +67,7 @@ ready-is b s received stream_server = by_need (needs_abort s.order s.negotiated 
     by_negotiated None is due =
         let no : false ≡ true = sym (none s.order) ∙ ap (λ (negotiated : Option Negotiated). needs_abort s.order negotiated s.last_rank received) (sym is) ∙ due in absurd cc
     by_negotiated (Some negotiated) is due =
-        let same : s ≡ record s { negotiated = Some negotiated; state = Serving } = λ i. record s { negotiated = is i; state = stream_server i } in
+        let same : s ≡ record s { negotiated = Some negotiated; state = Serving } = λ i. record s { negotiated = is i; state = serving i } in
         ap after_message same ∙ abort-ends b s negotiated ∙ ap (λ (t : OrderState). order_state_in b t (Ok Abort) t.state) (sym same)
 
     by_need : (need : Bool) → needs_abort s.order s.negotiated s.last_rank received ≡ need → (if need then after_message s else s) ≡ (if need then order_state_in b s (Ok Abort) s.state else s)
@@ -82,18 +82,18 @@ next_from b received ready = order_state_in b ready received ready.state
 abbrev replies_from : Behavior → Received → OrderState → List Reply
 replies_from b received ready = order_state_replies_in b ready received ready.state
 
-module _ (b : Behavior) (s ready : OrderState) (received : Received) (c : Command) (is : ready ≡ order_state_before b s received) (read : Ok c ≡ received) (stream_server : ready.state ≡ Serving) where
+module _ (b : Behavior) (s ready : OrderState) (received : Received) (c : Command) (is : ready ≡ order_state_before b s received) (read : Ok c ≡ received) (serving : ready.state ≡ Serving) where
   next-by : (fault : Option FilterFault) → order_state_fault ready (Ok c) ≡ fault → order_state_by b ready (Ok c) fault ≡ order_state_next b s received
   next-by fault found =
       ap (order_state_by b ready (Ok c)) (sym found)
-      ∙ ap (order_state_in b ready (Ok c)) (sym stream_server)
+      ∙ ap (order_state_in b ready (Ok c)) (sym serving)
       ∙ ap (λ r. next_from b r ready) read
       ∙ ap (next_from b received) is
 
   replies-by : (fault : Option FilterFault) → order_state_fault ready (Ok c) ≡ fault → order_state_replies_by b ready (Ok c) fault ≡ order_state_replies_at b s received
   replies-by fault found =
       ap (order_state_replies_by b ready (Ok c)) (sym found)
-      ∙ ap (order_state_replies_in b ready (Ok c)) (sym stream_server)
+      ∙ ap (order_state_replies_in b ready (Ok c)) (sym serving)
       ∙ ap (λ r. replies_from b r ready) read
       ∙ ap (replies_from b received) is
 

@@ -88,15 +88,15 @@ module _ (b : Behavior) (s : OrderState) (unread piece new : List ℕ) (n : ℕ)
   ready-fault fault = ap (λ aborts. if aborts then order_state_in b s (Ok Abort) s.state else s) (no-abort s.order s.negotiated s.last_rank fault)
 
   pub length-gives_up : (fault : WireFault) → s.state ≡ Serving → length_fault new ≡ Some fault → GivesUp b s (received_in (unread ++ piece)) (Wire fault)
-  length-gives_up fault stream_server is =
+  length-gives_up fault serving is =
       let received : received_in (unread ++ piece) ≡ Err fault ∷ [] = rw (divide-fault unread piece new n fault fed is, length_fault-fed unread piece new n fault fed is) refl in
       record {
         failed =
             ap (order_state_after b s) received
             ∙ ap (λ (ready : OrderState). order_state_in b ready (Err fault) ready.state) (ready-fault fault)
-            ∙ ap (order_state_in b s (Err fault)) stream_server;
+            ∙ ap (order_state_in b s (Err fault)) serving;
         silent =
             ap (order_state_replies b s) received
             ∙ ap (λ (ready : OrderState). order_state_replies_in b ready (Err fault) ready.state ++ []) (ready-fault fault)
-            ∙ ap (λ state. order_state_replies_in b s (Err fault) state ++ []) stream_server;
+            ∙ ap (λ state. order_state_replies_in b s (Err fault) state ++ []) serving;
       }

@@ -19,8 +19,8 @@ use Rattle.milter_filter.proofs.Cutting.{goes_on-gives_up, goes_on-joins, goes_o
 
 -- ---- the states of a connection
 
-pub stream_server-or-quit : (s : OrderState) → ((fault : FilterFault) → s.state ≢ Failed fault) → s.state ≢ Quit → s.state ≡ Serving
-stream_server-or-quit s going on = by_state s.state refl
+pub serving-or-quit : (s : OrderState) → ((fault : FilterFault) → s.state ≢ Failed fault) → s.state ≢ Quit → s.state ≡ Serving
+serving-or-quit s going on = by_state s.state refl
   where
     by_state : (state : FilterState) → s.state ≡ state → s.state ≡ Serving
     by_state Serving is = is
@@ -78,9 +78,9 @@ module _ {P : Type 0} where
   })
 
   pub goes-none : (b : Behavior) (core : Core P) (a : Option (List ℕ)) → IsUnfinished core.unread → core.order_state.state ≡ Serving → Goes b core [] core a a
-  goes-none b core a unfinished stream_server = record {
+  goes-none b core a unfinished serving = record {
     sent = [];
-    goes_on = stays b core unfinished stream_server;
+    goes_on = stays b core unfinished serving;
     was_written = Appends-nil a;
   }
 
@@ -111,12 +111,12 @@ module _ {P : Type 0} where
     }
 
   -- before the end of a piece the mail server has not quit
-  pub still-stream_server : (b : Behavior) (core mid : Core P) (rest : List ℕ) (n : ℕ) → Takes b core rest n mid → n ≢ length rest → mid.order_state.state ≡ Serving
-  still-stream_server b core mid rest n t within = by_state mid.order_state.state refl
+  pub still-serving : (b : Behavior) (core mid : Core P) (rest : List ℕ) (n : ℕ) → Takes b core rest n mid → n ≢ length rest → mid.order_state.state ≡ Serving
+  still-serving b core mid rest n t within = by_state mid.order_state.state refl
     where
       by_state : (state : FilterState) → mid.order_state.state ≡ state → mid.order_state.state ≡ Serving
       by_state Serving is = is
-      by_state Quit is = absurd (within (t.quit (λ stream_server. quit_serving (sym is ∙ stream_server))))
+      by_state Quit is = absurd (within (t.quit (λ serving. quit_serving (sym is ∙ serving))))
         where
           quit_serving : Quit ≡ Serving → ⊥
           quit_serving e = absurd cc
@@ -130,7 +130,7 @@ module _ {P : Type 0} where
     pub was_read : Consumes unread left input
     pub goes : Goes b (fresh_core_in order policy) input new written all
     pub nothing_pending : new.pending ≡ []
-    pub stream_server : new.order_state.state ≡ Serving
+    pub serving : new.order_state.state ≡ Serving
 
   pub served-none : (order : CommandOrder) (b : Behavior) (policy : P) (a w : Option (List ℕ)) → ServedSoFar order b policy (fresh_core_in order policy) a a w w
   served-none order b policy a w = record {
@@ -138,7 +138,7 @@ module _ {P : Type 0} where
     was_read = Consumes-nil a;
     goes = goes-none b (fresh_core_in order policy) w tt refl;
     nothing_pending = refl;
-    stream_server = refl;
+    serving = refl;
   }
 
   pub served-more : (order : CommandOrder) (b : Behavior) (policy : P) (core new : Core P) (a c d w v u : Option (List ℕ)) (piece : List ℕ) → ServedSoFar order b policy core a c w v → Consumes c d piece
@@ -148,7 +148,7 @@ module _ {P : Type 0} where
     was_read = Consumes-trans a c d _ _ s.was_read read;
     goes = goes-joins b (fresh_core_in order policy) core new s.input piece w v u s.goes p.goes;
     nothing_pending = p.nothing_pending;
-    stream_server = stream_server-or-quit new.order_state p.going on;
+    serving = serving-or-quit new.order_state p.going on;
   }
 
   -- ---- what it comes to
@@ -185,15 +185,15 @@ module _ {P : Type 0} where
   module _ (order : CommandOrder) (b : Behavior) (policy : P) (core : Core P) (a c w v : Option (List ℕ)) (s : ServedSoFar order b policy core a c w v) where
     -- no more was read
     pub served-kept : (d : Option (List ℕ)) → Keeps c d → RepliedAs Serving order b a d w v
-    served-kept d kept = replied-as order b policy s.input core w v s.goes a d Serving (Consumes-kept a c d _ s.was_read kept) s.nothing_pending s.stream_server
+    served-kept d kept = replied-as order b policy s.input core w v s.goes a d Serving (Consumes-kept a c d _ s.was_read kept) s.nothing_pending s.serving
 
     pub served-end : (d : Option (List ℕ)) (count : ℕ) → Consumes c d [] → IsAtEnd d → count ≡ length core.unread
         → (x : RepliedAs Serving order b a d w v) × (length (divide x.0.input).rest ≡ count) × IsAtEnd d
     unfolding replied-as
     served-end d count none end is =
         let read = subst (Consumes a d) (append-nil s.input) (Consumes-trans a c d _ _ s.was_read none) in (
-          replied-as order b policy s.input core w v s.goes a d Serving read s.nothing_pending s.stream_server,
-          ap length (sym (s.goes.goes_on.unread s.stream_server)) ∙ sym is,
+          replied-as order b policy s.input core w v s.goes a d Serving read s.nothing_pending s.serving,
+          ap length (sym (s.goes.goes_on.unread s.serving)) ∙ sym is,
           end,
         )
 

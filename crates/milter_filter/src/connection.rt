@@ -215,7 +215,7 @@ impl Connection {
 
     /// Ends the message that is under way, where an abort is due before the command.
     pub(crate) fn end_message_before(&mut self, command: &CommandRef<'_>)
-        ensures stream_server { self.new.state ≡ self.old.state }
+        ensures serving { self.new.state ≡ self.old.state }
         ensures new { self.new ≡ (if needs_abort self.old.order self.old.negotiated self.old.last_rank
             (Ok (command_of command.now)) then after_message self.old else self.old) }
     {

@@ -134,7 +134,7 @@ impl<'p, P: Policy> FilterCore<'p, P> {
 
     /// Takes bytes of a piece where it serves and nothing waits to be sent.
     fn take(&mut self, piece: &[u8]) -> Result<usize, FilterFault>
-        requires stream_server { self.old.order_state.state ≡ Serving }
+        requires serving { self.old.order_state.state ≡ Serving }
         requires nothing_pending { self.old.pending ≡ [] }
         ensures takes { IfOk result (λ n. Takes (P.behavior self.old.policy) self.old piece.now n self.new) }
         ensures gives_up { IfErr result (λ fault. self.new ≡ given_up self.old fault) }

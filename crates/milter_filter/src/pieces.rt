@@ -18,7 +18,7 @@ fn take_packet<P: Policy>(
     piece: &[u8],
 ) -> Result<usize, FilterFault>
     requires unread { IsUnread splitter.old }
-    requires stream_server { replier.old.order_state.state ≡ Serving }
+    requires serving { replier.old.order_state.state ≡ Serving }
     ensures takes { IfOk result (λ n. TakesBytes (P.behavior replier.old.policy) replier.old splitter.old piece.now n
         replier.new splitter.new) }
     ensures one { IfOk result (λ n. IsOnePacketAtMost (splitter.old ++ take n piece.now)) }
@@ -46,7 +46,7 @@ pub(crate) fn take_piece<P: Policy>(
     piece: &[u8],
 ) -> Result<usize, FilterFault>
     requires unread { IsUnread splitter.old }
-    requires stream_server { replier.old.order_state.state ≡ Serving }
+    requires serving { replier.old.order_state.state ≡ Serving }
     requires nothing_pending { replier.old.pending ≡ [] }
     ensures takes { IfOk result (λ n. TakesBytes (P.behavior replier.old.policy) replier.old splitter.old piece.now n
         replier.new splitter.new) }

@@ -112,7 +112,7 @@ impl<'p, P: Policy> Replier<'p, P> {
     /// Replies to a packet, or answers the fault of its command.
     pub(crate) fn reply_to_packet(&mut self, packet: &Packet<'_>) -> Result<(), FilterFault>
         requires payload { IsFrame (frame_of packet.now) }
-        requires stream_server { self.old.order_state.state ≡ Serving }
+        requires serving { self.old.order_state.state ≡ Serving }
         ensures replied { OnOk result
             (self.new ≡ replying_next (P.behavior self.old.policy) self.old (frame_command (frame_of packet.now))) }
         ensures going { OnOk result (GoesOn self.new.order_state) }
@@ -136,7 +136,7 @@ impl<'p, P: Policy> Replier<'p, P> {
     fn reply_to(&mut self, command: &CommandRef<'_>, len: usize) -> Result<(), NoMemory>
         requires fits { Fits (command_of command.now) }
         requires len { len ≡ length (encoding (command_of command.now)) }
-        requires stream_server { self.old.order_state.state ≡ Serving }
+        requires serving { self.old.order_state.state ≡ Serving }
         requires no_fault { order_state_fault self.old.order_state (Ok (command_of command.now)) ≡ None }
         ensures { OnOk result (self.new ≡ replying_by (P.behavior self.old.policy) self.old (command_of command.now)) }
     {

@@ -112,7 +112,7 @@ fn serve_piece<P: Policy, W: Write>(
     piece: &[u8],
     writer: &mut W,
 ) -> Result<(), Served>
-    requires stream_server { core.old.order_state.state ≡ Serving }
+    requires serving { core.old.order_state.state ≡ Serving }
     requires nothing_pending { core.old.pending ≡ [] }
     requires unfinished { IsUnfinished core.old.unread }
     ensures served { OnOk result (PieceServed (P.behavior core.old.policy) core.old piece.now core.new

@@ -12,7 +12,7 @@ use Rattle.milter_filter.specs.declared.served.Served.TheVariants.{Quit, Ended, 
 use Rattle.milter_filter.specs.Cores.{Core, GoesOn, Takes, fresh_core_in, given_up}
 use Rattle.milter_filter.specs.ServedPieces.{CutOff, Goes, PieceCut, Sends}
 use Rattle.milter_filter.proofs.Cutting.{fresh-begins, goes_on-joins, goes_on-stays}
-use Rattle.milter_filter.proofs.ServedBytes.{goes-joins, goes_on-written, stream_server-or-quit}
+use Rattle.milter_filter.proofs.ServedBytes.{goes-joins, goes_on-written, serving-or-quit}
 use Rattle.milter_filter_server.specs.declared.turn.Turn.{Turn}
 use Rattle.milter_filter_server.specs.declared.turn.Turn.TheVariants as turns
 use Rattle.milter_filter_server.specs.Connections.{Completes, Connected, EndsAs, GoesFrom, IsDone, IsServing, Turns, connected}
@@ -199,7 +199,7 @@ if-err (Err e) f g m x = m e x
 -- ---- a core that waits for input
 
 abbrev pub going-serves : {P : Type 0} (core : Core P) → ((fault : FilterFault) → core.order_state.state ≢ states.Failed fault) → core.order_state.state ≢ states.Quit → core.order_state.state ≡ states.Serving
-going-serves core going on = stream_server-or-quit core.order_state going on
+going-serves core going on = serving-or-quit core.order_state going on
 
 pub has-not : (found : Bool) (state : FilterState) → found ≡ false → (state ≡ states.Quit → IsTrue found) → state ≢ states.Quit
 has-not found state is says quit = let no : IsTrue false = subst IsTrue is (says quit) in absurd cc

@@ -78,8 +78,8 @@ reports_by b negotiated session messages =
 abbrev pub connection_after : Behavior → Negotiated → MailSession → List MailObject → Option Verdict → Option Verdict
 connection_after b negotiated session [] before = before
 connection_after b negotiated session (message ∷ messages) before =
-    let dialogue = dialogue_of b negotiated session message in if ends_with_client dialogue
-    then dialogue_verdict dialogue else before
+    let dialogue = dialogue_of b negotiated session message in
+    if ends_with_client dialogue then dialogue_verdict dialogue else before
 
 -- by these lines it comes to an end, and each message that was left is settled by its own dialogue
 pub record SettlesEach (b : Behavior) (negotiated : Negotiated) (old : Mta) (lines : List Line) : Type 0 where

@@ -55,7 +55,7 @@ impl Splitter {
 
     /// Takes bytes from the start of a piece of the stream, and answers how many: none where a whole packet or a fault
     /// of length is unread, else those up to the end of the first whole packet or of the length field that is at fault,
-    /// else all of them. It always answers `Ok`, and takes no memory.
+    /// else all of them. It always answers `Ok`, and doesn't allocate.
     pub fn feed(&mut self, piece: &[u8]) -> Result<usize, NoMemory>
         ensures count { result ≡ Ok (fed_len self.old piece.now) }
         ensures taken { IfOk result (λ n. self.new ≡ self.old ++ take n piece.now) }

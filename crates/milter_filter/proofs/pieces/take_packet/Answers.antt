@@ -20,7 +20,7 @@ returns-in-Err-clause-fails g c =
     let left = rw c.in-Err.is at c.next.follows.holds-at-none in
     record {
       left_is = left ∙ field-unread unread c.args.piece.now c.feed.new.self c.in_ok-taken.taken c.in-Err.fault c.requires.unread.0 bytes count c.in_ok-taken.ensures.taken is;
-      cause = λ other. length-gives_up b s unread c.args.piece.now c.feed.new.self c.in_ok-taken.taken c.in_ok-taken.ensures.taken c.in-Err.fault c.requires.stream_server is;
+      cause = λ other. length-gives_up b s unread c.args.piece.now c.feed.new.self c.in_ok-taken.taken c.in_ok-taken.ensures.taken c.in-Err.fault c.requires.serving is;
     }
 
 pub returns-in-Ok-None-clause-takes : goal.returns-in-Ok-None-clause-takes
@@ -39,7 +39,7 @@ returns-in-Ok-None-clause-takes g c =
       is_unread =
           subst IsUnread (sym left)
           (unfinished, fed-bytes c.args.splitter.now c.args.piece.now c.feed.new.self c.in_ok-taken.taken c.requires.unread.1 piece c.in_ok-taken.ensures.taken);
-      going = λ fault failed. serves fault (sym c.requires.stream_server ∙ failed);
+      going = λ fault failed. serves fault (sym c.requires.serving ∙ failed);
     }
 
 pub returns-in-Ok-None-clause-one : goal.returns-in-Ok-None-clause-one

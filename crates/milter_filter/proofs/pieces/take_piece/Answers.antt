@@ -14,8 +14,8 @@ loop-taken-init g c =
     let u = c.args.splitter.now in
     record {
       within = omega arith;
-      began = λ none. (c.requires.nothing_pending, c.requires.stream_server);
-      going = λ fault failed. serves fault (sym c.requires.stream_server ∙ failed);
+      began = λ none. (c.requires.nothing_pending, c.requires.serving);
+      going = λ fault failed. serves fault (sym c.requires.serving ∙ failed);
       policy = refl;
       bytes = c.requires.unread.1;
       stops = inl c.requires.nothing_pending;
@@ -62,9 +62,9 @@ loop-taken-preserved g c =
     let replied = ap (λ (r : Replying g.row.P.Denot). r.pending) takes.replied in
     let now = go_on b s was.order_state new.order_state (u ++ take i piece) (take n rest) c.loop-taken.splitter left was.pending new.pending inv.progress order_state takes.left_is takes.is_unread.0 replied in
     let none = nothing-waits was.pending c.pending.result.now c.is_empty.result c.pending.ensures c.is_empty.ensures c.if-not-is_empty.false in
-    let stream_server = c.is_serving.ensures.0 c.if-not-is_serving.false in
+    let serving = c.is_serving.ensures.0 c.if-not-is_serving.false in
     let stops = stop-step b s was.order_state new.order_state (u ++ take i piece) (take n rest) c.loop-taken.splitter was.pending new.pending
-    inv.progress none stream_server order_state replied (rw (take_rest piece i) at c.in-Ok.ensures.one) in
+    inv.progress none serving order_state replied (rw (take_rest piece i) at c.in-Ok.ensures.one) in
     let at = bytes-more u piece i n in
     let more-bytes = takes.progress (some-left piece i (omega arith)) in
     record {

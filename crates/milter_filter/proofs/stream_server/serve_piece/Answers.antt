@@ -5,16 +5,16 @@ use Rattle.milter_protocol.specs.declared.filter_state.FilterState.TheVariants.{
 use Rattle.milter_filter.specs.Cores.{Core, GivesUp, Takes, given_up}
 use Rattle.milter_filter.specs.ServedPieces.{Goes}
 use Rattle.milter_filter.specs.Streams.{received_in}
-use Rattle.milter_filter.proofs.ServedBytes.{goes-failed, goes-none, goes-step, still-stream_server}
+use Rattle.milter_filter.proofs.ServedBytes.{goes-failed, goes-none, goes-step, still-serving}
 use Rattle.milter_filter.proofs.stream_server.serve_piece.Goals as goal
 
 pub loop-taken-init : goal.loop-taken-init
 loop-taken-init g c = record {
   within = omega arith;
-  goes = goes-none _ _ _ c.requires.unfinished c.requires.stream_server;
+  goes = goes-none _ _ _ c.requires.unfinished c.requires.serving;
   nothing_pending = c.requires.nothing_pending;
-  going = λ fault failed. serves fault (sym c.requires.stream_server ∙ failed);
-  stream_server = λ within. c.requires.stream_server;
+  going = λ fault failed. serves fault (sym c.requires.serving ∙ failed);
+  serving = λ within. c.requires.serving;
 }
   where
     serves : (fault : FilterFault) → Serving ≢ Failed fault
@@ -28,9 +28,9 @@ returns-in-Err-clause-cut_off g c =
     let core = c.loop-taken.core in
     let inv = c.loop-taken.invariant in
     let b = g.P.Policy.behavior c.args.core.now.policy in
-    let stream_server = inv.stream_server (omega arith) in (
+    let serving = inv.serving (omega arith) in (
       λ other.
-          let found = rw (take_rest piece i) at (c.in-Err.ensures.cause stream_server inv.nothing_pending other) in
+          let found = rw (take_rest piece i) at (c.in-Err.ensures.cause serving inv.nothing_pending other) in
           let cause = subst (λ policy. GivesUp (g.P.Policy.behavior policy) core.order_state (received_in (core.unread ++ rest)) c.in-Err.fault) inv.goes.goes_on.policy found in
           let before = g.W.Write.contents c.args.writer.now in
           let written = g.W.Write.contents c.loop-taken.writer in
@@ -47,9 +47,9 @@ returns-then-not-write_pending-clause-cut_off g c =
     let core = c.loop-taken.core in
     let inv = c.loop-taken.invariant in
     let b = g.P.Policy.behavior c.args.core.now.policy in
-    let stream_server = inv.stream_server (omega arith) in
+    let serving = inv.serving (omega arith) in
     let n = c.in-Ok.count in
-    let taken = rw (take_rest piece i) at (c.in-Ok.ensures.takes stream_server inv.nothing_pending) in
+    let taken = rw (take_rest piece i) at (c.in-Ok.ensures.takes serving inv.nothing_pending) in
     let takes = subst (λ policy. Takes (g.P.Policy.behavior policy) core rest n c.feed.new.self) inv.goes.goes_on.policy taken in
     let goes = goes-step b c.args.core.now core (take i piece) _ _ inv.goes inv.nothing_pending _ _ rest n _ _ takes c.write_pending.ensures in (
       c.write_pending.new.core,
@@ -69,9 +69,9 @@ loop-taken-preserved g c =
     let core = c.loop-taken.core in
     let inv = c.loop-taken.invariant in
     let b = g.P.Policy.behavior c.args.core.now.policy in
-    let stream_server = inv.stream_server (omega arith) in
+    let serving = inv.serving (omega arith) in
     let n = c.in-Ok.count in
-    let taken = rw (take_rest piece i) at (c.in-Ok.ensures.takes stream_server inv.nothing_pending) in
+    let taken = rw (take_rest piece i) at (c.in-Ok.ensures.takes serving inv.nothing_pending) in
     let takes = subst (λ policy. Takes (g.P.Policy.behavior policy) core rest n c.feed.new.self) inv.goes.goes_on.policy taken in
     let sends = c.write_pending.ensures in
     let same = ap (λ (x : Core g.row.P.Denot). x.order_state.state) sends.core in
@@ -82,5 +82,5 @@ loop-taken-preserved g c =
           subst (λ bytes. Goes b c.args.core.now bytes c.write_pending.new.core (g.W.Write.contents c.args.writer.now) (g.W.Write.contents c.write_pending.new.writer)) (sym (take-add i n piece)) goes;
       nothing_pending = sends.nothing_pending c.if-not-write_pending.false;
       going = λ fault failed. takes.going fault (sym same ∙ failed);
-      stream_server = λ within. same ∙ still-stream_server b core c.feed.new.self rest n takes (λ all. omega (arith, all, within, length-drop i piece));
+      serving = λ within. same ∙ still-serving b core c.feed.new.self rest n takes (λ all. omega (arith, all, within, length-drop i piece));
     }

@@ -11,7 +11,7 @@ invariant-loop-taken g l = record {
   goes : Goes (g.P.Policy.behavior l.initial.core.policy) l.initial.core (take l.taken l.piece) l.core (g.W.Write.contents l.initial.writer) (g.W.Write.contents l.writer);
   nothing_pending : l.core.pending ≡ [];
   going : (fault : FilterFault) → l.core.order_state.state ≢ Failed fault;
-  stream_server : l.taken < length l.piece → l.core.order_state.state ≡ Serving;
+  serving : l.taken < length l.piece → l.core.order_state.state ≡ Serving;
 }
 
 abbrev pub decreases-loop-taken : goal.decreases-loop-taken

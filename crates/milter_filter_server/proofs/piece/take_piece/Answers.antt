@@ -5,7 +5,7 @@ use Rattle.milter_protocol.specs.declared.filter_state.FilterState.TheVariants.{
 use Rattle.milter_filter.specs.Cores.{Core, GivesUp, Takes, given_up}
 use Rattle.milter_filter.specs.ServedPieces.{Goes}
 use Rattle.milter_filter.specs.Streams.{received_in}
-use Rattle.milter_filter.proofs.ServedBytes.{goes-failed, goes-none, goes-step, still-stream_server}
+use Rattle.milter_filter.proofs.ServedBytes.{goes-failed, goes-none, goes-step, still-serving}
 use Rattle.milter_filter_server.proofs.Turns.{waits-serving}
 use Rattle.milter_filter_server.proofs.piece.take_piece.Goals as goal
 
@@ -112,5 +112,5 @@ loop-taken-preserved g c =
           subst (λ bytes. Goes b c.args.core.now bytes c.write_pending.new.core (g.W.Write.contents c.args.writer.now) (g.W.Write.contents c.write_pending.new.writer)) (sym (take-add i n piece)) goes;
       nothing_pending = sends.nothing_pending c.in-Ok-true.field-0-test;
       going = λ fault failed. takes.going fault (sym same ∙ failed);
-      serving = λ within. same ∙ still-stream_server b core c.feed.new.self rest n takes (λ all. omega (arith, all, within, length-drop i piece));
+      serving = λ within. same ∙ still-serving b core c.feed.new.self rest n takes (λ all. omega (arith, all, within, length-drop i piece));
     }

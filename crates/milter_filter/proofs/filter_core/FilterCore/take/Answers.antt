@@ -20,7 +20,7 @@ returns-clause-takes g c =
     subst (λ (x : Replying g.row.P.Denot). TakesBytes (g.P.Policy.behavior x.policy) x inside.splitter piece taken now left) c.clear_pending.ensures c.in-Ok.ensures.takes in
     let stops : StopsAt b (record r { pending = [] }) inside.splitter piece taken now =
     subst (λ (x : Replying g.row.P.Denot). StopsAt (g.P.Policy.behavior x.policy) x inside.splitter piece taken now) c.clear_pending.ensures c.in-Ok.ensures.stops in
-    let ended : now.order_state.state ≢ Serving = λ stream_server. let no : IsTrue false = subst IsTrue c.if-is_serving.false (c.is_serving.ensures.1 stream_server) in absurd cc in
+    let ended : now.order_state.state ≢ Serving = λ serving. let no : IsTrue false = subst IsTrue c.if-is_serving.false (c.is_serving.ensures.1 serving) in absurd cc in
     let takes : Takes b old piece (length piece) new =
     all-taken b old new piece left taken found ended c.clear.ensures (stops.silent_end ended) in
     subst (λ (core : Core g.row.P.Denot). Takes (g.P.Policy.behavior core.policy) core piece (length piece) new) c.self.view_is takes

@@ -15,13 +15,13 @@ returns-in-Some-clause-fails g c =
     let s = c.self.inside.connection in
     let b = g.P.Policy.behavior c.self.inside.policy.now in
     let ready = c.end_message_before.new.self in
-    let served : s.state ≡ Serving = ap (λ (r : Replying g.row.P.Denot). r.order_state.state) c.self.view_is ∙ c.requires.stream_server in
+    let served : s.state ≡ Serving = ap (λ (r : Replying g.row.P.Denot). r.order_state.state) c.self.view_is ∙ c.requires.serving in
     let is = c.end_message_before.ensures.new ∙ ready-is b s (Ok command) served ∙ ap (order_state_before b s) c.in-Ok.ensures.read in
-    let stream_server = c.end_message_before.ensures.stream_server ∙ served in
+    let serving = c.end_message_before.ensures.serving ∙ served in
     let fault = fault-by_len ready f command c.fault_of.result c.in-Ok.ensures.encoded c.fault_of.ensures.fault ∙ c.in-Some.is in
     let fails : FailsAt b s (frame_command f) c.in-Some.fault = record {
-      failed = λ other. next-fault b s ready (frame_command f) command is c.in-Ok.ensures.read stream_server c.in-Some.fault fault;
-      silent = λ other. silent-fault b s ready (frame_command f) command is c.in-Ok.ensures.read stream_server c.in-Some.fault fault;
+      failed = λ other. next-fault b s ready (frame_command f) command is c.in-Ok.ensures.read serving c.in-Some.fault fault;
+      silent = λ other. silent-fault b s ready (frame_command f) command is c.in-Ok.ensures.read serving c.in-Some.fault fault;
       no_length = c.in-Some.ensures.no_length;
     } in
     subst (λ (r : Replying g.row.P.Denot). FailsAt (g.P.Policy.behavior r.policy) r.order_state (frame_command f) c.in-Some.fault) c.self.view_is fails
@@ -42,11 +42,11 @@ returns-clause-replied g c =
     let b = g.P.Policy.behavior inside.policy.now in
     let old : Replying g.row.P.Denot = record { policy = inside.policy.now; order_state = s; pending = inside.pending.items } in
     let ready = c.end_message_before.new.self in
-    let served : s.state ≡ Serving = ap (λ (r : Replying g.row.P.Denot). r.order_state.state) c.self.view_is ∙ c.requires.stream_server in
+    let served : s.state ≡ Serving = ap (λ (r : Replying g.row.P.Denot). r.order_state.state) c.self.view_is ∙ c.requires.serving in
     let is = c.end_message_before.ensures.new ∙ ready-is b s (Ok command) served ∙ ap (order_state_before b s) c.in-Ok.ensures.read in
-    let stream_server = c.end_message_before.ensures.stream_server ∙ served in
+    let serving = c.end_message_before.ensures.serving ∙ served in
     let none = fault-by_len ready f command c.fault_of.result c.in-Ok.ensures.encoded c.fault_of.ensures.fault ∙ c.in_default.is in
-    let next = next-in_order b s ready (frame_command f) command is c.in-Ok.ensures.read stream_server none in
-    let replies = replies-in_order b s ready (frame_command f) command is c.in-Ok.ensures.read stream_server none in
+    let next = next-in_order b s ready (frame_command f) command is c.in-Ok.ensures.read serving none in
+    let replies = replies-in_order b s ready (frame_command f) command is c.in-Ok.ensures.read serving none in
     let new : c.reply_to.new.self ≡ replying_next b old (frame_command f) = c.in_ok-reply_to.ensures ∙ ap₂ (replying_with old) next replies in
     subst (λ (r : Replying g.row.P.Denot). c.reply_to.new.self ≡ replying_next (g.P.Policy.behavior r.policy) r (frame_command f)) c.self.view_is new
