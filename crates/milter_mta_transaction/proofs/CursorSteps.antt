@@ -1,5 +1,5 @@
 -- What is left of a plan after a command, after the chunks of its body, and of its recipients.
-use Rattle.std.proofs.Common.{◌≡◌, ℕ, zero, suc, ◌+◌, Bool, true, false, not, ◌||◌, List, [], ◌∷◌, ◌++◌, Option, None, Some, IsSome, All, slice_get, drop, map, is_some, option_map, refl, sym, ap, ◌∙◌, arith, if◌then◌else◌, flat_map}
+use Rattle.std.proofs.Common.{◌≡◌, ℕ, zero, suc, ◌+◌, Bool, true, false, not, ◌||◌, List, [], ◌∷◌, ◌++◌, Option, None, Some, IsSome, All, slice_get, drop, map, is_some, refl, sym, ap, ◌∙◌, arith, if◌then◌else◌, flat_map}
 use Rattle.std.specs.List.{list_any}
 use Rattle.std.proofs.lemmas.List.Elements.{All-append, All-cons, All-drop, All-head, All-nil, All-tail, filter-append}
 use Rattle.std.proofs.lemmas.List.Folds.{list_any-append}
@@ -142,8 +142,3 @@ module _ (o : Outgoing) where
       ∙ ap (λ (b : Bool). list_any is_rcpt (drop n (steps_at o stages.Rcpt)) || b) (no_rcpt (flat_map (steps_at o) (stages_after stages.Rcpt)) later_no)
       ∙ or_false (list_any is_rcpt (drop n (steps_at o stages.Rcpt)))
       ∙ some_rcpt (is_sent o.negotiated stages.Rcpt) (macro_command_of stages.Rcpt) (macros_at o.macros stages.Rcpt) o.message.recipients n)
-
-pub as_found : {A : Type 0} (f : A → Command) (r : Option A) (s : Option Command) → option_map f r ≡ s
-    → is_some r ≡ is_some s
-as_found f None s e = ap (λ (o : Option Command). is_some o) e
-as_found f (Some x) s e = ap (λ (o : Option Command). is_some o) e

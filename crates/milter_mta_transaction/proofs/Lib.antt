@@ -1,4 +1,5 @@
 mod Stepping
+mod StagesFound
 mod PlanStages
 mod CursorSteps
 mod TransactionStages

@@ -1,5 +1,5 @@
 -- The commands of a stage by their number, macro packets among them.
-use Rattle.std.proofs.Common.{◌≡◌, ◌<◌, ℕ, zero, suc, ◌+◌, ◌*◌, ◌/◌, ◌%◌, Bool, true, false, List, [], ◌∷◌, ◌++◌, Option, None, Some, slice_get, drop, length, is_some, option_map, refl, sym, ap, ◌∙◌, arith, if◌then◌else◌, flat_map}
+use Rattle.std.proofs.Common.{◌≡◌, ◌<◌, ℕ, zero, suc, ◌+◌, ◌*◌, ◌/◌, ◌%◌, Bool, true, false, List, [], ◌∷◌, ◌++◌, None, Some, slice_get, drop, length, refl, sym, ap, ◌∙◌, arith, if◌then◌else◌, flat_map}
 use Rattle.std.proofs.lemmas.Nat.{div-add-mod'}
 use Rattle.std.proofs.lemmas.Option.{same_Some}
 use Rattle.milter_wire.specs.declared.command.Command.{Command}
@@ -126,15 +126,3 @@ fewer_after stage next e =
     let longer : length (stages_after stage) ≡ suc (length (stages_after next)) =
     ap (λ (l : List Stage). length l) (next_first stage next e) in
     omega (arith, longer)
-
--- ---- what was found
-
-pub none_found : {A : Type 0} (f : A → Command) (r : Option A) (s : Option Command) → option_map f r ≡ s
-    → is_some r ≡ false → None ≡ s
-none_found f None s e h = e
-none_found f (Some x) s e h = absurd cc
-
-pub some_found : {A : Type 0} (f : A → Command) (r : Option A) (s : Option Command) → option_map f r ≡ s
-    → is_some r ≡ true → (command : Command) × (Some command ≡ s)
-some_found f None s e h = absurd cc
-some_found f (Some x) s e h = (f x, e)

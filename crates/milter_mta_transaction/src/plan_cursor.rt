@@ -1,11 +1,11 @@
 //! The plan of a message as a cursor: which command of which stage is the next one.
 
-ghost use Rattle.std.specs.Prelude.{◌≡◌, ◌<◌, ◌≤◌, ◌+◌, ◌-◌, ◌^◌, IfSome, IsSome, Some, drop, map, option_map, slice_get};
+ghost use Rattle.std.specs.Prelude.{◌≡◌, ◌<◌, ◌≤◌, ◌+◌, ◌-◌, ◌^◌, IfSome, IsSome, drop, is_some, map, option_map, slice_get};
 ghost use Rattle.std.specs.List.{list_any};
 ghost use Rattle.std.specs.Option.{option_to_list};
 ghost use Rattle.milter_wire.specs.declared.command.Command.TheVariants as commands;
 ghost use Rattle.milter_wire.specs.BorrowedCommand.{command_of};
-ghost use Rattle.milter_wire.specs.Stages.{macro_command_of};
+ghost use Rattle.milter_wire.specs.Stages.{macro_command_of, stage_of};
 ghost use Rattle.milter_message.specs.LeadingSpace.{sent_header};
 ghost use Rattle.milter_message.specs.Chunks.{chunks_of};
 ghost use Rattle.milter_protocol.specs.Dialogue.{is_rcpt};
@@ -92,16 +92,59 @@ fn macro_packet<'a>(macros: &'a Macros, stage: Stage) -> Option<CommandRef<'a>>
     })
 }
 
-/// The command of the stage with this number, macro packets among them; none where the stage isn't sent.
-pub(crate) fn step_at<'a>(of: &OutgoingRef<'a>, stage: Stage, n: usize) -> Option<CommandRef<'a>>
-    ensures { option_map command_of result ≡ slice_get (steps_at (outgoing of.now) stage) n }
+/// The command at this place of the plan, macro packets among them; none where the stage isn't sent.
+fn step_at<'a>(of: &OutgoingRef<'a>, at: Cursor) -> Option<CommandRef<'a>>
+    ensures { option_map command_of result ≡ slice_get (steps_at (outgoing of.now) at.stage) at.step }
 {
-    if !of.negotiated.is_sent(stage) {
+    if !of.negotiated.is_sent(at.stage) {
         return None;
     }
-    match macro_packet(of.macros, stage) {
-        None => command_at(of, stage, n),
-        Some(packet) => one_of_two(packet, command_at(of, stage, n / 2), n % 2),
+    match macro_packet(of.macros, at.stage) {
+        None => command_at(of, at.stage, at.step),
+        Some(packet) => one_of_two(packet, command_at(of, at.stage, at.step / 2), at.step % 2),
+    }
+}
+
+/// Whether there is a command of the stage with this number, without macro packets.
+fn has_command(of: &OutgoingRef<'_>, stage: Stage, n: usize) -> bool
+    ensures { result ≡ is_some (slice_get (commands_of (outgoing of.now) stage) n) }
+{
+    match stage {
+        Stage::Rcpt => n < of.message.recipients().len(),
+        Stage::Header => n < of.message.headers().len(),
+        Stage::Body => of.message.piece(n).is_some(),
+        _ => n == 0,
+    }
+}
+
+/// Whether a packet with macros precedes each command of the stage.
+fn has_macros(macros: &Macros, stage: Stage) -> bool
+    ensures { result ≡ is_some (slice_get (macro_step (macro_command_of stage) (macros_at macros.now stage)) 0) }
+{
+    stage.macro_command().is_some() && !macros.at(stage).is_empty()
+}
+
+/// Whose stage the command at this place of the plan is: `Some(None)` for a macro packet, none where no command is.
+fn stage_at(of: &OutgoingRef<'_>, at: Cursor) -> Option<Option<Stage>>
+    ensures { result ≡ option_map stage_of (slice_get (steps_at (outgoing of.now) at.stage) at.step) }
+{
+    if !of.negotiated.is_sent(at.stage) {
+        return None;
+    }
+    if !has_macros(of.macros, at.stage) {
+        return if has_command(of, at.stage, at.step) {
+            Some(Some(at.stage))
+        } else {
+            None
+        };
+    }
+    if !has_command(of, at.stage, at.step / 2) {
+        return None;
+    }
+    if at.step % 2 == 0 {
+        Some(None)
+    } else {
+        Some(Some(at.stage))
     }
 }
 
@@ -135,31 +178,40 @@ fn stage_after(stage: Stage) -> Option<Stage>
     }
 }
 
-/// A command of a plan, and where it stands.
-#[derive(Drop)]
-pub(crate) struct Step<'a> {
+/// Where the first of the commands that are left stands.
+#[derive(Clone, Copy, Drop)]
+pub(crate) struct First {
     pub(crate) at: Cursor,
-    pub(crate) command: CommandRef<'a>,
+    /// Its stage; none for a macro packet.
+    pub(crate) stage: Option<Stage>,
 }
 
-/// The first command from here on, if one is left. The same commands are left from it on.
-pub(crate) fn first_from<'a>(of: &OutgoingRef<'a>, cursor: Cursor) -> Option<Step<'a>>
-    ensures command { option_map (λ step. command_of step.command) result
-        ≡ slice_get (steps_from (outgoing of.now) cursor.stage cursor.step) 0 }
-    ensures there { IfSome result (λ step. slice_get (steps_at (outgoing of.now) step.at.stage) step.at.step
-        ≡ Some (command_of step.command)) }
-    ensures left { IfSome result (λ step. steps_from (outgoing of.now) step.at.stage step.at.step
+/// Where the first command from here on stands, if one is left. The same commands are left from there on.
+pub(crate) fn first_from(of: &OutgoingRef<'_>, cursor: Cursor) -> Option<First>
+    ensures stage { option_map (λ first. first.stage) result
+        ≡ option_map stage_of (slice_get (steps_from (outgoing of.now) cursor.stage cursor.step) 0) }
+    ensures there { IfSome result (λ first. slice_get (steps_at (outgoing of.now) first.at.stage) first.at.step
+        ≡ slice_get (steps_from (outgoing of.now) cursor.stage cursor.step) 0) }
+    ensures left { IfSome result (λ first. steps_from (outgoing of.now) first.at.stage first.at.step
         ≡ steps_from (outgoing of.now) cursor.stage cursor.step) }
-    ensures within { IfSome result (λ step. step.at.step ≤ cursor.step) }
+    ensures within { IfSome result (λ first. first.at.step ≤ cursor.step) }
 {
     let mut at = cursor;
     loop {
-        if let Some(command) = step_at(of, at.stage, at.step) {
-            return Some(Step { at, command });
+        if let Some(stage) = stage_at(of, at) {
+            return Some(First { at, stage });
         }
         let stage = stage_after(at.stage)?;
         at = Cursor { stage, step: 0 };
     }
+}
+
+/// The first command from here on, if one is left.
+pub(crate) fn first_command<'a>(of: &OutgoingRef<'a>, cursor: Cursor) -> Option<CommandRef<'a>>
+    ensures { option_map command_of result ≡ slice_get (steps_from (outgoing of.now) cursor.stage cursor.step) 0 }
+{
+    let first = first_from(of, cursor)?;
+    step_at(of, first.at)
 }
 
 /// The command after this one.
@@ -194,5 +246,5 @@ pub(crate) fn has_recipient(of: &OutgoingRef<'_>, cursor: Cursor) -> bool
     requires { cursor.stage ≡ Stage.Rcpt }
     ensures { result ≡ list_any is_rcpt (steps_from (outgoing of.now) cursor.stage cursor.step) }
 {
-    step_at(of, cursor.stage, cursor.step).is_some()
+    stage_at(of, cursor).is_some()
 }

@@ -12,7 +12,7 @@ ghost use Rattle.milter_mta_transaction.specs.TransactionVerdicts.{are_all_refus
 
 use crate::acted_verdicts::{act, are_refused};
 use crate::cursor::{ClientInfo, Cursor};
-use crate::plan_cursor::{OutgoingRef, after_body, first_from, has_recipient, next};
+use crate::plan_cursor::{OutgoingRef, after_body, first_command, first_from, has_recipient, next};
 use crate::received_edits::ReceivedEdits;
 use milter_mail::{Macros, Message};
 use milter_mta_outcome::ActedVerdicts;
@@ -82,8 +82,7 @@ impl Transaction {
     pub fn command<'a>(&'a self, client_info: &'a ClientInfo) -> Option<CommandRef<'a>>
         ensures { option_map command_of result ≡ first_of (left_of client_info.now self.now) }
     {
-        let first = first_from(&self.outgoing(client_info), self.cursor)?;
-        Some(first.command)
+        first_command(&self.outgoing(client_info), self.cursor)
     }
 
     /// Passes over what isn't sent, up to the next command, and answers its stage; none for macros, and where no
@@ -97,9 +96,8 @@ impl Transaction {
         ensures sends { Sends client_info.now self.new }
     {
         let first = first_from(&self.outgoing(client_info), self.cursor)?;
-        let stage = first.command.stage();
         self.cursor = first.at;
-        stage
+        first.stage
     }
 
     /// Whether the filter answers the next command, which is found. Doesn't allocate.

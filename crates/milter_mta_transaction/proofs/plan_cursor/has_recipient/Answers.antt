@@ -1,10 +1,11 @@
-use Rattle.std.proofs.Common.{◌∙◌, ◌≡◌, is_some, slice_get}
+use Rattle.std.proofs.Common.{Option, ap, ◌∙◌, ◌≡◌, is_some, slice_get}
 use Rattle.std.specs.List.{list_any}
-use Rattle.milter_wire.specs.BorrowedCommand.{command_of}
+use Rattle.milter_wire.specs.declared.stage.Stage.{Stage}
 use Rattle.milter_protocol.specs.Dialogue.{is_rcpt}
 use Rattle.milter_mta_transaction.specs.OutgoingValue.{outgoing}
 use Rattle.milter_mta_transaction.specs.PlanCursor.{steps_at, steps_from}
-use Rattle.milter_mta_transaction.proofs.CursorSteps.{as_found, recipients_left}
+use Rattle.milter_mta_transaction.proofs.CursorSteps.{recipients_left}
+use Rattle.milter_mta_transaction.proofs.StagesFound.{is_some_mapped}
 use Rattle.milter_mta_transaction.proofs.plan_cursor.has_recipient.Goals as goal
 
 pub returns : goal.returns
@@ -12,4 +13,5 @@ returns c =
     let left : is_some (slice_get (steps_at (outgoing c.args.of.now) c.args.cursor.stage) c.args.cursor.step)
     ≡ list_any is_rcpt (steps_from (outgoing c.args.of.now) c.args.cursor.stage c.args.cursor.step) =
     rw c.requires (recipients_left (outgoing c.args.of.now) c.args.cursor.step) in
-    c.is_some.ensures ∙ as_found command_of c.step_at.result _ c.step_at.ensures ∙ left
+    c.is_some.ensures ∙ ap (λ (stage : Option (Option Stage)). is_some stage) c.stage_at.ensures
+    ∙ is_some_mapped (slice_get (steps_at (outgoing c.args.of.now) c.args.cursor.stage) c.args.cursor.step) ∙ left

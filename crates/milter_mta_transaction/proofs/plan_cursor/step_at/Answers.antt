@@ -9,18 +9,18 @@ use Rattle.milter_mta_transaction.proofs.plan_cursor.step_at.Goals as goal
 
 pub returns-then-not-is_sent : goal.returns-then-not-is_sent
 returns-then-not-is_sent c =
-    left_out _ _ (commands_of (outgoing c.args.of.now) c.args.stage) c.args.n (sym c.is_sent.ensures ∙ c.if-not-is_sent.true)
+    left_out _ _ (commands_of (outgoing c.args.of.now) c.args.at.stage) c.args.at.step (sym c.is_sent.ensures ∙ c.if-not-is_sent.true)
 
 pub returns-in-None : goal.returns-in-None
 returns-in-None c =
     c.command_at.ensures
-    ∙ plain _ _ (commands_of (outgoing c.args.of.now) c.args.stage) c.args.n (sym c.is_sent.ensures ∙ c.if-not-is_sent.false)
+    ∙ plain _ _ (commands_of (outgoing c.args.of.now) c.args.at.stage) c.args.at.step (sym c.is_sent.ensures ∙ c.if-not-is_sent.false)
     (sym (ap (λ (p : Option CommandRef). option_to_list (option_map command_of p)) c.in-None.is) ∙ c.macro_packet.ensures)
 
 pub returns-in-Some : goal.returns-in-Some
 returns-in-Some c =
     c.one_of_two.ensures
-    ∙ ap (λ command. one_of_two (command_of c.in-Some.packet) command (c.args.n % 2)) c.command_at-in-Some.ensures
-    ∙ paired _ (command_of c.in-Some.packet) _ (commands_of (outgoing c.args.of.now) c.args.stage) c.args.n
+    ∙ ap (λ command. one_of_two (command_of c.in-Some.packet) command (c.args.at.step % 2)) c.command_at-in-Some.ensures
+    ∙ paired _ (command_of c.in-Some.packet) _ (commands_of (outgoing c.args.of.now) c.args.at.stage) c.args.at.step
     (sym c.is_sent.ensures ∙ c.if-not-is_sent.false)
     (sym (ap (λ (p : Option CommandRef). option_to_list (option_map command_of p)) c.in-Some.is) ∙ c.macro_packet.ensures)
