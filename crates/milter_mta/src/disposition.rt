@@ -91,8 +91,8 @@ impl SessionState {
         Loss::Memory
     }
 
-    /// The verdicts with which the next message that waits begins, copied in a reserved list of its own. Doesn't
-    /// allocate where none waits.
+    /// The verdicts with which the next message that waits begins, copied in a list of its own. Doesn't allocate where
+    /// none waits.
     fn opened_next(&mut self, acted: &ActedVerdicts) -> Result<ActedVerdicts, NoMemory>
         ensures opened { self.old.queue.waiting ≢ [] → IfOk result (λ opened. opened ≡ on_connection acted.now) }
         ensures same { self.new ≡ self.old }
@@ -100,7 +100,7 @@ impl SessionState {
         if self.queue.len() == 0 {
             return Ok(ActedVerdicts::new(Vec::new(self.alloc)));
         }
-        let reserved = self.queue.take_reserved(self.alloc);
+        let reserved = self.queue.take_roomy(self.alloc);
         match begin_acted(self.alloc, reserved, acted.as_slice()) {
             Ok(opened) => Ok(opened),
             Err(reserved) => {

@@ -72,7 +72,7 @@ impl SessionState {
             self.lose_waiting(Loss::Memory);
             return Err(Loss::Memory);
         };
-        let acted = ActedVerdicts::new(self.queue.take_reserved(self.alloc));
+        let acted = ActedVerdicts::new(self.queue.take_roomy(self.alloc));
         *filter_connection = FilterConnection::at(self.begin(
             negotiated,
             macros,

@@ -11,6 +11,9 @@ use std::marker::Model;
 /// How many verdicts a reserved list takes without more memory: those on the client and on its greeting.
 const RESERVED_LEN: usize = 2;
 
+/// How many verdicts the list of a message under way takes without more memory: those on a message of ten header fields.
+const VERDICTS_LEN: usize = 20;
+
 /// The messages of a session that are not settled, and the reports of those that are. The memory for all reports, with
 /// room for two verdicts each, is taken at the start.
 #[derive(Debug, Drop)]
@@ -106,6 +109,17 @@ impl Queue {
         let mut reserved = self.reserved_lists.pop().unwrap_or(Vec::new(alloc));
         reserved.clear();
         reserved
+    }
+
+    /// Room for the verdicts on the message that is under way next, with memory for all of a small message where it is
+    /// given: one allocation in place of four.
+    pub(crate) fn take_roomy(&mut self, alloc: Global) -> Vec<Acted>
+        ensures same { self.new ≡ self.old }
+        ensures empty { result.items ≡ [] }
+    {
+        let mut verdicts = self.take_reserved(alloc);
+        drop(verdicts.reserve(VERDICTS_LEN));
+        verdicts
     }
 
     /// Gives back a reserved list that wasn't needed. Doesn't allocate.

@@ -13,11 +13,11 @@ use Rattle.milter_mta.proofs.session_state.SessionState.open.Goals as goal
 
 pub returns-clause-leaves : goal.returns-clause-leaves
 returns-clause-leaves c =
-    let queue = c.take_reserved.new.self in
+    let queue = c.take_roomy.new.self in
     let state : SessionState = record c.args.self.now { queue = queue } in
     let session : MailSession = session_of state.client_info queue.waiting in
     let position : Accounts → Position = λ l. opening_position c.args.negotiated (session_of state.client_info l.waiting) l.waiting in
-    let none : c.new-acted.result ≡ [] = c.new-acted.ensures ∙ c.take_reserved.ensures.empty in
+    let none : c.new-acted.result ≡ [] = c.new-acted.ensures ∙ c.take_roomy.ensures.empty in
     let at = c.begin.ensures.position
     ∙ ap (λ (acted : List Acted). begun_position Connect c.args.negotiated acted session queue.waiting) none
     ∙ begun_opening c.args.negotiated session queue.waiting in
@@ -25,4 +25,4 @@ returns-clause-leaves c =
     ap goes_on (sym (ap (λ (l : Connected). mta_of c.begin.new.self (Some l) [] []) c.at.ensures
     ∙ begun
     ∙ ap (λ (l : Accounts). record (mta_of (record c.args.self.now { queue = l }) None [] []) { filter_connection = Some (connection_at false (position l)) })
-    c.take_reserved.ensures.same))
+    c.take_roomy.ensures.same))
