@@ -1,25 +1,46 @@
 //! A stream of packets, in any pieces.
 
-ghost use Rattle.std.specs.Prelude.{◌≡◌, ◌≢◌, ◌<◌, ◌≤◌, ◌-◌, ◌++◌, ◌↔◌, [], Ok, Err, None, Some, length, min, take, IsSome, IfOk, IfSome, OnOk, OnErr, IsErrOf};
-ghost use Rattle.milter_wire_stream.specs.Stream.{Frame, IsFrame, IsUnfinished, frame_bytes, length_fault};
+ghost use Rattle.std.specs.Prelude.{◌≡◌, ◌≢◌, ◌<◌, ◌≤◌, ◌-◌, ◌+◌, ◌++◌, ◌↔◌, [], Ok, Err, None, Some, length, min, take, IsSome, IfOk, IfSome, OnOk, OnErr, IsErrOf};
+ghost use Rattle.milter_wire_stream.specs.declared.number.TheConstants.{HEAD_LEN};
+ghost use Rattle.milter_wire_stream.specs.Stream.{Frame, IsFrame, IsRest, IsUnfinished, frame_bytes, length_fault};
 ghost use Rattle.milter_wire_stream.specs.FirstPacket.{IsAtMostOnePacket, end_result, fed_len, first_packet_end};
 ghost use Rattle.std.specs.Borrow.{sem};
 ghost use Rattle.std.specs.Io.BufRead.{Rests};
 ghost use Rattle.milter_wire_stream.specs.Splitter.{LeavesUnread, frame_of};
 
 use crate::fault::{NoMemory, WireFault};
-use crate::first_packet::{fill, fill_first, length_fault, whole_packet};
+use crate::first_packet::{fill, fill_first, first_bytes, length_fault, whole_packet};
 use crate::number::PACKET_MAX;
 use std::alloc::Global;
 use std::marker::Model;
 
-/// A packet of a stream, borrowed from the splitter that it was taken from: what `decode` reads. Source: mfdef.h.
+/// A packet of a stream, borrowed from the splitter or the piece that it was taken from: what `decode` reads. Source:
+/// mfdef.h.
 #[derive(Clone, Copy, Debug, PartialEq, Eq)]
 pub struct Packet<'a> {
     /// The code of the packet.
     pub code: u8,
     /// What follows the code: at most 65,535 bytes.
     pub payload: &'a [u8],
+}
+
+impl<'a> Packet<'a> {
+    /// The packet that a piece of a stream begins with, where it is whole: borrowed from the piece, of which it is the
+    /// first bytes, `HEAD_LEN` and those of its payload. None where it isn't whole, or where its length is at fault: a
+    /// `Splitter` tells which. Doesn't allocate.
+    pub fn first_of(piece: &'a [u8]) -> Option<Packet<'a>>
+        ensures frame { IfSome result (λ p. IsFrame (frame_of p)) }
+        ensures bytes { IfSome result (λ p.
+            take (length p.payload.now + HEAD_LEN) piece.now ≡ frame_bytes (frame_of p)) }
+        ensures within { IfSome result (λ p. length p.payload.now + HEAD_LEN ≤ length piece.now) }
+        ensures none { (result ≡ None) ↔ IsRest piece.now }
+    {
+        match whole_packet(first_bytes(piece)) {
+            Ok(Some((code, payload))) => Some(Packet { code, payload }),
+            Ok(None) => None,
+            Err(_) => None,
+        }
+    }
 }
 
 /// Takes a stream in pieces of any size and hands out its packets, one at a time. It keeps at most one packet: 65,540
