@@ -8,11 +8,36 @@ ghost use Rattle.milter_filter.specs.Streams.{IsOnePacketAtMost};
 use crate::policy::Policy;
 use crate::replier::Replier;
 use milter_protocol::FilterFault;
-use milter_wire::Splitter;
+use milter_wire::{HEAD_LEN, Packet, Splitter};
 
 /// Takes bytes of a piece up to the end of one packet, replies to the packet if it is whole, and answers how many bytes
-/// were taken.
+/// were taken. A packet that is whole in the piece is read where it lies.
 fn take_packet<P: Policy>(
+    splitter: &mut Splitter,
+    replier: &mut Replier<'_, P>,
+    piece: &[u8],
+) -> Result<usize, FilterFault>
+    requires unread { IsUnread splitter.old }
+    requires serving { replier.old.order_state.state ≡ Serving }
+    ensures takes { IfOk result (λ n. TakesBytes (P.behavior replier.old.policy) replier.old splitter.old piece.now n
+        replier.new splitter.new) }
+    ensures one { IfOk result (λ n. IsOnePacketAtMost (splitter.old ++ take n piece.now)) }
+    ensures fails { IfErr result (λ fault. FailsIn (P.behavior replier.old.policy) replier.old.order_state splitter.old
+        piece.now fault splitter.new) }
+{
+    if splitter.unread() == 0 {
+        if let Some(packet) = Packet::first_of(piece) {
+            if let Err(fault) = replier.reply_to_packet(&packet) {
+                return Err(fault);
+            }
+            return Ok(packet.payload.len() + HEAD_LEN);
+        }
+    }
+    take_through_splitter(splitter, replier, piece)
+}
+
+/// The same by way of the splitter's buffer.
+fn take_through_splitter<P: Policy>(
     splitter: &mut Splitter,
     replier: &mut Replier<'_, P>,
     piece: &[u8],

@@ -1,85 +1,46 @@
-use Rattle.std.proofs.Common.{◌++◌, take, Ok, sym, ◌∙◌, ap, subst, arith}
-use Rattle.milter_wire_stream.specs.FirstPacket.{fed_len}
+use Rattle.std.proofs.Common.{◌≡◌, ◌+◌, ◌++◌, [], length, take, refl, sym, ◌∙◌, ap, arith}
+use Rattle.std.proofs.lemmas.List.{nil_from_length}
 use Rattle.milter_wire_stream.specs.Splitter.{frame_of}
-use Rattle.milter_wire_stream.specs.Stream.{IsUnfinished}
-use Rattle.milter_filter.specs.AnswerPackets.{IsUnread}
-use Rattle.milter_filter.proofs.FirstReplies.{serves}
-use Rattle.milter_filter.proofs.LengthFaults.{fed-bytes, fed-count, field-unread, no-bytes, piece-bytes}
-use Rattle.milter_filter.proofs.PieceStreams.{length-gives_up, one-packet, one-unfinished, packet-gives_up, replied-packet, replied-unfinished, rest-packet, rest-unfinished}
+use Rattle.milter_wire_stream.specs.Stream.{frame_bytes}
+use Rattle.milter_filter.proofs.PieceStreams.{one-packet, packet-gives_up, replied-packet, rest-packet}
 use Rattle.milter_filter.proofs.pieces.take_packet.Goals as goal
 
 pub returns-in-Err-clause-fails : goal.returns-in-Err-clause-fails
 returns-in-Err-clause-fails g c =
     let s = c.args.replier.now.order_state in
     let b = g.P.Policy.behavior c.args.replier.now.policy in
-    let unread = c.args.splitter.now in
-    let is = (c.next.ensures.fault c.in-Err.fault).0 c.in-Err.is in
-    let piece = piece-bytes c.args.piece.now (λ i. omega (arith, c.type_inv.piece i)) in
-    let bytes = fed-bytes unread c.args.piece.now c.feed.new.self c.in_ok-taken.taken c.requires.unread.1 piece c.in_ok-taken.ensures.taken in
-    let count = fed-count c.in_ok-taken.taken (fed_len unread c.args.piece.now) c.in_ok-taken.ensures.count in
-    let left = rw c.in-Err.is at c.next.follows.holds-at-none in
+    let f = frame_of c.in-Some.packet in
+    let n = length c.in-Some.packet.payload.now + 5 in
+    let empty : c.args.splitter.now ≡ [] = nil_from_length c.args.splitter.now (omega (arith, c.unread.ensures.unread, c.if-unread-eq0.true)) in
+    let fed : frame_bytes f ≡ c.args.splitter.now ++ take n c.args.piece.now = rw empty (sym c.in-Some.ensures.bytes) in
+    let fails = c.in-Err.ensures.fails in
     record {
-      left_is = left ∙ field-unread unread c.args.piece.now c.feed.new.self c.in_ok-taken.taken c.in-Err.fault c.requires.unread.0 bytes count c.in_ok-taken.ensures.taken is;
-      cause = λ other. length-gives_up b s unread c.args.piece.now c.feed.new.self c.in_ok-taken.taken c.in_ok-taken.ensures.taken c.in-Err.fault c.requires.serving is;
+      left_is = empty ∙ sym fails.no_length;
+      cause = λ other. packet-gives_up b s c.args.splitter.now c.args.piece.now (frame_bytes f) n fed f c.in-Err.fault refl c.in-Some.ensures.frame (fails.failed other) (fails.silent other);
     }
 
-pub returns-in-Ok-None-clause-takes : goal.returns-in-Ok-None-clause-takes
-returns-in-Ok-None-clause-takes g c =
+pub returns-in-Some-clause-takes : goal.returns-in-Some-clause-takes
+returns-in-Some-clause-takes g c =
     let b = g.P.Policy.behavior c.args.replier.now.policy in
-    let bytes = c.args.splitter.now ++ take c.in_ok-taken.taken c.args.piece.now in
-    let unfinished = (c.next.ensures.none).0 (c.in-Ok-None.is ∙ ap Ok c.in-Ok-None.field-0-is) in
-    let whole = subst IsUnfinished c.in_ok-taken.ensures.taken unfinished in
-    let left = rw (c.in-Ok-None.is, c.in-Ok-None.field-0-is) at c.next.follows.holds-at-none in
-    let piece = piece-bytes c.args.piece.now (λ i. omega (arith, c.type_inv.piece i)) in
+    let f = frame_of c.in-Some.packet in
+    let n = length c.in-Some.packet.payload.now + 5 in
+    let bytes = c.args.splitter.now ++ take n c.args.piece.now in
+    let fits = c.in-Some.ensures.frame in
+    let empty : c.args.splitter.now ≡ [] = nil_from_length c.args.splitter.now (omega (arith, c.unread.ensures.unread, c.if-unread-eq0.true)) in
+    let whole : bytes ≡ frame_bytes f = rw empty c.in-Some.ensures.bytes in
     record {
-      within = c.in_ok-taken.ensures.within;
-      progress = c.in_ok-taken.ensures.progress c.requires.unread.0;
-      replied = replied-unfinished b c.args.replier.now bytes whole;
-      left_is = left ∙ c.in_ok-taken.ensures.taken ∙ rest-unfinished bytes whole;
-      is_unread =
-          subst IsUnread (sym left)
-          (unfinished, fed-bytes c.args.splitter.now c.args.piece.now c.feed.new.self c.in_ok-taken.taken c.requires.unread.1 piece c.in_ok-taken.ensures.taken);
-      going = λ fault failed. serves fault (sym c.requires.serving ∙ failed);
+      within = c.in-Some.ensures.within;
+      progress = λ some. omega arith;
+      replied = replied-packet b c.args.replier.now f bytes c.reply_to_packet.new.self fits whole c.in_default-reply_to_packet.ensures.replied;
+      left_is = empty ∙ rest-packet f bytes fits whole;
+      is_unread = c.requires.unread;
+      going = c.in_default-reply_to_packet.ensures.going;
     }
 
-pub returns-in-Ok-None-clause-one : goal.returns-in-Ok-None-clause-one
-returns-in-Ok-None-clause-one g c =
-    let bytes = c.args.splitter.now ++ take c.in_ok-taken.taken c.args.piece.now in
-    let unfinished = (c.next.ensures.none).0 (c.in-Ok-None.is ∙ ap Ok c.in-Ok-None.field-0-is) in
-    one-unfinished bytes (subst IsUnfinished c.in_ok-taken.ensures.taken unfinished)
-
-pub returns-in-Err-reply_to_packet-clause-fails : goal.returns-in-Err-reply_to_packet-clause-fails
-returns-in-Err-reply_to_packet-clause-fails g c =
-    let s = c.args.replier.now.order_state in
-    let b = g.P.Policy.behavior c.args.replier.now.policy in
-    let handed = rw c.in-Ok-Some.field-0-is at c.in-Ok-Some.ensures.packet in
-    let left = rw (c.in-Ok-Some.is, c.in-Ok-Some.field-0-is) at c.next.follows.holds-at-none in
-    let fails = c.in-Err-reply_to_packet.ensures.fails in
-    record {
-      left_is = left ∙ sym fails.no_length;
-      cause = λ other. packet-gives_up b s c.args.splitter.now c.args.piece.now c.feed.new.self c.in_ok-taken.taken c.in_ok-taken.ensures.taken (frame_of c.in-Ok-Some.packet) c.in-Err-reply_to_packet.fault
-          handed.1 handed.0 (fails.failed other) (fails.silent other);
-    }
-
-pub returns-in_default-clause-takes : goal.returns-in_default-clause-takes
-returns-in_default-clause-takes g c =
-    let b = g.P.Policy.behavior c.args.replier.now.policy in
-    let f = frame_of c.in-Ok-Some.packet in
-    let bytes = c.args.splitter.now ++ take c.in_ok-taken.taken c.args.piece.now in
-    let handed = rw c.in-Ok-Some.field-0-is at c.in-Ok-Some.ensures.packet in
-    let whole = sym c.in_ok-taken.ensures.taken ∙ handed.1 in
-    let left = rw (c.in-Ok-Some.is, c.in-Ok-Some.field-0-is) at c.next.follows.holds-at-none in
-    record {
-      within = c.in_ok-taken.ensures.within;
-      progress = c.in_ok-taken.ensures.progress c.requires.unread.0;
-      replied = replied-packet b c.args.replier.now f bytes c.reply_to_packet.new.self handed.0 whole c.in_default.ensures.replied;
-      left_is = left ∙ rest-packet f bytes handed.0 whole;
-      is_unread = subst IsUnread (sym left) (tt, no-bytes);
-      going = c.in_default.ensures.going;
-    }
-
-pub returns-in_default-clause-one : goal.returns-in_default-clause-one
-returns-in_default-clause-one g c =
-    let bytes = c.args.splitter.now ++ take c.in_ok-taken.taken c.args.piece.now in
-    let handed = rw c.in-Ok-Some.field-0-is at c.in-Ok-Some.ensures.packet in
-    one-packet (frame_of c.in-Ok-Some.packet) bytes handed.0 (sym c.in_ok-taken.ensures.taken ∙ handed.1)
+pub returns-in-Some-clause-one : goal.returns-in-Some-clause-one
+returns-in-Some-clause-one g c =
+    let f = frame_of c.in-Some.packet in
+    let n = length c.in-Some.packet.payload.now + 5 in
+    let empty : c.args.splitter.now ≡ [] = nil_from_length c.args.splitter.now (omega (arith, c.unread.ensures.unread, c.if-unread-eq0.true)) in
+    let whole : c.args.splitter.now ++ take n c.args.piece.now ≡ frame_bytes f = rw empty c.in-Some.ensures.bytes in
+    one-packet f (c.args.splitter.now ++ take n c.args.piece.now) c.in-Some.ensures.frame whole
