@@ -12,7 +12,7 @@ ghost use Rattle.milter_mta.specs.Dispositions.{lost};
 use crate::filter_connection::FilterConnection;
 use crate::session_state::SessionState;
 use milter_mta_outcome::{Loss, MtaFault};
-use milter_wire::{Packet, Reply, Splitter, WireFault};
+use milter_wire::{HEAD_LEN, Packet, Reply, Splitter, WireFault};
 
 /// The loss by a packet that can't be read, or for which memory was refused.
 fn loss_of(fault: WireFault) -> Loss
@@ -56,8 +56,35 @@ impl SessionState {
         }
     }
 
-    /// Takes bytes up to the end of one packet, while a reply is awaited. Answers how many.
+    /// Takes bytes up to the end of one packet, while a reply is awaited. Answers how many. A packet that is whole in
+    /// the piece is read where it lies.
     fn feed_some(
+        &mut self,
+        splitter: &mut Splitter,
+        filter_connection: &mut FilterConnection,
+        piece: &[u8],
+    ) -> Result<usize, Loss>
+        requires consistent { IsConsistent self.old (Some filter_connection.old) }
+        requires owed { filter_connection.old.owed ≡ true }
+        requires unfinished { IsUnfinished splitter.old }
+        requires some { 0 < length piece.now }
+        ensures taken { IfOk result (λ taken. (0 < taken) × (taken ≤ length piece.now)) }
+        ensures receives_bytes { ReceivesSome (mta_of self.old (Some filter_connection.old) [] splitter.old) piece.now
+            (mta_after self.new filter_connection.new splitter.new result) result }
+        ensures unfinished { OnOk result (IsUnfinished splitter.new) }
+        ensures consistent { IsConsistentAfter self.new filter_connection.new result }
+    {
+        if splitter.unread() == 0 {
+            if let Some(packet) = Packet::first_of(piece) {
+                self.receive_packet(filter_connection, &packet)?;
+                return Ok(packet.payload.len() + HEAD_LEN);
+            }
+        }
+        self.feed_through_splitter(splitter, filter_connection, piece)
+    }
+
+    /// The same by way of the splitter's buffer.
+    fn feed_through_splitter(
         &mut self,
         splitter: &mut Splitter,
         filter_connection: &mut FilterConnection,

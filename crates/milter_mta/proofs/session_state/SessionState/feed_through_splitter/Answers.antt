@@ -6,7 +6,7 @@ use Rattle.milter_mta.specs.CoreParts.{mta_of}
 use Rattle.milter_mta.specs.Cores.{ReceivesBytes}
 use Rattle.milter_mta.specs.Replies.{goes_on}
 use Rattle.milter_mta.proofs.FedPieces.{received-kept, received-reply, receives_bytes-fault, receives_bytes-refused, receives_bytes-reply}
-use Rattle.milter_mta.proofs.session_state.SessionState.feed_some.Goals as goal
+use Rattle.milter_mta.proofs.session_state.SessionState.feed_through_splitter.Goals as goal
 
 pub returns-in_default-clause-receives_bytes : goal.returns-in_default-clause-receives_bytes
 returns-in_default-clause-receives_bytes c =
