@@ -12,10 +12,9 @@ use Rattle.milter_mta_outcome.specs.declared.outcome.Outcome.{Outcome}
 use Rattle.milter_mta_outcome.specs.declared.outcome.Outcome.TheVariants.{Released, Discarded, Refused, NoRecipients, RefusedAtConnection}
 use Rattle.milter_mta_reports.specs.ReportsText.{released_text}
 use Rattle.milter_text.specs.WrittenText.{WritesPrefix, WritesText}
-use Rattle.milter_text.specs.TextWriter.{Puts, WritesAllBut, buffered, written_bytes}
+use Rattle.milter_text.specs.TextWriter.{WritesAllBut}
 use Rattle.milter_text.specs.declared.text_fault.TextFault.{TextFault}
-use Rattle.milter_text.specs.declared.text_writer.TextWriter.{TextWriter}
-use Rattle.milter_text.proofs.Writing.{flat_map-next, Puts-appends, Puts-prefix}
+use Rattle.milter_text.proofs.Writing.{flat_map-next}
 
 -- ---- a part of a text after those that were written
 
@@ -62,27 +61,6 @@ last_is_written u (Err e) part s p is = part_is_cut part [] s p (is ∙ sym (app
 pub is_written : (text : List ℕ) (v u : Option (List ℕ)) (r : Result Unit TextFault) → OnOk r (Appends v u text) → OnErr r (WritesPrefix text v u) → WritesText text v u r
 is_written text v u (Ok k) done begun = done
 is_written text v u (Err e) done begun = begun
-
--- and its result by that
-pub on_ok : (text : List ℕ) (v u : Option (List ℕ)) (r : Result Unit TextFault) → WritesText text v u r → OnOk r (Appends v u text)
-on_ok text v u (Ok k) w = w
-on_ok text v u (Err e) w = tt
-
-pub on_err : (text : List ℕ) (v u : Option (List ℕ)) (r : Result Unit TextFault) → WritesText text v u r → OnErr r (WritesPrefix text v u)
-on_err text v u (Ok k) w = tt
-on_err text v u (Err e) w = w
-
--- ---- a text that is put, and written with the last flush
-
-pub put_is_written : {W : Type 0} (contents : W → Option (List ℕ)) (text : List ℕ) (old new : TextWriter W) (r : Result Unit TextFault)
-    → Puts contents text old new r → buffered old ≡ [] → OnOk r (buffered new ≡ []) → WritesText text (written_bytes contents old) (written_bytes contents new) r
-put_is_written contents text old new (Ok u) p empty flushed = Puts-appends contents text old new (Ok u) p empty flushed
-put_is_written contents text old new (Err e) p empty flushed = Puts-prefix contents text old new (Err e) p empty
-
-pub put_is_cut : {W : Type 0} (contents : W → Option (List ℕ)) (text : List ℕ) (old new : TextWriter W) (r : Result Unit TextFault) (e : TextFault)
-    → Puts contents text old new (Err e) → IsErr r → buffered old ≡ [] → WritesText text (written_bytes contents old) (written_bytes contents new) r
-put_is_cut contents text old new (Ok u) e p fails empty = absurd (cc)
-put_is_cut contents text old new (Err f) e p fails empty = Puts-prefix contents text old new (Err e) p empty
 
 -- ---- numbered elements
 

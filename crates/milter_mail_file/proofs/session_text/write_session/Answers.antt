@@ -1,33 +1,22 @@
-use Rattle.std.proofs.Common.{◌≡◌, [], append-nil, refl, rules, sym}
+use Rattle.std.proofs.Common.{◌≡◌, rules}
 use Rattle.milter_mail_file.specs.SessionText.{session_text}
-use Rattle.milter_text.proofs.Writing.{Progress-fail, Progress-last, Progress-next, Progress-none, Puts-appends, Puts-prefix}
+use Rattle.milter_text.proofs.Writing.{on_err, on_ok, text_is_cut, text_is_flushed}
 use Rattle.milter_mail_file.proofs.session_text.write_session.Goals as goal
 
 pub returns-in_err-put_session-clause-begun : goal.returns-in_err-put_session-clause-begun
 returns-in_err-put_session-clause-begun g c =
-    let contents = g.W.Write.contents in
-    let text = session_text c.args.session.now in
     let same : c.put_session.new.output.writer.now ≡ c.writer-1.given.0 = search rules in
-    let puts = Progress-fail _ _ _ text [] Progress-none c.in_err-put_session.ensures c.from_residual.ensures.0 (sym (append-nil text)) in
-    let prefix = Puts-prefix contents text _ _ _ puts c.new-output.ensures.empty in
-    rw (c.new-output.ensures.contents, same) at prefix
+    let cut = on_err _ _ _ _ (text_is_cut g.W.Write.contents (session_text c.args.session.now) _ _ _ _ c.in_err-put_session.ensures c.from_residual.ensures.0 c.new-output.ensures.empty) in
+    rw (c.new-output.ensures.contents, same) at cut
 
 pub returns-clause-done : goal.returns-clause-done
 returns-clause-done g c =
-    let contents = g.W.Write.contents in
-    let text = session_text c.args.session.now in
     let same : c.flush.new.self.writer.now ≡ c.writer-2-1.given.0 = search rules in
-    let put = Progress-next text [] Progress-none c.in_ok-put_session.ensures (sym (append-nil text)) in
-    let puts = Progress-last _ _ [] put c.flush.ensures.puts refl in
-    let all = Puts-appends contents text _ _ _ puts c.new-output.ensures.empty c.flush.ensures.empty in
+    let all = on_ok _ _ _ _ (text_is_flushed g.W.Write.contents (session_text c.args.session.now) _ _ _ _ c.in_ok-put_session.ensures c.flush.ensures.puts c.new-output.ensures.empty c.flush.ensures.empty) in
     rw (c.new-output.ensures.contents, same) at all
 
 pub returns-clause-begun : goal.returns-clause-begun
 returns-clause-begun g c =
-    let contents = g.W.Write.contents in
-    let text = session_text c.args.session.now in
     let same : c.flush.new.self.writer.now ≡ c.writer-2-1.given.0 = search rules in
-    let put = Progress-next text [] Progress-none c.in_ok-put_session.ensures (sym (append-nil text)) in
-    let puts = Progress-last _ _ [] put c.flush.ensures.puts refl in
-    let prefix = Puts-prefix contents text _ _ _ puts c.new-output.ensures.empty in
-    rw (c.new-output.ensures.contents, same) at prefix
+    let begun = on_err _ _ _ _ (text_is_flushed g.W.Write.contents (session_text c.args.session.now) _ _ _ _ c.in_ok-put_session.ensures c.flush.ensures.puts c.new-output.ensures.empty c.flush.ensures.empty) in
+    rw (c.new-output.ensures.contents, same) at begun
