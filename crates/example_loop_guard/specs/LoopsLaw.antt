@@ -1,12 +1,10 @@
 -- The guard against loops keeps to the rules of policies.
-use Rattle.std.specs.Prelude.{◌≡◌, ◌≢◌, ◌≤◌, ℕ, zero, suc, nat_lt, Bool, true, false, List, [], ◌∷◌, length, refl, if◌then◌else◌}
+use Rattle.std.specs.Prelude.{◌≡◌, ◌≢◌, ◌≤◌, ℕ, zero, suc, nat_lt, Bool, true, false, List, [], ◌∷◌, refl, if◌then◌else◌}
 use Rattle.std.specs.List.{sum_by}
 use Rattle.std.proofs.Common.{arith, sym, true≢false}
 use Rattle.std.proofs.lemmas.List.Elements.{All-cons, All-nil}
-use Rattle.milter_wire_stream.specs.declared.number.TheConstants.{PAYLOAD_MAX}
 use Rattle.milter_wire_stream.specs.Number.{number}
 use Rattle.milter_wire_fields.specs.Field.{HasNoNul}
-use Rattle.milter_wire_options.specs.Payload.{SymListFits, options_with_lists}
 use Rattle.milter_wire.specs.declared.reply.Reply.TheVariants as replies
 use Rattle.milter_wire.specs.declared.stage.Stage.{Stage}
 use Rattle.milter_wire.specs.declared.stage.Stage.TheVariants.{Eob}
@@ -18,6 +16,7 @@ use Rattle.milter_message.specs.declared.message.TheConstants.{WEIGHT_MAX}
 use Rattle.milter_message.specs.EditReplies.{reply_of, weight_of}
 use Rattle.milter_protocol.specs.Seen.{Seen}
 use Rattle.milter_protocol.specs.Lawful.{AnswerFits, IsLawful, WantsWithin}
+use Rattle.milter_protocol.specs.LawfulParts.{continue_fits, continue_is_lawful, options_fit}
 use Rattle.example_loop_guard.specs.Loops.{answer_at, hops, loop_guard, mark, passed, refused, too_many_hops}
 
 -- an edit that a packet has room for
@@ -25,20 +24,6 @@ abbrev EditFits : Edit → Type 0
 EditFits edit = Fits (reply_of edit)
 
 -- ---- what it wants
-
-options_len : length (options_with_lists loop_guard.wants []) ≤ PAYLOAD_MAX
-unfolding number
-options_len = omega arith
-
-options_fit : Fits (replies.Options loop_guard.wants loop_guard.lists)
-options_fit =
-    record {
-      fields = record {
-        options = record { version = omega arith; actions = omega arith; protocol = omega arith };
-        lists = All-nil SymListFits;
-      };
-      payload = options_len;
-    }
 
 wants_within : WantsWithin loop_guard
 wants_within =
@@ -48,7 +33,8 @@ wants_within =
       actions = refl;
       protocol = refl;
       lists = λ some. absurd (some refl);
-      reply = options_fit;
+      reply = options_fit loop_guard.wants
+          (record { version = omega arith; actions = omega arith; protocol = omega arith });
     }
 
 -- ---- what it answers
@@ -66,9 +52,6 @@ no_nul (zero ∷ text) none = absurd (true≢false (sym none))
 no_nul (suc byte ∷ text) none =
     let some : suc byte ≢ 0 = omega arith in
     All-cons (λ byte. byte ≢ 0) (suc byte) text some (no_nul text none)
-
-continue_fits : Fits replies.Continue
-continue_fits = record { fields = tt; payload = omega arith }
 
 code_fits : Fits (verdicts.reply_of refused.verdict)
 code_fits = record { fields = record { no_nul = no_nul too_many_hops refl; form = refl }; payload = omega arith }
@@ -110,14 +93,7 @@ end_fits false = passed_fits
 
 answers_fit : (stage : Stage) (seen : Seen) → AnswerFits stage (answer_at stage seen)
 answers_fit Eob seen = end_fits (nat_lt 50 (hops seen))
-answers_fit other seen =
-    record {
-      at_end = λ other. refl;
-      given = refl;
-      verdict = continue_fits;
-      edits = All-nil EditFits;
-      weight = omega arith;
-    }
+answers_fit other seen = continue_is_lawful other
 
 pub loop_guard_is_lawful : IsLawful loop_guard
 loop_guard_is_lawful = record { wants = wants_within; answers = answers_fit }

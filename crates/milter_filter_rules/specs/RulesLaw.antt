@@ -28,6 +28,7 @@ use Rattle.milter_message.specs.EditReplies.{weight_of}
 use Rattle.milter_protocol.specs.Seen.{Seen}
 use Rattle.milter_protocol.specs.declared.answer.Answer.{Answer}
 use Rattle.milter_protocol.specs.Lawful.{AnswerFits, IsLawful, WantsWithin}
+use Rattle.milter_protocol.specs.LawfulParts.{continue_fits}
 use Rattle.milter_filter_rules.specs.declared.rule.Action.{Action}
 use Rattle.milter_filter_rules.specs.declared.rule.Action.TheVariants as actions
 use Rattle.milter_filter_rules.specs.declared.rule.Condition.{Condition}
@@ -125,9 +126,6 @@ record FitsAmong (stage : Stage) (rules : List Rule) (answer : Answer) : Type 0 
   pub verdict : Fits (verdict_replies.reply_of answer.verdict)
   pub edits : All (λ edit. Fits (edit_replies.reply_of edit)) answer.edits
   pub weight : sum_by weight_of answer.edits ≤ edits_weight rules
-
-continue_fits : Fits replies.Continue
-continue_fits = record { fields = tt; payload = omega arith }
 
 no_edit_fits : All (λ edit. Fits (edit_replies.reply_of edit)) []
 no_edit_fits = All-nil (λ (edit : Edit). Fits (edit_replies.reply_of edit))

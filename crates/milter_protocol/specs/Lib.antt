@@ -5,6 +5,7 @@ pub mod Exchanges
 pub mod Seen
 pub mod Behavior
 pub mod Lawful
+pub mod LawfulParts
 pub mod Dialogue
 pub mod FilterFault
 pub mod Commands
