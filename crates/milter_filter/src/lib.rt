@@ -24,8 +24,9 @@ pub use milter_filter_search::{Pattern, Test, TextCase};
 pub use milter_protocol::{
     ACTIONS_MAX, Answer, CommandOrder, Edits, FilterFault, FilterState, PROTOCOL_MAX, VERSION_MAX,
 };
+pub use milter_wire::read_buffer;
 pub use pass::Pass;
 pub use policy::Policy;
 pub use seen::Seen;
 pub use served::Served;
-pub use stream_server::{read_buffer, serve, serve_in_order, serving_limits};
+pub use stream_server::{serve, serve_in_order, serving_limits};

@@ -1,6 +1,6 @@
 //! A filter's end of a connection over a reader and a writer.
 
-ghost use Rattle.std.specs.Prelude.{◌≡◌, ◌<◌, ◌↔◌, [], IfErr, IfOk, IsTrue, OnOk, length};
+ghost use Rattle.std.specs.Prelude.{◌≡◌, ◌<◌, ◌↔◌, [], IfErr, IsTrue, OnOk, length};
 ghost use Rattle.milter_wire_stream.specs.Stream.{IsUnfinished};
 ghost use Rattle.milter_protocol.specs.declared.filter_state.FilterState.TheVariants.{Quit, Serving};
 ghost use Rattle.milter_protocol.specs.declared.command_order.CommandOrder.TheVariants.{Strict};
@@ -12,11 +12,10 @@ use crate::filter_core::FilterCore;
 use crate::policy::Policy;
 use crate::served::Served;
 use milter_protocol::{CommandOrder, FilterFault, FilterState};
-use std::alloc::{AllocError, Global};
+use milter_wire::{READ_LEN_MAX, read_buffer};
+use std::alloc::Global;
 use std::io::{Read, Write};
 
-/// The most bytes that are read at once.
-const READ_LEN_MAX: usize = 65_536;
 /// The most reads of one connection.
 const READS_MAX: u64 = 1_073_741_824;
 
@@ -61,13 +60,6 @@ pub fn serve_in_order<P: Policy, R: Read, W: Write>(
         Ok(mut core) => serve_reads(&mut core, buffer.as_mut_slice(), reader, writer),
         Err(_) => Served::Failed(FilterFault::NoMemory),
     }
-}
-
-/// A buffer for what is read at once, of 65,536 bytes.
-pub fn read_buffer(alloc: Global) -> Result<Vec<u8>, AllocError>
-    ensures { IfOk result (λ buffer. length buffer.items ≡ READ_LEN_MAX) }
-{
-    vec![in alloc; 0u8; READ_LEN_MAX]
 }
 
 /// Serves a connection of which nothing has come.

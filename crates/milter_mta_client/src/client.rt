@@ -1,6 +1,6 @@
 //! How a mail server's end is driven over connections to filters, until every message is settled.
 
-ghost use Rattle.std.specs.Prelude.{◌≡◌, ◌↔◌, IfOk, IsTrue, length};
+ghost use Rattle.std.specs.Prelude.{◌≡◌, ◌↔◌, IsTrue};
 ghost use Rattle.milter_mta.specs.declared.want.Want.TheVariants as wants;
 ghost use Rattle.milter_mta.specs.Output.{want};
 ghost use Rattle.milter_mta_client.specs.ClientRuns.{Converses, first_events};
@@ -13,10 +13,8 @@ use crate::laws::{events_keep_to_dialogues, events_report_connections};
 use milter_mta::{MtaCore, Reports, Want};
 use milter_mta_laws::messages_are_settled_by_dialogues;
 use milter_mta_outcome::Loss;
-use std::alloc::{AllocError, Global};
-
-/// The most bytes that are read at once.
-const BUFFER_LEN: usize = 65_536;
+use milter_wire::read_buffer;
+use std::alloc::Global;
 
 /// Plays a session to filters over the connections that `dial` makes, until every message is settled, and answers what
 /// became of each. All memory but what the core takes itself is a buffer of 65,536 bytes; where that is refused nothing
@@ -37,18 +35,11 @@ pub fn converse<D: Dial>(alloc: Global, core: MtaCore, dial: &mut D) -> Reports
     messages_are_settled_by_dialogues();
     let mut core = core;
     give_up_connection(&mut core);
-    match take_buffer(alloc) {
+    match read_buffer(alloc) {
         Ok(mut buffer) => drive_all(&mut core, dial, buffer.as_mut_slice()),
         Err(_) => give_up_messages(&mut core),
     }
     core.finish()
-}
-
-/// The buffer for what is read at once.
-fn take_buffer(alloc: Global) -> Result<Vec<u8>, AllocError>
-    ensures { IfOk result (λ buffer. length buffer.items ≡ BUFFER_LEN) }
-{
-    vec![in alloc; 0u8; BUFFER_LEN]
 }
 
 /// Gives up a connection that was made before.

@@ -1,6 +1,6 @@
 //! The subcommand `trace`: from the lines of a trace to a line for each packet.
 
-ghost use Rattle.std.specs.Prelude.{◌≡◌, ◌≢◌, ◌≤◌, ◌<◌, ◌+◌, ◌++◌, ◌^◌, List, ℕ, [], None, Some, length, IfOk, IfErr, OnOk, OnErr, IsErrOf, IsTrue, ◌↔◌};
+ghost use Rattle.std.specs.Prelude.{◌≡◌, ◌≢◌, ◌≤◌, ◌<◌, ◌+◌, ◌++◌, ◌^◌, List, ℕ, [], None, Some, length, IfErr, OnOk, OnErr, IsErrOf, IsTrue, ◌↔◌};
 ghost use Rattle.std.specs.Io.KnownBytes.{Appends, IsAtEnd};
 ghost use Rattle.milter_text.specs.Lines.{lines_of};
 ghost use Rattle.milter_text.specs.WrittenText.{WritesPrefix};
@@ -14,11 +14,9 @@ ghost use Rattle.milter_trace.specs.TraceWriting.{EndsTrace, EndsWithFault, IsIn
 use crate::fault::TraceFault;
 use crate::line_assembler::LineAssembler;
 use milter_text::write_text;
-use std::alloc::{AllocError, Global};
+use milter_wire::{READ_LEN_MAX, read_buffer};
+use std::alloc::Global;
 use std::io::{Read, Write};
-
-/// The bytes that one read asks for.
-const READ_SIZE: usize = 65_536;
 
 /// The reads after which a trace gives up.
 const READ_MAX: u64 = 1_073_741_824;
@@ -54,7 +52,7 @@ pub fn trace_run<R: Read, W: Write>(
     // The input of a trace that gives up is that long. How many reads there were is not stated.
     ensures long_input { IsErrOf result TraceFault.TurnLimit → HasBytes read_max (R.remaining reader.old) }
 {
-    let mut room = make_room(alloc)?;
+    let mut room = read_buffer(alloc)?;
     let mut assembler = LineAssembler::new(alloc)?;
     run(&mut assembler, &mut room, reader, writer)
 }
@@ -66,7 +64,7 @@ fn run<R: Read, W: Write>(
     writer: &mut W,
 ) -> Result<(), TraceFault>
     requires initial { IsInitial assembler.old }
-    requires room { length room.old ≡ READ_SIZE }
+    requires room { length room.old ≡ READ_LEN_MAX }
     ensures done { OnOk result (WritesTraceOf None (R.remaining reader.old)
         (W.contents writer.old) (W.contents writer.new)) }
     ensures unread { OnOk result (IsAtEnd (R.remaining reader.new)) }
@@ -86,13 +84,6 @@ fn run<R: Read, W: Write>(
         print_piece(assembler, &room[..count], writer)?;
     }
     Err(TraceFault::TurnLimit)
-}
-
-/// Room for what a read gives. Its contract leaves out what the bytes are, so that no proof computes them.
-fn make_room(alloc: Global) -> Result<Vec<u8>, AllocError>
-    ensures { IfOk result (λ room. length room.items ≡ READ_SIZE) }
-{
-    vec![in alloc; 0u8; READ_SIZE]
 }
 
 /// Writes what the lines print that end in this piece.

@@ -6,6 +6,7 @@
 //! here reads, writes or waits.
 #![tactic(auto)]
 
+mod buffer;
 pub mod codes;
 mod command;
 mod command_ref;
@@ -16,6 +17,7 @@ mod reply;
 mod stage;
 mod verdict;
 
+pub use buffer::{READ_LEN_MAX, read_buffer};
 pub use command::Command;
 pub use command_ref::CommandRef;
 pub use laws::{

@@ -10,14 +10,14 @@ use Rattle.milter_mta_client.proofs.client.converse.Goals.{in-Err, in-Ok}
 pub returns : goal.returns
 returns g c =
     let begun = c.give_up_connection.new.core in
-    let last = c.match-take_buffer.core in
+    let last = c.match-read_buffer.core in
     let steps : Steps begun last =
-    elim c.match-take_buffer.branch [
+    elim c.match-read_buffer.branch [
       | in-Ok w ↦ subst (Steps begun) (sym w.core-is) w.drive_all.ensures.steps
       | in-Err w ↦ subst (Steps begun) (sym w.core-is) w.give_up_messages.ensures.steps
     ] in
     let done : want last ≡ wants.Done =
-    elim c.match-take_buffer.branch [
+    elim c.match-read_buffer.branch [
       | in-Ok w ↦ subst (λ (m : Mta). want m ≡ wants.Done) (sym w.core-is) w.drive_all.ensures.done
       | in-Err w ↦ subst (λ (m : Mta). want m ≡ wants.Done) (sym w.core-is) w.give_up_messages.ensures.done
     ] in
