@@ -10,7 +10,6 @@ use Rattle.milter_wire_fields.specs.Field.{HasNoNul}
 use Rattle.milter_wire_fields.specs.Layout.{ArgumentsFit, HeaderFits, IndexedFits, AddressedFits, is_reply_code}
 use Rattle.milter_wire_options.specs.Payload.{SymListFits}
 use Rattle.milter_wire_options.specs.declared.symbol_lists.SymList.{SymList}
-use Rattle.milter_wire.specs.declared.reply.Reply.TheVariants as replies
 use Rattle.milter_wire.specs.declared.stage.Stage.{Stage}
 use Rattle.milter_wire.specs.declared.stage.Stage.TheVariants as stages
 use Rattle.milter_wire.specs.declared.verdict.Verdict.{Verdict}
