@@ -28,7 +28,7 @@ pub use lengths::{
     connect_packet_len, header_packet_len, helo_packet_len, macro_packet_len, path_packet_len,
 };
 pub use milter_wire_fields::{
-    Client, ClientRef, Header, HeaderRef, Origin, OriginRef, Pair, PairRef, Pairs, PairsRef,
+    Client, ClientRef, Header, HeaderRef, List, Origin, OriginRef, Pair, PairRef, Pairs, PairsRef,
     Params, ParamsRef, Path, PathRef, Text, arguments_len, has_no_nul, header_len, pair_len,
     string_len,
 };

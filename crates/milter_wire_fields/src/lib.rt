@@ -27,7 +27,7 @@ pub use client::{Client, ClientRef, Origin, OriginRef};
 pub use header::{
     Header, HeaderRef, header_fits, header_len, put_header, put_indexed, take_header, take_indexed,
 };
-pub use lists::{Pairs, Params};
+pub use lists::{List, Pairs, Params};
 pub use pair::{Pair, PairRef, pair_len, pairs_fit, pairs_len};
 pub use path::{Path, PathRef};
 pub use reply_code::{is_reply_code, take_reply_code};

@@ -1,115 +1,96 @@
-//! Lists as packets carry them: each is made of its `Vec`, and borrowed as a slice.
+//! Lists as packets and ends carry them: each is made of its `Vec`, and borrowed as a slice.
 
-ghost use Rattle.std.specs.Prelude.{◌≡◌, List, ℕ, nat_eq};
-ghost use Rattle.std.specs.Cmp.{partial_equiv_from_equiv};
-ghost use Rattle.std.specs.Cmp.Lexicographic.{pointwise, lists_equiv, nat_list_eq_equiv};
-ghost use Rattle.milter_wire_fields.specs.Pair.{same_pair, same_pair_equiv};
+ghost use Rattle.std.specs.Prelude.{◌≡◌, ◌++◌, ◌∷◌, [], OnErr, OnOk};
+ghost use Rattle.std.specs.Cmp.Lexicographic.{pointwise, lists_equiv, lists_per};
 
 use crate::pair::Pair;
 use crate::text::Text;
+use milter_wire_stream::NoMemory;
 use std::marker::Model;
+
+/// A list of values, which contracts see as that list.
+#[derive(Clone, Debug, Drop)]
+pub struct List<T> {
+    items: Vec<T>,
+}
 
 /// The ESMTP parameters that follow an address, such as `SIZE=1000`, from none to as many as a packet has room for.
 /// Source: the libmilter callback documentation (xxfi_envfrom, xxfi_envrcpt).
-#[derive(Clone, Debug, Drop)]
-pub struct Params {
-    texts: Vec<Text>,
-}
-
-impl Model for Params {
-    ghost Value = { List (List ℕ) };
-
-    ghost view = { λ p. p.texts.items };
-}
-
-impl Params {
-    /// The parameters that these texts are. Neither copies nor allocates.
-    pub fn new(texts: Vec<Text>) -> Self
-        ensures { result ≡ texts.items }
-    {
-        Params { texts }
-    }
-
-    /// The parameters, in order. Doesn't allocate.
-    pub fn as_slice(&self) -> &[Text]
-        ensures { result.now ≡ self.now }
-    {
-        self.texts.as_slice()
-    }
-}
-
-impl From<Vec<Text>> for Params {
-    ghost from_gives = { λ texts params. params ≡ texts.items };
-
-    fn from(texts: Vec<Text>) -> Params {
-        Params { texts }
-    }
-}
-
-impl PartialEq for Params {
-    ghost eq = { λ x y. pointwise (pointwise nat_eq) x y };
-
-    ghost laws = { partial_equiv_from_equiv (lists_equiv nat_list_eq_equiv) };
-
-    fn eq(&self, other: &Params) -> bool {
-        self.as_slice() == other.as_slice()
-    }
-}
-
-impl Eq for Params {
-    ghost laws = { lists_equiv nat_list_eq_equiv };
-}
+pub type Params = List<Text>;
 
 /// The macros of a macro packet, from none to as many as a packet has room for; a name may come more than once. Source:
 /// mfdef.h (SMFIC_MACRO).
-#[derive(Clone, Debug, Drop)]
-pub struct Pairs {
-    pairs: Vec<Pair>,
-}
+pub type Pairs = List<Pair>;
 
-impl Model for Pairs {
+impl<T> Model for List<T> {
     ghost use Rattle.std.specs.Prelude.{List};
-    ghost use Rattle.milter_wire_fields.specs.declared.pair.Pair.{Pair};
 
-    ghost Value = { List Pair };
+    ghost Value = { List T };
 
-    ghost view = { λ p. p.pairs.items };
+    ghost view = { λ l. l.items.items };
 }
 
-impl Pairs {
-    /// The macros that these pairs are. Neither copies nor allocates.
-    pub fn new(pairs: Vec<Pair>) -> Self
-        ensures { result ≡ pairs.items }
+impl<T> List<T> {
+    /// The list of these values. Neither copies nor allocates.
+    pub fn new(items: Vec<T>) -> Self
+        ensures { result ≡ items.items }
     {
-        Pairs { pairs }
+        List { items }
     }
 
-    /// The macros, in order. Doesn't allocate.
-    pub fn as_slice(&self) -> &[Pair]
+    /// The values, in order. Doesn't allocate.
+    pub fn as_slice(&self) -> &[T]
         ensures { result.now ≡ self.now }
     {
-        self.pairs.as_slice()
+        self.items.as_slice()
+    }
+
+    /// The values, in order, each to be taken. Doesn't allocate.
+    pub fn into_vec(self) -> Vec<T>
+        ensures { result.items ≡ self }
+    {
+        self.items
     }
 }
 
-impl From<Vec<Pair>> for Pairs {
-    ghost from_gives = { λ pairs list. list ≡ pairs.items };
+impl<T: Drop> List<T> {
+    /// Adds a value as the last. After `NoMemory` the list is as it was.
+    pub fn push(&mut self, item: T) -> Result<(), NoMemory>
+        ensures ok { OnOk result (self.new ≡ self.old ++ item ∷ []) }
+        ensures err { OnErr result (self.new ≡ self.old) }
+    {
+        self.items.push(item)?;
+        Ok(())
+    }
 
-    fn from(pairs: Vec<Pair>) -> Pairs {
-        Pairs { pairs }
+    /// No value: those that were there are dropped. Doesn't allocate.
+    pub fn cleared(self) -> Self
+        ensures { result ≡ [] }
+    {
+        let List { mut items } = self;
+        items.clear();
+        List { items }
     }
 }
 
-impl PartialEq for Pairs {
-    ghost eq = { λ x y. pointwise same_pair x y };
+impl<T> From<Vec<T>> for List<T> {
+    ghost from_gives = { λ items list. list ≡ items.items };
 
-    ghost laws = { partial_equiv_from_equiv (lists_equiv same_pair_equiv) };
+    fn from(items: Vec<T>) -> List<T> {
+        List { items }
+    }
+}
 
-    fn eq(&self, other: &Pairs) -> bool {
+impl<T: PartialEq> PartialEq for List<T> {
+    ghost eq = { pointwise T.eq };
+
+    ghost laws = { lists_per T.laws };
+
+    fn eq(&self, other: &List<T>) -> bool {
         self.as_slice() == other.as_slice()
     }
 }
 
-impl Eq for Pairs {
-    ghost laws = { lists_equiv same_pair_equiv };
+impl<T: Eq> Eq for List<T> {
+    ghost laws = { lists_equiv T.Eq.laws };
 }
