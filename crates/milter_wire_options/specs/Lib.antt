@@ -1,5 +1,4 @@
 pub mod Bits
 pub mod Negotiation
 pub mod Payload
-pub mod SymLists
 pub mod MacroStages

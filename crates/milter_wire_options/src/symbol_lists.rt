@@ -1,20 +1,16 @@
 //! Symbol lists: the macros that a filter asks for, by name.
 
-ghost use Rattle.std.specs.Prelude.{◌≡◌, ◌-◌, ◌^◌, ◌++◌, ◌∷◌, ◌↔◌, [], All, IsTrue, OnErr, OnOk, is_some, length, min, option_map};
+ghost use Rattle.std.specs.Prelude.{◌≡◌, ◌-◌, ◌^◌, ◌↔◌, IsTrue, is_some, length, min, option_map};
 ghost use Rattle.std.specs.List.{flat_map};
-ghost use Rattle.std.specs.Cmp.{partial_equiv_from_equiv};
-ghost use Rattle.std.specs.Cmp.Lexicographic.{pointwise, lists_equiv};
 ghost use Rattle.milter_wire_stream.specs.AppendedBytes.{PutsBytes};
 ghost use Rattle.milter_wire_options.specs.Payload.{options_with_lists, OptionsWithListsFit, sym_list, SymListFits, options_with_lists_in, sym_list_at, sym_lists_in};
 ghost use Rattle.milter_wire_fields.specs.Decoding.{DecodesOptional};
-ghost use Rattle.milter_wire_options.specs.SymLists.{same_list, same_list_equiv};
 
 use crate::options::Options;
 use crate::payload::{OPTIONS_LEN, options_fit, put_options, take_options_first};
-use milter_wire_fields::{Text, has_no_nul, put_string, string_len, take_string};
+use milter_wire_fields::{List, Text, has_no_nul, put_string, string_len, take_string};
 use milter_wire_stream::{NoMemory, put_number, take_number};
 use std::alloc::Global;
-use std::marker::Model;
 
 /// The number of bytes that a stage has in a packet.
 const STAGE_LEN: usize = 4;
@@ -30,75 +26,7 @@ pub struct SymList {
 }
 
 /// The symbol lists of a filter, from none to as many as a packet has room for. Source: mfapi.h (smfi_setsymlist).
-#[derive(Clone, Debug, Drop)]
-pub struct SymLists {
-    lists: Vec<SymList>,
-}
-
-impl Model for SymLists {
-    ghost use Rattle.std.specs.Prelude.{List};
-    ghost use Rattle.milter_wire_options.specs.declared.symbol_lists.SymList.{SymList};
-
-    ghost Value = { List SymList };
-
-    ghost view = { λ s. s.lists.items };
-}
-
-impl SymLists {
-    /// These symbol lists. Neither copies nor allocates.
-    pub fn new(lists: Vec<SymList>) -> Self
-        ensures { result ≡ lists.items }
-    {
-        SymLists { lists }
-    }
-
-    /// The symbol lists, in order. Doesn't allocate.
-    pub fn as_slice(&self) -> &[SymList]
-        ensures { result.now ≡ self.now }
-    {
-        self.lists.as_slice()
-    }
-
-    /// Adds a list after the others. After `NoMemory` the lists are as they were.
-    pub fn push(&mut self, list: SymList) -> Result<(), NoMemory>
-        ensures ok { OnOk result (self.new ≡ self.old ++ list ∷ []) }
-        ensures err { OnErr result (self.new ≡ self.old) }
-    {
-        self.lists.push(list)?;
-        Ok(())
-    }
-
-    /// No symbol list: those that were there are dropped. Doesn't allocate.
-    pub fn cleared(self) -> Self
-        ensures { result ≡ [] }
-    {
-        let SymLists { mut lists } = self;
-        lists.clear();
-        SymLists { lists }
-    }
-}
-
-impl From<Vec<SymList>> for SymLists {
-    ghost from_gives = { λ lists made. made ≡ lists.items };
-
-    fn from(lists: Vec<SymList>) -> SymLists {
-        SymLists { lists }
-    }
-}
-
-impl PartialEq for SymLists {
-    ghost eq = { λ x y. pointwise same_list x y };
-
-    ghost laws = { partial_equiv_from_equiv (lists_equiv same_list_equiv) };
-
-    fn eq(&self, other: &SymLists) -> bool {
-        self.as_slice() == other.as_slice()
-    }
-}
-
-impl Eq for SymLists {
-    ghost laws = { lists_equiv same_list_equiv };
-}
+pub type SymLists = List<SymList>;
 
 /// Whether the stage is in its range, as it is by its type, and the names have no NUL.
 fn sym_list_fits(list: &SymList) -> bool
