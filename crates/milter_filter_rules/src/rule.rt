@@ -5,8 +5,7 @@ ghost use Rattle.milter_filter_rules.specs.RuleNames.{field_name};
 
 use milter_filter::{Pattern, Test, TextCase};
 use milter_message::Edit;
-use milter_wire::{Text, Verdict};
-use std::marker::Model;
+use milter_wire::{List, Text, Verdict};
 
 /// What of a connection and its message a condition looks at. Each has no value where it wasn't seen yet.
 #[derive(Clone, Debug, PartialEq, Eq, Drop)]
@@ -74,37 +73,7 @@ impl Condition {
 }
 
 /// The conditions of a rule, all of which have to be met, from none on.
-#[derive(Clone, Debug, Drop)]
-pub struct Conditions {
-    conditions: Vec<Condition>,
-}
-
-impl Model for Conditions {
-    ghost use Rattle.std.specs.Prelude.{List};
-    ghost use Rattle.milter_filter_rules.specs.declared.rule.Condition.{Condition};
-
-    ghost Value = { List Condition };
-
-    ghost view = { λ c. c.conditions.items };
-}
-
-impl Conditions {
-    ghost use Rattle.std.specs.Prelude.{◌≡◌};
-
-    /// These conditions. Neither copies nor allocates.
-    pub fn new(conditions: Vec<Condition>) -> Self
-        ensures { result ≡ conditions.items }
-    {
-        Conditions { conditions }
-    }
-
-    /// The conditions, in order. Doesn't allocate.
-    pub fn as_slice(&self) -> &[Condition]
-        ensures { result.now ≡ self.now }
-    {
-        self.conditions.as_slice()
-    }
-}
+pub type Conditions = List<Condition>;
 
 /// What a rule does where its conditions are met.
 #[derive(Clone, Debug, PartialEq, Eq, Drop)]

@@ -1,54 +1,14 @@
 //! Rules, stage by stage.
 
-ghost use Rattle.std.specs.Prelude.{◌≡◌, ◌++◌, ◌∷◌, [], OnErr, OnOk};
+ghost use Rattle.std.specs.Prelude.{◌≡◌, OnErr, OnOk};
 ghost use Rattle.milter_filter_rules.specs.StageRules.{no_rules, rules_at, with_rule};
 
 use crate::rule::Rule;
-use milter_wire::{NoMemory, Stage};
+use milter_wire::{List, NoMemory, Stage};
 use std::alloc::Global;
-use std::marker::Model;
 
 /// Rules of one stage, in the order in which they are looked at.
-#[derive(Clone, Debug, Drop)]
-pub struct RuleList {
-    rules: Vec<Rule>,
-}
-
-impl Model for RuleList {
-    ghost use Rattle.std.specs.Prelude.{List};
-    ghost use Rattle.milter_filter_rules.specs.declared.rule.Rule.{Rule};
-
-    ghost Value = { List Rule };
-
-    ghost view = { λ l. l.rules.items };
-}
-
-impl RuleList {
-    /// No rules. Doesn't allocate.
-    pub fn new(alloc: Global) -> Self
-        ensures { result ≡ [] }
-    {
-        RuleList {
-            rules: Vec::new(alloc),
-        }
-    }
-
-    /// The rules, in order. Doesn't allocate.
-    pub fn as_slice(&self) -> &[Rule]
-        ensures { result.now ≡ self.now }
-    {
-        self.rules.as_slice()
-    }
-
-    /// Adds a rule after the others. After `NoMemory` the list is as it was.
-    fn push(&mut self, rule: Rule) -> Result<(), NoMemory>
-        ensures ok { OnOk result (self.new ≡ self.old ++ rule ∷ []) }
-        ensures err { OnErr result (self.new ≡ self.old) }
-    {
-        self.rules.push(rule)?;
-        Ok(())
-    }
-}
+pub type RuleList = List<Rule>;
 
 /// The rules of each stage.
 #[derive(Clone, Debug, Drop)]
@@ -79,15 +39,15 @@ impl StageRules {
         ensures { result ≡ no_rules }
     {
         StageRules {
-            connect: RuleList::new(alloc),
-            helo: RuleList::new(alloc),
-            mail: RuleList::new(alloc),
-            rcpt: RuleList::new(alloc),
-            data_cmd: RuleList::new(alloc),
-            header: RuleList::new(alloc),
-            eoh: RuleList::new(alloc),
-            body: RuleList::new(alloc),
-            eob: RuleList::new(alloc),
+            connect: RuleList::new(Vec::new(alloc)),
+            helo: RuleList::new(Vec::new(alloc)),
+            mail: RuleList::new(Vec::new(alloc)),
+            rcpt: RuleList::new(Vec::new(alloc)),
+            data_cmd: RuleList::new(Vec::new(alloc)),
+            header: RuleList::new(Vec::new(alloc)),
+            eoh: RuleList::new(Vec::new(alloc)),
+            body: RuleList::new(Vec::new(alloc)),
+            eob: RuleList::new(Vec::new(alloc)),
         }
     }
 

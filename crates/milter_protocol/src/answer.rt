@@ -2,9 +2,13 @@
 
 ghost use Rattle.std.specs.Prelude.{◌≡◌, []};
 
-use crate::edits::Edits;
-use milter_wire::Verdict;
+use milter_message::Edit;
+use milter_wire::{List, Verdict};
 use std::alloc::Global;
+
+/// The edits that a filter asks for in one answer, in order, from none to as many as it wants. Source: the libmilter
+/// callback documentation (message modification functions).
+pub type Edits = List<Edit>;
 
 /// A filter's answer to a stage: the changes that it asks for, which come at the end of a message alone, and its
 /// verdict. Source: the libmilter callback documentation (xxfi_eom, and return values).

@@ -7,7 +7,6 @@
 
 mod answer;
 mod command_order;
-mod edits;
 mod filter_end_laws;
 mod filter_fault;
 mod filter_state;
@@ -18,9 +17,8 @@ mod rows;
 mod stage_order;
 mod verdicts;
 
-pub use answer::Answer;
+pub use answer::{Answer, Edits};
 pub use command_order::CommandOrder;
-pub use edits::Edits;
 pub use filter_end_laws::{
     filter_ends_go_on, lenient_orders, order_states_go_on, order_states_of_filter_ends,
     parts_of_transcripts,
