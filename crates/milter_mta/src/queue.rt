@@ -11,7 +11,8 @@ use std::marker::Model;
 /// How many verdicts a reserved list takes without more memory: those on the client and on its greeting.
 const RESERVED_LEN: usize = 2;
 
-/// How many verdicts the list of a message under way takes without more memory: those on a message of ten header fields.
+/// How many verdicts the list of a message under way takes without more memory: those on a message of ten header
+/// fields.
 const VERDICTS_LEN: usize = 20;
 
 /// The messages of a session that are not settled, and the reports of those that are. The memory for all reports, with
