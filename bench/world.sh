@@ -4,7 +4,7 @@
 # a loop of its own. A message has ten header fields, and so sixteen commands where its body has 4 KiB. A line for each
 # session has the user instructions of a message: callgrind's, without those of a run that only reads the session file;
 # callgrind counts a copy by `rep movsb` and a clearing by `rep stosb` a byte at a time, so that both are turned off in
-# the C library. Status 1 where `play` takes more than 1.5 times what the loop takes, or where rounds take more than 1.1
+# the C library. Status 1 where `play` takes more than 2.5 times what the loop takes, or where rounds take more than 1.1
 # times as much for each message of a session ten times as long. It takes valgrind, Python and some minutes. The
 # programs are built first where they have to be.
 #
@@ -58,5 +58,5 @@ measure 10
 before_100=$of_100
 before_1=$of_1
 measure 100
-[ $((played * 2)) -le $((loop * 3)) ] && [ $((of_100 * 10)) -le $((before_100 * 11)) ] &&
+[ $((played * 2)) -le $((loop * 5)) ] && [ $((of_100 * 10)) -le $((before_100 * 11)) ] &&
     [ $((of_1 * 10)) -le $((before_1 * 11)) ]
