@@ -92,17 +92,24 @@ class MailServer:
             if len(files) >= count:
                 break
             time.sleep(0.1)
-        texts = []
-        for name in sorted(files):
-            with open(name, newline='') as file:
-                texts.append(file.read().replace('\r\n', '\n'))
-            os.remove(name)
-        return texts
+        return [text for text in map(taken, sorted(files)) if text is not None]
 
     def whole(self, name):
         """Whether smtp-sink has closed this file."""
         folder = '/proc/%d/fd' % self.sink.pid
         return name not in [os.path.realpath(os.path.join(folder, each)) for each in os.listdir(folder)]
+
+
+def taken(name):
+    """The text of a delivered message, whose file is taken away; or None, where smtp-sink has taken it away, as it does
+    with a message that didn't come to its end."""
+    try:
+        with open(name, newline='') as file:
+            text = file.read()
+        os.remove(name)
+    except FileNotFoundError:
+        return None
+    return text.replace('\r\n', '\n')
 
 
 def envelope(text):
