@@ -279,9 +279,22 @@ fn macro_of(bytes: &[u8]) -> Option<CommandRef<'_>>
 fn fault_of(code: u8) -> WireFault
     ensures { result ≡ if is_code code then faults.Malformed code else faults.UnknownCode code }
 {
-    if b"ABCDEHKLMNOQRTU".contains(&code) {
-        WireFault::Malformed(code)
-    } else {
-        WireFault::UnknownCode(code)
+    match code {
+        SMFIC_ABORT
+        | SMFIC_BODY
+        | SMFIC_CONNECT
+        | SMFIC_MACRO
+        | SMFIC_BODYEOB
+        | SMFIC_HELO
+        | SMFIC_QUIT_NC
+        | SMFIC_HEADER
+        | SMFIC_MAIL
+        | SMFIC_EOH
+        | SMFIC_OPTNEG
+        | SMFIC_QUIT
+        | SMFIC_RCPT
+        | SMFIC_DATA
+        | SMFIC_UNKNOWN => WireFault::Malformed(code),
+        _ => WireFault::UnknownCode(code),
     }
 }

@@ -239,7 +239,27 @@ fn put_payload(out: &mut Vec<u8>, reply: &Reply) -> Result<(), NoMemory>
 fn is_code(code: u8) -> bool
     ensures { result ≡ is_code code }
 {
-    b"+-2Oabcdehimpqrsty".contains(&code)
+    matches!(
+        code,
+        SMFIR_ADDRCPT
+            | SMFIR_DELRCPT
+            | SMFIR_ADDRCPT_PAR
+            | SMFIC_OPTNEG
+            | SMFIR_ACCEPT
+            | SMFIR_REPLBODY
+            | SMFIR_CONTINUE
+            | SMFIR_DISCARD
+            | SMFIR_CHGFROM
+            | SMFIR_ADDHEADER
+            | SMFIR_INSHEADER
+            | SMFIR_CHGHEADER
+            | SMFIR_PROGRESS
+            | SMFIR_QUARANTINE
+            | SMFIR_REJECT
+            | SMFIR_SKIP
+            | SMFIR_TEMPFAIL
+            | SMFIR_REPLYCODE
+    )
 }
 
 fn take_reply(alloc: Global, code: u8, payload: &[u8]) -> Result<Reply, WireFault>
