@@ -1,11 +1,14 @@
 -- What the protocol knows of a filter's verdicts.
-use Rattle.std.specs.Prelude.{ℕ, Bool, true, false, List, codes, Result, Ok, Err}
+use Rattle.std.specs.Prelude.{ℕ, Bool, true, false, List, [], ◌∷◌, codes, Option, Result, Ok, Err}
+use Rattle.milter_wire_fields.specs.Decoding.{ended}
+use Rattle.milter_wire.specs.declared.codes.TheConstants.{SMFIR_ACCEPT, SMFIR_CONTINUE, SMFIR_DISCARD, SMFIR_REJECT, SMFIR_SKIP, SMFIR_TEMPFAIL}
 use Rattle.milter_wire.specs.declared.reply.Reply.{Reply}
 use Rattle.milter_wire.specs.declared.reply.Reply.TheVariants as replies
 use Rattle.milter_wire.specs.declared.stage.Stage.{Stage}
 use Rattle.milter_wire.specs.declared.stage.Stage.TheVariants as stages
 use Rattle.milter_wire.specs.declared.verdict.Verdict.{Verdict}
 use Rattle.milter_wire.specs.declared.verdict.Verdict.TheVariants.{Continue, Accept, Reject, Tempfail, Discard, Skip, Code}
+use Rattle.milter_wire.specs.Tables.{Row, read_by}
 
 -- the word of each in text files
 abbrev pub verdict_name : Verdict → List ℕ
@@ -37,6 +40,21 @@ verdict_of replies.Discard = Ok Discard
 verdict_of replies.Skip = Ok Skip
 verdict_of (replies.Code text) = Ok (Code text)
 verdict_of other = Err other
+
+-- the packets without a payload that carry a verdict
+abbrev pub verdict_rows : List (Row Verdict)
+verdict_rows =
+    (SMFIR_ACCEPT, ended Accept)
+    ∷ (SMFIR_CONTINUE, ended Continue)
+    ∷ (SMFIR_DISCARD, ended Discard)
+    ∷ (SMFIR_REJECT, ended Reject)
+    ∷ (SMFIR_SKIP, ended Skip)
+    ∷ (SMFIR_TEMPFAIL, ended Tempfail)
+    ∷ []
+
+-- the verdict of a packet without a payload, if it carries one
+abbrev pub verdict_in : ℕ → List ℕ → Option Verdict
+verdict_in code payload = read_by verdict_rows code payload
 
 -- A body's chunks alone can be skipped, and before there is a message nothing can be discarded.
 abbrev pub given_at : Verdict → Stage → Bool

@@ -1,8 +1,12 @@
 //! What a filter decides when it is asked.
 
-ghost use Rattle.std.specs.Prelude.{◌≡◌, IfOk};
-ghost use Rattle.milter_wire.specs.Verdicts.{given_at, reply_of, verdict_name, verdict_of};
+ghost use Rattle.std.specs.Prelude.{◌≡◌, IfOk, IfSome, Some};
+ghost use Rattle.milter_wire.specs.Reply.{reply_in};
+ghost use Rattle.milter_wire.specs.Verdicts.{given_at, reply_of, verdict_in, verdict_name, verdict_of};
 
+use crate::codes::{
+    SMFIR_ACCEPT, SMFIR_CONTINUE, SMFIR_DISCARD, SMFIR_REJECT, SMFIR_SKIP, SMFIR_TEMPFAIL,
+};
 use crate::reply::Reply;
 use crate::stage::Stage;
 use milter_wire_fields::Text;
@@ -87,6 +91,27 @@ impl Verdict {
             Reply::Skip => Ok(Verdict::Skip),
             Reply::Code(text) => Ok(Verdict::Code(text)),
             other => Err(other),
+        }
+    }
+
+    /// The verdict of a packet without a payload, by its code. None where there is a payload, as with [`Reply::Code`],
+    /// and where the code is another reply's or no reply's. Doesn't allocate. Source: mfdef.h.
+    #[tactic(auto, unfolding(crate::specs::Reply::reply_in))]
+    pub fn of_packet(code: u8, payload: &[u8]) -> Option<Verdict>
+        ensures verdict { result ≡ verdict_in code payload.now }
+        ensures reply { IfSome result (λ v. reply_in code payload.now ≡ Some (reply_of v)) }
+    {
+        if !payload.is_empty() {
+            return None;
+        }
+        match code {
+            SMFIR_ACCEPT => Some(Verdict::Accept),
+            SMFIR_CONTINUE => Some(Verdict::Continue),
+            SMFIR_DISCARD => Some(Verdict::Discard),
+            SMFIR_REJECT => Some(Verdict::Reject),
+            SMFIR_SKIP => Some(Verdict::Skip),
+            SMFIR_TEMPFAIL => Some(Verdict::Tempfail),
+            _ => None,
         }
     }
 
