@@ -1,17 +1,13 @@
 //! What a filter may ask to change of a message.
 
-ghost use Rattle.std.specs.Prelude.{◌≡◌, ◌+◌, ◌-◌, ◌^◌, IfOk, length, min};
-ghost use Rattle.milter_wire.specs.Reply.{payload_of};
+ghost use Rattle.std.specs.Prelude.{◌≡◌, ◌-◌, ◌^◌, ◌↔◌, IfOk, length, min};
+ghost use Rattle.milter_wire.specs.Payload.{PayloadFits, payload_bytes};
+ghost use Rattle.milter_wire.specs.Reply.{FieldsFit, payload_of};
 ghost use Rattle.milter_message.specs.EditReplies.{edit_of, needed_by, reply_of, weight_of};
 
 use crate::copies::{copy_header, copy_optional};
-use milter_wire::{
-    Actions, HEAD_LEN, Header, NoMemory, Reply, Text, arguments_len, header_len, string_len,
-};
+use milter_wire::{Actions, HEAD_LEN, Header, NoMemory, PayloadRef, Reply, Text};
 use std::alloc::Global;
-
-/// The bytes of the number of a header field.
-const INDEX_LEN: usize = 4;
 
 /// A change to a message, which a filter asks for at the end of the message, before its verdict. Source: the libmilter
 /// callback documentation (message modification functions).
@@ -122,7 +118,28 @@ impl Edit {
     pub fn weight(&self) -> usize
         ensures { result ≡ min (weight_of self.now) (2 ^ 64 - 1) }
     {
-        payload_len(self).saturating_add(HEAD_LEN)
+        self.payload().len().saturating_add(HEAD_LEN)
+    }
+
+    /// The payload of that packet, by its layout. Doesn't allocate.
+    pub fn payload(&self) -> PayloadRef<'_>
+        ensures bytes { payload_bytes result ≡ payload_of (reply_of self.now) }
+        ensures fits { PayloadFits result ↔ FieldsFit (reply_of self.now) }
+    {
+        match self {
+            Edit::AddHeader(header) => PayloadRef::Header(header),
+            Edit::InsertHeader { index, header } | Edit::ChangeHeader { index, header } => {
+                PayloadRef::Indexed(*index, header)
+            }
+            Edit::AddRcpt(text) | Edit::DelRcpt(text) | Edit::Quarantine(text) => {
+                PayloadRef::String(text)
+            }
+            Edit::AddRcptPar { address, arguments } | Edit::ChangeFrom { address, arguments } => {
+                PayloadRef::Addressed(address, arguments)
+            }
+            Edit::ReplaceBody(bytes) => PayloadRef::Bytes(bytes),
+            Edit::Progress => PayloadRef::Empty,
+        }
     }
 
     /// The same edit. Each of its texts is copied once.
@@ -153,26 +170,5 @@ impl Edit {
             Edit::Quarantine(reason) => Edit::Quarantine(Text::copy_of(alloc, reason.as_slice())?),
             Edit::Progress => Edit::Progress,
         })
-    }
-}
-
-/// The number of bytes of the payload, or the greatest `usize`.
-#[tactic(auto, unfolding(milter_wire_stream::specs::Number::number))]
-fn payload_len(edit: &Edit) -> usize
-    ensures { result ≡ min (length (payload_of (reply_of edit.now))) (2 ^ 64 - 1) }
-{
-    match edit {
-        Edit::AddHeader(header) => header_len(header),
-        Edit::InsertHeader { header, .. } | Edit::ChangeHeader { header, .. } => {
-            header_len(header).saturating_add(INDEX_LEN)
-        }
-        Edit::AddRcpt(text) | Edit::DelRcpt(text) | Edit::Quarantine(text) => string_len(
-            text.as_slice(),
-        ),
-        Edit::AddRcptPar { address, arguments } | Edit::ChangeFrom { address, arguments } => {
-            string_len(address.as_slice()).saturating_add(arguments_len(arguments))
-        }
-        Edit::ReplaceBody(bytes) => bytes.as_slice().len(),
-        Edit::Progress => 0,
     }
 }

@@ -1,6 +1,7 @@
 pub mod Tables
 pub mod Command
 pub mod Stages
+pub mod Payload
 pub mod Reply
 pub mod Frames
 pub mod Verdicts

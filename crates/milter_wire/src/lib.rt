@@ -13,6 +13,7 @@ mod command_ref;
 mod laws;
 mod lengths;
 mod negotiation;
+mod payload;
 mod reply;
 mod stage;
 mod verdict;
@@ -37,6 +38,7 @@ pub use milter_wire_stream::{
     CodeName, HEAD_LEN, NoMemory, PAYLOAD_MAX, Packet, Splitter, WireFault,
 };
 pub use negotiation::{Negotiated, negotiate};
+pub use payload::PayloadRef;
 pub use reply::Reply;
 pub use stage::Stage;
 pub use verdict::Verdict;

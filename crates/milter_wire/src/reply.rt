@@ -5,6 +5,7 @@ ghost use Rattle.milter_wire.specs.declared.reply.Reply.{Reply};
 ghost use Rattle.milter_wire_stream.specs.AppendedBytes.{PutsBytes};
 ghost use Rattle.milter_wire_stream.specs.Packet.{packet};
 ghost use Rattle.milter_wire.specs.Reply.{code_of, payload_of, is_code, Fits, FieldsFit, IsEncodedAs, encoding, reply_in};
+ghost use Rattle.milter_wire.specs.Payload.{PayloadFits, payload_bytes};
 ghost use Rattle.milter_wire.specs.Tables.{Decodes};
 ghost use Rattle.milter_wire_fields.specs.Decoding.{DecodesOptional};
 
@@ -13,15 +14,11 @@ use crate::codes::{
     SMFIR_CHGHEADER, SMFIR_CONTINUE, SMFIR_DELRCPT, SMFIR_DISCARD, SMFIR_INSHEADER, SMFIR_PROGRESS,
     SMFIR_QUARANTINE, SMFIR_REJECT, SMFIR_REPLBODY, SMFIR_REPLYCODE, SMFIR_SKIP, SMFIR_TEMPFAIL,
 };
+use crate::payload::PayloadRef;
 use milter_wire_fields::{
-    Header, Text, arguments_fit, arguments_len, has_no_nul, header_fits, header_len, is_reply_code,
-    put_addressed, put_bytes, put_header, put_indexed, put_string, string_len, take_addressed,
-    take_header, take_indexed, take_reply_code, take_text,
+    Header, Text, take_addressed, take_header, take_indexed, take_reply_code, take_text,
 };
-use milter_wire_options::{
-    Options, SymLists, options_with_lists_fit, options_with_lists_len, put_options_with_lists,
-    take_options_with_lists,
-};
+use milter_wire_options::{Options, SymLists, take_options_with_lists};
 use milter_wire_stream::{NoMemory, PAYLOAD_MAX, WireFault, put_head};
 use std::alloc::Global;
 
@@ -97,7 +94,32 @@ impl Reply {
     pub fn fits(&self) -> bool
         ensures { IsTrue result ↔ Fits self.now }
     {
-        fields_fit(self) && payload_len(self) <= PAYLOAD_MAX
+        let payload = self.payload();
+        payload.fits() && payload.len() <= PAYLOAD_MAX
+    }
+
+    /// The payload, by its layout. Doesn't allocate.
+    pub fn payload(&self) -> PayloadRef<'_>
+        ensures bytes { payload_bytes result ≡ payload_of self.now }
+        ensures fits { PayloadFits result ↔ FieldsFit self.now }
+    {
+        match self {
+            Reply::Options { options, lists } => PayloadRef::Options(options, lists),
+            Reply::AddRcpt(text) | Reply::DelRcpt(text) | Reply::Quarantine(text) => {
+                PayloadRef::String(text)
+            }
+            Reply::AddRcptPar { address, arguments } | Reply::ChangeFrom { address, arguments } => {
+                PayloadRef::Addressed(address, arguments)
+            }
+            Reply::AddHeader(header) => PayloadRef::Header(header),
+            Reply::InsertHeader { index, header } | Reply::ChangeHeader { index, header } => {
+                PayloadRef::Indexed(*index, header)
+            }
+            Reply::Code(text) => PayloadRef::Code(text),
+            Reply::ReplaceBody(bytes) => PayloadRef::Bytes(bytes),
+            Reply::Accept | Reply::Continue | Reply::Discard | Reply::Progress => PayloadRef::Empty,
+            Reply::Reject | Reply::Skip | Reply::Tempfail => PayloadRef::Empty,
+        }
     }
 
     /// Appends the packet to `out`: four bytes of length, the code, the payload. After `NoMemory`, `out` is as it was.
@@ -137,35 +159,13 @@ impl Reply {
     }
 }
 
-/// Whether no string in it has a NUL, and a reply code has its form.
-fn fields_fit(reply: &Reply) -> bool
-    ensures { IsTrue result ↔ FieldsFit reply.now }
-{
-    match reply {
-        Reply::Options { options, lists } => options_with_lists_fit(options, lists),
-        Reply::AddRcpt(text) | Reply::DelRcpt(text) | Reply::Quarantine(text) => has_no_nul(
-            text.as_slice(),
-        ),
-        Reply::AddRcptPar { address, arguments } | Reply::ChangeFrom { address, arguments } => {
-            has_no_nul(address.as_slice()) && arguments_fit(arguments)
-        }
-        Reply::AddHeader(header) => header_fits(header),
-        Reply::InsertHeader { index, header } | Reply::ChangeHeader { index, header } => {
-            let _index = *index;
-            header_fits(header)
-        }
-        Reply::Code(text) => has_no_nul(text.as_slice()) && is_reply_code(text.as_slice()),
-        Reply::Accept | Reply::Continue | Reply::Discard | Reply::Progress => true,
-        Reply::Reject | Reply::Skip | Reply::Tempfail | Reply::ReplaceBody(_) => true,
-    }
-}
-
 fn put_reply(out: &mut Vec<u8>, reply: &Reply) -> Result<(), NoMemory>
     requires { Fits reply.now }
     ensures { PutsBytes (encoding reply.now) out.old.items out.new.items result }
 {
-    put_head(out, code(reply), payload_len(reply))?;
-    put_payload(out, reply)
+    let payload = reply.payload();
+    put_head(out, code(reply), payload.len())?;
+    payload.put(out)
 }
 
 fn code(reply: &Reply) -> u8
@@ -190,48 +190,6 @@ fn code(reply: &Reply) -> u8
         Reply::Skip => SMFIR_SKIP,
         Reply::Tempfail => SMFIR_TEMPFAIL,
         Reply::Code(_) => SMFIR_REPLYCODE,
-    }
-}
-
-/// The number of bytes of the payload, or the greatest `usize`.
-#[tactic(auto, unfolding(milter_wire_stream::specs::Number::number))]
-fn payload_len(reply: &Reply) -> usize
-    ensures { result ≡ min (length (payload_of reply.now)) (2 ^ 64 - 1) }
-{
-    match reply {
-        Reply::Options { options, lists } => options_with_lists_len(options, lists),
-        Reply::AddRcpt(text) | Reply::DelRcpt(text) => string_len(text.as_slice()),
-        Reply::Quarantine(text) | Reply::Code(text) => string_len(text.as_slice()),
-        Reply::AddRcptPar { address, arguments } | Reply::ChangeFrom { address, arguments } => {
-            string_len(address.as_slice()).saturating_add(arguments_len(arguments))
-        }
-        Reply::AddHeader(header) => header_len(header),
-        Reply::InsertHeader { header, .. } | Reply::ChangeHeader { header, .. } => {
-            header_len(header).saturating_add(4)
-        }
-        Reply::ReplaceBody(bytes) => bytes.as_slice().len(),
-        Reply::Accept | Reply::Continue | Reply::Discard | Reply::Progress => 0,
-        Reply::Reject | Reply::Skip | Reply::Tempfail => 0,
-    }
-}
-
-fn put_payload(out: &mut Vec<u8>, reply: &Reply) -> Result<(), NoMemory>
-    ensures { PutsBytes (payload_of reply.now) out.old.items out.new.items result }
-{
-    match reply {
-        Reply::Options { options, lists } => put_options_with_lists(out, options, lists),
-        Reply::AddRcpt(text) | Reply::DelRcpt(text) => put_string(out, text.as_slice()),
-        Reply::Quarantine(text) | Reply::Code(text) => put_string(out, text.as_slice()),
-        Reply::AddRcptPar { address, arguments } | Reply::ChangeFrom { address, arguments } => {
-            put_addressed(out, address, arguments)
-        }
-        Reply::AddHeader(header) => put_header(out, header),
-        Reply::InsertHeader { index, header } | Reply::ChangeHeader { index, header } => {
-            put_indexed(out, *index, header)
-        }
-        Reply::ReplaceBody(bytes) => put_bytes(out, bytes.as_slice()),
-        Reply::Accept | Reply::Continue | Reply::Discard | Reply::Progress => Ok(()),
-        Reply::Reject | Reply::Skip | Reply::Tempfail => Ok(()),
     }
 }
 

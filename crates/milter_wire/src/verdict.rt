@@ -1,12 +1,14 @@
 //! What a filter decides when it is asked.
 
-ghost use Rattle.std.specs.Prelude.{◌≡◌, IfOk, IfSome, Some};
-ghost use Rattle.milter_wire.specs.Reply.{reply_in};
+ghost use Rattle.std.specs.Prelude.{◌≡◌, ◌↔◌, IfOk, IfSome, Some};
+ghost use Rattle.milter_wire.specs.Payload.{PayloadFits, payload_bytes};
+ghost use Rattle.milter_wire.specs.Reply.{FieldsFit, payload_of, reply_in};
 ghost use Rattle.milter_wire.specs.Verdicts.{given_at, reply_of, verdict_in, verdict_name, verdict_of};
 
 use crate::codes::{
     SMFIR_ACCEPT, SMFIR_CONTINUE, SMFIR_DISCARD, SMFIR_REJECT, SMFIR_SKIP, SMFIR_TEMPFAIL,
 };
+use crate::payload::PayloadRef;
 use crate::reply::Reply;
 use crate::stage::Stage;
 use milter_wire_fields::Text;
@@ -74,6 +76,17 @@ impl Verdict {
             Verdict::Discard => Reply::Discard,
             Verdict::Skip => Reply::Skip,
             Verdict::Code(text) => Reply::Code(text),
+        }
+    }
+
+    /// The payload of that reply, by its layout. Doesn't allocate.
+    pub fn payload(&self) -> PayloadRef<'_>
+        ensures bytes { payload_bytes result ≡ payload_of (reply_of self.now) }
+        ensures fits { PayloadFits result ↔ FieldsFit (reply_of self.now) }
+    {
+        match self {
+            Verdict::Code(text) => PayloadRef::Code(text),
+            _ => PayloadRef::Empty,
         }
     }
 
