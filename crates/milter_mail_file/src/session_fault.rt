@@ -1,12 +1,10 @@
 //! What can be wrong with a session file.
 
 ghost use Rattle.std.specs.Prelude.{◌≡◌};
-ghost use Rattle.milter_mail_file.specs.declared.session_fault.SessionFault.TheVariants as faults;
+ghost use Rattle.milter_text.specs.declared.line_fault.LineFault.{LineFault};
 ghost use Rattle.milter_mail_file.specs.SessionFault.{of_line_fault, session_fault_line, session_fault_number};
 
 use milter_text::LineFault;
-use milter_wire::NoMemory;
-use std::alloc::{AllocError, AllocFailed};
 use thiserror::Error;
 
 /// Why a session file is parsed as no session: the first line that is at fault, and what is wrong with it. Lines are
@@ -73,37 +71,13 @@ impl SessionFault {
     }
 }
 
-impl From<LineFault> for SessionFault {
-    ghost from_gives = { λ fault e. e ≡ of_line_fault fault };
+impl<E: Into<LineFault>> From<E> for SessionFault {
+    ghost from_gives = { λ error e. (fault : LineFault) × E.converts error fault × (e ≡ of_line_fault fault) };
 
-    fn from(fault: LineFault) -> SessionFault {
-        match fault {
+    fn from(error: E) -> SessionFault {
+        match error.into() {
             LineFault::NotInWords(line) => SessionFault::UnknownLine(line),
             LineFault::NoMemory => SessionFault::NoMemory,
         }
-    }
-}
-
-impl From<NoMemory> for SessionFault {
-    ghost from_gives = { λ _ e. e ≡ faults.NoMemory };
-
-    fn from(_error: NoMemory) -> SessionFault {
-        SessionFault::NoMemory
-    }
-}
-
-impl From<AllocError> for SessionFault {
-    ghost from_gives = { λ _ e. e ≡ faults.NoMemory };
-
-    fn from(_error: AllocError) -> SessionFault {
-        SessionFault::NoMemory
-    }
-}
-
-impl<T: Drop> From<AllocFailed<T>> for SessionFault {
-    ghost from_gives = { λ _ e. e ≡ faults.NoMemory };
-
-    fn from(_error: AllocFailed<T>) -> SessionFault {
-        SessionFault::NoMemory
     }
 }

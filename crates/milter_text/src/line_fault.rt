@@ -4,8 +4,7 @@ ghost use Rattle.std.specs.Prelude.{◌≡◌};
 ghost use Rattle.milter_text.specs.declared.line_fault.LineFault.TheVariants as faults;
 ghost use Rattle.milter_text.specs.LineFault.{line_fault_line};
 
-use milter_wire_stream::NoMemory;
-use std::alloc::{AllocError, AllocFailed};
+use milter_wire_stream::RefusedMemory;
 use thiserror::Error;
 
 /// Why the next line of a file was not read.
@@ -31,26 +30,10 @@ impl LineFault {
     }
 }
 
-impl From<NoMemory> for LineFault {
+impl<E: RefusedMemory> From<E> for LineFault {
     ghost from_gives = { λ _ e. e ≡ faults.NoMemory };
 
-    fn from(_error: NoMemory) -> LineFault {
-        LineFault::NoMemory
-    }
-}
-
-impl From<AllocError> for LineFault {
-    ghost from_gives = { λ _ e. e ≡ faults.NoMemory };
-
-    fn from(_error: AllocError) -> LineFault {
-        LineFault::NoMemory
-    }
-}
-
-impl<T: Drop> From<AllocFailed<T>> for LineFault {
-    ghost from_gives = { λ _ e. e ≡ faults.NoMemory };
-
-    fn from(_error: AllocFailed<T>) -> LineFault {
+    fn from(_error: E) -> LineFault {
         LineFault::NoMemory
     }
 }

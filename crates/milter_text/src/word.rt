@@ -8,8 +8,7 @@ ghost use Rattle.milter_text.specs.WordFault.{word_fault_number};
 ghost use Rattle.milter_text.specs.WordValues.{is_keyword, is_number, number_of, plain_text, text_of};
 
 use milter_wire_fields::Text;
-use milter_wire_stream::NoMemory;
-use std::alloc::{AllocError, AllocFailed};
+use milter_wire_stream::RefusedMemory;
 use std::str;
 use thiserror::Error;
 
@@ -107,26 +106,10 @@ impl WordFault {
     }
 }
 
-impl From<NoMemory> for WordFault {
+impl<E: RefusedMemory> From<E> for WordFault {
     ghost from_gives = { λ _ e. e ≡ faults.NoMemory };
 
-    fn from(_error: NoMemory) -> WordFault {
-        WordFault::NoMemory
-    }
-}
-
-impl From<AllocError> for WordFault {
-    ghost from_gives = { λ _ e. e ≡ faults.NoMemory };
-
-    fn from(_error: AllocError) -> WordFault {
-        WordFault::NoMemory
-    }
-}
-
-impl<T: Drop> From<AllocFailed<T>> for WordFault {
-    ghost from_gives = { λ _ e. e ≡ faults.NoMemory };
-
-    fn from(_error: AllocFailed<T>) -> WordFault {
+    fn from(_error: E) -> WordFault {
         WordFault::NoMemory
     }
 }

@@ -15,7 +15,7 @@ returns-in_err-line-clause-only g c = λ prefix rest items order values can ends
     let run : Run text value_of all items rest = record { prefix = prefix; in_order = order; have_values = values; ends = ends } in
     let left = left_of_run text value_of all c.loop-group.lines.lines rest read.items items g.met.G.LineGroup.opens read.begun run in
     let p = err_from_is_err_and c.from_residual.result c.from_residual.ensures.1 in
-    rw (p.1, p.2) (ap of_line_fault (c.in_err-line.ensures.only (left_in_words text value_of all c.loop-group.lines.lines rest read.items items run left)))
+    rw (p.1, p.2.2, p.2.1) (ap of_line_fault (c.in_err-line.ensures.only (left_in_words text value_of all c.loop-group.lines.lines rest read.items items run left)))
 
 pub returns-in_err-add-clause-only : goal.returns-in_err-add-clause-only
 returns-in_err-add-clause-only g c = λ prefix rest items order values can ends.
