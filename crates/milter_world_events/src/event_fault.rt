@@ -1,11 +1,10 @@
 //! What can be wrong with an event file.
 
 ghost use Rattle.std.specs.Prelude.{◌≡◌};
-ghost use Rattle.milter_world_events.specs.declared.event_fault.EventFault.TheVariants as faults;
+ghost use Rattle.milter_text.specs.declared.line_fault.LineFault.{LineFault};
 ghost use Rattle.milter_world_events.specs.EventFault.{event_fault_line, event_fault_number, of_line_fault};
 
 use milter_text::LineFault;
-use std::alloc::{AllocError, AllocFailed};
 use thiserror::Error;
 
 /// Why a file is no event file: the first line that is at fault, and what is wrong with it. Lines are numbered from 1,
@@ -46,29 +45,13 @@ impl EventFault {
     }
 }
 
-impl From<LineFault> for EventFault {
-    ghost from_gives = { λ fault e. e ≡ of_line_fault fault };
+impl<E: Into<LineFault>> From<E> for EventFault {
+    ghost from_gives = { λ error e. (fault : LineFault) × E.converts error fault × (e ≡ of_line_fault fault) };
 
-    fn from(fault: LineFault) -> EventFault {
-        match fault {
+    fn from(error: E) -> EventFault {
+        match error.into() {
             LineFault::NotInWords(line) => EventFault::UnknownLine(line),
             LineFault::NoMemory => EventFault::NoMemory,
         }
-    }
-}
-
-impl From<AllocError> for EventFault {
-    ghost from_gives = { λ _ e. e ≡ faults.NoMemory };
-
-    fn from(_error: AllocError) -> EventFault {
-        EventFault::NoMemory
-    }
-}
-
-impl<T: Drop> From<AllocFailed<T>> for EventFault {
-    ghost from_gives = { λ _ e. e ≡ faults.NoMemory };
-
-    fn from(_error: AllocFailed<T>) -> EventFault {
-        EventFault::NoMemory
     }
 }
