@@ -80,6 +80,9 @@ may_skip negotiated = has negotiated (Some SKIP)
 abbrev pub is_given : Negotiated → Stage → Verdict → Bool
 is_given negotiated stage verdict = given_at verdict stage && (not (is_skip verdict) || may_skip negotiated)
 
+abbrev pub given_or_fault : Negotiated → Stage → Verdict → Result Unit MtaFault
+given_or_fault negotiated stage verdict = if is_given negotiated stage verdict then Ok tt else Err NotAtThisStage
+
 abbrev pub verdict_received : Negotiated → Stage → Result Verdict Reply → Result ReceivedReply MtaFault
 verdict_received negotiated stage (Err other) = Err NotAtThisStage
 verdict_received negotiated stage (Ok verdict) =

@@ -20,6 +20,6 @@ pub use fallback::{OnLoss, fall_back};
 pub use laws::{received_options, received_replies};
 pub use loss::{By, Loss, MtaFault};
 pub use outcome::Outcome;
-pub use received_reply::{ReceivedReply, on_options, on_reply};
+pub use received_reply::{ReceivedReply, on_options, on_reply, on_verdict};
 pub use refusal::Refusal;
 pub use report::Report;

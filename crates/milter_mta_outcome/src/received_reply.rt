@@ -1,8 +1,10 @@
 //! What a mail server makes of a filter's replies, one at a time.
 
-ghost use Rattle.std.specs.Prelude.{◌≡◌, ◌≤◌};
+ghost use Rattle.std.specs.Prelude.{◌≡◌, ◌≤◌, ℕ};
 ghost use Rattle.milter_message.specs.declared.message.TheConstants.{WEIGHT_MAX};
-ghost use Rattle.milter_wire.specs.Verdicts.{verdict_of};
+ghost use Rattle.milter_wire.specs.Tables.{map_ok};
+ghost use Rattle.milter_wire.specs.Verdicts.{reply_of, verdict_of};
+ghost use Rattle.milter_mta_outcome.specs.declared.received_reply.ReceivedReply.TheVariants as received;
 ghost use Rattle.milter_mta_outcome.specs.ReceivedReplies as received_reply;
 
 use crate::loss::MtaFault;
@@ -71,7 +73,7 @@ pub fn on_reply(
 {
     match Edit::from_reply(reply) {
         Ok(edit) => on_edit(negotiated, stage, weight, edit),
-        Err(other) => on_verdict(negotiated, stage, other),
+        Err(other) => on_other(negotiated, stage, other),
     }
 }
 
@@ -98,20 +100,30 @@ fn on_edit(
 }
 
 /// What the reply is that asks for no edit.
-fn on_verdict(
-    negotiated: &Negotiated,
-    stage: Stage,
-    reply: Reply,
-) -> Result<ReceivedReply, MtaFault>
+fn on_other(negotiated: &Negotiated, stage: Stage, reply: Reply) -> Result<ReceivedReply, MtaFault>
     ensures { result ≡ received_reply.verdict_received negotiated.now stage (verdict_of reply) }
 {
     let Ok(verdict) = Verdict::from_reply(reply) else {
         return Err(MtaFault::NotAtThisStage);
     };
-    if !is_given(negotiated, stage, &verdict) {
-        return Err(MtaFault::NotAtThisStage);
-    }
+    on_verdict(negotiated, stage, &verdict)?;
     Ok(ReceivedReply::Verdict(verdict))
+}
+
+/// Whether a verdict on a command of this stage is received: as [`on_reply`] of the reply that carries it, whatever
+/// edits came before. The fault is `NotAtThisStage`, where it is no verdict on this stage, or `Skip` where that was not
+/// negotiated. Doesn't allocate. Source: the libmilter callback documentation (return values).
+pub fn on_verdict(negotiated: &Negotiated, stage: Stage, verdict: &Verdict) -> Result<(), MtaFault>
+    ensures given { result ≡ received_reply.given_or_fault negotiated.now stage verdict.now }
+    ensures reply { (weight : ℕ) →
+        received_reply.reply_received negotiated.now stage weight (reply_of verdict.now)
+        ≡ map_ok (λ done. received.Verdict verdict.now) result }
+{
+    if is_given(negotiated, stage, verdict) {
+        Ok(())
+    } else {
+        Err(MtaFault::NotAtThisStage)
+    }
 }
 
 /// Whether the verdict may be given at the stage, by what was negotiated.
