@@ -1,12 +1,13 @@
 #!/usr/bin/env python3
 """Plays messages on a filter, as a mail server does that sends nothing more before the reply has come.
 
-    python3 bench/filter.py COUNT BODY SOCKET|- COMMAND..
+    python3 bench/filter.py CONNECTIONS COUNT BODY SOCKET|- COMMAND..
 
 starts the command, connects to its Unix socket, or with `-` hands it a socket as standard input and output, and plays so
-many messages on one connection: sixteen commands each, with ten header fields and a body of so many bytes (more than
-65,535 are more commands). What the command prints is dropped. It prints the nanoseconds that the messages took, and
-those of processor time that the filter took in all.
+many messages on each of so many connections, one after another: sixteen commands each, with ten header fields and a body
+of so many bytes (more than 65,535 are more commands). The command has to end after them; with a `+` after CONNECTIONS it
+is ended. What it prints is dropped. It prints the nanoseconds that the messages took, and those of processor time that
+the filter took in all.
 """
 import resource
 import socket
@@ -56,21 +57,26 @@ def message(size):
     yield packet(b'E')
 
 
+def connected(path):
+    """A connection to the Unix socket, once a filter listens there."""
+    connection = socket.socket(socket.AF_UNIX)
+    while True:
+        try:
+            connection.connect(path)
+            return connection
+        except (FileNotFoundError, ConnectionRefusedError):
+            time.sleep(0.05)
+
+
 def started(path, command):
-    """The filter, and the connection to it."""
+    """The filter, and the first connection to it."""
     if path == '-':
         connection, other = socket.socketpair()
         process = subprocess.Popen(command, stdin=other, stdout=other)
         other.close()
         return process, connection
     process = subprocess.Popen(command, stdout=subprocess.DEVNULL)
-    connection = socket.socket(socket.AF_UNIX)
-    while True:
-        try:
-            connection.connect(path)
-            return process, connection
-        except (FileNotFoundError, ConnectionRefusedError):
-            time.sleep(0.05)
+    return process, connected(path)
 
 
 def play(connection, packets):
@@ -82,18 +88,30 @@ def play(connection, packets):
             sys.exit('%r was replied to by %r' % (sent[:50], reply))
 
 
-def main():
-    count, size = int(sys.argv[1]), int(sys.argv[2])
-    process, connection = started(sys.argv[3], sys.argv[4:])
-    packets = list(message(size))
+def play_messages(connection, count, packets):
+    """Plays so many messages on a connection, and waits until the filter closes it; answers their nanoseconds."""
     play(connection, opening())
     start = time.monotonic_ns()
     for _ in range(count):
         play(connection, packets)
     took = time.monotonic_ns() - start
     connection.sendall(packet(b'Q'))
+    connection.recv(PIECE)
     connection.close()
-    if process.wait() != 0:
+    return took
+
+
+def main():
+    connections, path = int(sys.argv[1].removesuffix('+')), sys.argv[4]
+    count, packets = int(sys.argv[2]), list(message(int(sys.argv[3])))
+    process, connection = started(path, sys.argv[5:])
+    took = play_messages(connection, count, packets)
+    for _ in range(1, connections):
+        took += play_messages(connected(path), count, packets)
+    if sys.argv[1].endswith('+'):
+        process.terminate()
+        process.wait()
+    elif process.wait() != 0:
         sys.exit('the filter ended with status %d' % process.returncode)
     used = resource.getrusage(resource.RUSAGE_CHILDREN)
     print(took, round(1e9 * (used.ru_utime + used.ru_stime)))

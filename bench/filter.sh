@@ -4,9 +4,10 @@
 # a socket as its standard streams; the others listen at a Unix socket, and one connection is made. For each it prints
 # the user instructions of a message of sixteen commands, with ten header fields and 4 KiB of body, how many of these
 # messages it takes a second, and MB of messages of 10 MiB a second, both by the filter's processor time and by the
-# clock, the generator and the filter each on a processor of its own. The instructions are callgrind's, without those
-# of a run of one message; callgrind counts a copy by `rep movsb` a byte at a time, so that this is turned off in the C
-# library. It takes libmilter (libmilter-dev), a C compiler, valgrind, Python and some minutes. The program is built
+# clock, the generator and the filter each on a processor of its own. It also prints the user instructions of a
+# connection of one such message, for `filter`, `serve` and libmilter. The instructions are callgrind's, without those
+# of a run of one message or one connection; callgrind counts a copy by `rep movsb` a byte at a time, so that this is
+# turned off in the C library. It takes libmilter (libmilter-dev), a C compiler, valgrind, Python and some minutes. The program is built
 # first where it has to be; another one may be given.
 #
 #     bash bench/filter.sh [PROGRAM]
@@ -33,16 +34,34 @@ play() {
     shift 3
     rm -f "$work/socket"
     case $filter in
-    answer) python3 bench/filter.py "$count" "$body" - "$@" "$program" answer ;;
-    filter) python3 bench/filter.py "$count" "$body" "$work/socket" "$@" "$program" filter "unix:$work/socket" ;;
-    libmilter) python3 bench/filter.py "$count" "$body" "$work/socket" "$@" "$work/libmilter" "$work/socket" ;;
+    answer) python3 bench/filter.py 1 "$count" "$body" - "$@" "$program" answer ;;
+    filter) python3 bench/filter.py 1 "$count" "$body" "$work/socket" "$@" "$program" filter "unix:$work/socket" ;;
+    libmilter) python3 bench/filter.py 1 "$count" "$body" "$work/socket" "$@" "$work/libmilter" "$work/socket" ;;
     esac
 }
 
-# instructions COUNT FILTER: what callgrind counts of a run
+# connect COUNT BODY FILTER COMMAND..: plays connections of one message on a filter, which runs under the command
+connect() {
+    local count=$1 body=$2 filter=$3
+    shift 3
+    rm -f "$work/socket"
+    case $filter in
+    filter) set -- "$count" 1 "$body" "$work/socket" "$@" "$program" filter "unix:$work/socket" --count "$count" ;;
+    serve) set -- "$count+" 1 "$body" "$work/socket" "$@" "$program" serve "unix:$work/socket" ;;
+    libmilter) set -- "$count+" 1 "$body" "$work/socket" "$@" "$work/libmilter" "$work/socket" many ;;
+    esac
+    python3 bench/filter.py "$@"
+}
+
+# instructions PLAY COUNT FILTER: what callgrind counts of a run of this play
 instructions() {
-    GLIBC_TUNABLES=glibc.cpu.x86_rep_movsb_threshold=1000000000 play "$1" "$SMALL" "$2" \
+    GLIBC_TUNABLES=glibc.cpu.x86_rep_movsb_threshold=1000000000 "$1" "$2" "$SMALL" "$3" \
         valgrind --tool=callgrind --callgrind-out-file=/dev/null 2>&1 >/dev/null | sed -n 's/.*Collected : //p'
+}
+
+# cost PLAY FILTER: the user instructions of one in a play of many, without those of a play of one
+cost() {
+    printf '%-10s %8d\n' "$2" $((($(instructions "$1" $((AGAIN + 1)) "$2") - $(instructions "$1" 1 "$2")) / AGAIN))
 }
 
 # least COUNT BODY FILTER: the least of three runs, in nanoseconds by the clock and of processor time
@@ -69,9 +88,9 @@ rates() {
 }
 
 echo "a message of sixteen commands, user instructions:"
-for filter in $FILTERS; do
-    printf '%-10s %8d\n' "$filter" $((($(instructions $((AGAIN + 1)) "$filter") - $(instructions 1 "$filter")) / AGAIN))
-done
+for filter in $FILTERS; do cost play "$filter"; done
+echo "a connection of one such message, user instructions:"
+for filter in filter serve libmilter; do cost connect "$filter"; done
 taskset -cp 0 $$ >/dev/null
 echo "$SMALL_COUNT such messages, messages/s by processor time and by the clock:"
 rates "$SMALL_COUNT" "$SMALL" 1
