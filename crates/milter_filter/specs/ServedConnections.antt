@@ -11,6 +11,11 @@ use Rattle.milter_filter.specs.declared.served.Served.{Served}
 use Rattle.milter_filter.specs.declared.served.Served.TheVariants.{Quit, Ended, Failed, ReadFault, WriteFault, TurnLimit}
 use Rattle.milter_filter.specs.Streams.{filter_end_of, reply_bytes}
 
+-- by what connections are served one after another: a policy, and the order in which commands are taken
+pub record ServedBy (P : Type 0) : Type 0 where
+  pub policy : P
+  pub order : CommandOrder
+
 -- the reader gave these bytes, and the writer took all replies to them
 pub record Replied (order : CommandOrder) (b : Behavior) (unread left written all : Option (List ℕ)) : Type 0 where
   pub input : List ℕ

@@ -21,6 +21,8 @@ use std::marker::Model;
 
 /// The rank of the last stage from which the next message goes on: at most that of a greeting.
 const RANK_OF_GREETING: u8 = 2;
+/// The most bytes that may have been shown at once where the memory for them is used again for another connection.
+pub(crate) const KEPT_MAX: usize = 65_536;
 
 /// What a filter's end keeps of a connection, all of it bounded by the packets that came.
 #[derive(Debug, Drop)]
@@ -31,6 +33,8 @@ pub(crate) struct Connection {
     seen: Seen,
     shown_bytes: usize,
     connection_bytes: usize,
+    // The most bytes that were shown at once.
+    most_bytes: usize,
     state: FilterState,
 }
 
@@ -65,8 +69,28 @@ impl Connection {
             seen: Seen::new(alloc),
             shown_bytes: 0,
             connection_bytes: 0,
+            most_bytes: 0,
             state: FilterState::Serving,
         }
+    }
+
+    /// Begins again, as a connection of which nothing has come. The memory for what was shown is used again, unless
+    /// that was more than 65,536 bytes at once. Doesn't allocate.
+    pub(crate) fn restart(&mut self, alloc: Global, order: CommandOrder)
+        ensures { self.new ≡ fresh_in order }
+    {
+        if self.most_bytes > KEPT_MAX {
+            self.seen = Seen::new(alloc);
+        } else {
+            self.seen.restart();
+        }
+        self.order = order;
+        self.negotiated = None;
+        self.last_rank = 0;
+        self.shown_bytes = 0;
+        self.connection_bytes = 0;
+        self.most_bytes = 0;
+        self.state = FilterState::Serving;
     }
 
     /// A connection that was given up: nothing is kept but the fault. Doesn't allocate.
@@ -80,6 +104,7 @@ impl Connection {
             seen: Seen::new(alloc),
             shown_bytes: 0,
             connection_bytes: 0,
+            most_bytes: 0,
             state: FilterState::Failed(fault),
         }
     }
@@ -188,6 +213,7 @@ impl Connection {
             self.last_rank = rank_of(stage);
         }
         self.shown_bytes += len;
+        self.most_bytes = self.most_bytes.max(self.shown_bytes);
         if is_of_connection(command) {
             self.connection_bytes += len;
         }

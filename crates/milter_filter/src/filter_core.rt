@@ -68,6 +68,24 @@ impl<'p, P: Policy> FilterCore<'p, P> {
         })
     }
 
+    /// Begins again for another connection, of which nothing has come. Nothing of the former one is left in it but
+    /// memory: room for one packet, and what was taken for up to 65,536 bytes that were shown at once and for as many
+    /// of replies; where it was more it is given up. Doesn't allocate.
+    pub fn restart(&mut self, policy: &'p P, order: CommandOrder)
+        ensures { self.new ≡ fresh_core_in order policy.now }
+    {
+        self.splitter.clear();
+        self.replier.restart(policy, order);
+        self.sent = 0;
+    }
+
+    /// The policy that it has. Doesn't allocate.
+    pub fn policy(&self) -> &'p P
+        ensures { result.now ≡ self.now.policy }
+    {
+        self.replier.policy()
+    }
+
     /// The bytes of replies that wait to be sent. Doesn't allocate.
     pub fn pending(&self) -> &[u8]
         ensures { result.now ≡ self.now.pending }

@@ -29,4 +29,4 @@ pub use pass::Pass;
 pub use policy::Policy;
 pub use seen::Seen;
 pub use served::Served;
-pub use stream_server::{serve, serve_in_order, serving_limits};
+pub use stream_server::{Server, serve, serve_in_order, serving_limits};

@@ -19,7 +19,7 @@ ghost use Rattle.milter_protocol.specs.OrderStates.{order_state_fault};
 ghost use Rattle.milter_filter.specs.AskedPolicy.{answer_at};
 
 use crate::answer_packets::{put_answer, put_continue};
-use crate::connection::Connection;
+use crate::connection::{Connection, KEPT_MAX};
 use crate::policy::Policy;
 use milter_protocol::{CommandOrder, FilterFault, FilterState, is_final_at};
 use milter_wire::{
@@ -62,6 +62,18 @@ impl<'p, P: Policy> Replier<'p, P> {
             policy,
             connection: Connection::new(alloc, order),
             pending: Vec::new(alloc),
+        }
+    }
+
+    /// Begins again, for another connection of which nothing has come. Doesn't allocate.
+    pub(crate) fn restart(&mut self, policy: &'p P, order: CommandOrder)
+        ensures { self.new ≡ fresh_replying order policy.now }
+    {
+        self.policy = policy;
+        self.connection.restart(self.alloc, order);
+        self.pending.clear();
+        if self.pending.capacity() > KEPT_MAX {
+            self.pending = Vec::new(self.alloc);
         }
     }
 

@@ -227,6 +227,14 @@ impl Seen {
         self.macros.clear();
     }
 
+    /// Begins again, for another connection. Doesn't allocate.
+    pub(crate) fn restart(&mut self)
+        ensures { self.new ≡ nothing_seen false }
+    {
+        self.clear();
+        self.leading_space = false;
+    }
+
     /// Notes whether values of header fields come with leading spaces.
     pub(crate) fn set_leading_space(&mut self, leading_space: bool)
         ensures shown { self.new.shown ≡ record self.old.shown { leading_space = leading_space } }

@@ -1,6 +1,6 @@
 //! A filter's end of a connection over a reader and a writer.
 
-ghost use Rattle.std.specs.Prelude.{◌≡◌, ◌<◌, ◌↔◌, [], IfErr, IsTrue, OnOk, length};
+ghost use Rattle.std.specs.Prelude.{◌≡◌, ◌<◌, ◌↔◌, [], IfErr, IfOk, IsTrue, OnOk, length};
 ghost use Rattle.milter_wire_stream.specs.Stream.{IsUnfinished};
 ghost use Rattle.milter_protocol.specs.declared.filter_state.FilterState.TheVariants.{Quit, Serving};
 ghost use Rattle.milter_protocol.specs.declared.command_order.CommandOrder.TheVariants.{Strict};
@@ -12,9 +12,10 @@ use crate::filter_core::FilterCore;
 use crate::policy::Policy;
 use crate::served::Served;
 use milter_protocol::{CommandOrder, FilterFault, FilterState};
-use milter_wire::{READ_LEN_MAX, read_buffer};
+use milter_wire::{NoMemory, READ_LEN_MAX, read_buffer};
 use std::alloc::Global;
 use std::io::{Read, Write};
+use std::marker::Model;
 
 /// The most reads of one connection.
 const READS_MAX: u64 = 1_073_741_824;
@@ -53,12 +54,109 @@ pub fn serve_in_order<P: Policy, R: Read, W: Write>(
     ensures { Serves order (P.behavior policy.now) (R.remaining reader.old) (R.remaining reader.new)
         (W.contents writer.old) (W.contents writer.new) result }
 {
-    let Ok(mut buffer) = read_buffer(alloc) else {
-        return Served::Failed(FilterFault::NoMemory);
-    };
-    match FilterCore::with_order(alloc, policy, order) {
-        Ok(mut core) => serve_reads(&mut core, buffer.as_mut_slice(), reader, writer),
-        Err(_) => Served::Failed(FilterFault::NoMemory),
+    let mut server = Server::new(alloc, policy, order);
+    server.serve(reader, writer)
+}
+
+/// Serves connections one after another by a policy, and takes commands in one order. It takes memory for the first:
+/// room for one packet, 65,540 bytes, and for what is read at once, 65,536. What serves the next is as one of which
+/// nothing has come, in the same memory.
+#[derive(Drop)]
+pub struct Server<'p, P: Policy> {
+    alloc: Global,
+    policy: &'p P,
+    order: CommandOrder,
+    memory: Option<Memory<'p, P>>,
+}
+
+impl<'p, P: Policy> Model for Server<'p, P> {
+    ghost use Rattle.milter_filter.specs.ServedConnections.{ServedBy};
+
+    ghost Value = { ServedBy P };
+
+    ghost view = { λ s. record { policy = s.policy.now; order = s.order } };
+}
+
+impl<'p, P: Policy> Server<'p, P> {
+    /// It has served no connection yet. Doesn't allocate.
+    pub fn new(alloc: Global, policy: &'p P, order: CommandOrder) -> Self
+        ensures { result ≡ record { policy = policy.now; order = order } }
+    {
+        Server {
+            alloc,
+            policy,
+            order,
+            memory: None,
+        }
+    }
+
+    /// Serves one connection as [`serve_in_order`] does. Where memory was refused for one, the next takes it.
+    pub fn serve<R: Read, W: Write>(&mut self, reader: &mut R, writer: &mut W) -> Served
+        ensures same { self.new ≡ self.old }
+        ensures serves { Serves self.old.order (P.behavior self.old.policy) (R.remaining reader.old)
+            (R.remaining reader.new) (W.contents writer.old) (W.contents writer.new) result }
+    {
+        let Ok(mut memory) = self.take_memory() else {
+            return Served::Failed(FilterFault::NoMemory);
+        };
+        let served = memory.serve(self.policy, self.order, reader, writer);
+        self.memory = Some(memory);
+        served
+    }
+
+    /// The memory of the connection before, or new memory.
+    fn take_memory(&mut self) -> Result<Memory<'p, P>, NoMemory>
+        ensures { self.new ≡ self.old }
+    {
+        match self.memory.take() {
+            Some(memory) => Ok(memory),
+            None => Memory::new(self.alloc, self.policy, self.order),
+        }
+    }
+}
+
+/// What serves one connection after another: a core, and room for what is read at once.
+#[derive(Drop)]
+struct Memory<'p, P: Policy> {
+    core: FilterCore<'p, P>,
+    buffer: Vec<u8>,
+}
+
+impl<'p, P: Policy> Model for Memory<'p, P> {
+    ghost use Rattle.std.specs.Prelude.{◌<◌, length};
+    ghost use Rattle.milter_filter.specs.Cores.{Core};
+
+    ghost Value = { Core P };
+
+    ghost view = { λ m. m.core };
+
+    ghost invariant = { λ m. 0 < length m.buffer.items };
+}
+
+impl<'p, P: Policy> Memory<'p, P> {
+    /// For a first connection.
+    fn new(alloc: Global, policy: &'p P, order: CommandOrder) -> Result<Self, NoMemory>
+        ensures { IfOk result (λ memory. memory ≡ fresh_core_in order policy.now) }
+    {
+        let buffer = read_buffer(alloc)?;
+        let core = FilterCore::with_order(alloc, policy, order)?;
+        Ok(Memory { core, buffer })
+    }
+
+    /// Serves a connection of which nothing has come.
+    fn serve<R: Read, W: Write>(
+        &mut self,
+        policy: &'p P,
+        order: CommandOrder,
+        reader: &mut R,
+        writer: &mut W,
+    ) -> Served
+        ensures { Serves order (P.behavior policy.now) (R.remaining reader.old) (R.remaining reader.new)
+            (W.contents writer.old) (W.contents writer.new) result }
+    {
+        let Memory { core, buffer } = self;
+        core.restart(policy, order);
+        serve_reads(core, buffer.as_mut_slice(), reader, writer)
     }
 }
 
