@@ -3,8 +3,7 @@
 ghost use Rattle.std.specs.Prelude.{◌≡◌};
 ghost use Rattle.milter_protocol.specs.FilterFault.{filter_fault_number};
 
-use milter_wire::{NoMemory, WireFault};
-use std::alloc::AllocError;
+use milter_wire::{RefusedMemory, WireFault};
 use thiserror::Error;
 
 /// Why a filter gives a connection up.
@@ -50,22 +49,12 @@ impl FilterFault {
     }
 }
 
-impl From<NoMemory> for FilterFault {
+impl<E: RefusedMemory> From<E> for FilterFault {
     ghost use Rattle.milter_protocol.specs.declared.filter_fault.FilterFault.TheVariants as faults;
 
     ghost from_gives = { λ _ fault. fault ≡ faults.NoMemory };
 
-    fn from(_error: NoMemory) -> FilterFault {
-        FilterFault::NoMemory
-    }
-}
-
-impl From<AllocError> for FilterFault {
-    ghost use Rattle.milter_protocol.specs.declared.filter_fault.FilterFault.TheVariants as faults;
-
-    ghost from_gives = { λ _ fault. fault ≡ faults.NoMemory };
-
-    fn from(_error: AllocError) -> FilterFault {
+    fn from(_error: E) -> FilterFault {
         FilterFault::NoMemory
     }
 }

@@ -1,12 +1,10 @@
 //! What can be wrong with a rule file.
 
 ghost use Rattle.std.specs.Prelude.{◌≡◌};
-ghost use Rattle.milter_rules.specs.declared.rule_fault.RuleFault.TheVariants as faults;
+ghost use Rattle.milter_text.specs.declared.line_fault.LineFault.{LineFault};
 ghost use Rattle.milter_rules.specs.RuleFault.{of_line_fault, rule_fault_line, rule_fault_number};
 
 use milter_text::LineFault;
-use milter_wire::NoMemory;
-use std::alloc::{AllocError, AllocFailed};
 use thiserror::Error;
 
 /// Why a rule file has no rules: the first line that is at fault, and what is wrong with it. Lines are numbered from 1,
@@ -68,37 +66,13 @@ impl RuleFault {
     }
 }
 
-impl From<LineFault> for RuleFault {
-    ghost from_gives = { λ fault e. e ≡ of_line_fault fault };
+impl<E: Into<LineFault>> From<E> for RuleFault {
+    ghost from_gives = { λ error e. (fault : LineFault) × E.converts error fault × (e ≡ of_line_fault fault) };
 
-    fn from(fault: LineFault) -> RuleFault {
-        match fault {
+    fn from(error: E) -> RuleFault {
+        match error.into() {
             LineFault::NotInWords(line) => RuleFault::UnknownWord(line),
             LineFault::NoMemory => RuleFault::NoMemory,
         }
-    }
-}
-
-impl From<NoMemory> for RuleFault {
-    ghost from_gives = { λ _ e. e ≡ faults.NoMemory };
-
-    fn from(_error: NoMemory) -> RuleFault {
-        RuleFault::NoMemory
-    }
-}
-
-impl From<AllocError> for RuleFault {
-    ghost from_gives = { λ _ e. e ≡ faults.NoMemory };
-
-    fn from(_error: AllocError) -> RuleFault {
-        RuleFault::NoMemory
-    }
-}
-
-impl<T: Drop> From<AllocFailed<T>> for RuleFault {
-    ghost from_gives = { λ _ e. e ≡ faults.NoMemory };
-
-    fn from(_error: AllocFailed<T>) -> RuleFault {
-        RuleFault::NoMemory
     }
 }

@@ -6,8 +6,7 @@ ghost use Rattle.milter_trace.specs.FaultText.{fault_text, truncated_line, trunc
 ghost use Rattle.std.specs.Prelude.{◌≡◌, Some};
 
 use crate::direction::Direction;
-use milter_wire::{NoMemory, WireFault};
-use std::alloc::{AllocError, AllocFailed};
+use milter_wire::{RefusedMemory, WireFault};
 use std::error::Error;
 use std::fmt;
 
@@ -124,26 +123,10 @@ impl fmt::Display for TruncatedStreams {
     }
 }
 
-impl From<NoMemory> for TraceFault {
+impl<E: RefusedMemory> From<E> for TraceFault {
     ghost from_gives = { λ _ e. e ≡ faults.NoMemory };
 
-    fn from(_error: NoMemory) -> TraceFault {
-        TraceFault::NoMemory
-    }
-}
-
-impl From<AllocError> for TraceFault {
-    ghost from_gives = { λ _ e. e ≡ faults.NoMemory };
-
-    fn from(_error: AllocError) -> TraceFault {
-        TraceFault::NoMemory
-    }
-}
-
-impl<T: Drop> From<AllocFailed<T>> for TraceFault {
-    ghost from_gives = { λ _ e. e ≡ faults.NoMemory };
-
-    fn from(_error: AllocFailed<T>) -> TraceFault {
+    fn from(_error: E) -> TraceFault {
         TraceFault::NoMemory
     }
 }

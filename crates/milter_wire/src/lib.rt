@@ -35,7 +35,7 @@ pub use milter_wire_fields::{
 };
 pub use milter_wire_options::{Actions, MacroStage, Options, Protocol, SymList, SymLists};
 pub use milter_wire_stream::{
-    CodeName, HEAD_LEN, NoMemory, PAYLOAD_MAX, Packet, Splitter, WireFault,
+    CodeName, HEAD_LEN, NoMemory, PAYLOAD_MAX, Packet, RefusedMemory, Splitter, WireFault,
 };
 pub use negotiation::{Negotiated, negotiate};
 pub use payload::PayloadRef;

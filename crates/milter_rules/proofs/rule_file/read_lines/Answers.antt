@@ -19,7 +19,7 @@ pub returns-in_err-line-clause-only : goal.returns-in_err-line-clause-only
 returns-in_err-line-clause-only c = λ values give can.
     let left = c.loop-builder.invariant.only values give can in
     let p = err_from_is_err_and c.from_residual.result c.from_residual.ensures.1 in
-    rw (p.1, p.2) (ap of_line_fault (c.in_err-line.ensures.only (left_in_words c.loop-builder.lines.lines left.after left.give)))
+    rw (p.1, p.2.2, p.2.1) (ap of_line_fault (c.in_err-line.ensures.only (left_in_words c.loop-builder.lines.lines left.after left.give)))
 
 pub returns-in_err-value-clause-only : goal.returns-in_err-value-clause-only
 returns-in_err-value-clause-only c = λ values give can.
