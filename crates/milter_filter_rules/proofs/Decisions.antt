@@ -4,8 +4,8 @@ use Rattle.std.specs.List.{filter}
 use Rattle.std.proofs.Common.{ap, ◌∙◌}
 use Rattle.milter_wire.specs.declared.verdict.Verdict.{Verdict}
 use Rattle.milter_message.specs.declared.edit.Edit.{Edit}
+use Rattle.milter_protocol.specs.declared.action.Action.TheVariants as actions
 use Rattle.milter_protocol.specs.Seen.{Seen}
-use Rattle.milter_filter_rules.specs.declared.rule.Action.TheVariants as actions
 use Rattle.milter_filter_rules.specs.declared.rule.Rule.{Rule}
 use Rattle.milter_filter_search.specs.declared.text_case.TextCase.{TextCase}
 use Rattle.milter_filter_rules.specs.Conditions.{applies}

@@ -4,8 +4,8 @@ use Rattle.std.proofs.Common.{ap}
 use Rattle.milter_wire.specs.declared.verdict.Verdict.{Verdict}
 use Rattle.milter_wire.specs.declared.verdict.Verdict.TheVariants as verdicts
 use Rattle.milter_message.specs.declared.edit.Edit.{Edit}
-use Rattle.milter_filter_rules.specs.declared.rule.Action.{Action}
-use Rattle.milter_filter_rules.specs.declared.rule.Action.TheVariants as actions
+use Rattle.milter_protocol.specs.declared.action.Action.{Action}
+use Rattle.milter_protocol.specs.declared.action.Action.TheVariants as actions
 use Rattle.milter_filter_rules.specs.Decisions.{answer_by, with_edits}
 
 pub first_verdict : (edits : List Edit) (verdict : Verdict) (later : List Action)

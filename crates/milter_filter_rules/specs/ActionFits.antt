@@ -16,8 +16,8 @@ use Rattle.milter_message.specs.declared.edit.Edit.{Edit}
 use Rattle.milter_message.specs.declared.edit.Edit.TheVariants as edits
 use Rattle.milter_message.specs.EditReplies as edit_replies
 use Rattle.milter_message.specs.EditReplies.{weight_of}
-use Rattle.milter_filter_rules.specs.declared.rule.Action.{Action}
-use Rattle.milter_filter_rules.specs.declared.rule.Action.TheVariants as actions
+use Rattle.milter_protocol.specs.declared.action.Action.{Action}
+use Rattle.milter_protocol.specs.declared.action.Action.TheVariants as actions
 use Rattle.milter_filter_rules.specs.declared.rule.Rule.{Rule}
 
 -- ---- the stage: edits come at the end of a message alone, and a verdict where it can be given

@@ -3,44 +3,42 @@
 ghost use Rattle.std.specs.Prelude.{◌≡◌, ◌&&◌};
 ghost use Rattle.milter_filter_rules.specs.ActionFits.{allowed_at, edit_fits, fields_fit, has_room, header_fits, is_index, is_string, is_string_or_none, verdict_fits};
 
-use crate::rule::Action;
 use milter_message::Edit;
+use milter_protocol::Action;
 use milter_wire::{HEAD_LEN, Header, PAYLOAD_MAX, Stage, Text, Verdict, string_len};
 use milter_wire_fields::is_reply_code;
 
-impl Action {
-    /// Whether the action may be done at the stage: edits at the end of a message alone, and a verdict where it is
-    /// given. Doesn't allocate.
-    pub fn is_allowed_at(&self, stage: Stage) -> bool
-        ensures { result ≡ allowed_at stage self.now }
-    {
-        match self {
-            Action::Edit(_) => stage == Stage::Eob,
-            Action::Verdict(verdict) => verdict.is_given_at(stage),
-        }
+/// Whether the action may be done at the stage: edits at the end of a message alone, and a verdict where it is given.
+/// Doesn't allocate.
+pub fn is_allowed_at(action: &Action, stage: Stage) -> bool
+    ensures { result ≡ allowed_at stage action.now }
+{
+    match action {
+        Action::Edit(_) => stage == Stage::Eob,
+        Action::Verdict(verdict) => verdict.is_given_at(stage),
     }
+}
 
-    /// Whether no text of the action has a NUL but that of a body, and a code begins with `4` or `5` and two digits.
-    /// Doesn't allocate.
-    pub fn fields_fit(&self) -> bool
-        ensures { result ≡ fields_fit self.now }
-    {
-        match self {
-            Action::Edit(edit) => edit_fits(edit),
-            Action::Verdict(verdict) => verdict_fits(verdict),
-        }
+/// Whether no text of the action has a NUL but that of a body, and a code begins with `4` or `5` and two digits.
+/// Doesn't allocate.
+pub fn fields_fit(action: &Action) -> bool
+    ensures { result ≡ fields_fit action.now }
+{
+    match action {
+        Action::Edit(edit) => edit_fits(edit),
+        Action::Verdict(verdict) => verdict_fits(verdict),
     }
+}
 
-    /// Whether the packet of the action has room for it: its length field is at most 65,536. Doesn't allocate.
-    #[tactic(auto, unfolding(milter_wire_stream::specs::Number::number))]
-    pub fn has_room(&self) -> bool
-        ensures { result ≡ has_room self.now }
-    {
-        match self {
-            Action::Edit(edit) => edit.weight() <= HEAD_LEN + PAYLOAD_MAX,
-            Action::Verdict(Verdict::Code(text)) => string_len(text.as_slice()) <= PAYLOAD_MAX,
-            Action::Verdict(_) => true,
-        }
+/// Whether the packet of the action has room for it: its length field is at most 65,536. Doesn't allocate.
+#[tactic(auto, unfolding(milter_wire_stream::specs::Number::number))]
+pub fn has_room(action: &Action) -> bool
+    ensures { result ≡ has_room action.now }
+{
+    match action {
+        Action::Edit(edit) => edit.weight() <= HEAD_LEN + PAYLOAD_MAX,
+        Action::Verdict(Verdict::Code(text)) => string_len(text.as_slice()) <= PAYLOAD_MAX,
+        Action::Verdict(_) => true,
     }
 }
 

@@ -8,8 +8,9 @@ ghost use Rattle.milter_filter_rules.specs.Conditions.{address_of, applies, is_m
 ghost use Rattle.milter_filter_rules.specs.Decisions.{decided};
 
 use crate::places::Places;
-use crate::rule::{Action, Condition, Field, Rule};
+use crate::rule::{Condition, Field, Rule};
 use milter_filter::{Answer, Edits, Pattern, Seen, Test, TextCase};
+use milter_protocol::Action;
 use milter_wire::{NoMemory, Origin, Verdict};
 use std::alloc::Global;
 

@@ -4,8 +4,8 @@ ghost use Rattle.std.specs.Prelude.{◌≡◌, ◌++◌, ◌∷◌, List, map};
 ghost use Rattle.milter_wire.specs.declared.verdict.Verdict.{Verdict};
 ghost use Rattle.milter_wire.specs.declared.verdict.Verdict.TheVariants as verdicts;
 ghost use Rattle.milter_message.specs.declared.edit.Edit.{Edit};
-ghost use Rattle.milter_filter_rules.specs.declared.rule.Action.{Action};
-ghost use Rattle.milter_filter_rules.specs.declared.rule.Action.TheVariants as actions;
+ghost use Rattle.milter_protocol.specs.declared.action.Action.{Action};
+ghost use Rattle.milter_protocol.specs.declared.action.Action.TheVariants as actions;
 ghost use Rattle.milter_filter_rules.specs.Decisions.{answer_by};
 
 /// What the actions of the rules that apply come to.

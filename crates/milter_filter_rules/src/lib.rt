@@ -10,9 +10,10 @@ mod rule;
 mod rule_list;
 mod rules;
 
-pub use action_fits::is_string;
+pub use action_fits::{fields_fit, has_room, is_allowed_at, is_string};
 pub use laws::answers_of_actions;
 pub use milter_filter::{Test, TextCase};
-pub use rule::{Action, Condition, Conditions, Field, Rule};
+pub use milter_protocol::Action;
+pub use rule::{Condition, Conditions, Field, Rule};
 pub use rule_list::{RuleList, StageRules};
 pub use rules::Rules;

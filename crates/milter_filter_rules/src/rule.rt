@@ -4,8 +4,8 @@ ghost use Rattle.std.specs.Prelude.{◌≡◌};
 ghost use Rattle.milter_filter_rules.specs.RuleNames.{field_name};
 
 use milter_filter::{Pattern, Test, TextCase};
-use milter_message::Edit;
-use milter_wire::{List, Text, Verdict};
+use milter_protocol::Action;
+use milter_wire::{List, Text};
 
 /// What of a connection and its message a condition looks at. Each has no value where it wasn't seen yet.
 #[derive(Clone, Debug, PartialEq, Eq, Drop)]
@@ -75,20 +75,11 @@ impl Condition {
 /// The conditions of a rule, all of which have to be met, from none on.
 pub type Conditions = List<Condition>;
 
-/// What a rule does where its conditions are met.
-#[derive(Clone, Debug, PartialEq, Eq, Drop)]
-pub enum Action {
-    /// Asks for a change to the message, and the rules after it are looked at.
-    Edit(Edit),
-    /// Answers with a verdict, and no rule after it is looked at.
-    Verdict(Verdict),
-}
-
 /// A rule.
 #[derive(Clone, Debug, Drop)]
 pub struct Rule {
     /// Its conditions.
     pub conditions: Conditions,
-    /// What it does.
+    /// What it does where they are met. No rule after a verdict is looked at.
     pub action: Action,
 }

@@ -14,9 +14,9 @@ use Rattle.milter_wire.specs.declared.verdict.Verdict.{Verdict}
 use Rattle.milter_message.specs.declared.edit.Edit.{Edit}
 use Rattle.milter_message.specs.MailObject.{MailObject}
 use Rattle.milter_wire.specs.declared.command.Command.{Command}
+use Rattle.milter_protocol.specs.declared.action.Action.{Action}
+use Rattle.milter_protocol.specs.declared.action.Action.TheVariants as received_reply
 use Rattle.milter_mta_outcome.specs.declared.acted.Acted.{Acted}
-use Rattle.milter_mta_outcome.specs.declared.received_reply.ReceivedReply.{ReceivedReply}
-use Rattle.milter_mta_outcome.specs.declared.received_reply.ReceivedReply.TheVariants as received_reply
 use Rattle.milter_mta_outcome.specs.declared.loss.Loss.{Loss}
 use Rattle.milter_mta_outcome.specs.declared.loss.Loss.TheVariants.{Fault, Memory, Reset, Timeout}
 use Rattle.milter_mta_outcome.specs.declared.loss.MtaFault.{MtaFault}
@@ -77,7 +77,7 @@ module _ (l r : FilterConnection) (m : Mta) (same : l.position ≡ r.position) w
       ap (λ (n : Mta). if ends_dialogue stage verdict acted left then (if is_of_connection stage then settled_all verdict acted (at l m) else n)
       else at (at_packet (Sending negotiated acted [] (left_after verdict left))) m) first
 
-  received_at-over : (negotiated : Negotiated) (stage : Stage) (acted : List Acted) (edits : List Edit) (left : List Command) (reply : Result ReceivedReply MtaFault) → m.session.messages ≢ []
+  received_at-over : (negotiated : Negotiated) (stage : Stage) (acted : List Acted) (edits : List Edit) (left : List Command) (reply : Result Action MtaFault) → m.session.messages ≢ []
       → received_at negotiated stage acted edits left reply (at l m) ≡ received_at negotiated stage acted edits left reply (at r m)
   received_at-over negotiated stage acted edits left (Err fault) some = fails-over fault
   received_at-over negotiated stage acted edits left (Ok (received_reply.Edit edit)) some = refl

@@ -13,9 +13,9 @@ use Rattle.milter_message.specs.declared.edit.Edit.{Edit}
 use Rattle.milter_message.specs.MailObject.{MailObject}
 use Rattle.milter_mail.specs.MailSession.{MailSession}
 use Rattle.milter_mail.specs.Plan.{plan}
+use Rattle.milter_protocol.specs.declared.action.Action.{Action}
+use Rattle.milter_protocol.specs.declared.action.Action.TheVariants as received_reply
 use Rattle.milter_mta_outcome.specs.declared.acted.Acted.{Acted}
-use Rattle.milter_mta_outcome.specs.declared.received_reply.ReceivedReply.{ReceivedReply}
-use Rattle.milter_mta_outcome.specs.declared.received_reply.ReceivedReply.TheVariants as received_reply
 use Rattle.milter_mta_outcome.specs.declared.loss.Loss.{Loss}
 use Rattle.milter_mta_outcome.specs.declared.loss.Loss.TheVariants.{Fault, Memory}
 use Rattle.milter_mta_outcome.specs.declared.loss.MtaFault.{MtaFault}
@@ -64,7 +64,7 @@ ruled_on negotiated stage acted edits left verdict m =
     if ends_dialogue stage verdict acted left then settled negotiated stage edits verdict acted m
     else at (at_packet (Sending negotiated acted [] (left_after verdict left))) m
 
-abbrev pub received_at : Negotiated → Stage → List Acted → List Edit → List Command → Result ReceivedReply MtaFault
+abbrev pub received_at : Negotiated → Stage → List Acted → List Edit → List Command → Result Action MtaFault
     → Mta → After
 received_at negotiated stage acted edits left (Err fault) m = fails fault m
 received_at negotiated stage acted edits left (Ok (received_reply.Edit edit)) m =

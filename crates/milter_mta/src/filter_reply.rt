@@ -19,7 +19,7 @@ ghost use Rattle.milter_mta.specs.TakenReplies.{ActsOn, Takes};
 use crate::filter_connection::{FilterConnection, Next};
 use crate::session_state::SessionState;
 use milter_message::Edit;
-use milter_mta_outcome::{Loss, MtaFault, ReceivedReply, on_options, on_reply, received_replies};
+use milter_mta_outcome::{Action, Loss, MtaFault, on_options, on_reply, received_replies};
 use milter_mta_transaction::{ClientInfo, ReceivedEdits, Transaction};
 use milter_wire::{Reply, Stage, Verdict};
 use std::alloc::Global;
@@ -69,8 +69,8 @@ fn take_reply(
         transaction.edits.weight(),
         reply,
     ) {
-        Ok(ReceivedReply::Edit(edit)) => take_edit(transaction, edit),
-        Ok(ReceivedReply::Verdict(verdict)) => take_verdict(
+        Ok(Action::Edit(edit)) => take_edit(transaction, edit),
+        Ok(Action::Verdict(verdict)) => take_verdict(
             transaction,
             alloc,
             client_info,

@@ -11,9 +11,9 @@ use Rattle.milter_wire.specs.declared.verdict.Verdict.{Verdict}
 use Rattle.milter_wire.specs.Frames.{frame_reply}
 use Rattle.milter_message.specs.declared.edit.Edit.{Edit}
 use Rattle.milter_message.specs.MailObject.{MailObject}
+use Rattle.milter_protocol.specs.declared.action.Action.{Action}
+use Rattle.milter_protocol.specs.declared.action.Action.TheVariants as received_as
 use Rattle.milter_mta_outcome.specs.declared.acted.Acted.{Acted}
-use Rattle.milter_mta_outcome.specs.declared.received_reply.ReceivedReply.{ReceivedReply}
-use Rattle.milter_mta_outcome.specs.declared.received_reply.ReceivedReply.TheVariants as received_as
 use Rattle.milter_mta_outcome.specs.declared.loss.Loss.{Loss}
 use Rattle.milter_mta_outcome.specs.declared.loss.Loss.TheVariants.{Fault, Memory, Reset, Timeout}
 use Rattle.milter_mta_outcome.specs.declared.loss.MtaFault.{MtaFault}
@@ -96,7 +96,7 @@ module _ (m : Mta) (on : IsConnected m) where
       by_end true = settled-connected negotiated stage es verdict verdicts
       by_end false = reconnected _
 
-  received_at-leads : (negotiated : Negotiated) (stage : Stage) (verdicts : List Acted) (es : List Edit) (left : List Command) (is : Result ReceivedReply MtaFault)
+  received_at-leads : (negotiated : Negotiated) (stage : Stage) (verdicts : List Acted) (es : List Edit) (left : List Command) (is : Result Action MtaFault)
       → Leads m (received_at negotiated stage verdicts es left is m)
   received_at-leads negotiated stage verdicts es left (Err fault) = failed fault
   received_at-leads negotiated stage verdicts es left (Ok (received_as.Edit edit)) = reconnected _

@@ -26,13 +26,13 @@ use Rattle.milter_message.specs.declared.message.TheConstants.{WEIGHT_MAX}
 use Rattle.milter_message.specs.EditReplies as edits
 use Rattle.milter_message.specs.EditReplies.{edit_of, weight_of}
 use Rattle.milter_message.specs.MailObject.{MailObject}
+use Rattle.milter_protocol.specs.declared.action.Action.{Action}
+use Rattle.milter_protocol.specs.declared.action.Action.TheVariants as received_as
 use Rattle.milter_protocol.specs.declared.answer.Answer.{Answer}
 use Rattle.milter_protocol.specs.Lawful.{AnswerFits}
 use Rattle.milter_protocol.specs.Permitted.{is_permitted, permitted, permitted_verdict}
 use Rattle.milter_protocol.specs.Dialogue.{is_end_command}
 use Rattle.milter_mta_outcome.specs.declared.acted.Acted.{Acted}
-use Rattle.milter_mta_outcome.specs.declared.received_reply.ReceivedReply.{ReceivedReply}
-use Rattle.milter_mta_outcome.specs.declared.received_reply.ReceivedReply.TheVariants as received_as
 use Rattle.milter_mta_outcome.specs.declared.loss.MtaFault.{MtaFault}
 use Rattle.milter_mta_outcome.specs.declared.loss.MtaFault.TheVariants.{NotAtThisStage, EditNotNegotiated, TooManyEdits}
 use Rattle.milter_mta_outcome.specs.ReceivedReplies.{received_by, is_end, is_given, reply_received}
@@ -164,7 +164,7 @@ asks_edit (ReplaceBody bytes) = refl
 asks_edit (Quarantine reason) = refl
 asks_edit Progress = refl
 
-edit_if : (end permitted heavy : Bool) (is : Result ReceivedReply MtaFault) → end ≡ true → permitted ≡ true → heavy ≡ false
+edit_if : (end permitted heavy : Bool) (is : Result Action MtaFault) → end ≡ true → permitted ≡ true → heavy ≡ false
     → (if not end then Err NotAtThisStage else if not permitted then Err EditNotNegotiated else if heavy then Err TooManyEdits else is) ≡ is
 edit_if true true false is a b c = refl
 edit_if false permitted heavy is a b c = absurd (true≢false (sym a))
@@ -222,12 +222,12 @@ module _ (receives_bytes : ReceivesReplies) (negotiated : Negotiated) (stage : S
   abbrev position : List Edit → Position
   position so_far = Sending negotiated acted so_far left
 
-  pub one : (so_far : List Edit) (reply : Reply) (is : ReceivedReply) → Fits reply → reply_received negotiated stage (weight_of_all so_far) reply ≡ Ok is
+  pub one : (so_far : List Edit) (reply : Reply) (is : Action) → Fits reply → reply_received negotiated stage (weight_of_all so_far) reply ≡ Ok is
       → received (owed_at (position so_far) m) (encoding reply) ≡ received_at negotiated stage acted so_far left (Ok is) (owed_at (position so_far) m)
   one so_far reply is fits found =
       receives_bytes m (record (at_packet (position so_far)) { owed = true }) reply refl refl some fits
       ∙ ap (λ (s : Option Stage). replied_at negotiated acted so_far left s reply (owed_at (position so_far) m)) first
-      ∙ ap (λ (h : Result ReceivedReply MtaFault). received_at negotiated stage acted so_far left h (owed_at (position so_far) m)) found
+      ∙ ap (λ (h : Result Action MtaFault). received_at negotiated stage acted so_far left h (owed_at (position so_far) m)) found
 
   verdict_last : (so_far : List Edit) (verdict : Verdict) → Fits (verdicts.reply_of verdict) → is_given negotiated stage verdict ≡ true
       → received (owed_at (position so_far) m) (encoding (verdicts.reply_of verdict) ++ [])

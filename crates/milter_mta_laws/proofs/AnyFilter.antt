@@ -23,6 +23,8 @@ use Rattle.milter_message.specs.declared.edit.Edit.{Edit}
 use Rattle.milter_message.specs.declared.message.TheConstants.{WEIGHT_MAX}
 use Rattle.milter_message.specs.EditReplies.{weight_of}
 use Rattle.milter_message.specs.MailObject.{MailObject}
+use Rattle.milter_protocol.specs.declared.action.Action.{Action}
+use Rattle.milter_protocol.specs.declared.action.Action.TheVariants as received_as
 use Rattle.milter_protocol.specs.Permitted.{is_permitted}
 use Rattle.milter_mail.specs.Plan.{plan}
 use Rattle.milter_protocol.specs.declared.answer.Answer.{Answer}
@@ -32,8 +34,6 @@ use Rattle.milter_protocol.specs.Verdicts.{is_skip}
 use Rattle.milter_protocol.proofs.Lists.{same-head}
 use Rattle.milter_protocol.proofs.Sendable.{end_left, same-open, same_rcpts, sendable-closed}
 use Rattle.milter_mta_outcome.specs.declared.acted.Acted.{Acted}
-use Rattle.milter_mta_outcome.specs.declared.received_reply.ReceivedReply.{ReceivedReply}
-use Rattle.milter_mta_outcome.specs.declared.received_reply.ReceivedReply.TheVariants as received_as
 use Rattle.milter_mta_outcome.specs.declared.loss.Loss.{Loss}
 use Rattle.milter_mta_outcome.specs.declared.loss.Loss.TheVariants.{Fault}
 use Rattle.milter_mta_outcome.specs.declared.loss.MtaFault.{MtaFault}
@@ -298,7 +298,7 @@ module _ (facts : ReceivedFacts) (m : Mta) (on : IsOnDialogue m) where
   failed : (fault : MtaFault) → GoesOnDialogues m (fails fault m).mta
   failed fault = lost-goes m (Fault fault) on
 
-  received_at-goes : (negotiated : Negotiated) (stage : Stage) (verdicts : List Acted) (es : List Edit) (left : List Command) (reply : Reply) (is : Result ReceivedReply MtaFault)
+  received_at-goes : (negotiated : Negotiated) (stage : Stage) (verdicts : List Acted) (es : List Edit) (left : List Command) (reply : Reply) (is : Result Action MtaFault)
       → reply_received negotiated stage (weight_of_all es) reply ≡ is → stage_first left ≡ Some stage → IsAfterDialogue m.config.offer (without_messages m.session) m.session.messages negotiated verdicts left → m.session.messages ≢ []
       → MayEdit negotiated (is_end_next left) es → asks_first negotiated left ≡ true → GoesOnDialogues m (received_at negotiated stage verdicts es left is m).mta
   received_at-goes negotiated stage verdicts es left reply (Err fault) e first dialogue some edited asks = failed fault

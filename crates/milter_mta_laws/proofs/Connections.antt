@@ -13,9 +13,9 @@ use Rattle.milter_wire.specs.declared.verdict.Verdict.{Verdict}
 use Rattle.milter_wire.specs.Frames.{frame_reply}
 use Rattle.milter_message.specs.declared.edit.Edit.{Edit}
 use Rattle.milter_message.specs.MailObject.{MailObject}
+use Rattle.milter_protocol.specs.declared.action.Action.{Action}
+use Rattle.milter_protocol.specs.declared.action.Action.TheVariants as received_as
 use Rattle.milter_mta_outcome.specs.declared.acted.Acted.{Acted}
-use Rattle.milter_mta_outcome.specs.declared.received_reply.ReceivedReply.{ReceivedReply}
-use Rattle.milter_mta_outcome.specs.declared.received_reply.ReceivedReply.TheVariants as received_as
 use Rattle.milter_mta_outcome.specs.declared.loss.By.TheVariants.{Connection}
 use Rattle.milter_mta_outcome.specs.declared.loss.Loss.{Loss}
 use Rattle.milter_mta_outcome.specs.declared.loss.Loss.TheVariants.{Fault}
@@ -170,7 +170,7 @@ module _ (m : Mta) (is : ConnectionIsReported m) where
   failed : (fault : MtaFault) → ConnectionIsReported (fails fault m).mta
   failed fault = lost-keeps m (Fault fault) is
 
-  received_at-keeps : (negotiated : Negotiated) (stage : Stage) (verdicts : List Acted) (es : List Edit) (left : List Command) (found : Result ReceivedReply MtaFault) → m.session.messages ≢ []
+  received_at-keeps : (negotiated : Negotiated) (stage : Stage) (verdicts : List Acted) (es : List Edit) (left : List Command) (found : Result Action MtaFault) → m.session.messages ≢ []
       → ConnectionIsReported (received_at negotiated stage verdicts es left found m).mta
   received_at-keeps negotiated stage verdicts es left (Err fault) some = failed fault
   received_at-keeps negotiated stage verdicts es left (Ok (received_as.Edit edit)) some = same _

@@ -17,11 +17,11 @@ use Rattle.milter_wire.specs.Verdicts.{given_at, verdict_of}
 use Rattle.milter_message.specs.declared.edit.Edit.{Edit}
 use Rattle.milter_message.specs.declared.message.TheConstants.{WEIGHT_MAX}
 use Rattle.milter_message.specs.EditReplies.{edit_of, weight_of}
+use Rattle.milter_protocol.specs.declared.action.Action.{Action}
+use Rattle.milter_protocol.specs.declared.action.Action.TheVariants as received
 use Rattle.milter_protocol.specs.declared.limits.TheConstants.{VERSION_MAX, VERSION_MIN}
 use Rattle.milter_protocol.specs.Permitted.{is_permitted}
 use Rattle.milter_protocol.specs.Verdicts.{is_skip}
-use Rattle.milter_mta_outcome.specs.declared.received_reply.ReceivedReply.{ReceivedReply}
-use Rattle.milter_mta_outcome.specs.declared.received_reply.ReceivedReply.TheVariants as received
 use Rattle.milter_mta_outcome.specs.declared.loss.MtaFault.{MtaFault}
 use Rattle.milter_mta_outcome.specs.declared.loss.MtaFault.TheVariants.{Version, ActionsNotOffered, ProtocolNotOffered, NotAtThisStage, EditNotNegotiated, TooManyEdits}
 
@@ -66,7 +66,7 @@ is_end Eob = true
 is_end other = false
 
 -- an edit comes at the end of a message alone, by what was negotiated, and all together have at most 16 MiB
-abbrev pub edit_received : Negotiated → Stage → ℕ → Edit → Result ReceivedReply MtaFault
+abbrev pub edit_received : Negotiated → Stage → ℕ → Edit → Result Action MtaFault
 edit_received negotiated stage weight edit =
     if not (is_end stage) then Err NotAtThisStage
     else if not (is_permitted negotiated edit) then Err EditNotNegotiated
@@ -83,15 +83,15 @@ is_given negotiated stage verdict = given_at verdict stage && (not (is_skip verd
 abbrev pub given_or_fault : Negotiated → Stage → Verdict → Result Unit MtaFault
 given_or_fault negotiated stage verdict = if is_given negotiated stage verdict then Ok tt else Err NotAtThisStage
 
-abbrev pub verdict_received : Negotiated → Stage → Result Verdict Reply → Result ReceivedReply MtaFault
+abbrev pub verdict_received : Negotiated → Stage → Result Verdict Reply → Result Action MtaFault
 verdict_received negotiated stage (Err other) = Err NotAtThisStage
 verdict_received negotiated stage (Ok verdict) =
     if is_given negotiated stage verdict then Ok (received.Verdict verdict) else Err NotAtThisStage
 
-abbrev pub received_by : Negotiated → Stage → ℕ → Result Edit Reply → Result ReceivedReply MtaFault
+abbrev pub received_by : Negotiated → Stage → ℕ → Result Edit Reply → Result Action MtaFault
 received_by negotiated stage weight (Ok edit) = edit_received negotiated stage weight edit
 received_by negotiated stage weight (Err other) = verdict_received negotiated stage (verdict_of other)
 
 -- where the edits before it have so many bytes
-abbrev pub reply_received : Negotiated → Stage → ℕ → Reply → Result ReceivedReply MtaFault
+abbrev pub reply_received : Negotiated → Stage → ℕ → Reply → Result Action MtaFault
 reply_received negotiated stage weight reply = received_by negotiated stage weight (edit_of reply)

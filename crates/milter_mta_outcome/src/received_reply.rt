@@ -4,22 +4,13 @@ ghost use Rattle.std.specs.Prelude.{◌≡◌, ◌≤◌, ℕ};
 ghost use Rattle.milter_message.specs.declared.message.TheConstants.{WEIGHT_MAX};
 ghost use Rattle.milter_wire.specs.Tables.{map_ok};
 ghost use Rattle.milter_wire.specs.Verdicts.{reply_of, verdict_of};
-ghost use Rattle.milter_mta_outcome.specs.declared.received_reply.ReceivedReply.TheVariants as received;
+ghost use Rattle.milter_protocol.specs.declared.action.Action.TheVariants as received;
 ghost use Rattle.milter_mta_outcome.specs.ReceivedReplies as received_reply;
 
 use crate::loss::MtaFault;
 use milter_message::{Edit, WEIGHT_MAX};
-use milter_protocol::{VERSION_MAX, VERSION_MIN, permits};
+use milter_protocol::{Action, VERSION_MAX, VERSION_MIN, permits};
 use milter_wire::{Actions, Negotiated, Options, Protocol, Reply, Stage, SymLists, Verdict};
-
-/// What a reply to a command is.
-#[derive(Debug, Drop)]
-pub enum ReceivedReply {
-    /// An edit, or progress: the verdict is still owed.
-    Edit(Edit),
-    /// The verdict.
-    Verdict(Verdict),
-}
 
 /// What was negotiated by the reply to this offer. The faults are `NotAtThisStage` for a reply without options, and
 /// else, in this order, `Version` below 2 or above 6, `ActionsNotOffered` also for symbol lists where
@@ -67,7 +58,7 @@ pub fn on_reply(
     stage: Stage,
     weight: usize,
     reply: Reply,
-) -> Result<ReceivedReply, MtaFault>
+) -> Result<Action, MtaFault>
     requires { weight ≤ WEIGHT_MAX }
     ensures { result ≡ received_reply.reply_received negotiated.now stage weight reply }
 {
@@ -83,7 +74,7 @@ fn on_edit(
     stage: Stage,
     weight: usize,
     edit: Edit,
-) -> Result<ReceivedReply, MtaFault>
+) -> Result<Action, MtaFault>
     requires { weight ≤ WEIGHT_MAX }
     ensures { result ≡ received_reply.edit_received negotiated.now stage weight edit }
 {
@@ -96,18 +87,18 @@ fn on_edit(
     if edit.weight() > WEIGHT_MAX - weight {
         return Err(MtaFault::TooManyEdits);
     }
-    Ok(ReceivedReply::Edit(edit))
+    Ok(Action::Edit(edit))
 }
 
 /// What the reply is that asks for no edit.
-fn on_other(negotiated: &Negotiated, stage: Stage, reply: Reply) -> Result<ReceivedReply, MtaFault>
+fn on_other(negotiated: &Negotiated, stage: Stage, reply: Reply) -> Result<Action, MtaFault>
     ensures { result ≡ received_reply.verdict_received negotiated.now stage (verdict_of reply) }
 {
     let Ok(verdict) = Verdict::from_reply(reply) else {
         return Err(MtaFault::NotAtThisStage);
     };
     on_verdict(negotiated, stage, &verdict)?;
-    Ok(ReceivedReply::Verdict(verdict))
+    Ok(Action::Verdict(verdict))
 }
 
 /// Whether a verdict on a command of this stage is received: as [`on_reply`] of the reply that carries it, whatever

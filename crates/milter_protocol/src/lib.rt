@@ -5,6 +5,7 @@
 //! Nothing here reads, writes, waits or takes memory.
 #![tactic(auto)]
 
+mod action;
 mod answer;
 mod command_order;
 mod filter_end_laws;
@@ -17,6 +18,7 @@ mod rows;
 mod stage_order;
 mod verdicts;
 
+pub use action::Action;
 pub use answer::{Answer, Edits};
 pub use command_order::CommandOrder;
 pub use filter_end_laws::{

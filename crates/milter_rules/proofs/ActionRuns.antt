@@ -13,8 +13,8 @@ use Rattle.milter_wire.specs.declared.verdict.Verdict.{Verdict}
 use Rattle.milter_wire.specs.declared.verdict.Verdict.TheVariants as verdicts
 use Rattle.milter_message.specs.declared.edit.Edit.{Edit}
 use Rattle.milter_message.specs.declared.edit.Edit.TheVariants as edits
-use Rattle.milter_filter_rules.specs.declared.rule.Action.{Action}
-use Rattle.milter_filter_rules.specs.declared.rule.Action.TheVariants as actions
+use Rattle.milter_protocol.specs.declared.action.Action.{Action}
+use Rattle.milter_protocol.specs.declared.action.Action.TheVariants as actions
 use Rattle.milter_filter_rules.specs.ActionFits.{edit_fits, fields_fit, header_fits, is_index}
 use Rattle.milter_rules.specs.ActionText.{action_words, edit_words, verdict_words}
 use Rattle.milter_rules.specs.ActionWords.{action_of, action_shape, if_fields_fit, index_of}

@@ -13,7 +13,7 @@ use Rattle.milter_wire_options.proofs.NamedSets.{actions_named, protocol_named}
 use Rattle.milter_wire.specs.declared.stage.Stage.{Stage}
 use Rattle.milter_wire.specs.declared.stage.Stage.TheVariants.{Connect, Helo, Mail, Rcpt, DataCmd, Header, Eoh, Body, Eob}
 use Rattle.milter_wire.specs.Stages.{name_of, stage_named}
-use Rattle.milter_filter_rules.specs.declared.rule.Action.{Action}
+use Rattle.milter_protocol.specs.declared.action.Action.{Action}
 use Rattle.milter_filter_rules.specs.declared.rule.Rule.{Rule}
 use Rattle.milter_rules.specs.declared.rule_line.RuleLine.{RuleLine}
 use Rattle.milter_rules.specs.declared.rule_line.RuleLine.TheVariants as lines

@@ -25,9 +25,9 @@ use Rattle.milter_wire.specs.declared.verdict.Verdict.TheVariants as verdicts
 use Rattle.milter_wire.specs.Stages.{all_stages, name_of}
 use Rattle.milter_message.specs.declared.edit.Edit.{Edit}
 use Rattle.milter_message.specs.declared.edit.Edit.TheVariants as edits
+use Rattle.milter_protocol.specs.declared.action.Action.{Action}
+use Rattle.milter_protocol.specs.declared.action.Action.TheVariants as actions
 use Rattle.milter_protocol.specs.declared.limits.TheConstants.{VERSION_MAX, VERSION_MIN}
-use Rattle.milter_filter_rules.specs.declared.rule.Action.{Action}
-use Rattle.milter_filter_rules.specs.declared.rule.Action.TheVariants as actions
 use Rattle.milter_filter_rules.specs.declared.rule.Condition.{Condition}
 use Rattle.milter_filter_rules.specs.declared.rule.Field.{Field}
 use Rattle.milter_filter_rules.specs.declared.rule.Field.TheVariants as fields

@@ -19,9 +19,9 @@ use Rattle.milter_wire.specs.declared.stage.Stage.{Stage}
 use Rattle.milter_wire.specs.declared.verdict.Verdict.TheVariants as verdicts
 use Rattle.milter_message.specs.declared.message.TheConstants.{WEIGHT_MAX}
 use Rattle.milter_message.specs.EditReplies.{needed_by}
+use Rattle.milter_protocol.specs.declared.action.Action.{Action}
+use Rattle.milter_protocol.specs.declared.action.Action.TheVariants as actions
 use Rattle.milter_protocol.specs.declared.limits.TheConstants.{VERSION_MAX}
-use Rattle.milter_filter_rules.specs.declared.rule.Action.{Action}
-use Rattle.milter_filter_rules.specs.declared.rule.Action.TheVariants as actions
 use Rattle.milter_filter_rules.specs.declared.rule.Rule.{Rule}
 use Rattle.milter_rules.specs.declared.rule_builder.TheConstants.{RULES_MAX}
 use Rattle.milter_rules.specs.declared.rule_line.RuleLine.{RuleLine}

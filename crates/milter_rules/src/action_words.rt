@@ -3,7 +3,7 @@
 ghost use Rattle.std.specs.Prelude.{◌≡◌, IfOk, option_map};
 ghost use Rattle.milter_rules.specs.ActionWords.{action_of, action_shape, action_with_index, action_with_text, action_with_texts, index_of, lone_action};
 
-use milter_filter_rules::Action;
+use milter_filter_rules::{Action, fields_fit};
 use milter_message::Edit;
 use milter_text::Word;
 use milter_wire::{Header, NoMemory, Text, Verdict};
@@ -15,7 +15,7 @@ pub(crate) fn action_in(alloc: Global, words: &[Word]) -> Result<Option<Action>,
     ensures { IfOk result (λ action. action ≡ action_of words.now) }
 {
     match action_shape(alloc, words)? {
-        Some(action) if action.fields_fit() => Ok(Some(action)),
+        Some(action) if fields_fit(&action) => Ok(Some(action)),
         _ => Ok(None),
     }
 }

@@ -5,7 +5,7 @@ ghost use Rattle.std.specs.List.{AllZip, flat_map};
 ghost use Rattle.milter_text.specs.declared.word.Word.{Word};
 ghost use Rattle.milter_text.specs.Lines.{contents};
 ghost use Rattle.milter_text.specs.Words.{HasWords};
-ghost use Rattle.milter_filter_rules.specs.declared.rule.Action.{Action};
+ghost use Rattle.milter_protocol.specs.declared.action.Action.{Action};
 ghost use Rattle.milter_filter_rules.specs.ActionFits.{fields_fit};
 ghost use Rattle.milter_rules.specs.ActionText.{action_words};
 ghost use Rattle.milter_rules.specs.ActionWords.{action_of};

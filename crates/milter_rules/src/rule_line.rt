@@ -4,7 +4,7 @@ ghost use Rattle.std.specs.Prelude.{◌≡◌, IfErr, IfOk, IfSome, MatchResult,
 ghost use Rattle.milter_text.specs.declared.word.Word.{Word};
 ghost use Rattle.milter_text.specs.WordValues.{plain_text};
 ghost use Rattle.milter_wire.specs.declared.stage.Stage.{Stage};
-ghost use Rattle.milter_filter_rules.specs.declared.rule.Action.{Action};
+ghost use Rattle.milter_protocol.specs.declared.action.Action.{Action};
 ghost use Rattle.milter_filter_rules.specs.declared.rule.Rule.{Rule};
 ghost use Rattle.milter_rules.specs.declared.rule_fault.RuleFault.TheVariants as faults;
 ghost use Rattle.milter_rules.specs.declared.rule_line.RuleLine.{RuleLine};
@@ -17,7 +17,7 @@ use crate::action_words::action_in;
 use crate::condition_words::{conditions_in, words_after};
 use crate::rule_fault::RuleFault;
 use milter_filter::VERSION_MAX;
-use milter_filter_rules::{Action, Rule, is_string};
+use milter_filter_rules::{Action, Rule, has_room, is_allowed_at, is_string};
 use milter_protocol::VERSION_MIN;
 use milter_text::{FileLine, Word};
 use milter_wire::{Actions, MacroStage, NoMemory, Protocol, Stage, SymList, Text};
@@ -201,10 +201,10 @@ fn action_at(alloc: Global, words: &[Word], stage: Stage, line: u64) -> Result<A
     let Some(action) = action_in(alloc, words)? else {
         return Err(RuleFault::BadAction(line));
     };
-    if !action.is_allowed_at(stage) {
+    if !is_allowed_at(&action, stage) {
         return Err(RuleFault::ActionNotHere(line));
     }
-    if !action.has_room() {
+    if !has_room(&action) {
         return Err(RuleFault::TooLarge(line));
     }
     Ok(action)
