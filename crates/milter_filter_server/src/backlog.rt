@@ -43,6 +43,14 @@ impl Backlog {
         &self.bytes[self.taken..]
     }
 
+    /// Gives up all bytes, and frees the memory.
+    pub(crate) fn clear(&mut self)
+        ensures { self.new ≡ [] }
+    {
+        self.bytes = Vec::new(self.alloc);
+        self.taken = 0;
+    }
+
     /// Notes that the first `count` bytes were taken. It frees the memory where none is left.
     pub(crate) fn advance(&mut self, count: usize)
         requires { count ≤ length self.old }
@@ -50,8 +58,7 @@ impl Backlog {
     {
         self.taken += count;
         if self.taken == self.bytes.len() {
-            self.bytes = Vec::new(self.alloc);
-            self.taken = 0;
+            self.clear();
         }
     }
 

@@ -52,6 +52,23 @@ impl<'p, P: Policy> Connection<'p, P> {
         })
     }
 
+    /// Begins again for another connection, of which nothing has come. Nothing of the former one is left in it but
+    /// memory, as [`FilterCore::restart`] says. Doesn't allocate.
+    pub fn restart(&mut self, policy: &'p P, order: CommandOrder)
+        ensures { self.new ≡ fresh_connected order policy.now }
+    {
+        self.core.restart(policy, order);
+        self.backlog.clear();
+        self.ended = None;
+    }
+
+    /// The policy that it has. Doesn't allocate.
+    pub fn policy(&self) -> &'p P
+        ensures { result.now ≡ self.now.core.policy }
+    {
+        self.core.policy()
+    }
+
     /// Takes a turn: writes the replies that wait; where none waits any more it reads once, at most as many bytes as
     /// the buffer has, takes them, and writes the replies to them. While replies wait nothing is read. A call that says
     /// `WouldBlock` ends the turn, any other error the connection; no call that failed is made again in the same turn.
