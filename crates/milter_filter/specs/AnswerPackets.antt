@@ -1,5 +1,5 @@
 -- What a filter's end replies, by its policy and by what is kept of a connection.
-use Rattle.std.specs.Prelude.{◌≡◌, ◌≢◌, ◌≤◌, ◌<◌, ℕ, List, [], ◌++◌, length, take, None, Ok}
+use Rattle.std.specs.Prelude.{◌≡◌, ◌≢◌, ◌≤◌, ◌<◌, ℕ, List, [], ◌++◌, length, take, None, Result, Ok, Err}
 use Rattle.std.specs.List.{flat_map}
 use Rattle.milter_wire_stream.specs.Number.{IsBytes}
 use Rattle.milter_wire_stream.specs.Stream.{IsUnfinished, divide}
@@ -14,7 +14,7 @@ use Rattle.milter_protocol.specs.declared.filter_state.FilterState.TheVariants.{
 use Rattle.milter_protocol.specs.FilterEnds.{Received}
 use Rattle.milter_protocol.specs.OrderStates.{OrderState, fresh_in, nothing_kept, order_state_after, order_state_by, order_state_next, order_state_replies, order_state_replies_at, order_state_replies_by}
 use Rattle.milter_filter.specs.Cores.{EndsAtReplies, GivesUp, unread_after}
-use Rattle.milter_filter.specs.Streams.{read_in, received_in}
+use Rattle.milter_filter.specs.Streams.{IsOnePacketAtMost, read_in, received_in}
 
 -- a policy, what is kept of the connection, and the bytes of the replies
 pub record Replying (P : Type 0) : Type 0 where
@@ -82,6 +82,13 @@ pub record TakesBytes {P : Type 0} (b : Behavior) (old : Replying P) (unread pie
   pub left_is : left ≡ (divide (unread ++ take n piece)).rest
   pub is_unread : IsUnread left
   pub going : GoesOn new.order_state
+
+-- what the first bytes of a piece come to, which end at the latest where a packet does, or the fault in them
+abbrev pub TakesPacket : {P : Type 0} → Behavior → Replying P → List ℕ → List ℕ → Result ℕ FilterFault → Replying P
+    → List ℕ → Type 0
+TakesPacket b old unread piece (Ok n) new left =
+    TakesBytes b old unread piece n new left × IsOnePacketAtMost (unread ++ take n piece)
+TakesPacket b old unread piece (Err fault) new left = FailsIn b old.order_state unread piece fault left
 
 -- It comes to an end at the first packet that has replies, or where the mail server quits, or else at that of the
 -- piece.

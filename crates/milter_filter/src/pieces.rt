@@ -1,9 +1,8 @@
 //! What a filter's end does with a piece of a stream.
 
-ghost use Rattle.std.specs.Prelude.{◌≡◌, ◌++◌, [], IfErr, IfOk, take};
+ghost use Rattle.std.specs.Prelude.{◌≡◌, [], IfErr, IfOk};
 ghost use Rattle.milter_protocol.specs.declared.filter_state.FilterState.TheVariants.{Serving};
-ghost use Rattle.milter_filter.specs.AnswerPackets.{FailsIn, IsUnread, StopsAt, TakesBytes};
-ghost use Rattle.milter_filter.specs.Streams.{IsOnePacketAtMost};
+ghost use Rattle.milter_filter.specs.AnswerPackets.{FailsIn, IsUnread, StopsAt, TakesBytes, TakesPacket};
 
 use crate::policy::Policy;
 use crate::replier::Replier;
@@ -19,11 +18,8 @@ fn take_packet<P: Policy>(
 ) -> Result<usize, FilterFault>
     requires unread { IsUnread splitter.old }
     requires serving { replier.old.order_state.state ≡ Serving }
-    ensures takes { IfOk result (λ n. TakesBytes (P.behavior replier.old.policy) replier.old splitter.old piece.now n
-        replier.new splitter.new) }
-    ensures one { IfOk result (λ n. IsOnePacketAtMost (splitter.old ++ take n piece.now)) }
-    ensures fails { IfErr result (λ fault. FailsIn (P.behavior replier.old.policy) replier.old.order_state splitter.old
-        piece.now fault splitter.new) }
+    ensures { TakesPacket (P.behavior replier.old.policy) replier.old splitter.old piece.now result replier.new
+        splitter.new }
 {
     if splitter.unread() == 0 {
         if let Some(packet) = Packet::first_of(piece) {
@@ -44,11 +40,8 @@ fn take_through_splitter<P: Policy>(
 ) -> Result<usize, FilterFault>
     requires unread { IsUnread splitter.old }
     requires serving { replier.old.order_state.state ≡ Serving }
-    ensures takes { IfOk result (λ n. TakesBytes (P.behavior replier.old.policy) replier.old splitter.old piece.now n
-        replier.new splitter.new) }
-    ensures one { IfOk result (λ n. IsOnePacketAtMost (splitter.old ++ take n piece.now)) }
-    ensures fails { IfErr result (λ fault. FailsIn (P.behavior replier.old.policy) replier.old.order_state splitter.old
-        piece.now fault splitter.new) }
+    ensures { TakesPacket (P.behavior replier.old.policy) replier.old splitter.old piece.now result replier.new
+        splitter.new }
 {
     let taken = splitter.feed(piece)?;
     match splitter.next() {

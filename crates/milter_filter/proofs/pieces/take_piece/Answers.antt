@@ -33,7 +33,7 @@ returns-in-Err-clause-fails g c =
     let inv = c.loop-taken.invariant in
     let fault = c.in-Err.fault in
     let none = nothing-waits was.pending c.pending.result.now c.is_empty.result c.pending.ensures c.is_empty.ensures c.if-not-is_empty.false in
-    let fails = rw (take_rest piece i) at c.in-Err.ensures.fails in
+    let fails = rw (take_rest piece i) at c.in-Err.ensures in
     record {
       left_is = fails.left_is;
       cause = λ other.
@@ -56,7 +56,7 @@ loop-taken-preserved g c =
     let was = c.loop-taken.replier in
     let new = c.take_packet.new.replier in
     let left = c.take_packet.new.splitter in
-    let found = rw (take_rest piece i) at c.in-Ok.ensures.takes in
+    let found = rw (take_rest piece i) at c.in-Ok.ensures.0 in
     let takes = subst (λ policy. TakesBytes (g.P.Policy.behavior policy) was c.loop-taken.splitter rest n new left) inv.policy found in
     let order_state = ap (λ (r : Replying g.row.P.Denot). r.order_state) takes.replied in
     let replied = ap (λ (r : Replying g.row.P.Denot). r.pending) takes.replied in
@@ -64,7 +64,7 @@ loop-taken-preserved g c =
     let none = nothing-waits was.pending c.pending.result.now c.is_empty.result c.pending.ensures c.is_empty.ensures c.if-not-is_empty.false in
     let serving = c.is_serving.ensures.0 c.if-not-is_serving.false in
     let stops = stop-step b s was.order_state new.order_state (u ++ take i piece) (take n rest) c.loop-taken.splitter was.pending new.pending
-    inv.progress none serving order_state replied (rw (take_rest piece i) at c.in-Ok.ensures.one) in
+    inv.progress none serving order_state replied (rw (take_rest piece i) at c.in-Ok.ensures.1) in
     let at = bytes-more u piece i n in
     let more-bytes = takes.progress (some-left piece i (omega arith)) in
     record {
