@@ -24,6 +24,9 @@ const ACCEPTS_MAX: u32 = 64;
 const RETRY: u64 = 100;
 /// How many milliseconds pass between two looks for idle connections.
 const CHECK: u64 = 1_000;
+/// The most connections that have ended whose memory is kept for others: for each of them room for one packet, 65,540
+/// bytes, and what else `FilterCore::restart` leaves it, which is less than 3 MB.
+const SPARE_MAX: usize = 16;
 /// The tokens of listeners: the highest is that of the first.
 const LISTENER_TOKENS: usize = usize::MAX;
 
@@ -65,6 +68,8 @@ pub struct Service<'r, 'p, R: Net + Clock, P: Policy> {
     start: Instant,
     sources: Vec<Source>,
     clients: Slab<Client<'p, P>>,
+    // Connections that have ended, begun again for those that come.
+    spare: Vec<Connection<'p, P>>,
     // The clients that wait for their turns.
     queue: VecDeque<usize>,
     // How many connections have come.
@@ -105,6 +110,7 @@ impl<'r, 'p, R: Net + Clock, P: Policy> Service<'r, 'p, R, P> {
             start: Instant::now(rt)?,
             sources,
             clients: Slab::new(alloc),
+            spare: Vec::new(alloc),
             queue: VecDeque::new(alloc),
             count: 0,
             is_full: false,
@@ -234,9 +240,8 @@ impl<'r, 'p, R: Net + Clock, P: Policy> Service<'r, 'p, R, P> {
     ) -> Result<(), ServiceError> {
         self.count = self.count.wrapping_add(1);
         let number = self.count;
-        let connection = match Connection::new(self.alloc, host.policy(), CommandOrder::Lenient) {
-            Ok(connection) => connection,
-            Err(_) => return host.ended(number, Served::Failed(FilterFault::NoMemory)),
+        let Some(connection) = self.connect(host.policy()) else {
+            return host.ended(number, Served::Failed(FilterFault::NoMemory));
         };
         let client = Client {
             stream,
@@ -248,6 +253,26 @@ impl<'r, 'p, R: Net + Clock, P: Policy> Service<'r, 'p, R, P> {
         match self.clients.insert(client) {
             Ok(key) => self.watch(key, host),
             Err(_) => host.ended(number, Served::Failed(FilterFault::NoMemory)),
+        }
+    }
+
+    /// A connection of which nothing has come, in the memory of one that has ended where there is one; `None` where
+    /// memory was refused.
+    fn connect(&mut self, policy: &'p P) -> Option<Connection<'p, P>> {
+        let Some(mut connection) = self.spare.pop() else {
+            return Connection::new(self.alloc, policy, CommandOrder::Lenient).ok();
+        };
+        connection.restart(policy, CommandOrder::Lenient);
+        Some(connection)
+    }
+
+    /// Keeps a connection that has ended for others, begun again so that it gives up much memory, unless there are
+    /// enough.
+    fn keep(&mut self, mut connection: Connection<'p, P>) {
+        if self.spare.len() < SPARE_MAX {
+            let policy = connection.policy();
+            connection.restart(policy, CommandOrder::Lenient);
+            drop(self.spare.push(connection));
         }
     }
 
@@ -274,7 +299,10 @@ impl<'r, 'p, R: Net + Clock, P: Policy> Service<'r, 'p, R, P> {
         host: &mut H,
     ) -> Result<(), ServiceError> {
         match self.clients.try_remove(key) {
-            Some(client) => host.ended(client.number, served),
+            Some(client) => {
+                self.keep(client.connection);
+                host.ended(client.number, served)
+            }
             None => Ok(()),
         }
     }
