@@ -1,6 +1,6 @@
 //! The subcommand `filter`: a filter's end of connections that are served one after another.
 
-ghost use Rattle.std.specs.Prelude.{OnErr, OnOk};
+ghost use Rattle.std.specs.Prelude.{◌≡◌, OnErr, OnOk};
 ghost use Rattle.milter_protocol.specs.Behavior.{Behavior};
 ghost use Rattle.milter_protocol.specs.declared.command_order.CommandOrder.{CommandOrder};
 ghost use Rattle.milter_filter.specs.declared.served.Served.{Served};
@@ -8,7 +8,7 @@ ghost use Rattle.milter_text.specs.WrittenText.{WritesText};
 ghost use Rattle.milter_cli.specs.FilterRuns.{ServedAll, ServedSome, report_line};
 
 use crate::connection_report::ConnectionReport;
-use milter_filter::{CommandOrder, Policy, Served, serve_in_order};
+use milter_filter::{CommandOrder, Policy, Served, Server};
 use milter_text::{TextFault, write_text};
 use std::alloc::Global;
 use std::io::Write;
@@ -22,25 +22,26 @@ pub trait Connections {
     /// what they give or take.
     ghost serves: { Self → CommandOrder → Behavior → Served → Self → Type 0 } = { λ _ _ _ _ _. Unit {0} };
 
-    /// Takes one connection and serves it by the policy, in this order of commands. A failed `accept` counts, and is a
+    /// Takes one connection and has the server serve it, which stays as it is. A failed `accept` counts, and is a
     /// `Served::ReadFault`.
-    fn serve_next<P: Policy>(&mut self, alloc: Global, policy: &P, order: CommandOrder) -> Served
-        ensures { serves self.old order (P.behavior policy.now) result self.new };
+    fn serve_next<P: Policy>(&mut self, server: &mut Server<'_, P>) -> Served
+        ensures served { serves self.old server.old.order (P.behavior server.old.policy) result self.new }
+        ensures same { server.new ≡ server.old };
 }
 
 impl Connections for TcpListener {
-    fn serve_next<P: Policy>(&mut self, alloc: Global, policy: &P, order: CommandOrder) -> Served {
+    fn serve_next<P: Policy>(&mut self, server: &mut Server<'_, P>) -> Served {
         match self.accept() {
-            Ok((stream, _)) => serve_in_order(alloc, policy, order, &mut &stream, &mut &stream),
+            Ok((stream, _)) => server.serve(&mut &stream, &mut &stream),
             Err(_) => Served::ReadFault,
         }
     }
 }
 
 impl Connections for UnixListener {
-    fn serve_next<P: Policy>(&mut self, alloc: Global, policy: &P, order: CommandOrder) -> Served {
+    fn serve_next<P: Policy>(&mut self, server: &mut Server<'_, P>) -> Served {
         match self.accept() {
-            Ok((stream, _)) => serve_in_order(alloc, policy, order, &mut &stream, &mut &stream),
+            Ok((stream, _)) => server.serve(&mut &stream, &mut &stream),
             Err(_) => Served::ReadFault,
         }
     }
@@ -62,8 +63,25 @@ pub fn filter_run<P: Policy, C: Connections, W: Write>(
     ensures cut_off { OnErr result (ServedSome (λ it. C.serves it order) (P.behavior policy.now) count
         connections.old connections.new (W.contents writer.old) (W.contents writer.new)) }
 {
+    let mut server = Server::new(alloc, policy, order);
+    serve_all(alloc, &mut server, connections, count, writer)
+}
+
+/// Has the server serve so many connections, and writes a line for each as it ends.
+fn serve_all<P: Policy, C: Connections, W: Write>(
+    alloc: Global,
+    server: &mut Server<'_, P>,
+    connections: &mut C,
+    count: u32,
+    writer: &mut W,
+) -> Result<(), TextFault>
+    ensures done { OnOk result (ServedAll (λ it. C.serves it server.old.order) (P.behavior server.old.policy) count
+        connections.old connections.new (W.contents writer.old) (W.contents writer.new)) }
+    ensures cut_off { OnErr result (ServedSome (λ it. C.serves it server.old.order) (P.behavior server.old.policy)
+        count connections.old connections.new (W.contents writer.old) (W.contents writer.new)) }
+{
     for number in 1..=count {
-        let served = connections.serve_next(alloc, policy, order);
+        let served = connections.serve_next(server);
         write_report(alloc, ConnectionReport { number, served }, writer)?;
     }
     Ok(())
