@@ -34,6 +34,11 @@ position_of client_info (nexts.Command transaction) =
 position_of client_info nexts.Quit = Quitting
 position_of client_info nexts.Nothing = Ended
 
+-- the next command of a message
+abbrev pub IsCommand : Next → Type 0
+IsCommand (nexts.Command transaction) = Unit {0}
+IsCommand other = ⊥
+
 -- the message that is under way
 abbrev pub messages_at : Next → List MailObject
 messages_at (nexts.Command transaction) = transaction.message ∷ []

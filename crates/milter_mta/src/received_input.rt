@@ -9,10 +9,10 @@ ghost use Rattle.milter_mta.specs.Cores.{ReceivesBytes, ReceivesSome};
 ghost use Rattle.milter_mta.specs.Replies.{framed, wire_loss};
 ghost use Rattle.milter_mta.specs.Dispositions.{lost};
 
-use crate::filter_connection::FilterConnection;
+use crate::filter_connection::{FilterConnection, Next};
 use crate::session_state::SessionState;
 use milter_mta_outcome::{Loss, MtaFault};
-use milter_wire::{HEAD_LEN, Packet, Reply, Splitter, WireFault};
+use milter_wire::{HEAD_LEN, Packet, Reply, Splitter, Verdict, WireFault, reply_frames};
 
 /// The loss by a packet that can't be read, or for which memory was refused.
 fn loss_of(fault: WireFault) -> Loss
@@ -50,6 +50,12 @@ impl SessionState {
             (owing self.old filter_connection.old)) (mta_after self.new filter_connection.new [] result) result }
         ensures consistent { IsConsistentAfter self.new filter_connection.new result }
     {
+        reply_frames();
+        if matches!(filter_connection.next, Next::Command(_)) {
+            if let Some(verdict) = Verdict::of_packet(packet.code, packet.payload) {
+                return self.receive_verdict(filter_connection, verdict);
+            }
+        }
         match Reply::decode(self.alloc, packet.code, packet.payload) {
             Ok(reply) => self.receive(filter_connection, reply),
             Err(fault) => Err(self.lose_by(filter_connection, fault)),
