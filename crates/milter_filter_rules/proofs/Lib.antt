@@ -1,3 +1,4 @@
 pub mod Decisions
+pub mod ActionFields
 pub mod Strings
 pub mod ReadingLaws

@@ -98,7 +98,7 @@ verdict_fields (Code text) test =
     let both = and_parts (is_string text) (is_reply_code text) test in
     record { no_nul = string_no_nul text both.0; form = both.1 }
 
-action_fields : (action : Action) → fields_fit action ≡ true → FieldsFit (reply_of action)
+pub action_fields : (action : Action) → fields_fit action ≡ true → FieldsFit (reply_of action)
 action_fields (actions.Edit edit) test = edit_fields edit test
 action_fields (actions.Verdict verdict) test = verdict_fields verdict test
 
