@@ -86,26 +86,6 @@ impl SessionState {
                 return Ok(packet.payload.len() + HEAD_LEN);
             }
         }
-        self.feed_through_splitter(splitter, filter_connection, piece)
-    }
-
-    /// The same by way of the splitter's buffer.
-    fn feed_through_splitter(
-        &mut self,
-        splitter: &mut Splitter,
-        filter_connection: &mut FilterConnection,
-        piece: &[u8],
-    ) -> Result<usize, Loss>
-        requires consistent { IsConsistent self.old (Some filter_connection.old) }
-        requires owed { filter_connection.old.owed ≡ true }
-        requires unfinished { IsUnfinished splitter.old }
-        requires some { 0 < length piece.now }
-        ensures taken { IfOk result (λ taken. (0 < taken) × (taken ≤ length piece.now)) }
-        ensures receives_bytes { ReceivesSome (mta_of self.old (Some filter_connection.old) [] splitter.old) piece.now
-            (mta_after self.new filter_connection.new splitter.new result) result }
-        ensures unfinished { OnOk result (IsUnfinished splitter.new) }
-        ensures consistent { IsConsistentAfter self.new filter_connection.new result }
-    {
         let Ok(taken) = splitter.feed(piece) else {
             return Err(self.lose_by(filter_connection, WireFault::NoMemory));
         };
