@@ -3,11 +3,11 @@
 
     python3 bench/filter.py CONNECTIONS COUNT BODY SOCKET|- COMMAND..
 
-starts the command, connects to its Unix socket, or with `-` hands it a socket as standard input and output, and plays so
-many messages on each of so many connections, one after another: sixteen commands each, with ten header fields and a body
-of so many bytes (more than 65,535 are more commands). The command has to end after them; with a `+` after CONNECTIONS it
-is ended. What it prints is dropped. It prints the nanoseconds that the messages took, and those of processor time that
-the filter took in all.
+starts the command, connects to its Unix socket, or with `-` hands it a socket as standard input and output, and plays
+so many messages on each of so many connections, one after another: sixteen commands each, with ten header fields and a
+body of so many bytes (more than 65,535 are more commands). The command has to end after them; with a `+` after
+CONNECTIONS it is ended. What it prints is dropped. It prints the nanoseconds that the messages took, and those of
+processor time that the filter took in all.
 """
 import resource
 import socket

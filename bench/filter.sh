@@ -7,8 +7,8 @@
 # clock, the generator and the filter each on a processor of its own. It also prints the user instructions of a
 # connection of one such message, for `filter`, `serve` and libmilter. The instructions are callgrind's, without those
 # of a run of one message or one connection; callgrind counts a copy by `rep movsb` a byte at a time, so that this is
-# turned off in the C library. It takes libmilter (libmilter-dev), a C compiler, valgrind, Python and some minutes. The program is built
-# first where it has to be; another one may be given.
+# turned off in the C library. It takes libmilter (libmilter-dev), a C compiler, valgrind, Python and some minutes. The
+# program is built first where it has to be; another one may be given.
 #
 #     bash bench/filter.sh [PROGRAM]
 set -eu
