@@ -1,10 +1,1 @@
-pub mod MacroLists
-pub mod EditPackets
-pub mod NegotiatedOptions
-pub mod PacketCommands
-pub mod LengthFaults
-pub mod PieceStreams
-pub mod Progress
-pub mod FirstReplies
-pub mod Cutting
 pub mod ServedBytes

@@ -1,9 +1,2 @@
-pub mod MacroLists
-pub mod SeenParts
-pub mod PassLaw
-pub mod Streams
-pub mod Cores
-pub mod AskedPolicy
 pub mod ServedConnections
 pub mod ServedPieces
-pub mod AnswerPackets

@@ -7,7 +7,7 @@ use Rattle.milter_protocol.specs.declared.filter_fault.FilterFault.TheVariants.{
 use Rattle.milter_protocol.specs.declared.filter_state.FilterState.TheVariants as states
 use Rattle.milter_filter.specs.declared.served.Served.{Served}
 use Rattle.milter_filter.specs.declared.served.Served.TheVariants.{Failed, WriteFault}
-use Rattle.milter_filter.specs.Cores.{Core, GoesOn, given_up}
+use Rattle.milter_filter_core.specs.Cores.{Core, GoesOn, given_up}
 
 -- these bytes of what waits were written, and all of it where it is done
 pub record Sends {P : Type 0} (old new : Core P) (written all : Option (List ℕ)) (done : Bool) : Type 0 where

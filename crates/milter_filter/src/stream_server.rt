@@ -4,14 +4,12 @@ ghost use Rattle.std.specs.Prelude.{◌≡◌, ◌<◌, ◌↔◌, [], IfErr, If
 ghost use Rattle.milter_wire_stream.specs.Stream.{IsUnfinished};
 ghost use Rattle.milter_protocol.specs.declared.filter_state.FilterState.TheVariants.{Quit, Serving};
 ghost use Rattle.milter_protocol.specs.declared.command_order.CommandOrder.TheVariants.{Strict};
-ghost use Rattle.milter_filter.specs.Cores.{fresh_core_in};
+ghost use Rattle.milter_filter_core.specs.Cores.{fresh_core_in};
 ghost use Rattle.milter_filter.specs.ServedConnections.{Serves};
 ghost use Rattle.milter_filter.specs.ServedPieces.{CutOff, PieceServed, Sends};
 
-use crate::filter_core::FilterCore;
-use crate::policy::Policy;
 use crate::served::Served;
-use milter_protocol::{CommandOrder, FilterFault, FilterState};
+use milter_filter_core::{CommandOrder, FilterCore, FilterFault, FilterState, Policy};
 use milter_wire::{NoMemory, READ_LEN_MAX, read_buffer};
 use std::alloc::Global;
 use std::io::{Read, Write};
@@ -124,7 +122,7 @@ struct Memory<'p, P: Policy> {
 
 impl<'p, P: Policy> Model for Memory<'p, P> {
     ghost use Rattle.std.specs.Prelude.{◌<◌, length};
-    ghost use Rattle.milter_filter.specs.Cores.{Core};
+    ghost use Rattle.milter_filter_core.specs.Cores.{Core};
 
     ghost Value = { Core P };
 

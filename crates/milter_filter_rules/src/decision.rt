@@ -9,7 +9,7 @@ ghost use Rattle.milter_filter_rules.specs.Decisions.{decided};
 
 use crate::places::Places;
 use crate::rule::{Condition, Field, Rule};
-use milter_filter::{Answer, Edits, Pattern, Seen, Test, TextCase};
+use milter_filter_core::{Answer, Edits, Pattern, Seen, Test, TextCase};
 use milter_protocol::Action;
 use milter_wire::{NoMemory, Origin, Verdict};
 use std::alloc::Global;

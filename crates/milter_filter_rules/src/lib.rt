@@ -1,5 +1,5 @@
 //! Rules: a filter's policy as conditions on what the filter is shown, and what is done where they are met. [`Rules`]
-//! is a [`Policy`](milter_filter::Policy).
+//! is a [`Policy`](milter_filter_core::Policy).
 #![tactic(auto)]
 
 mod action_fits;
@@ -12,7 +12,7 @@ mod rules;
 
 pub use action_fits::{fields_fit, has_room, is_allowed_at, is_string};
 pub use laws::answers_of_actions;
-pub use milter_filter::{Test, TextCase};
+pub use milter_filter_core::{Test, TextCase};
 pub use milter_protocol::Action;
 pub use rule::{Condition, Conditions, Field, Rule};
 pub use rule_list::{RuleList, StageRules};

@@ -3,7 +3,7 @@
 ghost use Rattle.std.specs.Prelude.{◌≡◌};
 ghost use Rattle.milter_filter_rules.specs.RuleNames.{field_name};
 
-use milter_filter::{Pattern, Test, TextCase};
+use milter_filter_core::{Pattern, Test, TextCase};
 use milter_protocol::Action;
 use milter_wire::{List, Text};
 

@@ -6,7 +6,7 @@ ghost use Rattle.milter_filter_rules.specs.RuleSet.{is_lawful};
 use crate::decision::{decide_by, search_by};
 use crate::rule::Rule;
 use crate::rule_list::StageRules;
-use milter_filter::{Answer, Policy, Seen, TextCase, VERSION_MAX};
+use milter_filter_core::{Answer, Policy, Seen, TextCase, VERSION_MAX};
 use milter_wire::{Actions, NoMemory, Options, Protocol, Stage, SymList, SymLists};
 use std::alloc::Global;
 
@@ -32,7 +32,7 @@ impl Rules {
     ghost use Rattle.milter_filter_rules.specs.StageRules.{rules_at};
 
     /// No rules: the filter wants version 6 without any bit, and answers `Continue` to all, as
-    /// [`Pass`](milter_filter::Pass) does. Doesn't allocate.
+    /// [`Pass`](milter_filter_core::Pass) does. Doesn't allocate.
     pub fn new(alloc: Global) -> Self
         ensures set { rule_set result ≡ no_rule_set }
         ensures case { case_of result ≡ Exact }

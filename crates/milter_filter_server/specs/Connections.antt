@@ -8,7 +8,7 @@ use Rattle.milter_protocol.specs.declared.filter_state.FilterState.TheVariants a
 use Rattle.milter_filter.specs.declared.served.Served.{Served}
 use Rattle.milter_filter.specs.declared.served.Served.TheVariants.{Quit, Ended, Failed, ReadFault, WriteFault}
 use Rattle.milter_filter.specs.declared.served.Served.TheVariants.{TurnLimit}
-use Rattle.milter_filter.specs.Cores.{Core, GoesOn, fresh_core_in}
+use Rattle.milter_filter_core.specs.Cores.{Core, GoesOn, fresh_core_in}
 use Rattle.milter_filter.specs.ServedPieces.{Goes}
 use Rattle.milter_filter.specs.ServedConnections.{RepliedAs, RepliedInPart, Serves}
 use Rattle.milter_filter_server.specs.declared.turn.Turn.{Turn}

@@ -13,7 +13,7 @@ ghost use Rattle.milter_filter_search.specs.declared.text_case.TextCase.TheVaria
 
 use crate::rule_fault::RuleFault;
 use crate::rule_line::{RuleLine, Setting};
-use milter_filter::VERSION_MAX;
+use milter_filter_core::VERSION_MAX;
 use milter_filter_rules::{Action, Rule, Rules, StageRules};
 use milter_message::WEIGHT_MAX;
 use milter_wire::{Actions, Options, PAYLOAD_MAX, Protocol, Stage, SymList, SymLists, Verdict};

@@ -16,7 +16,7 @@ ghost use Rattle.milter_rules.specs.RuleLines.{Gives, HasRule, IsNoText, actions
 use crate::action_words::action_in;
 use crate::condition_words::{conditions_in, words_after};
 use crate::rule_fault::RuleFault;
-use milter_filter::VERSION_MAX;
+use milter_filter_core::VERSION_MAX;
 use milter_filter_rules::{Action, Rule, has_room, is_allowed_at, is_string};
 use milter_protocol::VERSION_MIN;
 use milter_text::{FileLine, Word};

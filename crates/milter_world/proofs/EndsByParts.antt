@@ -1,7 +1,7 @@
 -- Both ends by their parts.
 use Rattle.std.proofs.Common.{◌≡◌, ℕ, List, Option}
 use Rattle.milter_mta.specs.Mta.{Mta}
-use Rattle.milter_filter.specs.Cores.{Core}
+use Rattle.milter_filter_core.specs.Cores.{Core}
 use Rattle.milter_world_schedule.specs.declared.event.Event.{Event}
 use Rattle.milter_world_schedule.specs.declared.state.State.{State}
 use Rattle.milter_world_schedule.specs.Schedule.{Scenario}

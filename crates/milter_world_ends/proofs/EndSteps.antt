@@ -17,7 +17,7 @@ use Rattle.milter_mta.specs.Dispositions.{lost}
 use Rattle.milter_mta_laws.specs.AnyFilter.{ConnectionIsReported, GoesOnDialogues, IsOnDialogue, IsReportByDialogue, without_messages}
 use Rattle.milter_mta_laws.specs.Lines.{Line}
 use Rattle.milter_protocol.specs.Behavior.{Behavior}
-use Rattle.milter_filter.specs.Cores.{Core, GoesOn, fresh_core}
+use Rattle.milter_filter_core.specs.Cores.{Core, GoesOn, fresh_core}
 use Rattle.milter_world_schedule.specs.declared.event.Event.{Event}
 use Rattle.milter_world_schedule.specs.declared.event.Event.TheVariants.{Dial, ToMta}
 use Rattle.milter_world_transcript.specs.ByteCounts.{owed, to_filter, to_mta}

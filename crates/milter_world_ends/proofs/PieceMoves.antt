@@ -12,8 +12,8 @@ use Rattle.milter_mta.specs.Mta.{Mta}
 use Rattle.milter_mta.specs.Replies.{After, goes_on, received, received_on}
 use Rattle.milter_mta.specs.Output.{advanced, pending, sent}
 use Rattle.milter_mta_laws.specs.Lines.{Line}
-use Rattle.milter_filter.specs.Cores.{Core, GivesUp, GoesOn, Takes, fresh_core, given_up}
-use Rattle.milter_filter.specs.Streams.{received_in}
+use Rattle.milter_filter_core.specs.Cores.{Core, GivesUp, GoesOn, Takes, fresh_core, given_up}
+use Rattle.milter_filter_core.specs.Streams.{received_in}
 use Rattle.milter_world_transcript.specs.ByteCounts.{due, owed, packet_end, to_filter, to_mta}
 use Rattle.milter_world_progress.specs.FollowedLines.{SendsLines, after_at}
 use Rattle.milter_world_transcript.specs.Answered.{AnswersLines}

@@ -9,7 +9,7 @@ use Rattle.milter_mta.specs.Output.{advanced, dialled, pending, sent}
 use Rattle.milter_mta.specs.Dispositions.{lost}
 use Rattle.milter_mta_laws.specs.AnyFilter.{ConnectionIsReported, GoesOnDialogues}
 use Rattle.milter_mta_laws.specs.Lines.{Line}
-use Rattle.milter_filter.specs.Cores.{Core, GoesOn, fresh_core}
+use Rattle.milter_filter_core.specs.Cores.{Core, GoesOn, fresh_core}
 use Rattle.milter_world_transcript.specs.Answered.{AnswersLines}
 use Rattle.milter_world_transcript.specs.ByteCounts.{due, to_filter, to_mta}
 use Rattle.milter_world_schedule.specs.declared.event.Event.{Event}

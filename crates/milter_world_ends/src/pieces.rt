@@ -3,8 +3,8 @@
 ghost use Rattle.std.specs.Prelude.{◌≡◌, ◌≢◌, ◌≤◌, ◌<◌, ◌+◌, ◌++◌, [], List, None, drop, length, take, ℕ};
 ghost use Rattle.milter_protocol.specs.Behavior.{Behavior};
 ghost use Rattle.milter_protocol.specs.declared.filter_fault.FilterFault.{FilterFault as Fault};
-ghost use Rattle.milter_filter.specs.Cores.{Core, GivesUp, Takes};
-ghost use Rattle.milter_filter.specs.Streams.{received_in};
+ghost use Rattle.milter_filter_core.specs.Cores.{Core, GivesUp, Takes};
+ghost use Rattle.milter_filter_core.specs.Streams.{received_in};
 ghost use Rattle.milter_mta.specs.Mta.{Mta};
 ghost use Rattle.milter_mta.specs.Replies.{received};
 ghost use Rattle.milter_mta.specs.Output.{advanced, pending, sent};
@@ -16,7 +16,7 @@ ghost use Rattle.milter_world_schedule.specs.Rounds.{AreCounts};
 ghost use Rattle.milter_world_progress.specs.FollowedLines.{IsMtaAt, SendsLines};
 ghost use Rattle.milter_world_ends.specs.Ends.{IsFilterAt};
 
-use milter_filter::{Policy, cores_go_on};
+use milter_filter_core::{Policy, cores_go_on};
 use milter_mta_laws::sent_bytes_add_up;
 
 /// A piece of the bytes that are on their way to the filter's end is taken whole and without a fault, and nothing is on

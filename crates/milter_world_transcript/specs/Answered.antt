@@ -9,7 +9,7 @@ use Rattle.milter_protocol.specs.FilterEnds.{FilterEnd, next, replies_at}
 use Rattle.milter_protocol.specs.declared.filter_state.FilterState.TheVariants.{Serving}
 use Rattle.milter_protocol.specs.OrderStates.{fresh, order_state_after, order_state_replies}
 use Rattle.milter_mta_laws.specs.Lines.{Line}
-use Rattle.milter_filter.specs.Streams.{received_in}
+use Rattle.milter_filter_core.specs.Streams.{received_in}
 use Rattle.milter_world_transcript.specs.ByteCounts.{owed, to_filter, to_mta}
 
 -- the packet of the line is a command's, and the bytes after it are those of the replies to it

@@ -1,5 +1,5 @@
 use Rattle.std.proofs.Common.{List, Option, ap, subst, sym, ℕ, IfErr, OnOk}
-use Rattle.milter_filter.specs.Cores.{Core}
+use Rattle.milter_filter_core.specs.Cores.{Core}
 use Rattle.milter_filter_server.specs.Connections.{EndsAs, GoesFrom, IsServing, connected}
 use Rattle.milter_filter_server.proofs.Turns.{ends-join, from-joins, if-err, on-ok, sends-goes, sends-serving, sent-from, stuck-ends}
 use Rattle.milter_filter_server.proofs.steps.catch_up.Goals as goal
