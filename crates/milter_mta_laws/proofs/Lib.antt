@@ -9,7 +9,7 @@ mod Ordered
 mod Openings
 mod Closed
 mod Settled
-mod Losses
+pub mod Losses
 mod PartAnswers
 mod ReceivedParts
 mod NegotiatedOptions

@@ -67,7 +67,8 @@ lost-sending m count loss = lost-sent_in m.filter_connection (want m) m count lo
 
 -- ---- in pieces
 
-none_pending : (l : FilterConnection) → (finished l).pending ≡ []
+-- nothing is pending of a packet that was sent
+pub none_pending : (l : FilterConnection) → (finished l).pending ≡ []
 none_pending l = by_tests l.aborts (asks_at l.position)
   where
     by_tests : (aborts asks : Bool) → (if aborts then record l { aborts = false; pending = []; owed = false }
@@ -77,7 +78,7 @@ none_pending l = by_tests l.aborts (asks_at l.position)
     by_tests false true = refl
     by_tests false false = refl
 
-drop_none : (count : ℕ) → drop {A = ℕ} count [] ≡ []
+pub drop_none : (count : ℕ) → drop {A = ℕ} count [] ≡ []
 drop_none zero = refl
 drop_none (suc count) = refl
 

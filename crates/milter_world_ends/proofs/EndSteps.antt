@@ -31,6 +31,7 @@ use Rattle.milter_world_schedule.specs.Schedule.{Scenario, happens, idle_at, lin
 use Rattle.milter_world_schedule.specs.declared.state.State.TheVariants.{Idle, Linked, Done}
 use Rattle.milter_world_transcript.specs.ConnectionEntries.{Entry, lines_of, default_within, reports_within}
 use Rattle.milter_world_transcript.proofs.ByteCounting.{by_lt, owed-le, positive}
+use Rattle.milter_world_schedule.proofs.EntryAccounts.{added, drop-past}
 use Rattle.milter_world_progress.proofs.Pieces.{AddsUp, at-nothing}
 use Rattle.milter_world_ends.proofs.PieceMoves.{received-counts, received-way, receives_bytes-piece, is-owed}
 use Rattle.milter_world_progress.proofs.Reported.{SendingSettlesNothing, lost-place, reports-place, sends-lines}
@@ -77,10 +78,6 @@ zip-length R [] (y ∷ ys) all = absurd all
 zip-length R (x ∷ xs) [] all = absurd all
 zip-length R (x ∷ xs) (y ∷ ys) all = let r = zip-length R xs ys all.1 in omega arith
 
-drop-past : {A : Type 0} (xs ys : List A) → drop (length xs) (xs ++ ys) ≡ ys
-drop-past [] ys = refl
-drop-past (x ∷ xs) ys = drop-past xs ys
-
 module _ (p : Scenario) (m : Mta) (is : IsReportedByDialogues p m) where
   counted : length m.reports ≡ length is.dialogues.settles.settled
   counted =
@@ -100,39 +97,6 @@ module _ (p : Scenario) (m : Mta) (is : IsReportedByDialogues p m) where
 
   pub config-is : m.config ≡ p.config
   config-is = is.dialogues.settles.same_config
-
--- ---- reports within more bytes
-
-pub record Grows (entries : List Entry) (h k : ℕ) : Type 0 where
-  pub more : List Report
-  pub is : reports_within entries (h + k) ≡ reports_within entries h ++ more
-
-pub grows : (entries : List Entry) (h k : ℕ) → Grows entries h k
-grows [] h k = record { more = []; is = refl }
-grows (entry ∷ entries) h k =
-    let n = length entry.line.back in
-    by_lt h n
-    (λ less.
-    let none : reports_within (entry ∷ entries) h ≡ [] = rw (lt-leb n h less) refl in
-    record {
-      more = reports_within (entry ∷ entries) (h + k);
-      is = sym (ap (λ (l : List Report). l ++ reports_within (entry ∷ entries) (h + k)) none);
-    })
-    (λ past.
-    let rest = grows entries (h - n) k in
-    let e : h + k - n ≡ (h - n) + k = omega arith in
-    record {
-      more = rest.more;
-      is = rw (le-leb n h past, le-leb n (h + k) (omega arith), e, rest.is) (sym (append_assoc entry.reports (reports_within entries (h - n)) rest.more));
-    })
-
-pub added : (entries : List Entry) (h k : ℕ)
-    → reports_within entries h ++ drop (length (reports_within entries h)) (reports_within entries (h + k)) ≡ reports_within entries (h + k)
-added entries h k =
-    let g = grows entries h k in
-    ap (λ (l : List Report). reports_within entries h ++ drop (length (reports_within entries h)) l) g.is
-    ∙ ap (λ (l : List Report). reports_within entries h ++ l) (drop-past (reports_within entries h) g.more)
-    ∙ sym g.is
 
 -- ---- the events
 

@@ -1,47 +1,30 @@
 -- What a mail server's end does at one time, whatever it is.
-use Rattle.std.proofs.Common.{◌≡◌, ◌≢◌, ◌<◌, ℕ, zero, suc, Bool, true, false, if◌then◌else◌, List, [], ◌∷◌, drop, length, Option, None, Some, refl, sym, ap, ◌∙◌, arith, length-drop}
+use Rattle.std.proofs.Common.{◌≡◌, ◌≢◌, ◌<◌, ℕ, Bool, true, false, if◌then◌else◌, List, [], ◌∷◌, drop, length, Option, None, Some, refl, sym, ap, ◌∙◌, arith, length-drop}
 use Rattle.milter_wire.specs.declared.command.Command.{Command}
 use Rattle.milter_mta.specs.declared.want.Want.{Want}
 use Rattle.milter_mta.specs.declared.want.Want.TheVariants as wants
 use Rattle.milter_mta.specs.Mta.{FilterConnection, Mta}
 use Rattle.milter_mta.specs.Output.{after_packet, advanced, advanced_in, asks_at, bytes_at, finished, made, pending, pending_in, pending_or, sent, sent_from, sent_in, sent_of, want}
+use Rattle.milter_mta_laws.proofs.Losses.{drop_none, none_pending}
 
 abbrev with_connection : Option FilterConnection → Mta → Mta
 with_connection filter_connection m = record m { filter_connection = filter_connection }
 
 -- ---- what is pending
 
-none_pending : (l : FilterConnection) → (finished l).pending ≡ []
-none_pending l = by_tests l.aborts (asks_at l.position)
-  where
-    by_tests : (aborts asks : Bool) → (if aborts then record l { aborts = false; pending = []; owed = false }
-        else if asks then record l { pending = []; owed = true }
-        else record l { position = after_packet l.position; pending = []; owed = false }).pending ≡ []
-    by_tests true asks = refl
-    by_tests false true = refl
-    by_tests false false = refl
-
 pending-from : (l : FilterConnection) (left : List ℕ) → (sent_from l left).pending ≡ left
 pending-from l [] = none_pending l
 pending-from l (byte ∷ bytes) = refl
 
 pending-of : (count : ℕ) (bytes : List ℕ) (l : FilterConnection) → l.pending ≡ bytes → (sent_of count bytes l).pending ≡ drop count bytes
-pending-of count [] l e = e ∙ drop-nothing count
-  where
-    drop-nothing : (n : ℕ) → ◌≡◌ {A = List ℕ} [] (drop n [])
-    drop-nothing zero = refl
-    drop-nothing (suc n) = refl
+pending-of count [] l e = e ∙ sym (drop_none count)
 pending-of count (byte ∷ bytes) l e = pending-from l (drop count (byte ∷ bytes))
 
 pub pending-sent : (count : ℕ) (m : Mta) → pending (sent count m) ≡ drop count (pending m)
 pending-sent count m = by_connection m.filter_connection
   where
     by_connection : (filter_connection : Option FilterConnection) → pending (sent_in count filter_connection (with_connection filter_connection m)) ≡ drop count (pending_in filter_connection)
-    by_connection None = drop-nothing count
-      where
-        drop-nothing : (n : ℕ) → ◌≡◌ {A = List ℕ} [] (drop n [])
-        drop-nothing zero = refl
-        drop-nothing (suc n) = refl
+    by_connection None = sym (drop_none count)
     by_connection (Some l) = pending-of count l.pending l refl
 
 sent_of-nothing : (bytes : List ℕ) (l : FilterConnection) → l.pending ≡ bytes → sent_of 0 bytes l ≡ l
