@@ -1,7 +1,6 @@
 //! Messages, before and after edits.
 
-ghost use Rattle.std.specs.Prelude.{◌≡◌, ◌<◌, ◌↔◌, All, IfSome, IsSome, IsTrue, length, option_copied, slice_get};
-ghost use Rattle.std.specs.List.{remove};
+ghost use Rattle.std.specs.Prelude.{◌≡◌, ◌↔◌, All, IfSome, IsSome, IsTrue, length, option_copied, slice_get};
 ghost use Rattle.milter_wire.specs.declared.command.Command.TheVariants as commands;
 ghost use Rattle.milter_wire.specs.Command.{Fits};
 ghost use Rattle.milter_message.specs.LeadingSpace.{FieldFits};
@@ -159,22 +158,6 @@ impl Message {
             headers: self.headers,
             body: self.body,
         }
-    }
-
-    /// The message without the recipient at this position, counted from 0; the others stay in their order. Doesn't
-    /// allocate.
-    pub fn without_recipient(self, position: usize) -> Self
-        requires { position < length self.recipients }
-        ensures { result ≡ record {
-          sender = self.sender;
-          recipients = remove self.recipients position;
-          headers = self.headers;
-          body = self.body;
-        } }
-    {
-        let mut parts = self.into_parts();
-        drop(parts.recipients.remove(position));
-        Message::from_parts(parts.sender, parts.recipients, parts.headers, parts.body)
     }
 
     /// The chunk of the body with this number, counted from 0: the bytes from 65,535 times the number on, at most

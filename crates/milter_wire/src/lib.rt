@@ -30,8 +30,7 @@ pub use lengths::{
 };
 pub use milter_wire_fields::{
     Client, ClientRef, Header, HeaderRef, List, Origin, OriginRef, Pair, PairRef, Pairs, PairsRef,
-    Params, ParamsRef, Path, PathRef, Text, arguments_len, has_no_nul, header_len, pair_len,
-    string_len,
+    Params, ParamsRef, Path, PathRef, Text, has_no_nul, pair_len, string_len,
 };
 pub use milter_wire_options::{Actions, MacroStage, Options, Protocol, SymList, SymLists};
 pub use milter_wire_stream::{
