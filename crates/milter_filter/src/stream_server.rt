@@ -64,7 +64,7 @@ pub struct Server<'p, P: Policy> {
     alloc: Global,
     policy: &'p P,
     order: CommandOrder,
-    memory: Option<Memory<'p, P>>,
+    kept: Option<BufferedCore<'p, P>>,
 }
 
 impl<'p, P: Policy> Model for Server<'p, P> {
@@ -84,7 +84,7 @@ impl<'p, P: Policy> Server<'p, P> {
             alloc,
             policy,
             order,
-            memory: None,
+            kept: None,
         }
     }
 
@@ -94,51 +94,51 @@ impl<'p, P: Policy> Server<'p, P> {
         ensures serves { Serves self.old.order (P.behavior self.old.policy) (R.remaining reader.old)
             (R.remaining reader.new) (W.contents writer.old) (W.contents writer.new) result }
     {
-        let Ok(mut memory) = self.take_memory() else {
+        let Ok(mut core) = self.take_core() else {
             return Served::Failed(FilterFault::NoMemory);
         };
-        let served = memory.serve(self.policy, self.order, reader, writer);
-        self.memory = Some(memory);
+        let served = core.serve(self.policy, self.order, reader, writer);
+        self.kept = Some(core);
         served
     }
 
-    /// The memory of the connection before, or new memory.
-    fn take_memory(&mut self) -> Result<Memory<'p, P>, NoMemory>
+    /// The core that served the connection before, or a new one.
+    fn take_core(&mut self) -> Result<BufferedCore<'p, P>, NoMemory>
         ensures { self.new ≡ self.old }
     {
-        match self.memory.take() {
-            Some(memory) => Ok(memory),
-            None => Memory::new(self.alloc, self.policy, self.order),
+        match self.kept.take() {
+            Some(core) => Ok(core),
+            None => BufferedCore::new(self.alloc, self.policy, self.order),
         }
     }
 }
 
-/// What serves one connection after another: a core, and room for what is read at once.
+/// A core, and the buffer that its input is read into.
 #[derive(Drop)]
-struct Memory<'p, P: Policy> {
+struct BufferedCore<'p, P: Policy> {
     core: FilterCore<'p, P>,
     buffer: Vec<u8>,
 }
 
-impl<'p, P: Policy> Model for Memory<'p, P> {
+impl<'p, P: Policy> Model for BufferedCore<'p, P> {
     ghost use Rattle.std.specs.Prelude.{◌<◌, length};
     ghost use Rattle.milter_filter_core.specs.Cores.{Core};
 
     ghost Value = { Core P };
 
-    ghost view = { λ m. m.core };
+    ghost view = { λ b. b.core };
 
-    ghost invariant = { λ m. 0 < length m.buffer.items };
+    ghost invariant = { λ b. 0 < length b.buffer.items };
 }
 
-impl<'p, P: Policy> Memory<'p, P> {
+impl<'p, P: Policy> BufferedCore<'p, P> {
     /// For a first connection.
     fn new(alloc: Global, policy: &'p P, order: CommandOrder) -> Result<Self, NoMemory>
-        ensures { IfOk result (λ memory. memory ≡ fresh_core_in order policy.now) }
+        ensures { IfOk result (λ core. core ≡ fresh_core_in order policy.now) }
     {
         let buffer = read_buffer(alloc)?;
         let core = FilterCore::with_order(alloc, policy, order)?;
-        Ok(Memory { core, buffer })
+        Ok(BufferedCore { core, buffer })
     }
 
     /// Serves a connection of which nothing has come.
@@ -152,7 +152,7 @@ impl<'p, P: Policy> Memory<'p, P> {
         ensures { Serves order (P.behavior policy.now) (R.remaining reader.old) (R.remaining reader.new)
             (W.contents writer.old) (W.contents writer.new) result }
     {
-        let Memory { core, buffer } = self;
+        let BufferedCore { core, buffer } = self;
         core.restart(policy, order);
         serve_reads(core, buffer.as_mut_slice(), reader, writer)
     }

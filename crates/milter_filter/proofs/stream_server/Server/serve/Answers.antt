@@ -12,4 +12,4 @@ returns-clause-serves g c =
     let written = g.W.Write.contents c.serve-served.new.writer in
     subst
     (λ (by : ServedBy g.row.P.Denot). Serves by.order (g.P.Policy.behavior by.policy) (g.R.Read.remaining c.args.reader.now) left (g.W.Write.contents c.args.writer.now) written c.serve-served.result)
-    (c.self.view_is ∙ c.take_memory.ensures) c.serve-served.ensures
+    (c.self.view_is ∙ c.take_core.ensures) c.serve-served.ensures
