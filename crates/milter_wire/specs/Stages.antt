@@ -1,6 +1,8 @@
 -- What the protocol knows of the stages of a connection and of its messages.
 use Rattle.std.specs.Prelude.{ℕ, List, [], ◌∷◌, codes, find, Option, None, Some}
 use Rattle.std.specs.Str.{bytes_eq}
+use Rattle.milter_wire_options.specs.declared.macro_stage.MacroStage.{MacroStage}
+use Rattle.milter_wire_options.specs.declared.macro_stage.MacroStage.TheVariants as macro_stages
 use Rattle.milter_wire_options.specs.declared.options.Protocol.{Protocol}
 use Rattle.milter_wire.specs.declared.codes.TheConstants.{SMFIC_BODYEOB, SMFIC_CONNECT, SMFIC_DATA, SMFIC_EOH, SMFIC_HELO, SMFIC_MAIL, SMFIC_RCPT}
 use Rattle.milter_wire.specs.declared.command.Command.{Command}
@@ -27,6 +29,18 @@ name_of Eob = codes "eob"
 -- the stage with this name
 abbrev pub stage_named : List ℕ → Option Stage
 stage_named name = find (λ stage. bytes_eq name (name_of stage)) all_stages
+
+-- the stage of macros that precede the commands of a stage
+abbrev pub macro_stage_of : Stage → Option MacroStage
+macro_stage_of Connect = Some macro_stages.Connect
+macro_stage_of Helo = Some macro_stages.Helo
+macro_stage_of Mail = Some macro_stages.Mail
+macro_stage_of Rcpt = Some macro_stages.Rcpt
+macro_stage_of DataCmd = Some macro_stages.DataCmd
+macro_stage_of Header = None
+macro_stage_of Eoh = Some macro_stages.Eoh
+macro_stage_of Body = None
+macro_stage_of Eob = Some macro_stages.Eom
 
 -- the command byte of a stage's macro packet, in ASCII: the code of the stage's own command
 abbrev pub macro_command_of : Stage → Option ℕ

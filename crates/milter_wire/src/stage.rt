@@ -1,12 +1,12 @@
 //! The stages of a connection and of its messages, and what the protocol knows of each.
 
 ghost use Rattle.std.specs.Prelude.{◌≡◌};
-ghost use Rattle.milter_wire.specs.Stages.{macro_command_of, name_of, not_answered_of, not_sent_of, stage_named};
+ghost use Rattle.milter_wire.specs.Stages.{macro_command_of, macro_stage_of, name_of, not_answered_of, not_sent_of, stage_named};
 
 use crate::codes::{
     SMFIC_BODYEOB, SMFIC_CONNECT, SMFIC_DATA, SMFIC_EOH, SMFIC_HELO, SMFIC_MAIL, SMFIC_RCPT,
 };
-use milter_wire_options::Protocol;
+use milter_wire_options::{MacroStage, Protocol};
 
 /// A stage at which a filter is asked, in the order of a connection and of each of its messages. Source: the libmilter
 /// callback documentation (order of callbacks).
@@ -127,6 +127,23 @@ impl Stage {
             .iter()
             .copied()
             .find(|stage| name == stage.name())
+    }
+
+    /// The stage whose macros precede each command of this one. A header field and a chunk of the body have none.
+    /// Source: mfapi.h (SMFIM_CONNECT and those after it).
+    pub fn macro_stage(self) -> Option<MacroStage>
+        ensures { result ≡ macro_stage_of self }
+    {
+        match self {
+            Stage::Connect => Some(MacroStage::Connect),
+            Stage::Helo => Some(MacroStage::Helo),
+            Stage::Mail => Some(MacroStage::Mail),
+            Stage::Rcpt => Some(MacroStage::Rcpt),
+            Stage::DataCmd => Some(MacroStage::DataCmd),
+            Stage::Eoh => Some(MacroStage::Eoh),
+            Stage::Eob => Some(MacroStage::Eom),
+            Stage::Header | Stage::Body => None,
+        }
     }
 
     /// The command byte of the macro packet that precedes the stage: the code of the stage's own command. A header
