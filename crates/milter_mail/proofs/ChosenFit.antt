@@ -14,7 +14,7 @@ use Rattle.milter_wire_fields.specs.declared.pair.Pair.{Pair}
 use Rattle.milter_wire_options.specs.declared.symbol_lists.SymList.{SymList}
 use Rattle.milter_wire.specs.Command.{Fits}
 use Rattle.milter_wire_fields.specs.Layout.{pair, PairFits}
-use Rattle.milter_mail.specs.declared.macros.Macros.{Macros}
+use Rattle.milter_mail.specs.Macros.{Macros}
 use Rattle.milter_mail.specs.ChosenMacros.{chosen_macros, chosen_pairs, last_pair, list_of, names_of, pairs_by, without_name}
 use Rattle.milter_mail.specs.MailSession.{MacrosFit}
 

@@ -1,6 +1,6 @@
 -- Whatever was negotiated, no more is sent of a message than it weighs.
-use Rattle.std.proofs.Common.{◌≡◌, ◌≤◌, ℕ, ◌+◌, Bool, true, false, List, [], ◌∷◌, ◌++◌, length, map, Option, None, Some, refl, sym, ap, ◌∙◌, arith, length-append, if◌then◌else◌}
-use Rattle.std.specs.List.{flat_map, sum_by}
+use Rattle.std.proofs.Common.{◌≡◌, ◌≤◌, ℕ, ◌+◌, Bool, true, false, List, [], ◌∷◌, ◌++◌, length, Option, None, Some, arith, length-append, if◌then◌else◌}
+use Rattle.std.specs.List.{flat_map}
 use Rattle.std.proofs.lemmas.List.Concat.{flat_map-cons}
 use Rattle.std.proofs.lemmas.List.Sums.{sum_by-cons, sum_by_push}
 use Rattle.milter_wire.specs.declared.codes.TheConstants.{SMFIC_BODYEOB, SMFIC_CONNECT, SMFIC_DATA, SMFIC_EOH, SMFIC_HELO, SMFIC_MAIL, SMFIC_RCPT}
@@ -8,24 +8,20 @@ use Rattle.milter_wire_options.specs.declared.macro_stage.TheConstants.{SMFIM_CO
 use Rattle.milter_wire_options.specs.declared.symbol_lists.SymList.{SymList}
 use Rattle.milter_wire_fields.specs.declared.header.Header.{Header}
 use Rattle.milter_wire_fields.specs.declared.pair.Pair.{Pair}
-use Rattle.milter_wire_fields.specs.declared.path.Path.{Path}
 use Rattle.milter_wire_fields.specs.Layout.{pair}
 use Rattle.milter_wire.specs.declared.negotiation.Negotiated.{Negotiated}
 use Rattle.milter_wire.specs.declared.command.Command.{Command}
 use Rattle.milter_wire.specs.declared.command.Command.TheVariants as commands
-use Rattle.milter_wire.specs.declared.stage.Stage.{Stage}
 use Rattle.milter_wire.specs.declared.stage.Stage.TheVariants as stages
 use Rattle.milter_wire.specs.Negotiation.{has_leading_space, is_sent}
 use Rattle.milter_wire.specs.Command.{bytes_of, encoding}
-use Rattle.milter_wire.specs.Stages.{macro_command_of}
 use Rattle.milter_message.specs.LeadingSpace.{sent_header, without_leading_space}
 use Rattle.milter_message.specs.MailObject.{MailObject}
 use Rattle.milter_message.specs.Chunks.{chunks_of}
-use Rattle.milter_mail.specs.declared.macros.Macros.{Macros}
-use Rattle.milter_mail.specs.ChosenMacros.{chosen_macros, list_of, names_of, pairs_by}
+use Rattle.milter_mail.specs.ChosenMacros.{list_of, names_of, pairs_by}
 use Rattle.milter_mail.specs.MailSession.{MailSession}
 use Rattle.milter_mail.specs.Plan.{macros_of, plan}
-use Rattle.milter_mail.specs.Steps.{macro_step, macros_at, step}
+use Rattle.milter_mail.specs.Steps.{macro_step, step}
 use Rattle.milter_mail.specs.Weight.{weight}
 use Rattle.milter_mail.proofs.ChosenFit.{bytes, bytes_are, chosen_bytes}
 use Rattle.milter_mail.proofs.Weights.{bytes-append, bytes-in_turn, bytes-one, len_of}

@@ -17,7 +17,7 @@ use Rattle.milter_wire_fields.specs.declared.pair.Pair.{Pair}
 use Rattle.milter_wire_fields.specs.declared.path.Path.{Path}
 use Rattle.milter_wire.specs.Command.{bytes_of, payload_of, encoding}
 use Rattle.milter_wire_stream.specs.Number.{number}
-use Rattle.milter_mail.specs.declared.macros.Macros.{Macros}
+use Rattle.milter_mail.specs.Macros.{Macros}
 use Rattle.milter_message.specs.MailObject.{MailObject}
 use Rattle.milter_mail.specs.MailSession.{IsSendable}
 use Rattle.milter_message.specs.Chunks.{chunk_at, chunk_count, chunks_of}

@@ -4,11 +4,12 @@ use Rattle.std.specs.Prelude.{ℕ, ◌==◌, Bool, not, List, [], ◌∷◌, ◌
 use Rattle.std.specs.List.{filter, last_or, slice_split}
 use Rattle.std.specs.Option.{option_to_list}
 use Rattle.std.specs.Str.{bytes_eq}
-use Rattle.milter_wire_options.specs.declared.macro_stage.TheConstants.{SMFIM_CONNECT, SMFIM_DATA, SMFIM_ENVFROM, SMFIM_ENVRCPT, SMFIM_EOH, SMFIM_EOM, SMFIM_HELO}
+use Rattle.milter_wire_options.specs.MacroStages.{macro_stage_number}
 use Rattle.milter_wire_fields.specs.declared.pair.Pair.{Pair}
 use Rattle.milter_wire_options.specs.declared.symbol_lists.SymList.{SymList}
 use Rattle.milter_mail.specs.declared.chosen_macros.TheConstants.{NAME_SEPARATOR}
-use Rattle.milter_mail.specs.declared.macros.Macros.{Macros}
+use Rattle.milter_mail.specs.ByMacroStage.{at_stage, by_stage}
+use Rattle.milter_mail.specs.Macros.{Macros}
 
 -- the words between blanks: where several blanks follow one another, or one is at an end, there is no word
 abbrev pub is_word : List ℕ → Bool
@@ -43,12 +44,4 @@ pairs_by (Some list) pairs = chosen_pairs (names_of list.names) pairs
 -- the macros of each stage by the last list of it; a list of a stage above 6 is that of no stage
 abbrev pub chosen_macros : List SymList → Macros → Macros
 chosen_macros lists macros =
-    record {
-      connect = pairs_by (list_of SMFIM_CONNECT lists) macros.connect;
-      helo = pairs_by (list_of SMFIM_HELO lists) macros.helo;
-      mail = pairs_by (list_of SMFIM_ENVFROM lists) macros.mail;
-      rcpt = pairs_by (list_of SMFIM_ENVRCPT lists) macros.rcpt;
-      data_cmd = pairs_by (list_of SMFIM_DATA lists) macros.data_cmd;
-      eom = pairs_by (list_of SMFIM_EOM lists) macros.eom;
-      eoh = pairs_by (list_of SMFIM_EOH lists) macros.eoh;
-    }
+    by_stage (λ stage. pairs_by (list_of (macro_stage_number stage) lists) (at_stage macros stage))

@@ -1,3 +1,5 @@
+pub mod ByMacroStage
+pub mod Macros
 pub mod ChosenMacros
 pub mod Steps
 pub mod Weight

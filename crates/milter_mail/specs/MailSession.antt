@@ -5,7 +5,7 @@ use Rattle.milter_wire.specs.declared.codes.TheConstants.{SMFIC_BODYEOB, SMFIC_C
 use Rattle.milter_wire_fields.specs.declared.client.Client.{Client}
 use Rattle.milter_wire.specs.declared.command.Command.TheVariants as commands
 use Rattle.milter_wire.specs.Command.{Fits}
-use Rattle.milter_mail.specs.declared.macros.Macros.{Macros}
+use Rattle.milter_mail.specs.Macros.{Macros}
 use Rattle.milter_message.specs.LeadingSpace.{WholeFieldFits}
 use Rattle.milter_message.specs.MailObject.{IsMessage, MailObject}
 use Rattle.milter_mail.specs.Weight.{weight}

@@ -1,5 +1,5 @@
 -- The commands that are sent of a session with these macros, in order: those of its opening, and those of a message.
-use Rattle.std.specs.Prelude.{ℕ, List, [], ◌∷◌, ◌++◌, Option, None, Some, if◌then◌else◌}
+use Rattle.std.specs.Prelude.{ℕ, List, [], ◌∷◌, ◌++◌, Option, None, Some, option_map, unwrap_or, if◌then◌else◌}
 use Rattle.std.specs.List.{flat_map}
 use Rattle.milter_wire.specs.declared.negotiation.Negotiated.{Negotiated}
 use Rattle.milter_wire_fields.specs.declared.client.Client.{Client}
@@ -9,23 +9,16 @@ use Rattle.milter_wire_fields.specs.declared.pair.Pair.{Pair}
 use Rattle.milter_wire.specs.declared.stage.Stage.{Stage}
 use Rattle.milter_wire.specs.declared.stage.Stage.TheVariants.{Connect, Helo, Mail, Rcpt, DataCmd, Header, Eoh, Body, Eob}
 use Rattle.milter_wire.specs.Negotiation.{has_leading_space, is_sent}
-use Rattle.milter_wire.specs.Stages.{macro_command_of}
-use Rattle.milter_mail.specs.declared.macros.Macros.{Macros}
+use Rattle.milter_wire.specs.Stages.{macro_command_of, macro_stage_of}
+use Rattle.milter_mail.specs.ByMacroStage.{at_stage}
+use Rattle.milter_mail.specs.Macros.{Macros}
 use Rattle.milter_message.specs.LeadingSpace.{sent_header}
 use Rattle.milter_message.specs.MailObject.{MailObject}
 use Rattle.milter_message.specs.Chunks.{chunks_of}
 
 -- the macros that are sent before each command of a stage
 abbrev pub macros_at : Macros → Stage → List Pair
-macros_at macros Connect = macros.connect
-macros_at macros Helo = macros.helo
-macros_at macros Mail = macros.mail
-macros_at macros Rcpt = macros.rcpt
-macros_at macros DataCmd = macros.data_cmd
-macros_at macros Header = []
-macros_at macros Eoh = macros.eoh
-macros_at macros Body = []
-macros_at macros Eob = macros.eom
+macros_at macros stage = unwrap_or (option_map (at_stage macros) (macro_stage_of stage)) []
 
 -- one packet with all of them, where there are some
 abbrev pub macro_step : Option ℕ → List Pair → List Command

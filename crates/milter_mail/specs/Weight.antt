@@ -4,7 +4,7 @@ use Rattle.milter_wire.specs.declared.negotiation.Negotiated.{Negotiated}
 use Rattle.milter_wire_fields.specs.declared.client.Client.{Client}
 use Rattle.milter_wire_options.specs.declared.options.TheConstants.Protocol.{HDR_LEADSPC}
 use Rattle.milter_wire.specs.Command.{bytes_of}
-use Rattle.milter_mail.specs.declared.macros.Macros.{Macros}
+use Rattle.milter_mail.specs.Macros.{Macros}
 use Rattle.milter_message.specs.MailObject.{MailObject}
 use Rattle.milter_mail.specs.Steps.{message_steps, opening_steps}
 

@@ -9,7 +9,7 @@ use Rattle.milter_wire.specs.declared.command.Command.TheVariants as commands
 use Rattle.milter_wire_fields.specs.declared.header.Header.{Header}
 use Rattle.milter_wire_fields.specs.declared.pair.Pair.{Pair}
 use Rattle.milter_wire.specs.Command.{Fits, bytes_of, encoding}
-use Rattle.milter_mail.specs.declared.macros.Macros.{Macros}
+use Rattle.milter_mail.specs.Macros.{Macros}
 use Rattle.milter_mail.specs.declared.weight.Overhead.{Overhead}
 use Rattle.milter_message.specs.LeadingSpace.{WholeFieldFits}
 use Rattle.milter_message.specs.MailObject.{IsMessage, MailObject}

@@ -13,7 +13,7 @@ ghost use Rattle.milter_mail.specs.MailSession.{IsSendable, MacrosFit, MailSessi
 ghost use Rattle.milter_mail.specs.Plan.{plan};
 ghost use Rattle.milter_mail.specs.Weight.{all_is_sent, weight};
 ghost use Rattle.milter_mail.specs.WeightParts.{common_weight, macros_weight, opening_weight, parts_weight, IsOverhead, IsSendableWith};
-ghost use Rattle.milter_mail.specs.declared.macros.Macros.{Macros};
+ghost use Rattle.milter_mail.specs.Macros.{Macros};
 ghost use Rattle.milter_mail.specs.declared.weight.Overhead.{Overhead};
 
 /// The macros that symbol lists choose fit a packet of each stage, where all of them do.

@@ -5,6 +5,7 @@
 //! edits, which [`write_message`] writes.
 #![tactic(auto)]
 
+mod by_macro_stage;
 mod chosen_macros;
 mod held_text;
 mod laws;
@@ -13,6 +14,7 @@ mod message_lines;
 mod session;
 mod weight;
 
+pub use by_macro_stage::ByMacroStage;
 pub use held_text::write_message;
 pub use laws::{
     chosen_macros_fit, plans_fit, sendable_messages, weight_of_any_plan, weight_of_parts,

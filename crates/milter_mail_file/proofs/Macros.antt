@@ -10,28 +10,43 @@ use Rattle.milter_wire.specs.declared.command.Command.TheVariants as commands
 use Rattle.milter_wire_fields.specs.declared.pair.Pair.{Pair}
 use Rattle.milter_wire.specs.Command.{Fits}
 use Rattle.milter_wire_fields.specs.Layout.{PairFits, pair}
-use Rattle.milter_mail.specs.declared.macros.Macros.{Macros}
+use Rattle.milter_mail.specs.Macros.{Macros}
 use Rattle.milter_mail.specs.MailSession.{MacrosFit}
 use Rattle.milter_mail_file.specs.declared.session_macros.MacroLine.{MacroLine}
 use Rattle.milter_wire_options.specs.declared.macro_stage.MacroStage.{MacroStage}
 use Rattle.milter_wire_options.specs.declared.macro_stage.MacroStage.TheVariants.{Connect, Helo, Mail, Rcpt, DataCmd, Eom}
 use Rattle.milter_wire_options.specs.declared.macro_stage.MacroStage.TheVariants.{Eoh}
-use Rattle.milter_mail_file.specs.MacroLists.{by_stage, is_stage, macros_at, with_macro}
+use Rattle.milter_mail.specs.ByMacroStage.{at_stage, by_stage, changed_at, is_stage}
 use Rattle.milter_mail_file.specs.SessionFile.{macros_of_lines, of_stage}
 
 -- ---- one more macro
 
+-- one more macro of a stage, as its last
+abbrev pub with_macro : MacroStage → Pair → Macros → Macros
+with_macro stage pair m = changed_at stage (λ pairs. pairs ++ pair ∷ []) m
+
+-- the macros of the stage are those that were found, with this one
+pub macro_added : (stage : MacroStage) (pair : Pair) (m : Macros)
+    → changed_at stage (λ _. at_stage m stage ++ pair ∷ []) m ≡ with_macro stage pair m
+macro_added Connect pair m = refl
+macro_added Helo pair m = refl
+macro_added Mail pair m = refl
+macro_added Rcpt pair m = refl
+macro_added DataCmd pair m = refl
+macro_added Eom pair m = refl
+macro_added Eoh pair m = refl
+
 by_stage-same : (f g : MacroStage → List Pair) → ((stage : MacroStage) → f stage ≡ g stage) → by_stage f ≡ by_stage g
 by_stage-same f g same = rw (same Connect, same Helo, same Mail, same Rcpt, same DataCmd, same Eom, same Eoh) refl
 
-macros_at-by : (f : MacroStage → List Pair) (stage : MacroStage) → macros_at (by_stage f) stage ≡ f stage
-macros_at-by f Connect = refl
-macros_at-by f Helo = refl
-macros_at-by f Mail = refl
-macros_at-by f Rcpt = refl
-macros_at-by f DataCmd = refl
-macros_at-by f Eom = refl
-macros_at-by f Eoh = refl
+at_stage-by : (f : MacroStage → List Pair) (stage : MacroStage) → at_stage (by_stage f) stage ≡ f stage
+at_stage-by f Connect = refl
+at_stage-by f Helo = refl
+at_stage-by f Mail = refl
+at_stage-by f Rcpt = refl
+at_stage-by f DataCmd = refl
+at_stage-by f Eom = refl
+at_stage-by f Eoh = refl
 
 more_if : (stage : MacroStage) (lines : List MacroLine) (line : MacroLine) (same : Bool) → is_stage line.stage stage ≡ same
     → filter_map (of_stage stage) (lines ++ line ∷ []) ≡ (if same then filter_map (of_stage stage) lines ++ line.pair ∷ [] else filter_map (of_stage stage) lines)
@@ -43,15 +58,15 @@ pairs_by lines stage = filter_map (of_stage stage) lines
 
 more_at : (lines : List MacroLine) (line : MacroLine) (stage : MacroStage)
     → pairs_by (lines ++ line ∷ []) stage
-    ≡ (if is_stage line.stage stage then macros_at (macros_of_lines lines) stage ++ line.pair ∷ [] else macros_at (macros_of_lines lines) stage)
+    ≡ (if is_stage line.stage stage then at_stage (macros_of_lines lines) stage ++ line.pair ∷ [] else at_stage (macros_of_lines lines) stage)
 more_at lines line stage =
     more_if stage lines line (is_stage line.stage stage) refl
-    ∙ ap (λ (pairs : List Pair). if is_stage line.stage stage then pairs ++ line.pair ∷ [] else pairs) (sym (macros_at-by (pairs_by lines) stage))
+    ∙ ap (λ (pairs : List Pair). if is_stage line.stage stage then pairs ++ line.pair ∷ [] else pairs) (sym (at_stage-by (pairs_by lines) stage))
 
 pub macros_more : (lines : List MacroLine) (line : MacroLine) → macros_of_lines (lines ++ line ∷ []) ≡ with_macro line.stage line.pair (macros_of_lines lines)
 macros_more lines line =
     by_stage-same (pairs_by (lines ++ line ∷ []))
-    (λ stage. if is_stage line.stage stage then macros_at (macros_of_lines lines) stage ++ line.pair ∷ [] else macros_at (macros_of_lines lines) stage)
+    (λ stage. if is_stage line.stage stage then at_stage (macros_of_lines lines) stage ++ line.pair ∷ [] else at_stage (macros_of_lines lines) stage)
     (more_at lines line)
 
 -- ---- the first macros fit where all do
@@ -97,14 +112,19 @@ next_macros_fit lines more line h =
     let whole = subst (λ l. MacrosFit (macros_of_lines l)) (sym (append_assoc lines (line ∷ []) more)) h in
     subst MacrosFit (macros_more lines line) (macros_prefix (lines ++ line ∷ []) more whole)
 
-last_fits : (stage : MacroStage) (pair : Pair) (m : Macros) → MacrosFit (with_macro stage pair m) → PairFits pair
-last_fits Connect pair m h = last_of PairFits m.connect pair h.connect.fields
-last_fits Helo pair m h = last_of PairFits m.helo pair h.helo.fields
-last_fits Mail pair m h = last_of PairFits m.mail pair h.mail.fields
-last_fits Rcpt pair m h = last_of PairFits m.rcpt pair h.rcpt.fields
-last_fits DataCmd pair m h = last_of PairFits m.data_cmd pair h.data_cmd.fields
-last_fits Eom pair m h = last_of PairFits m.eom pair h.eom.fields
-last_fits Eoh pair m h = last_of PairFits m.eoh pair h.eoh.fields
+-- the macros of the stage fit a packet of some command
+pub changed_fits : (stage : MacroStage) (pair : Pair) (m : Macros) → MacrosFit (with_macro stage pair m)
+    → (command : ℕ) × Fits (commands.Macro command (at_stage m stage ++ pair ∷ []))
+changed_fits Connect pair m h = (67, h.connect)
+changed_fits Helo pair m h = (72, h.helo)
+changed_fits Mail pair m h = (77, h.mail)
+changed_fits Rcpt pair m h = (82, h.rcpt)
+changed_fits DataCmd pair m h = (84, h.data_cmd)
+changed_fits Eom pair m h = (69, h.eom)
+changed_fits Eoh pair m h = (78, h.eoh)
 
 pub next_pair_fits : (lines more : List MacroLine) (line : MacroLine) → MacrosFit (macros_of_lines (lines ++ line ∷ more)) → PairFits line.pair
-next_pair_fits lines more line h = last_fits line.stage line.pair (macros_of_lines lines) (next_macros_fit lines more line h)
+next_pair_fits lines more line h =
+    let before = macros_of_lines lines in
+    let fits = changed_fits line.stage line.pair before (next_macros_fit lines more line h) in
+    last_of PairFits (at_stage before line.stage) line.pair fits.1.fields

@@ -4,6 +4,5 @@ pub mod SessionFile
 pub mod SessionFault
 pub mod LineGroups
 pub mod MessageLines
-pub mod MacroLists
 pub mod Openings
 pub mod SessionText

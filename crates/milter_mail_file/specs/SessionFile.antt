@@ -3,7 +3,7 @@
 use Rattle.std.specs.Prelude.{◌≡◌, ℕ, List, [], ◌∷◌, ◌++◌, codes, Option, None, Some, if◌then◌else◌}
 use Rattle.std.specs.List.{AllZip, concat, filter_map}
 use Rattle.milter_wire_fields.specs.declared.pair.Pair.{Pair}
-use Rattle.milter_mail.specs.declared.macros.Macros.{Macros}
+use Rattle.milter_mail.specs.Macros.{Macros}
 use Rattle.milter_text.specs.declared.word.Word.{Word}
 use Rattle.milter_text.specs.Lines.{contents}
 use Rattle.milter_message.specs.MailObject.{MailObject}
@@ -12,7 +12,7 @@ use Rattle.milter_mail_file.specs.declared.session_macros.MacroLine.{MacroLine}
 use Rattle.milter_wire_options.specs.declared.macro_stage.MacroStage.{MacroStage}
 use Rattle.milter_mail_file.specs.LineValues.{client_of, end_line, header_of, helo_of, macro_of, message_line, path_of}
 use Rattle.milter_mail_file.specs.LineValues.{chunk_of}
-use Rattle.milter_mail_file.specs.MacroLists.{by_stage, is_stage}
+use Rattle.milter_mail.specs.ByMacroStage.{by_stage, is_stage}
 use Rattle.milter_text.specs.Words.{HasWords}
 
 -- the line is in words, and their value is this one

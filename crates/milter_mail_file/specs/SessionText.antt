@@ -8,11 +8,11 @@ use Rattle.milter_wire_fields.specs.declared.client.Origin.TheVariants.{Unknown,
 use Rattle.milter_wire_fields.specs.declared.pair.Pair.{Pair}
 use Rattle.milter_wire_options.specs.declared.macro_stage.MacroStage.{MacroStage}
 use Rattle.milter_wire_options.specs.MacroStages.{macro_stage_name, macro_stages}
-use Rattle.milter_mail.specs.declared.macros.Macros.{Macros}
+use Rattle.milter_mail.specs.Macros.{Macros}
 use Rattle.milter_mail.specs.HeldText.{line_of, message_lines, text_of}
 use Rattle.milter_message.specs.MailObject.{MailObject}
 use Rattle.milter_mail.specs.MailSession.{MailSession}
-use Rattle.milter_mail_file.specs.MacroLists.{macros_at}
+use Rattle.milter_mail.specs.ByMacroStage.{at_stage}
 
 -- the keyword and the family, the host, the port and the address
 abbrev pub endpoint_line : List ℕ → List ℕ → ℕ → List ℕ → List ℕ
@@ -32,7 +32,7 @@ macro_line stage pair = line_of (codes "macro " ++ stage) (pair.name ∷ pair.va
 
 -- a line for each macro of a stage
 abbrev pub macro_lines : Macros → MacroStage → List ℕ
-macro_lines macros stage = flat_map (macro_line (macro_stage_name stage)) (macros_at macros stage)
+macro_lines macros stage = flat_map (macro_line (macro_stage_name stage)) (at_stage macros stage)
 
 -- those of each stage, in the order of a session
 abbrev pub all_macro_lines : Macros → List ℕ

@@ -15,7 +15,7 @@ use crate::client_line::client_in;
 use crate::line_group::read_group;
 use crate::line_values::helo_in;
 use crate::session_fault::SessionFault;
-use crate::session_macros::MacroLists;
+use crate::session_macros::{MacroLists, into_macros};
 use crate::session_messages::read_messages;
 use milter_mail::{Macros, Overhead, Session};
 use milter_text::LineCursor;
@@ -55,7 +55,7 @@ fn session_in(alloc: Global, lines: &mut LineCursor<'_>) -> Result<Session, Sess
     let client = read_client(alloc, lines)?;
     let helo = read_helo(alloc, lines)?;
     let lists: MacroLists = read_group(alloc, lines)?;
-    with_messages(alloc, client, helo, lists.into_macros(), lines)
+    with_messages(alloc, client, helo, into_macros(lists), lines)
 }
 
 /// Reads the line of the client.

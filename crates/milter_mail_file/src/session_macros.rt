@@ -7,33 +7,17 @@ ghost use Rattle.milter_wire_fields.specs.Layout.{PairFits, pair};
 ghost use Rattle.milter_mail.specs.MailSession.{MacrosFit};
 ghost use Rattle.milter_mail_file.specs.declared.session_fault.SessionFault.TheVariants as faults;
 ghost use Rattle.milter_mail_file.specs.LineValues.{macro_of, macro_with, stage_of};
-ghost use Rattle.milter_mail_file.specs.MacroLists.{macros_at, macros_of, with_macro};
 ghost use Rattle.milter_mail_file.specs.SessionFault.{IsAt, Reads};
 ghost use Rattle.milter_mail_file.specs.SessionFile.{macros_of_lines};
 ghost use Rattle.milter_mail_file.specs.Openings.{macro_begins};
 
 use crate::line_group::LineGroup;
 use crate::session_fault::SessionFault;
-use milter_mail::Macros;
+use milter_mail::{ByMacroStage, Macros};
 use milter_text::{FileLine, Word};
 use milter_wire::{MacroStage, PAYLOAD_MAX, Pair, Pairs, Text, pair_len};
 use std::alloc::Global;
 use std::marker::Model;
-
-/// The macros of a stage.
-pub(crate) fn pairs_of(macros: &Macros, stage: MacroStage) -> &[Pair]
-    ensures { result.now ≡ macros_at macros.now stage }
-{
-    match stage {
-        MacroStage::Connect => macros.connect.as_slice(),
-        MacroStage::Helo => macros.helo.as_slice(),
-        MacroStage::Mail => macros.mail.as_slice(),
-        MacroStage::Rcpt => macros.rcpt.as_slice(),
-        MacroStage::DataCmd => macros.data_cmd.as_slice(),
-        MacroStage::Eom => macros.eom.as_slice(),
-        MacroStage::Eoh => macros.eoh.as_slice(),
-    }
-}
 
 /// A macro, and the stage that has it.
 #[derive(Drop)]
@@ -103,51 +87,21 @@ impl StageMacros {
 }
 
 /// The macros of each stage that were read so far.
-#[derive(Drop)]
-pub(crate) struct MacroLists {
-    connect: StageMacros,
-    helo: StageMacros,
-    mail: StageMacros,
-    rcpt: StageMacros,
-    data_cmd: StageMacros,
-    eom: StageMacros,
-    eoh: StageMacros,
-}
+pub(crate) type MacroLists = ByMacroStage<StageMacros>;
 
-impl MacroLists {
-    /// Adds a macro of a stage, which is in the line with this number.
-    fn push(&mut self, stage: MacroStage, pair: Pair, line: u64) -> Result<(), SessionFault>
-        requires { PairFits pair }
-        ensures ok { OnOk result (macros_of self.new ≡ with_macro stage pair (macros_of self.old)) }
-        ensures err { MacrosFit (with_macro stage pair (macros_of self.old)) →
-            IfErr result (λ e. e ≡ faults.NoMemory) }
-        ensures at { IfErr result (λ e. IsAt line e) }
-    {
-        match stage {
-            MacroStage::Connect => self.connect.push(pair, line),
-            MacroStage::Helo => self.helo.push(pair, line),
-            MacroStage::Mail => self.mail.push(pair, line),
-            MacroStage::Rcpt => self.rcpt.push(pair, line),
-            MacroStage::DataCmd => self.data_cmd.push(pair, line),
-            MacroStage::Eom => self.eom.push(pair, line),
-            MacroStage::Eoh => self.eoh.push(pair, line),
-        }
-    }
-
-    /// The macros, each stage's as a list.
-    pub(crate) fn into_macros(self) -> Macros
-        ensures macros { result ≡ macros_of self }
-        ensures fit { MacrosFit result }
-    {
-        Macros {
-            connect: self.connect.into_pairs(),
-            helo: self.helo.into_pairs(),
-            mail: self.mail.into_pairs(),
-            rcpt: self.rcpt.into_pairs(),
-            data_cmd: self.data_cmd.into_pairs(),
-            eom: self.eom.into_pairs(),
-            eoh: self.eoh.into_pairs(),
-        }
+/// The macros that were read, each stage's as a list.
+pub(crate) fn into_macros(lists: MacroLists) -> Macros
+    ensures macros { result ≡ lists }
+    ensures fit { MacrosFit result }
+{
+    Macros {
+        connect: lists.connect.into_pairs(),
+        helo: lists.helo.into_pairs(),
+        mail: lists.mail.into_pairs(),
+        rcpt: lists.rcpt.into_pairs(),
+        data_cmd: lists.data_cmd.into_pairs(),
+        eom: lists.eom.into_pairs(),
+        eoh: lists.eoh.into_pairs(),
     }
 }
 
@@ -158,7 +112,7 @@ impl LineGroup for MacroLists {
 
     ghost value_of = { macro_of };
 
-    ghost IsMadeOf = { λ lists lines. macros_of lists ≡ macros_of_lines lines };
+    ghost IsMadeOf = { λ lists lines. lists ≡ macros_of_lines lines };
 
     ghost CanBe = { λ lines. MacrosFit (macros_of_lines lines) };
 
@@ -180,7 +134,7 @@ impl LineGroup for MacroLists {
 
     fn add(&mut self, alloc: Global, line: &FileLine) -> Result<(), SessionFault> {
         let MacroLine { stage, pair } = macro_in(alloc, line)?;
-        self.push(stage, pair, line.number)
+        self.at_mut(stage).push(pair, line.number)
     }
 
     ghost opens = { macro_begins };

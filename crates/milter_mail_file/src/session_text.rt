@@ -8,7 +8,6 @@ ghost use Rattle.milter_text.specs.WrittenText.{WritesPrefix};
 ghost use Rattle.milter_mail_file.specs.SessionText.{all_macro_lines, client_line, endpoint_line, macro_line, macro_lines};
 ghost use Rattle.milter_mail_file.specs.SessionText.{message_text, opening_text, session_text};
 
-use crate::session_macros::pairs_of;
 use itoa::Buffer;
 use milter_mail::{Macros, Message, Session, put_line, put_message, put_text};
 use milter_text::{TextFault, TextWriter};
@@ -117,7 +116,7 @@ fn put_macros<W: Write>(output: &mut TextWriter<'_, W>, macros: &Macros) -> Resu
     ensures { Puts W.contents (all_macro_lines macros.now) output.old output.new result }
 {
     for stage in &MacroStage::ALL {
-        put_stage(output, stage.name(), pairs_of(macros, *stage))?;
+        put_stage(output, stage.name(), macros.at(*stage).as_slice())?;
     }
     Ok(())
 }

@@ -13,7 +13,7 @@ use Rattle.milter_wire.specs.Stages.{macro_command_of, stage_of}
 use Rattle.milter_message.specs.LeadingSpace.{sent_header}
 use Rattle.milter_message.specs.MailObject.{MailObject}
 use Rattle.milter_message.specs.Chunks.{chunks_of}
-use Rattle.milter_mail.specs.declared.macros.Macros.{Macros}
+use Rattle.milter_mail.specs.Macros.{Macros}
 use Rattle.milter_mail.specs.MailSession.{MailSession}
 use Rattle.milter_mail.specs.Plan.{macros_of, opening, plan}
 use Rattle.milter_mail.specs.Steps.{macro_step, macros_at, message_steps, step}

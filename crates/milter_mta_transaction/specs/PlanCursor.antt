@@ -12,7 +12,7 @@ use Rattle.milter_message.specs.LeadingSpace.{sent_header}
 use Rattle.milter_message.specs.MailObject.{MailObject}
 use Rattle.milter_message.specs.Chunks.{chunks_of}
 use Rattle.milter_protocol.specs.Dialogue.{is_body}
-use Rattle.milter_mail.specs.declared.macros.Macros.{Macros}
+use Rattle.milter_mail.specs.Macros.{Macros}
 use Rattle.milter_mail.specs.MailSession.{MailSession}
 use Rattle.milter_mail.specs.Plan.{macros_of}
 use Rattle.milter_mail.specs.Steps.{step}

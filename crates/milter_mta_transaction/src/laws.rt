@@ -11,7 +11,7 @@ ghost use Rattle.milter_mail.specs.ChosenMacros.{chosen_macros};
 ghost use Rattle.milter_mail.specs.MailSession.{IsSendable, MacrosFit, MailSession};
 ghost use Rattle.milter_mail.specs.Plan.{macros_of, opening, plan};
 ghost use Rattle.milter_mail.specs.Steps.{message_steps};
-ghost use Rattle.milter_mail.specs.declared.macros.Macros.{Macros};
+ghost use Rattle.milter_mail.specs.Macros.{Macros};
 ghost use Rattle.milter_protocol.specs.Commands.{is_of_connection};
 ghost use Rattle.milter_protocol.specs.StageOrder.{rank_of};
 ghost use Rattle.milter_mta_transaction.specs.declared.cursor.ClientInfo.{ClientInfo};

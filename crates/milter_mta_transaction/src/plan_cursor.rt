@@ -82,7 +82,7 @@ fn macro_packet<'a>(macros: &'a Macros, stage: Stage) -> Option<CommandRef<'a>>
         ≡ macro_step (macro_command_of stage) (macros_at macros.now stage) }
 {
     let command = stage.macro_command()?;
-    let pairs = macros.at(stage);
+    let pairs = macros.before(stage);
     if pairs.is_empty() {
         return None;
     }
@@ -121,7 +121,7 @@ fn has_command(of: &OutgoingRef<'_>, stage: Stage, n: usize) -> bool
 fn has_macros(macros: &Macros, stage: Stage) -> bool
     ensures { result ≡ is_some (slice_get (macro_step (macro_command_of stage) (macros_at macros.now stage)) 0) }
 {
-    stage.macro_command().is_some() && !macros.at(stage).is_empty()
+    stage.macro_command().is_some() && !macros.before(stage).is_empty()
 }
 
 /// Whose stage the command at this place of the plan is: `Some(None)` for a macro packet, none where no command is.

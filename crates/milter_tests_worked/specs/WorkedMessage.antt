@@ -7,7 +7,7 @@ use Rattle.milter_wire_options.specs.declared.options.Options.{Options}
 use Rattle.milter_wire.specs.declared.negotiation.Negotiated.{Negotiated}
 use Rattle.milter_wire_fields.specs.declared.pair.Pair.{Pair}
 use Rattle.milter_wire_fields.specs.declared.path.Path.{Path}
-use Rattle.milter_mail.specs.declared.macros.Macros.{Macros}
+use Rattle.milter_mail.specs.Macros.{Macros}
 use Rattle.milter_message.specs.MailObject.{MailObject}
 
 -- a sender or a recipient without parameters
