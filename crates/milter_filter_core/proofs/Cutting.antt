@@ -12,9 +12,9 @@ use Rattle.milter_protocol.specs.declared.filter_fault.FilterFault.{FilterFault}
 use Rattle.milter_protocol.specs.declared.filter_state.FilterState.{FilterState}
 use Rattle.milter_protocol.specs.declared.filter_state.FilterState.TheVariants.{Failed, Quit, Serving}
 use Rattle.milter_protocol.specs.FilterEnds.{Received}
-use Rattle.milter_protocol.specs.OrderStates.{OrderState, fresh_in, order_state_after, order_state_replies}
+use Rattle.milter_protocol.specs.OrderStates.{OrderState, fresh_in, order_state_after, order_state_replies, order_step}
 use Rattle.milter_protocol.proofs.Lenient.{orders-replies, orders-state}
-use Rattle.milter_protocol.proofs.Going.{order_state_after-append, order_state_replies-append}
+use Rattle.milter_protocol.proofs.Going.{after-append, replies-append}
 use Rattle.milter_filter_core.specs.Cores.{Core, GivesUp, GoesOn, Takes, fresh_core_in, given_up, unread_after}
 use Rattle.milter_filter_core.specs.Streams.{filter_end_of, fault_after, read_in, received_in, reply_bytes}
 use Rattle.milter_filter_core.proofs.Progress.{ended-stays, read-append}
@@ -64,7 +64,7 @@ bytes_of b s received = flat_map encoding (order_state_replies b s received)
 
 bytes-append : (b : Behavior) (s : OrderState) (first second : List Received) → bytes_of b s (first ++ second) ≡ bytes_of b s first ++ bytes_of b (order_state_after b s first) second
 bytes-append b s first second =
-    ap (flat_map encoding) (order_state_replies-append b s first second)
+    ap (flat_map encoding) (replies-append (order_step b) s first second)
     ∙ flat_map-append encoding (order_state_replies b s first) (order_state_replies b (order_state_after b s first) second)
 
 pub replies-add : (b : Behavior) (order : CommandOrder) (input more : List ℕ) → (others : List ℕ) × (reply_bytes order b (input ++ more) ≡ reply_bytes order b input ++ others)
@@ -165,7 +165,7 @@ module _ {P : Type 0} (b : Behavior) where
         order_state =
             sym end.0
             ∙ ap (λ s. order_state_after b s (fault_after f)) t.order_state
-            ∙ sym (order_state_after-append b old.order_state (read_in bytes) (fault_after f));
+            ∙ sym (after-append (order_step b) old.order_state (read_in bytes) (fault_after f));
         replied =
             t.pending
             ∙ sym (append-nil (bytes_of b old.order_state (read_in bytes)))
@@ -208,7 +208,7 @@ module _ {P : Type 0} (b : Behavior) where
           order_state =
               q.order_state ∙ same_order_state
               ∙ ap (λ s. order_state_after b s rs) p.order_state
-              ∙ sym (order_state_after-append b old.order_state (received_in bytes) rs)
+              ∙ sym (after-append (order_step b) old.order_state (received_in bytes) rs)
               ∙ ap (order_state_after b old.order_state) (sym all);
           replied =
               append_assoc sent sent_then new.pending

@@ -17,7 +17,7 @@ use Rattle.milter_protocol.specs.declared.filter_state.FilterState.TheVariants.{
 use Rattle.milter_protocol.specs.FilterEnds.{Received, state_after}
 use Rattle.milter_filter_core.specs.Cores.{EndsAtReplies}
 use Rattle.milter_protocol.specs.Replies.{replies_to}
-use Rattle.milter_protocol.specs.OrderStates.{Part, OrderState, order_state_after, order_state_answer, order_state_before, order_state_by, order_state_fault, order_state_in, order_state_next, order_state_replies, order_state_replies_at, order_state_replies_by, order_state_replies_in}
+use Rattle.milter_protocol.specs.OrderStates.{Part, OrderState, order_state_after, order_state_answer, order_state_before, order_state_fault, order_state_next, order_state_replies, order_state_replies_at, order_step_by, order_step_in}
 use Rattle.milter_filter_core.specs.Streams.{IsOnePacketAtMost, read_in}
 use Rattle.milter_filter_core.proofs.Progress.{Progress, read-append}
 
@@ -74,20 +74,20 @@ command-silent b negotiated part (commands.Unknown text) ended = absurd (ended r
 command-silent b negotiated part commands.Abort ended = absurd (ended refl)
 command-silent b negotiated part commands.QuitNew ended = absurd (ended refl)
 
-silent-by : (b : Behavior) (s : OrderState) (received : Received) (fault : Option FilterFault) → (order_state_by b s received fault).state ≢ Serving → order_state_replies_by b s received fault ≡ []
+silent-by : (b : Behavior) (s : OrderState) (received : Received) (fault : Option FilterFault) → let x = order_step_by b s received fault in x.after.state ≢ Serving → x.replies ≡ []
 silent-by b s received (Some fault) ended = refl
 silent-by b s (Err fault) None ended = refl
 silent-by b s (Ok command) None ended = command-silent b s.negotiated s.shown command ended
 
-in-silent : (b : Behavior) (s : OrderState) (received : Received) → (order_state_in b s received s.state).state ≢ Serving → order_state_replies_in b s received s.state ≡ []
+in-silent : (b : Behavior) (s : OrderState) (received : Received) → let x = order_step_in b s received s.state in x.after.state ≢ Serving → x.replies ≡ []
 in-silent b s received ended = by_state s.state refl
   where
-    by_state : (state : FilterState) → s.state ≡ state → order_state_replies_in b s received s.state ≡ []
+    by_state : (state : FilterState) → s.state ≡ state → (order_step_in b s received s.state).replies ≡ []
     by_state Serving is =
-        ap (order_state_replies_in b s received) is
-        ∙ silent-by b s received (order_state_fault s received) (λ still. ended (ap (λ state. (order_state_in b s received state).state) is ∙ still))
-    by_state Quit is = ap (order_state_replies_in b s received) is
-    by_state (Failed fault) is = ap (order_state_replies_in b s received) is
+        ap (λ state. (order_step_in b s received state).replies) is
+        ∙ silent-by b s received (order_state_fault s received) (λ still. ended (ap (λ state. (order_step_in b s received state).after.state) is ∙ still))
+    by_state Quit is = ap (λ state. (order_step_in b s received state).replies) is
+    by_state (Failed fault) is = ap (λ state. (order_step_in b s received state).replies) is
 
 end-silent : (b : Behavior) (s : OrderState) (received : Received) → (order_state_next b s received).state ≢ Serving → order_state_replies_at b s received ≡ []
 end-silent b s received ended = in-silent b (order_state_before b s received) received ended

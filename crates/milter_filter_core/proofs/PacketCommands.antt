@@ -1,5 +1,5 @@
 -- The command of a packet.
-use Rattle.std.proofs.Common.{◌≡◌, ◌≢◌, if◌then◌else◌, [], ℕ, ◌+◌, ◌<◌, Bool, true, false, List, ◌∷◌, Option, None, Some, Result, Ok, Err, length, get_or, refl, sym, ◌∙◌, ap, arith, length-append, IfOk}
+use Rattle.std.proofs.Common.{◌≡◌, ◌≢◌, if◌then◌else◌, ℕ, ◌+◌, ◌<◌, Bool, true, false, List, ◌∷◌, Option, None, Some, Result, Ok, Err, length, get_or, refl, sym, ◌∙◌, ap, arith, length-append, IfOk}
 use Rattle.milter_wire_stream.specs.declared.fault.WireFault.{WireFault}
 use Rattle.milter_wire_stream.specs.Number.{number}
 use Rattle.milter_wire_stream.specs.Packet.{packet}
@@ -14,7 +14,6 @@ use Rattle.milter_wire.specs.Frames.{frame_command, value_or_fault}
 use Rattle.milter_wire.proofs.CommandGrammar.{commands_read}
 use Rattle.milter_wire.specs.declared.negotiation.Negotiated.{Negotiated}
 use Rattle.milter_wire.specs.declared.command.Command.TheVariants.{Abort}
-use Rattle.milter_wire.specs.declared.reply.Reply.{Reply}
 use Rattle.milter_protocol.specs.declared.command_order.CommandOrder.{CommandOrder}
 use Rattle.milter_protocol.specs.declared.command_order.CommandOrder.TheVariants.{Lenient, Strict}
 use Rattle.milter_protocol.specs.Aborts.{needs_abort}
@@ -24,7 +23,8 @@ use Rattle.milter_protocol.specs.declared.filter_state.FilterState.TheVariants.{
 use Rattle.milter_protocol.specs.Commands.{is_quit}
 use Rattle.milter_protocol.specs.FilterEnds.{Received}
 use Rattle.milter_protocol.specs.Faults.{fault_of}
-use Rattle.milter_protocol.specs.OrderStates.{OrderState, after_message, nothing_kept, order_state_before, order_state_by, order_state_fault, order_state_in, order_state_next, order_state_replies_at, order_state_replies_by, order_state_replies_in}
+use Rattle.milter_protocol.specs.OrderStates.{OrderState, after_message, nothing_kept, order_state_before, order_state_fault, order_step, order_step_by, order_step_in}
+use Rattle.milter_protocol.specs.Steps.{Step, silent}
 
 value-found : (code : ℕ) (known : Bool) (read : Option Command) (c : Command) → value_or_fault code known read ≡ Ok c → read ≡ Some c
 value-found code false read c e = absurd cc
@@ -52,7 +52,7 @@ encoded-len f c e = sym (packet-len f.code f.payload) ∙ ap length e.bytes_are
 
 -- ---- the abort that is due before it
 
-abort-ends : (b : Behavior) (s : OrderState) (negotiated : Negotiated) → let t = record s { negotiated = Some negotiated; state = Serving } in after_message t ≡ order_state_in b t (Ok Abort) Serving
+abort-ends : (b : Behavior) (s : OrderState) (negotiated : Negotiated) → let t = record s { negotiated = Some negotiated; state = Serving } in after_message t ≡ (order_step_in b t (Ok Abort) Serving).after
 abort-ends b s negotiated = refl
 
 pub ready-is : (b : Behavior) (s : OrderState) (received : Received) → s.state ≡ Serving
@@ -63,57 +63,41 @@ ready-is b s received serving = by_need (needs_abort s.order s.negotiated s.last
     none Strict = refl
     none Lenient = refl
 
-    by_negotiated : (negotiated : Option Negotiated) → s.negotiated ≡ negotiated → needs_abort s.order s.negotiated s.last_rank received ≡ true → after_message s ≡ order_state_in b s (Ok Abort) s.state
+    by_negotiated : (negotiated : Option Negotiated) → s.negotiated ≡ negotiated → needs_abort s.order s.negotiated s.last_rank received ≡ true → after_message s ≡ (order_step_in b s (Ok Abort) s.state).after
     by_negotiated None is due =
         let no : false ≡ true = sym (none s.order) ∙ ap (λ (negotiated : Option Negotiated). needs_abort s.order negotiated s.last_rank received) (sym is) ∙ due in absurd cc
     by_negotiated (Some negotiated) is due =
         let same : s ≡ record s { negotiated = Some negotiated; state = Serving } = λ i. record s { negotiated = is i; state = serving i } in
-        ap after_message same ∙ abort-ends b s negotiated ∙ ap (λ (t : OrderState). order_state_in b t (Ok Abort) t.state) (sym same)
+        ap after_message same ∙ abort-ends b s negotiated ∙ ap (λ (t : OrderState). (order_step_in b t (Ok Abort) t.state).after) (sym same)
 
-    by_need : (need : Bool) → needs_abort s.order s.negotiated s.last_rank received ≡ need → (if need then after_message s else s) ≡ (if need then order_state_in b s (Ok Abort) s.state else s)
+    by_need : (need : Bool) → needs_abort s.order s.negotiated s.last_rank received ≡ need → (if need then after_message s else s) ≡ (if need then (order_step_in b s (Ok Abort) s.state).after else s)
     by_need true due = by_negotiated s.negotiated refl due
     by_need false due = refl
 
 -- ---- what it comes to
 
-abbrev next_from : Behavior → Received → OrderState → OrderState
-next_from b received ready = order_state_in b ready received ready.state
-
-abbrev replies_from : Behavior → Received → OrderState → List Reply
-replies_from b received ready = order_state_replies_in b ready received ready.state
+abbrev step_from : Behavior → Received → OrderState → Step OrderState
+step_from b received ready = order_step_in b ready received ready.state
 
 module _ (b : Behavior) (s ready : OrderState) (received : Received) (c : Command) (is : ready ≡ order_state_before b s received) (read : Ok c ≡ received) (serving : ready.state ≡ Serving) where
-  next-by : (fault : Option FilterFault) → order_state_fault ready (Ok c) ≡ fault → order_state_by b ready (Ok c) fault ≡ order_state_next b s received
-  next-by fault found =
-      ap (order_state_by b ready (Ok c)) (sym found)
-      ∙ ap (order_state_in b ready (Ok c)) (sym serving)
-      ∙ ap (λ r. next_from b r ready) read
-      ∙ ap (next_from b received) is
+  step-by : (fault : Option FilterFault) → order_state_fault ready (Ok c) ≡ fault → order_step_by b ready (Ok c) fault ≡ order_step b s received
+  step-by fault found =
+      ap (order_step_by b ready (Ok c)) (sym found)
+      ∙ ap (order_step_in b ready (Ok c)) (sym serving)
+      ∙ ap (λ r. step_from b r ready) read
+      ∙ ap (step_from b received) is
 
-  replies-by : (fault : Option FilterFault) → order_state_fault ready (Ok c) ≡ fault → order_state_replies_by b ready (Ok c) fault ≡ order_state_replies_at b s received
-  replies-by fault found =
-      ap (order_state_replies_by b ready (Ok c)) (sym found)
-      ∙ ap (order_state_replies_in b ready (Ok c)) (sym serving)
-      ∙ ap (λ r. replies_from b r ready) read
-      ∙ ap (replies_from b received) is
+  pub step-in_order : order_state_fault ready (Ok c) ≡ None → order_step_by b ready (Ok c) None ≡ order_step b s received
+  step-in_order none = step-by None none
 
-  pub next-in_order : order_state_fault ready (Ok c) ≡ None → order_state_by b ready (Ok c) None ≡ order_state_next b s received
-  next-in_order none = next-by None none
-
-  pub replies-in_order : order_state_fault ready (Ok c) ≡ None → order_state_replies_by b ready (Ok c) None ≡ order_state_replies_at b s received
-  replies-in_order none = replies-by None none
-
-  pub next-fault : (fault : FilterFault) → order_state_fault ready (Ok c) ≡ Some fault → order_state_next b s received ≡ nothing_kept (Failed fault)
-  next-fault fault some = sym (next-by (Some fault) some)
-
-  pub silent-fault : (fault : FilterFault) → order_state_fault ready (Ok c) ≡ Some fault → order_state_replies_at b s received ≡ []
-  silent-fault fault some = sym (replies-by (Some fault) some)
+  pub step-fault : (fault : FilterFault) → order_state_fault ready (Ok c) ≡ Some fault → order_step b s received ≡ silent (nothing_kept (Failed fault))
+  step-fault fault some = sym (step-by (Some fault) some)
 
 still-going : (quits : Bool) (fault : FilterFault) → (if quits then Quit else Serving) ≢ Failed fault
 still-going true fault e = absurd cc
 still-going false fault e = absurd cc
 
-pub goes-on : (b : Behavior) (s new : OrderState) (c : Command) → new ≡ order_state_by b s (Ok c) None → (fault : FilterFault) → new.state ≢ Failed fault
+pub goes-on : (b : Behavior) (s new : OrderState) (c : Command) → new ≡ (order_step_by b s (Ok c) None).after → (fault : FilterFault) → new.state ≢ Failed fault
 goes-on b s new c is fault failed = still-going (is_quit c) fault (sym (ap (λ (x : OrderState). x.state) is) ∙ failed)
 
 -- the fault of the command, by the bytes of its packet

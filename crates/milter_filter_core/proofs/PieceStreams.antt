@@ -16,7 +16,8 @@ use Rattle.milter_protocol.specs.declared.filter_fault.FilterFault.{FilterFault}
 use Rattle.milter_protocol.specs.declared.filter_fault.FilterFault.TheVariants.{Wire}
 use Rattle.milter_protocol.specs.declared.filter_state.FilterState.TheVariants.{Failed, Serving}
 use Rattle.milter_protocol.specs.FilterEnds.{Received}
-use Rattle.milter_protocol.specs.OrderStates.{OrderState, nothing_kept, order_state_after, order_state_before, order_state_in, order_state_next, order_state_replies, order_state_replies_at, order_state_replies_in}
+use Rattle.milter_protocol.specs.OrderStates.{OrderState, nothing_kept, order_state_after, order_state_before, order_state_next, order_state_replies, order_state_replies_at, order_step, order_step_in}
+use Rattle.milter_protocol.specs.Steps.{Step, silent, steps}
 use Rattle.milter_filter_core.specs.Cores.{GivesUp}
 use Rattle.milter_filter_core.specs.AnswerPackets.{Replying, replying_after, replying_next}
 use Rattle.milter_filter_core.specs.Streams.{IsOnePacketAtMost, fault_after, read_in, received_in}
@@ -53,13 +54,9 @@ one-unfinished bytes unfinished = inl (ap (λ (x : Division). map frame_command 
 
 -- ---- faults
 
-failed-stays : (b : Behavior) (fault : FilterFault) (received : List Received) → order_state_after b (nothing_kept (Failed fault)) received ≡ nothing_kept (Failed fault)
+failed-stays : (b : Behavior) (fault : FilterFault) (received : List Received) → let s = nothing_kept (Failed fault) in steps (order_step b) s received ≡ silent s
 failed-stays b fault [] = refl
 failed-stays b fault (first ∷ more) = failed-stays b fault more
-
-failed-silent : (b : Behavior) (fault : FilterFault) (received : List Received) → order_state_replies b (nothing_kept (Failed fault)) received ≡ []
-failed-silent b fault [] = refl
-failed-silent b fault (first ∷ more) = failed-silent b fault more
 
 module _ (b : Behavior) (s : OrderState) (unread piece new : List ℕ) (n : ℕ) (fed : new ≡ unread ++ take n piece) where
   pub packet-gives_up : (f : Frame) (fault : FilterFault) → new ≡ frame_bytes f → IsFrame f → order_state_next b s (frame_command f) ≡ nothing_kept (Failed fault)
@@ -70,12 +67,15 @@ module _ (b : Behavior) (s : OrderState) (unread piece new : List ℕ) (n : ℕ)
       let handed : received_in (unread ++ piece) ≡ frame_command f ∷ others =
       ap (λ (d : Division). map frame_command d.frames ++ fault_after (length_fault d.rest)) (divide-handed unread piece new n f fed is fits) in
       record {
-        failed = ap (order_state_after b s) handed ∙ ap (λ (x : OrderState). order_state_after b x others) at_fault ∙ failed-stays b fault others;
+        failed =
+            ap (order_state_after b s) handed
+            ∙ ap (λ (x : OrderState). order_state_after b x others) at_fault
+            ∙ ap (λ (x : Step OrderState). x.after) (failed-stays b fault others);
         silent =
             ap (order_state_replies b s) handed
             ∙ ap (λ rs. rs ++ order_state_replies b (order_state_next b s (frame_command f)) others) silent
             ∙ ap (λ (x : OrderState). order_state_replies b x others) at_fault
-            ∙ failed-silent b fault others;
+            ∙ ap (λ (x : Step OrderState). x.replies) (failed-stays b fault others);
       }
 
   -- a fault is no greeting
@@ -85,18 +85,14 @@ module _ (b : Behavior) (s : OrderState) (unread piece new : List ℕ) (n : ℕ)
   no-abort Lenient (Some negotiated) last fault = refl
 
   ready-fault : (fault : WireFault) → order_state_before b s (Err fault) ≡ s
-  ready-fault fault = ap (λ aborts. if aborts then order_state_in b s (Ok Abort) s.state else s) (no-abort s.order s.negotiated s.last_rank fault)
+  ready-fault fault = ap (λ aborts. if aborts then (order_step_in b s (Ok Abort) s.state).after else s) (no-abort s.order s.negotiated s.last_rank fault)
 
   pub length-gives_up : (fault : WireFault) → s.state ≡ Serving → length_fault new ≡ Some fault → GivesUp b s (received_in (unread ++ piece)) (Wire fault)
   length-gives_up fault serving is =
       let received : received_in (unread ++ piece) ≡ Err fault ∷ [] = rw (divide-fault unread piece new n fault fed is, length_fault-fed unread piece new n fault fed is) refl in
+      let step : order_step b s (Err fault) ≡ silent (nothing_kept (Failed (Wire fault))) =
+      ap (λ (ready : OrderState). order_step_in b ready (Err fault) ready.state) (ready-fault fault) ∙ ap (order_step_in b s (Err fault)) serving in
       record {
-        failed =
-            ap (order_state_after b s) received
-            ∙ ap (λ (ready : OrderState). order_state_in b ready (Err fault) ready.state) (ready-fault fault)
-            ∙ ap (order_state_in b s (Err fault)) serving;
-        silent =
-            ap (order_state_replies b s) received
-            ∙ ap (λ (ready : OrderState). order_state_replies_in b ready (Err fault) ready.state ++ []) (ready-fault fault)
-            ∙ ap (λ state. order_state_replies_in b s (Err fault) state ++ []) serving;
+        failed = ap (order_state_after b s) received ∙ ap (λ (x : Step OrderState). x.after) step;
+        silent = ap (order_state_replies b s) received ∙ ap (λ (x : Step OrderState). x.replies ++ []) step;
       }

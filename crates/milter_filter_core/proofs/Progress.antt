@@ -13,11 +13,12 @@ use Rattle.milter_protocol.specs.declared.filter_fault.FilterFault.{FilterFault}
 use Rattle.milter_protocol.specs.declared.filter_state.FilterState.{FilterState}
 use Rattle.milter_protocol.specs.declared.filter_state.FilterState.TheVariants.{Failed, Quit, Serving}
 use Rattle.milter_protocol.specs.FilterEnds.{Received}
-use Rattle.milter_protocol.specs.OrderStates.{OrderState, order_state_after, order_state_in, order_state_next, order_state_replies, order_state_replies_at, order_state_replies_in}
+use Rattle.milter_protocol.specs.OrderStates.{OrderState, order_state_after, order_state_replies, order_step, order_step_in}
+use Rattle.milter_protocol.specs.Steps.{Step, joined, silent, steps}
 use Rattle.milter_filter_core.specs.Cores.{Core, GivesUp, Takes}
 use Rattle.milter_filter_core.specs.AnswerPackets.{Replying, TakesBytes}
 use Rattle.milter_filter_core.specs.Streams.{fault_after, read_in, received_in}
-use Rattle.milter_protocol.proofs.Going.{order_state_after-append, order_state_replies-append}
+use Rattle.milter_protocol.proofs.Going.{after-append, replies-append}
 
 -- what was made of the first bytes
 pub record Progress (b : Behavior) (s : OrderState) (bytes : List ℕ) (new : OrderState) (unread : List ℕ) (out : List ℕ) : Type 0 where
@@ -51,7 +52,7 @@ go_on b s new after bytes more unread left out written p order_state rest unfini
     record {
       order_state =
           order_state ∙ ap (λ x. order_state_after b x (read_in (unread ++ more))) p.order_state
-          ∙ sym (order_state_after-append b s (read_in bytes) (read_in (unread ++ more))) ∙ ap (order_state_after b s) (sym both);
+          ∙ sym (after-append (order_step b) s (read_in bytes) (read_in (unread ++ more))) ∙ ap (order_state_after b s) (sym both);
       unread_is = rest ∙ ap (λ us. (divide (us ++ more)).rest) p.unread_is ∙ ap (λ (x : Division). x.rest) (sym (divide-append bytes more));
       unfinished = unfinished;
       replied =
@@ -59,7 +60,7 @@ go_on b s new after bytes more unread left out written p order_state rest unfini
           ∙ ap (λ xs. xs ++ flat_map encoding (order_state_replies b new (read_in (unread ++ more)))) p.replied
           ∙ ap (λ x. flat_map encoding (order_state_replies b s (read_in bytes)) ++ flat_map encoding (order_state_replies b x (read_in (unread ++ more)))) p.order_state
           ∙ sym (flat_map-append encoding (order_state_replies b s (read_in bytes)) (order_state_replies b (order_state_after b s (read_in bytes)) (read_in (unread ++ more))))
-          ∙ ap (flat_map encoding) (sym (order_state_replies-append b s (read_in bytes) (read_in (unread ++ more))) ∙ ap (order_state_replies b s) (sym both));
+          ∙ ap (flat_map encoding) (sym (replies-append (order_step b) s (read_in bytes) (read_in (unread ++ more))) ∙ ap (order_state_replies b s) (sym both));
     }
 
 -- a fault among the bytes that are left, where none of those before has replies
@@ -76,12 +77,12 @@ fault-left b s new bytes more unread out fault p silent gives_up =
     record {
       failed =
           ap (order_state_after b s) all
-          ∙ order_state_after-append b s (read_in bytes) (received_in (unread ++ more))
+          ∙ after-append (order_step b) s (read_in bytes) (received_in (unread ++ more))
           ∙ ap (λ x. order_state_after b x (received_in (unread ++ more))) (sym p.order_state)
           ∙ gives_up.failed;
       silent =
           ap (order_state_replies b s) all
-          ∙ order_state_replies-append b s (read_in bytes) (received_in (unread ++ more))
+          ∙ replies-append (order_step b) s (read_in bytes) (received_in (unread ++ more))
           ∙ ap (λ rs. rs ++ order_state_replies b (order_state_after b s (read_in bytes)) (received_in (unread ++ more))) silent
           ∙ ap (λ x. order_state_replies b x (received_in (unread ++ more))) (sym p.order_state)
           ∙ gives_up.silent;
@@ -96,33 +97,31 @@ bytes-all unread piece i = append_assoc unread (take i piece) (drop i piece) ∙
 
 -- ---- after the end nothing changes
 
-ended-step : (b : Behavior) (s : OrderState) (first : Received) → s.state ≢ Serving → (order_state_next b s first ≡ s) × (order_state_replies_at b s first ≡ [])
+ended-step : (b : Behavior) (s : OrderState) (first : Received) → s.state ≢ Serving → order_step b s first ≡ silent s
 ended-step b s first ended =
-    let ready = no-change (needs_abort s.order s.negotiated s.last_rank first) in (
-      ap (λ (r : OrderState). order_state_in b r first r.state) ready ∙ (stays first).0,
-      ap (λ (r : OrderState). order_state_replies_in b r first r.state) ready ∙ (stays first).1,
-    )
+    ap (λ (ready : OrderState). order_step_in b ready first ready.state) (no-change (needs_abort s.order s.negotiated s.last_rank first)) ∙ stays first
   where
-    stays : (received : Received) → (order_state_in b s received s.state ≡ s) × (order_state_replies_in b s received s.state ≡ [])
+    stays : (received : Received) → order_step_in b s received s.state ≡ silent s
     stays received = by_state s.state refl
       where
-        by_state : (state : FilterState) → s.state ≡ state → (order_state_in b s received s.state ≡ s) × (order_state_replies_in b s received s.state ≡ [])
+        by_state : (state : FilterState) → s.state ≡ state → order_step_in b s received s.state ≡ silent s
         by_state Serving e = absurd (ended e)
-        by_state Quit e = (ap (order_state_in b s received) e, ap (order_state_replies_in b s received) e)
-        by_state (Failed fault) e = (ap (order_state_in b s received) e, ap (order_state_replies_in b s received) e)
+        by_state Quit e = ap (order_step_in b s received) e
+        by_state (Failed fault) e = ap (order_step_in b s received) e
 
-    no-change : (aborts : Bool) → (if aborts then order_state_in b s (Ok Abort) s.state else s) ≡ s
-    no-change true = (stays (Ok Abort)).0
+    no-change : (aborts : Bool) → (if aborts then (order_step_in b s (Ok Abort) s.state).after else s) ≡ s
+    no-change true = ap (λ (x : Step OrderState). x.after) (stays (Ok Abort))
     no-change false = refl
 
+ended-steps : (b : Behavior) (s : OrderState) (received : List Received) → s.state ≢ Serving → steps (order_step b) s received ≡ silent s
+ended-steps b s [] ended = refl
+ended-steps b s (first ∷ more) ended =
+    ap (λ (x : Step OrderState). joined x (steps (order_step b) x.after more)) (ended-step b s first ended) ∙ ended-steps b s more ended
+
 pub ended-stays : (b : Behavior) (s : OrderState) (received : List Received) → s.state ≢ Serving → (order_state_after b s received ≡ s) × (order_state_replies b s received ≡ [])
-ended-stays b s [] ended = (refl, refl)
-ended-stays b s (first ∷ more) ended =
-    let step = ended-step b s first ended in
-    let rest = ended-stays b s more ended in (
-      ap (λ x. order_state_after b x more) step.0 ∙ rest.0,
-      ap (λ rs. rs ++ order_state_replies b (order_state_next b s first) more) step.1 ∙ ap (λ x. order_state_replies b x more) step.0 ∙ rest.1,
-    )
+ended-stays b s received ended =
+    let same = ended-steps b s received ended in
+    (ap (λ (x : Step OrderState). x.after) same, ap (λ (x : Step OrderState). x.replies) same)
 
 pub ended-all : (b : Behavior) (s new : OrderState) (bytes more unread out : List ℕ) → Progress b s bytes new unread out → new.state ≢ Serving
     → (new ≡ order_state_after b s (read_in (bytes ++ more))) × (out ≡ flat_map encoding (order_state_replies b s (read_in (bytes ++ more))))
@@ -130,12 +129,12 @@ ended-all b s new bytes more unread out p ended =
     let others = read_in ((divide bytes).rest ++ more) in
     let stays = ended-stays b new others ended in
     let read = read-append bytes more in (
-      sym (stays.0) ∙ ap (λ x. order_state_after b x others) p.order_state ∙ sym (order_state_after-append b s (read_in bytes) others) ∙ ap (order_state_after b s) (sym read),
+      sym (stays.0) ∙ ap (λ x. order_state_after b x others) p.order_state ∙ sym (after-append (order_step b) s (read_in bytes) others) ∙ ap (order_state_after b s) (sym read),
       p.replied
           ∙ sym (append-nil (flat_map encoding (order_state_replies b s (read_in bytes))))
           ∙ ap (λ rs. flat_map encoding (order_state_replies b s (read_in bytes)) ++ flat_map encoding rs) (sym stays.1 ∙ ap (λ x. order_state_replies b x others) p.order_state)
           ∙ sym (flat_map-append encoding (order_state_replies b s (read_in bytes)) (order_state_replies b (order_state_after b s (read_in bytes)) others))
-          ∙ ap (flat_map encoding) (sym (order_state_replies-append b s (read_in bytes) others) ∙ ap (order_state_replies b s) (sym read)),
+          ∙ ap (flat_map encoding) (sym (replies-append (order_step b) s (read_in bytes) others) ∙ ap (order_state_replies b s) (sym read)),
     )
 
 some-bytes : (piece : List ℕ) → piece ≢ [] → 0 < length piece

@@ -12,7 +12,8 @@ use Rattle.milter_protocol.specs.declared.filter_fault.FilterFault.{FilterFault}
 use Rattle.milter_protocol.specs.declared.filter_fault.FilterFault.TheVariants.{NoMemory}
 use Rattle.milter_protocol.specs.declared.filter_state.FilterState.TheVariants.{Failed, Serving}
 use Rattle.milter_protocol.specs.FilterEnds.{Received}
-use Rattle.milter_protocol.specs.OrderStates.{OrderState, fresh_in, nothing_kept, order_state_after, order_state_by, order_state_next, order_state_replies, order_state_replies_at, order_state_replies_by}
+use Rattle.milter_protocol.specs.OrderStates.{OrderState, fresh_in, nothing_kept, order_state_next, order_state_replies_at, order_step, order_step_by}
+use Rattle.milter_protocol.specs.Steps.{Step, steps}
 use Rattle.milter_filter_core.specs.Cores.{EndsAtReplies, GivesUp, unread_after}
 use Rattle.milter_filter_core.specs.Streams.{IsOnePacketAtMost, read_in, received_in}
 
@@ -35,21 +36,21 @@ abbrev pub replying_with : {P : Type 0} → Replying P → OrderState → List R
 replying_with old order_state replies =
     record { policy = old.policy; order_state = order_state; pending = old.pending ++ flat_map encoding replies }
 
+-- after a step
+abbrev pub replying_step : {P : Type 0} → Replying P → Step OrderState → Replying P
+replying_step old step = replying_with old step.after step.replies
+
 -- after a command that is at no fault
 abbrev pub replying_by : {P : Type 0} → Behavior → Replying P → Command → Replying P
-replying_by b old command =
-    replying_with old (order_state_by b old.order_state (Ok command) None)
-    (order_state_replies_by b old.order_state (Ok command) None)
+replying_by b old command = replying_step old (order_step_by b old.order_state (Ok command) None)
 
 -- after a packet
 abbrev pub replying_next : {P : Type 0} → Behavior → Replying P → Received → Replying P
-replying_next b old received =
-    replying_with old (order_state_next b old.order_state received) (order_state_replies_at b old.order_state received)
+replying_next b old received = replying_step old (order_step b old.order_state received)
 
 -- after packets
 abbrev pub replying_after : {P : Type 0} → Behavior → Replying P → List Received → Replying P
-replying_after b old received =
-    replying_with old (order_state_after b old.order_state received) (order_state_replies b old.order_state received)
+replying_after b old received = replying_step old (steps (order_step b) old.order_state received)
 
 -- it wasn't given up
 abbrev pub GoesOn : OrderState → Type 0

@@ -1,30 +1,24 @@
--- Going on by some commands and then by others.
+-- Going on by some inputs and then by others.
 use Rattle.std.proofs.Common.{◌≡◌, List, [], ◌∷◌, ◌++◌, refl, sym, ◌∙◌, ap, append_assoc}
-use Rattle.milter_protocol.specs.Behavior.{Behavior}
-use Rattle.milter_protocol.specs.FilterEnds.{FilterEnd, Received, after, next, replies, replies_at}
-use Rattle.milter_protocol.specs.OrderStates.{OrderState, order_state_after, order_state_next, order_state_replies, order_state_replies_at}
+use Rattle.milter_protocol.specs.Steps.{Step, joined, steps}
 
-pub after-append : (b : Behavior) (c : FilterEnd) (first second : List Received)
-    → after b c (first ++ second) ≡ after b (after b c first) second
-after-append b c [] second = refl
-after-append b c (received ∷ first) second = after-append b (next b c received) first second
+joined-assoc : {S : Type 0} (first second third : Step S) → joined (joined first second) third ≡ joined first (joined second third)
+joined-assoc {S} first second third =
+    let same = append_assoc first.replies second.replies third.replies in
+    λ i. record { after = third.after; replies = same i }
 
-pub replies-append : (b : Behavior) (c : FilterEnd) (first second : List Received)
-    → replies b c (first ++ second) ≡ replies b c first ++ replies b (after b c first) second
-replies-append b c [] second = refl
-replies-append b c (received ∷ first) second =
-    ap (λ rs. replies_at b c received ++ rs) (replies-append b (next b c received) first second)
-    ∙ sym (append_assoc (replies_at b c received) _ _)
+pub steps-append : {S I : Type 0} (step : S → I → Step S) (s : S) (first second : List I)
+    → let one = steps step s first in steps step s (first ++ second) ≡ joined one (steps step one.after second)
+steps-append step s [] second = refl
+steps-append step s (input ∷ first) second =
+    let one = step s input in
+    let some = steps step one.after first in
+    ap (joined one) (steps-append step one.after first second) ∙ sym (joined-assoc one some (steps step some.after second))
 
-pub order_state_after-append : (b : Behavior) (s : OrderState) (first second : List Received)
-    → order_state_after b s (first ++ second) ≡ order_state_after b (order_state_after b s first) second
-order_state_after-append b s [] second = refl
-order_state_after-append b s (received ∷ first) second = order_state_after-append b (order_state_next b s received) first second
+pub after-append : {S I : Type 0} (step : S → I → Step S) (s : S) (first second : List I)
+    → (steps step s (first ++ second)).after ≡ (steps step (steps step s first).after second).after
+after-append {S} step s first second = ap (λ (x : Step S). x.after) (steps-append step s first second)
 
-pub order_state_replies-append : (b : Behavior) (s : OrderState) (first second : List Received)
-    → order_state_replies b s (first ++ second)
-    ≡ order_state_replies b s first ++ order_state_replies b (order_state_after b s first) second
-order_state_replies-append b s [] second = refl
-order_state_replies-append b s (received ∷ first) second =
-    ap (λ rs. order_state_replies_at b s received ++ rs) (order_state_replies-append b (order_state_next b s received) first second)
-    ∙ sym (append_assoc (order_state_replies_at b s received) _ _)
+pub replies-append : {S I : Type 0} (step : S → I → Step S) (s : S) (first second : List I)
+    → let one = steps step s first in (steps step s (first ++ second)).replies ≡ one.replies ++ (steps step one.after second).replies
+replies-append {S} step s first second = ap (λ (x : Step S). x.replies) (steps-append step s first second)

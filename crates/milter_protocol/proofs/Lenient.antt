@@ -3,6 +3,7 @@ use Rattle.std.proofs.Common.{◌≡◌, Bool, true, false, List, [], ◌∷◌,
 use Rattle.milter_wire.specs.declared.negotiation.Negotiated.{Negotiated}
 use Rattle.milter_wire.specs.declared.command.Command.{Command}
 use Rattle.milter_wire.specs.declared.command.Command.TheVariants.{Abort}
+use Rattle.milter_wire.specs.declared.reply.Reply.{Reply}
 use Rattle.milter_protocol.specs.declared.command_order.CommandOrder.{CommandOrder}
 use Rattle.milter_protocol.specs.declared.command_order.CommandOrder.TheVariants.{Lenient, Strict}
 use Rattle.milter_protocol.specs.declared.filter_fault.FilterFault.{FilterFault}
@@ -11,13 +12,14 @@ use Rattle.milter_protocol.specs.declared.filter_state.FilterState.TheVariants.{
 use Rattle.milter_protocol.specs.Aborts.{is_within_message, taken_by, with_abort, with_aborts}
 use Rattle.milter_protocol.specs.Behavior.{Behavior}
 use Rattle.milter_protocol.specs.Commands.{is_quit}
-use Rattle.milter_protocol.specs.FilterEnds.{FilterEnd, Received, after, answer_by, fault_at, next, next_in, replies, replies_at, replies_by, replies_in, start}
+use Rattle.milter_protocol.specs.FilterEnds.{FilterEnd, Received, after, answer_by, fault_at, next, replies, replies_at, start, step, step_by, step_in}
 use Rattle.milter_protocol.specs.Exchanges.{Exchange}
 use Rattle.milter_protocol.specs.Transcripts.{negotiated_in, last_rank, shown}
 use Rattle.milter_protocol.specs.Replies.{replies_to}
-use Rattle.milter_protocol.specs.OrderStates.{OrderState, fresh_in, order_state_after, order_state_by, order_state_fault, order_state_in, order_state_next, order_state_of, order_state_replies, order_state_replies_at, order_state_replies_by, order_state_replies_in}
-use Rattle.milter_protocol.proofs.Going.{after-append, replies-append}
-use Rattle.milter_protocol.proofs.OrderStates.{next-in, replies-in, order_state-after, order_state-replies}
+use Rattle.milter_protocol.specs.OrderStates.{OrderState, fresh_in, order_state_after, order_state_fault, order_state_of, order_state_replies, order_step, order_step_by, order_step_in}
+use Rattle.milter_protocol.specs.Steps.{Step, joined, silent, steps}
+use Rattle.milter_protocol.proofs.Going.{steps-append}
+use Rattle.milter_protocol.proofs.OrderStates.{kept, step-in, steps-kept}
 
 -- what a lenient end keeps where a strict one keeps this
 abbrev eased_in : FilterState → OrderState → OrderState
@@ -53,60 +55,42 @@ module _ (b : Behavior) where
   fault-eased s (Ok command) = refl
   fault-eased s (Err fault) = refl
 
-  by-eased : (s : OrderState) (received : Received) (fault : Option FilterFault) → order_state_by b (lenient s) received fault ≡ eased (order_state_by b s received fault)
+  by-eased : (s : OrderState) (received : Received) (fault : Option FilterFault) → order_step_by b (lenient s) received fault ≡ kept eased (order_step_by b s received fault)
   by-eased s received (Some fault) = refl
   by-eased s (Err fault) None = refl
   by-eased s (Ok command) None = by_quit (is_quit command) refl
     where
-      by_quit : (quits : Bool) → is_quit command ≡ quits → order_state_by b (lenient s) (Ok command) None ≡ eased (order_state_by b s (Ok command) None)
+      by_quit : (quits : Bool) → is_quit command ≡ quits → order_step_by b (lenient s) (Ok command) None ≡ kept eased (order_step_by b s (Ok command) None)
       by_quit true is = rw is refl
       by_quit false is = rw is refl
 
-  replies_by-eased : (s : OrderState) (received : Received) (fault : Option FilterFault) → order_state_replies_by b (lenient s) received fault ≡ order_state_replies_by b s received fault
-  replies_by-eased s received (Some fault) = refl
-  replies_by-eased s (Err fault) None = refl
-  replies_by-eased s (Ok command) None = refl
-
-  in-eased : (s : OrderState) (received : Received) → order_state_in b (eased s) received (eased s).state ≡ eased (order_state_in b s received s.state)
+  in-eased : (s : OrderState) (received : Received) → order_step_in b (eased s) received (eased s).state ≡ kept eased (order_step_in b s received s.state)
   in-eased s received = by_state s s.state
     where
-      by_state : (s : OrderState) (state : FilterState) → let t = record s { state = state } in order_state_in b (eased t) received (eased t).state ≡ eased (order_state_in b t received t.state)
+      by_state : (s : OrderState) (state : FilterState) → let t = record s { state = state } in order_step_in b (eased t) received (eased t).state ≡ kept eased (order_step_in b t received t.state)
       by_state s Serving =
           let t = record s { state = Serving } in
-          ap (order_state_by b (lenient t) received) (fault-eased t received) ∙ by-eased t received (order_state_fault t received)
-      by_state s Quit = refl
-      by_state s (Failed fault) = refl
-
-  replies_in-eased : (s : OrderState) (received : Received) → order_state_replies_in b (eased s) received (eased s).state ≡ order_state_replies_in b s received s.state
-  replies_in-eased s received = by_state s s.state
-    where
-      by_state : (s : OrderState) (state : FilterState)
-          → let t = record s { state = state } in order_state_replies_in b (eased t) received (eased t).state ≡ order_state_replies_in b t received t.state
-      by_state s Serving =
-          let t = record s { state = Serving } in
-          ap (order_state_replies_by b (lenient t) received) (fault-eased t received) ∙ replies_by-eased t received (order_state_fault t received)
+          ap (order_step_by b (lenient t) received) (fault-eased t received) ∙ by-eased t received (order_state_fault t received)
       by_state s Quit = refl
       by_state s (Failed fault) = refl
 
   -- ---- one command of a connection
 
-  strict-next : (c : FilterEnd) (received : Received) → order_state_in b (order_state_of b c) received (order_state_of b c).state ≡ order_state_of b (next b c received)
-  strict-next c received = by_state c.transcript c.state
+  strict-step : (c : FilterEnd) (received : Received) → order_step_in b (order_state_of b c) received (order_state_of b c).state ≡ kept (order_state_of b) (step b c received)
+  strict-step c received = by_state c.transcript c.state
     where
       by_state : (transcript : List Exchange) (state : FilterState)
-          → let s = order_state_of b (record { transcript = transcript; state = state }) in order_state_in b s received s.state ≡ order_state_of b (next_in b transcript received state)
-      by_state transcript Serving = sym (next-in b transcript Serving received)
-      by_state transcript Quit = sym (next-in b transcript Quit received)
-      by_state transcript (Failed fault) = sym (next-in b transcript (Failed fault) received)
+          → let s = order_state_of b (record { transcript = transcript; state = state }) in order_step_in b s received s.state ≡ kept (order_state_of b) (step_in b transcript received state)
+      by_state transcript Serving = sym (step-in b transcript Serving received)
+      by_state transcript Quit = sym (step-in b transcript Quit received)
+      by_state transcript (Failed fault) = sym (step-in b transcript (Failed fault) received)
 
-  strict-replies : (c : FilterEnd) (received : Received) → order_state_replies_in b (order_state_of b c) received (order_state_of b c).state ≡ replies_at b c received
-  strict-replies c received = by_state c.transcript c.state
-    where
-      by_state : (transcript : List Exchange) (state : FilterState)
-          → let s = order_state_of b (record { transcript = transcript; state = state }) in order_state_replies_in b s received s.state ≡ replies_in b transcript received state
-      by_state transcript Serving = sym (replies-in b transcript Serving received)
-      by_state transcript Quit = sym (replies-in b transcript Quit received)
-      by_state transcript (Failed fault) = sym (replies-in b transcript (Failed fault) received)
+  -- what a lenient end keeps
+  abbrev eased_of : FilterEnd → OrderState
+  eased_of c = eased (order_state_of b c)
+
+  alone : (c : FilterEnd) (received : Received) → order_step_in b (eased_of c) received (eased_of c).state ≡ kept eased_of (step b c received)
+  alone c received = in-eased (order_state_of b c) received ∙ ap (kept eased) (strict-step c received)
 
   -- nothing is replied to an abort
   abort-silent : (c : FilterEnd) → replies_at b c (Ok Abort) ≡ []
@@ -116,11 +100,11 @@ module _ (b : Behavior) where
       by_negotiated None before = refl
       by_negotiated (Some negotiated) before = refl
 
-      by_fault : (transcript : List Exchange) (fault : Option FilterFault) → replies_by b transcript (Ok Abort) fault ≡ []
+      by_fault : (transcript : List Exchange) (fault : Option FilterFault) → (step_by b transcript (Ok Abort) fault).replies ≡ []
       by_fault transcript (Some fault) = refl
       by_fault transcript None = by_negotiated (negotiated_in b transcript) (shown transcript)
 
-      by_state : (transcript : List Exchange) (state : FilterState) → replies_in b transcript (Ok Abort) state ≡ []
+      by_state : (transcript : List Exchange) (state : FilterState) → (step_in b transcript (Ok Abort) state).replies ≡ []
       by_state transcript Serving = by_fault transcript (fault_at b transcript (Ok Abort))
       by_state transcript Quit = refl
       by_state transcript (Failed fault) = refl
@@ -128,92 +112,59 @@ module _ (b : Behavior) where
   -- ---- one command of a connection, with the abort before it
 
   abbrev ready : Bool → FilterEnd → OrderState
-  ready aborts c = if aborts then order_state_in b (eased (order_state_of b c)) (Ok Abort) (eased (order_state_of b c)).state else eased (order_state_of b c)
+  ready aborts c = if aborts then (order_step_in b (eased_of c) (Ok Abort) (eased_of c).state).after else eased_of c
 
-  next-alone : (c : FilterEnd) (received : Received) → let ready = eased (order_state_of b c) in order_state_in b ready received ready.state ≡ eased (order_state_of b (next b c received))
-  next-alone c received = in-eased (order_state_of b c) received ∙ ap eased (strict-next c received)
+  step-alone : (c : FilterEnd) (received : Received) → order_step_in b (eased_of c) received (eased_of c).state ≡ kept eased_of (steps (step b) c (received ∷ []))
+  step-alone c received =
+      let same = append-nil (replies_at b c received) in
+      alone c received ∙ sym (λ i. record { after = eased_of (next b c received); replies = same i })
 
-  replies-alone : (c : FilterEnd) (received : Received) → let ready = eased (order_state_of b c) in order_state_replies_in b ready received ready.state ≡ replies b c (received ∷ [])
-  replies-alone c received = replies_in-eased (order_state_of b c) received ∙ strict-replies c received ∙ sym (append-nil (replies_at b c received))
-
-  next-ready : (aborts : Bool) (c : FilterEnd) (received : Received) → order_state_in b (ready aborts c) received (ready aborts c).state ≡ eased (order_state_of b (after b c (with_abort aborts received)))
-  next-ready false c received = next-alone c received
-  next-ready true c received =
-      ap (λ (s : OrderState). order_state_in b s received s.state) (next-alone c (Ok Abort))
-      ∙ next-alone (next b c (Ok Abort)) received
-
-  replies-ready : (aborts : Bool) (c : FilterEnd) (received : Received) → order_state_replies_in b (ready aborts c) received (ready aborts c).state ≡ replies b c (with_abort aborts received)
-  replies-ready false c received = replies-alone c received
-  replies-ready true c received =
-      ap (λ (s : OrderState). order_state_replies_in b s received s.state) (next-alone c (Ok Abort))
-      ∙ replies-alone (next b c (Ok Abort)) received
-      ∙ ap (λ rs. rs ++ replies b (next b c (Ok Abort)) (received ∷ [])) (sym (abort-silent c))
+  step-ready : (aborts : Bool) (c : FilterEnd) (received : Received) → order_step_in b (ready aborts c) received (ready aborts c).state ≡ kept eased_of (steps (step b) c (with_abort aborts received))
+  step-ready false c received = step-alone c received
+  step-ready true c received =
+      let aborted = next b c (Ok Abort) in
+      ap (λ (x : Step OrderState). order_step_in b x.after received x.after.state) (alone c (Ok Abort))
+      ∙ step-alone aborted received
+      ∙ ap (λ (rs : List Reply). record { after = eased_of (after b aborted (received ∷ [])); replies = rs ++ replies b aborted (received ∷ []) }) (sym (abort-silent c))
 
   abbrev these : FilterEnd → Received → List Received
   these c received = with_abort (is_within_message (negotiated_in b c.transcript) (last_rank c.transcript) received) received
 
-  next-eased : (c : FilterEnd) (received : Received) → order_state_next b (eased (order_state_of b c)) received ≡ eased (order_state_of b (after b c (these c received)))
-  next-eased c received = by_state c.transcript c.state
+  step-eased : (c : FilterEnd) (received : Received) → order_step b (eased_of c) received ≡ kept eased_of (steps (step b) c (these c received))
+  step-eased c received = by_state c.transcript c.state
     where
       Goal : List Exchange → FilterState → Type 0
       Goal transcript state =
           let c : FilterEnd = record { transcript = transcript; state = state } in
-          order_state_next b (eased (order_state_of b c)) received ≡ eased (order_state_of b (after b c (these c received)))
+          order_step b (eased_of c) received ≡ kept eased_of (steps (step b) c (these c received))
 
       failed : (transcript : List Exchange) (fault : FilterFault) (aborts : Bool)
-          → let c : FilterEnd = record { transcript = transcript; state = Failed fault } in order_state_of b c ≡ eased (order_state_of b (after b c (with_abort aborts received)))
+          → let c : FilterEnd = record { transcript = transcript; state = Failed fault } in silent (order_state_of b c) ≡ kept eased_of (steps (step b) c (with_abort aborts received))
       failed transcript fault true = refl
       failed transcript fault false = refl
 
       by_state : (transcript : List Exchange) (state : FilterState) → Goal transcript state
-      by_state transcript Serving = next-ready (is_within_message (negotiated_in b transcript) (last_rank transcript) received) (record { transcript = transcript; state = Serving }) received
-      by_state transcript Quit = next-ready (is_within_message (negotiated_in b transcript) (last_rank transcript) received) (record { transcript = transcript; state = Quit }) received
-      by_state transcript (Failed fault) = failed transcript fault (is_within_message (negotiated_in b transcript) (last_rank transcript) received)
-
-  replies-eased : (c : FilterEnd) (received : Received) → order_state_replies_at b (eased (order_state_of b c)) received ≡ replies b c (these c received)
-  replies-eased c received = by_state c.transcript c.state
-    where
-      Goal : List Exchange → FilterState → Type 0
-      Goal transcript state =
-          let c : FilterEnd = record { transcript = transcript; state = state } in
-          order_state_replies_at b (eased (order_state_of b c)) received ≡ replies b c (these c received)
-
-      failed : (transcript : List Exchange) (fault : FilterFault) (aborts : Bool)
-          → let c : FilterEnd = record { transcript = transcript; state = Failed fault } in [] ≡ replies b c (with_abort aborts received)
-      failed transcript fault true = refl
-      failed transcript fault false = refl
-
-      by_state : (transcript : List Exchange) (state : FilterState) → Goal transcript state
-      by_state transcript Serving = replies-ready (is_within_message (negotiated_in b transcript) (last_rank transcript) received) (record { transcript = transcript; state = Serving }) received
-      by_state transcript Quit = replies-ready (is_within_message (negotiated_in b transcript) (last_rank transcript) received) (record { transcript = transcript; state = Quit }) received
+      by_state transcript Serving = step-ready (is_within_message (negotiated_in b transcript) (last_rank transcript) received) (record { transcript = transcript; state = Serving }) received
+      by_state transcript Quit = step-ready (is_within_message (negotiated_in b transcript) (last_rank transcript) received) (record { transcript = transcript; state = Quit }) received
       by_state transcript (Failed fault) = failed transcript fault (is_within_message (negotiated_in b transcript) (last_rank transcript) received)
 
   -- ---- all commands
 
-  lenient-after : (c : FilterEnd) (received : List Received) → order_state_after b (eased (order_state_of b c)) received ≡ eased (order_state_of b (after b c (with_aborts b c received)))
-  lenient-after c [] = refl
-  lenient-after c (first ∷ more) =
-      let came_to = after b c (these c first) in
-      ap (λ s. order_state_after b s more) (next-eased c first)
-      ∙ lenient-after came_to more
-      ∙ ap (λ (d : FilterEnd). eased (order_state_of b d)) (sym (after-append b c (these c first) (with_aborts b came_to more)))
-
-  lenient-replies : (c : FilterEnd) (received : List Received) → order_state_replies b (eased (order_state_of b c)) received ≡ replies b c (with_aborts b c received)
-  lenient-replies c [] = refl
-  lenient-replies c (first ∷ more) =
-      let came_to = after b c (these c first) in
-      ap (λ rs. rs ++ order_state_replies b (order_state_next b (eased (order_state_of b c)) first) more) (replies-eased c first)
-      ∙ ap (λ s. replies b c (these c first) ++ order_state_replies b s more) (next-eased c first)
-      ∙ ap (λ rs. replies b c (these c first) ++ rs) (lenient-replies came_to more)
-      ∙ sym (replies-append b c (these c first) (with_aborts b came_to more))
+  steps-eased : (c : FilterEnd) (received : List Received) → steps (order_step b) (eased_of c) received ≡ kept eased_of (steps (step b) c (with_aborts b c received))
+  steps-eased c [] = refl
+  steps-eased c (first ∷ more) =
+      let one = steps (step b) c (these c first) in
+      ap (λ (x : Step OrderState). joined x (steps (order_step b) x.after more)) (step-eased c first)
+      ∙ ap (joined (kept eased_of one)) (steps-eased one.after more)
+      ∙ ap (kept eased_of) (sym (steps-append (step b) c (these c first) (with_aborts b one.after more)))
 
   pub orders-state : (order : CommandOrder) (received : List Received) → (order_state_after b (fresh_in order) received).state ≡ (after b start (taken_by order b received)).state
   orders-state Strict received =
-      ap (λ (s : OrderState). s.state) (sym (order_state-after b start received)) ∙ kept-state b (after b start received)
+      ap (λ (x : Step OrderState). x.after.state) (sym (steps-kept b start received)) ∙ kept-state b (after b start received)
   orders-state Lenient received =
       let c = after b start (with_aborts b start received) in
-      ap (λ (s : OrderState). s.state) (lenient-after start received) ∙ eased-state (order_state_of b c) ∙ kept-state b c
+      ap (λ (x : Step OrderState). x.after.state) (steps-eased start received) ∙ eased-state (order_state_of b c) ∙ kept-state b c
 
   pub orders-replies : (order : CommandOrder) (received : List Received) → order_state_replies b (fresh_in order) received ≡ replies b start (taken_by order b received)
-  orders-replies Strict received = sym (order_state-replies b start received)
-  orders-replies Lenient received = lenient-replies start received
+  orders-replies Strict received = ap (λ (x : Step OrderState). x.replies) (sym (steps-kept b start received))
+  orders-replies Lenient received = ap (λ (x : Step OrderState). x.replies) (steps-eased start received)

@@ -1,5 +1,5 @@
 -- What is kept of a connection goes on as the connection does.
-use Rattle.std.proofs.Common.{◌≡◌, ◌+◌, Bool, true, false, List, [], ◌∷◌, ◌++◌, length, Option, None, Some, Ok, Err, refl, ◌∙◌, ap, if◌then◌else◌}
+use Rattle.std.proofs.Common.{◌≡◌, ◌+◌, Bool, true, false, List, [], ◌∷◌, length, Option, None, Some, Ok, Err, refl, ◌∙◌, ap, if◌then◌else◌}
 use Rattle.std.specs.Option.{option_or}
 use Rattle.std.proofs.lemmas.List.Sums.{sum_by-cons}
 use Rattle.milter_wire.specs.declared.negotiation.Negotiated.{Negotiated}
@@ -15,11 +15,12 @@ use Rattle.milter_protocol.specs.declared.filter_fault.FilterFault.{FilterFault}
 use Rattle.milter_protocol.specs.declared.filter_state.FilterState.{FilterState}
 use Rattle.milter_protocol.specs.declared.filter_state.FilterState.TheVariants.{Failed, Quit, Serving}
 use Rattle.milter_protocol.specs.Commands.{is_quit, is_of_connection, is_quit_new, is_shown}
-use Rattle.milter_protocol.specs.FilterEnds.{FilterEnd, Received, after, answer_by, exchange_at, fault_at, next, next_in, replies, replies_at, replies_by, replies_in, state_after, with_received}
+use Rattle.milter_protocol.specs.FilterEnds.{FilterEnd, Received, after, answer_by, exchange_at, fault_at, next, replies, state_after, step, step_by, step_in}
 use Rattle.milter_protocol.specs.Faults.{fault_of}
 use Rattle.milter_protocol.specs.Transcripts.{negotiated_by, negotiated_in, ends_message, has_leading_space_in, last_rank, of_connection, shown}
 use Rattle.milter_protocol.specs.Replies.{replies_to}
-use Rattle.milter_protocol.specs.OrderStates.{connection_after, kept_of, part_of, shown_after, order_state_after, order_state_answer, order_state_at, order_state_by, order_state_fault, order_state_next, order_state_of, order_state_replies, order_state_replies_at, order_state_replies_by, order_state_with, with_negotiated, with_command, with_if}
+use Rattle.milter_protocol.specs.OrderStates.{OrderState, connection_after, kept_of, part_of, shown_after, order_state_after, order_state_answer, order_state_at, order_state_fault, order_state_of, order_state_replies, order_state_with, order_step, order_step_by, with_negotiated, with_command, with_if}
+use Rattle.milter_protocol.specs.Steps.{Step, joined, steps}
 use Rattle.milter_protocol.proofs.TranscriptParts.{negotiated_in-cons, connection-cons, last_rank-cons, shown-cons}
 
 -- ---- parts
@@ -64,6 +65,10 @@ shown-part ls e before = rw (shown-cons e before) (by_end (ends_message e))
     by_end false = part-with_if ls (is_shown e.command) e.command (shown before)
 
 -- ---- one command
+
+-- the same replies, and what is kept of the state
+abbrev pub kept : {S T : Type 0} → (S → T) → Step S → Step T
+kept of x = record { after = of x.after; replies = x.replies }
 
 abbrev going_on : List Exchange → FilterEnd
 going_on transcript = record { transcript = transcript; state = Serving }
@@ -112,55 +117,35 @@ module _ (b : Behavior) where
   fault-is transcript (Err fault) = refl
   fault-is transcript (Ok c) = ap (λ n. fault_of (negotiated_in b transcript) (last_rank transcript) n c) (bytes_of-cons c (shown transcript))
 
-  next-by : (transcript : List Exchange) (received : Received) (fault : Option FilterFault)
-      → order_state_of b (with_received b transcript received fault) ≡ order_state_by b (order_state_of b (going_on transcript)) received fault
-  next-by transcript received (Some fault) = refl
-  next-by transcript (Err fault) None = refl
-  next-by transcript (Ok c) None =
-      with-exchange (exchange_at b transcript c) transcript
-      ∙ ap (λ answer. order_state_with b (order_state_of b (going_on transcript)) c answer) (answer-is (negotiated_in b transcript) (shown transcript) c)
+  step-by : (transcript : List Exchange) (received : Received) (fault : Option FilterFault)
+      → kept (order_state_of b) (step_by b transcript received fault) ≡ order_step_by b (order_state_of b (going_on transcript)) received fault
+  step-by transcript received (Some fault) = refl
+  step-by transcript (Err fault) None = refl
+  step-by transcript (Ok c) None =
+      let e = exchange_at b transcript c in
+      ap (λ (s : OrderState). record { after = s; replies = replies_to b (negotiated_in b transcript) c e.answer }) (with-exchange e transcript)
+      ∙ ap (λ answer. record { after = order_state_with b (order_state_of b (going_on transcript)) c answer; replies = replies_to b (negotiated_in b transcript) c answer })
+      (answer-is (negotiated_in b transcript) (shown transcript) c)
 
-  replies-by : (transcript : List Exchange) (received : Received) (fault : Option FilterFault)
-      → replies_by b transcript received fault ≡ order_state_replies_by b (order_state_of b (going_on transcript)) received fault
-  replies-by transcript received (Some fault) = refl
-  replies-by transcript (Err fault) None = refl
-  replies-by transcript (Ok c) None =
-      ap (λ answer. replies_to b (negotiated_in b transcript) c answer) (answer-is (negotiated_in b transcript) (shown transcript) c)
-
-  pub next-in : (transcript : List Exchange) (state : FilterState) (received : Received)
-      → order_state_of b (next_in b transcript received state)
-      ≡ order_state_next b (order_state_of b (record { transcript = transcript; state = state })) received
-  next-in transcript Serving received =
-      next-by transcript received (fault_at b transcript received)
-      ∙ ap (λ fault. order_state_by b (order_state_of b (going_on transcript)) received fault) (fault-is transcript received)
-  next-in transcript Quit received = refl
-  next-in transcript (Failed fault) received = refl
-
-  pub replies-in : (transcript : List Exchange) (state : FilterState) (received : Received)
-      → replies_in b transcript received state
-      ≡ order_state_replies_at b (order_state_of b (record { transcript = transcript; state = state })) received
-  replies-in transcript Serving received =
-      replies-by transcript received (fault_at b transcript received)
-      ∙ ap (λ fault. order_state_replies_by b (order_state_of b (going_on transcript)) received fault) (fault-is transcript received)
-  replies-in transcript Quit received = refl
-  replies-in transcript (Failed fault) received = refl
-
-  next-is : (c : FilterEnd) (received : Received) → order_state_of b (next b c received) ≡ order_state_next b (order_state_of b c) received
-  next-is c received = next-in c.transcript c.state received
-
-  replies_at-is : (c : FilterEnd) (received : Received) → replies_at b c received ≡ order_state_replies_at b (order_state_of b c) received
-  replies_at-is c received = replies-in c.transcript c.state received
+  pub step-in : (transcript : List Exchange) (state : FilterState) (received : Received)
+      → kept (order_state_of b) (step_in b transcript received state)
+      ≡ order_step b (order_state_of b (record { transcript = transcript; state = state })) received
+  step-in transcript Serving received =
+      step-by transcript received (fault_at b transcript received)
+      ∙ ap (order_step_by b (order_state_of b (going_on transcript)) received) (fault-is transcript received)
+  step-in transcript Quit received = refl
+  step-in transcript (Failed fault) received = refl
 
   -- ---- all commands
 
+  pub steps-kept : (c : FilterEnd) (received : List Received) → kept (order_state_of b) (steps (step b) c received) ≡ steps (order_step b) (order_state_of b c) received
+  steps-kept c [] = refl
+  steps-kept c (first ∷ more) =
+      ap (joined (kept (order_state_of b) (step b c first))) (steps-kept (next b c first) more)
+      ∙ ap (λ (x : Step OrderState). joined x (steps (order_step b) x.after more)) (step-in c.transcript c.state first)
+
   pub order_state-after : (c : FilterEnd) (received : List Received) → order_state_of b (after b c received) ≡ order_state_after b (order_state_of b c) received
-  order_state-after c [] = refl
-  order_state-after c (first ∷ more) =
-      order_state-after (next b c first) more ∙ ap (λ s. order_state_after b s more) (next-is c first)
+  order_state-after c received = ap (λ (x : Step OrderState). x.after) (steps-kept c received)
 
   pub order_state-replies : (c : FilterEnd) (received : List Received) → replies b c received ≡ order_state_replies b (order_state_of b c) received
-  order_state-replies c [] = refl
-  order_state-replies c (first ∷ more) =
-      ap (λ rs. rs ++ replies b (next b c first) more) (replies_at-is c first)
-      ∙ ap (λ rs. order_state_replies_at b (order_state_of b c) first ++ rs)
-      (order_state-replies (next b c first) more ∙ ap (λ s. order_state_replies b s more) (next-is c first))
+  order_state-replies c received = ap (λ (x : Step OrderState). x.replies) (steps-kept c received)

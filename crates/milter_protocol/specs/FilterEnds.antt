@@ -1,5 +1,5 @@
 -- A filter's end of a connection, command by command: what is known of it is its transcript.
-use Rattle.std.specs.Prelude.{List, [], ◌∷◌, ◌++◌, Option, None, Some, Result, Ok, Err, if◌then◌else◌}
+use Rattle.std.specs.Prelude.{List, [], ◌∷◌, Option, None, Some, Result, Ok, Err, if◌then◌else◌}
 use Rattle.milter_wire_stream.specs.declared.fault.WireFault.{WireFault}
 use Rattle.milter_wire.specs.declared.negotiation.Negotiated.{Negotiated}
 use Rattle.milter_wire.specs.declared.command.Command.{Command}
@@ -16,6 +16,7 @@ use Rattle.milter_protocol.specs.Commands.{is_quit}
 use Rattle.milter_protocol.specs.Faults.{fault_of}
 use Rattle.milter_protocol.specs.Transcripts.{negotiated_in, last_rank, shown}
 use Rattle.milter_protocol.specs.Replies.{replies_to}
+use Rattle.milter_protocol.specs.Steps.{Step, silent, steps}
 
 -- what a packet has: a command, or the fault for which it can't be read
 abbrev pub Received : Type 0
@@ -50,40 +51,35 @@ abbrev pub state_after : Command → FilterState
 state_after command = if is_quit command then Quit else Serving
 
 -- what a command adds, where it is at no fault
-abbrev pub with_received : Behavior → List Exchange → Received → Option FilterFault → FilterEnd
-with_received b transcript received (Some fault) = record { transcript = transcript; state = Failed fault }
-with_received b transcript (Err fault) None = record { transcript = transcript; state = Failed (Wire fault) }
-with_received b transcript (Ok command) None =
-    record { transcript = exchange_at b transcript command ∷ transcript; state = state_after command }
-
-abbrev pub replies_by : Behavior → List Exchange → Received → Option FilterFault → List Reply
-replies_by b transcript received (Some fault) = []
-replies_by b transcript (Err fault) None = []
-replies_by b transcript (Ok command) None =
-    replies_to b (negotiated_in b transcript) command (exchange_at b transcript command).answer
+abbrev pub step_by : Behavior → List Exchange → Received → Option FilterFault → Step FilterEnd
+step_by b transcript received (Some fault) = silent (record { transcript = transcript; state = Failed fault })
+step_by b transcript (Err fault) None = silent (record { transcript = transcript; state = Failed (Wire fault) })
+step_by b transcript (Ok command) None =
+    let exchange = exchange_at b transcript command in
+    record {
+      after = record { transcript = exchange ∷ transcript; state = state_after command };
+      replies = replies_to b (negotiated_in b transcript) command exchange.answer;
+    }
 
 -- after it has quit or failed, nothing changes and nothing is replied
-abbrev pub next_in : Behavior → List Exchange → Received → FilterState → FilterEnd
-next_in b transcript received Serving = with_received b transcript received (fault_at b transcript received)
-next_in b transcript received ended = record { transcript = transcript; state = ended }
+abbrev pub step_in : Behavior → List Exchange → Received → FilterState → Step FilterEnd
+step_in b transcript received Serving = step_by b transcript received (fault_at b transcript received)
+step_in b transcript received ended = silent (record { transcript = transcript; state = ended })
+
+abbrev pub step : Behavior → FilterEnd → Received → Step FilterEnd
+step b c received = step_in b c.transcript received c.state
 
 abbrev pub next : Behavior → FilterEnd → Received → FilterEnd
-next b c received = next_in b c.transcript received c.state
-
-abbrev pub replies_in : Behavior → List Exchange → Received → FilterState → List Reply
-replies_in b transcript received Serving = replies_by b transcript received (fault_at b transcript received)
-replies_in b transcript received ended = []
+next b c received = (step b c received).after
 
 abbrev pub replies_at : Behavior → FilterEnd → Received → List Reply
-replies_at b c received = replies_in b c.transcript received c.state
+replies_at b c received = (step b c received).replies
 
 -- ---- all commands
 
 abbrev pub after : Behavior → FilterEnd → List Received → FilterEnd
-after b c [] = c
-after b c (received ∷ more) = after b (next b c received) more
+after b c received = (steps (step b) c received).after
 
 -- the replies, place by place
 abbrev pub replies : Behavior → FilterEnd → List Received → List Reply
-replies b c [] = []
-replies b c (received ∷ more) = replies_at b c received ++ replies b (next b c received) more
+replies b c received = (steps (step b) c received).replies

@@ -12,6 +12,7 @@ pub mod Commands
 pub mod Transcripts
 pub mod Faults
 pub mod Replies
+pub mod Steps
 pub mod FilterEnds
 pub mod Aborts
 pub mod OrderStates

@@ -1,5 +1,5 @@
 -- What a filter's end keeps of a connection: what its transcript comes to, and nothing more of it.
-use Rattle.std.specs.Prelude.{ℕ, ◌+◌, min, Bool, true, false, List, [], ◌∷◌, ◌++◌, length, Option, None, Some, Ok, Err, if◌then◌else◌}
+use Rattle.std.specs.Prelude.{ℕ, ◌+◌, min, Bool, true, false, List, [], length, Option, None, Some, Ok, Err, if◌then◌else◌}
 use Rattle.std.specs.Option.{option_or}
 use Rattle.milter_wire.specs.declared.negotiation.Negotiated.{Negotiated}
 use Rattle.milter_wire.specs.declared.command.Command.{Command}
@@ -26,6 +26,7 @@ use Rattle.milter_protocol.specs.FilterEnds.{FilterEnd, Received, state_after}
 use Rattle.milter_protocol.specs.Faults.{fault_of}
 use Rattle.milter_protocol.specs.Transcripts.{negotiated_by, negotiated_in, has_leading_space_in, last_rank, of_connection, rank_from, shown}
 use Rattle.milter_protocol.specs.Replies.{replies_to}
+use Rattle.milter_protocol.specs.Steps.{Step, silent, steps}
 
 -- what is shown, and the bytes of the packets that it came in
 pub record Part : Type 0 where
@@ -174,45 +175,35 @@ order_state_fault s (Err fault) = Some (Wire fault)
 order_state_fault s (Ok command) =
     fault_of s.negotiated s.last_rank (length (encoding command) + s.shown.bytes) command
 
-abbrev pub order_state_by : Behavior → OrderState → Received → Option FilterFault → OrderState
-order_state_by b s received (Some fault) = nothing_kept (Failed fault)
-order_state_by b s (Err fault) None = nothing_kept (Failed (Wire fault))
-order_state_by b s (Ok command) None = order_state_with b s command (order_state_answer b s.negotiated s.shown command)
+abbrev pub order_step_by : Behavior → OrderState → Received → Option FilterFault → Step OrderState
+order_step_by b s received (Some fault) = silent (nothing_kept (Failed fault))
+order_step_by b s (Err fault) None = silent (nothing_kept (Failed (Wire fault)))
+order_step_by b s (Ok command) None =
+    let answer = order_state_answer b s.negotiated s.shown command in
+    record { after = order_state_with b s command answer; replies = replies_to b s.negotiated command answer }
 
-abbrev pub order_state_replies_by : Behavior → OrderState → Received → Option FilterFault → List Reply
-order_state_replies_by b s received (Some fault) = []
-order_state_replies_by b s (Err fault) None = []
-order_state_replies_by b s (Ok command) None =
-    replies_to b s.negotiated command (order_state_answer b s.negotiated s.shown command)
-
-abbrev pub order_state_in : Behavior → OrderState → Received → FilterState → OrderState
-order_state_in b s received Serving = order_state_by b s received (order_state_fault s received)
-order_state_in b s received ended = s
+abbrev pub order_step_in : Behavior → OrderState → Received → FilterState → Step OrderState
+order_step_in b s received Serving = order_step_by b s received (order_state_fault s received)
+order_step_in b s received ended = silent s
 
 -- before the command: with an abort where one is due
 abbrev pub order_state_before : Behavior → OrderState → Received → OrderState
 order_state_before b s received =
-    if needs_abort s.order s.negotiated s.last_rank received then order_state_in b s (Ok Abort) s.state else s
+    if needs_abort s.order s.negotiated s.last_rank received then (order_step_in b s (Ok Abort) s.state).after else s
+
+abbrev pub order_step : Behavior → OrderState → Received → Step OrderState
+order_step b s received = let ready = order_state_before b s received in order_step_in b ready received ready.state
 
 abbrev pub order_state_next : Behavior → OrderState → Received → OrderState
-order_state_next b s received =
-    let ready = order_state_before b s received in order_state_in b ready received ready.state
-
-abbrev pub order_state_replies_in : Behavior → OrderState → Received → FilterState → List Reply
-order_state_replies_in b s received Serving = order_state_replies_by b s received (order_state_fault s received)
-order_state_replies_in b s received ended = []
+order_state_next b s received = (order_step b s received).after
 
 abbrev pub order_state_replies_at : Behavior → OrderState → Received → List Reply
-order_state_replies_at b s received =
-    let ready = order_state_before b s received in order_state_replies_in b ready received ready.state
+order_state_replies_at b s received = (order_step b s received).replies
 
 -- ---- all commands
 
 abbrev pub order_state_after : Behavior → OrderState → List Received → OrderState
-order_state_after b s [] = s
-order_state_after b s (received ∷ more) = order_state_after b (order_state_next b s received) more
+order_state_after b s received = (steps (order_step b) s received).after
 
 abbrev pub order_state_replies : Behavior → OrderState → List Received → List Reply
-order_state_replies b s [] = []
-order_state_replies b s (received ∷ more) =
-    order_state_replies_at b s received ++ order_state_replies b (order_state_next b s received) more
+order_state_replies b s received = (steps (order_step b) s received).replies

@@ -21,7 +21,8 @@ use Rattle.milter_protocol.specs.declared.filter_fault.FilterFault.TheVariants.{
 use Rattle.milter_protocol.specs.declared.filter_state.FilterState.TheVariants.{Quit, Serving}
 use Rattle.milter_protocol.specs.Behavior.{Behavior, exchange_of}
 use Rattle.milter_protocol.specs.Commands.{is_end_at, is_of_connection, is_quit, is_quit_new, is_shown}
-use Rattle.milter_protocol.specs.FilterEnds.{FilterEnd, answer_by, exchange_at, fault_at, next, replies_at, replies_by, state_after, with_received}
+use Rattle.milter_protocol.specs.FilterEnds.{FilterEnd, answer_by, exchange_at, fault_at, next, replies_at, state_after, step, step_by}
+use Rattle.milter_protocol.specs.Steps.{Step}
 use Rattle.milter_protocol.specs.Exchanges.{Exchange, commands_of, onto}
 use Rattle.milter_protocol.specs.Faults.{fault_in_message, fault_of, is_in_order}
 use Rattle.milter_protocol.specs.Transcripts.{negotiated_by, negotiated_in, ends_message, last_rank, of_connection, rank_from, shown}
@@ -142,16 +143,24 @@ module _ (b : Behavior) (negotiated : Negotiated) (session : MailSession) where
         ap (λ (o : Option Negotiated). record { command = command; answer = answer_by b o (shown transcript) command }) at.negotiated_is
         ∙ ap (λ (l : List Command). record { command = command; answer = (exchange_of b negotiated l command).answer }) at.shown_is
 
+    abbrev step-with : Exchange → Step FilterEnd
+    step-with x =
+        record {
+          after = record { transcript = x ∷ transcript; state = state_after command };
+          replies = replies_to b (negotiated_in b transcript) command x.answer;
+        }
+
+    step-is : step b (going transcript) (Ok command) ≡ step-with e
+    step-is = ap (step_by b transcript (Ok command)) no_fault ∙ ap step-with exchange-is
+
     next-is : next b (going transcript) (Ok command) ≡ going (e ∷ transcript)
     next-is =
-        ap (with_received b transcript (Ok command)) no_fault
-        ∙ ap (λ (x : Exchange). record { transcript = x ∷ transcript; state = state_after command }) exchange-is
+        ap (λ (x : Step FilterEnd). x.after) step-is
         ∙ ap (λ (q : Bool). record { transcript = e ∷ transcript; state = if q then Quit else Serving }) p.no_quit
 
     replies-are : replies_at b (going transcript) (Ok command) ≡ replies_of_answer e.answer
     replies-are =
-        ap (replies_by b transcript (Ok command)) no_fault
-        ∙ ap (λ (x : Exchange). replies_to b (negotiated_in b transcript) command x.answer) exchange-is
+        ap (λ (x : Step FilterEnd). x.replies) step-is
         ∙ p.replies b (negotiated_in b transcript) e.answer
 
     pub is-replied : IsReplied b (going transcript) (line_of e)

@@ -18,12 +18,14 @@ use Rattle.milter_mail.specs.MailSession.{IsSendable, IsSession, MailSession}
 use Rattle.milter_mail.specs.Plan.{macros_of, opening, plan}
 use Rattle.milter_mail.specs.Steps.{message_steps}
 use Rattle.milter_mail.proofs.MailLaws.{plan_fits, plan_weight}
+use Rattle.milter_protocol.specs.declared.filter_fault.FilterFault.{FilterFault}
 use Rattle.milter_protocol.specs.declared.filter_fault.FilterFault.TheVariants.{Version}
 use Rattle.milter_protocol.specs.declared.filter_state.FilterState.TheVariants.{Serving}
 use Rattle.milter_protocol.specs.declared.limits.TheConstants.{VERSION_MIN}
 use Rattle.milter_protocol.specs.Behavior.{Behavior}
 use Rattle.milter_protocol.specs.Commands.{is_of_connection}
-use Rattle.milter_protocol.specs.FilterEnds.{FilterEnd, answer_by, exchange_at, fault_at, next, replies_by, start, with_received}
+use Rattle.milter_protocol.specs.FilterEnds.{FilterEnd, answer_by, exchange_at, fault_at, next, start, step, step_by}
+use Rattle.milter_protocol.specs.Steps.{Step, silent}
 use Rattle.milter_protocol.specs.Exchanges.{Exchange, commands_of, onto}
 use Rattle.milter_protocol.specs.Faults.{fault_of}
 use Rattle.milter_protocol.specs.Transcripts.{negotiated_in, last_rank, of_connection, shown}
@@ -137,7 +139,7 @@ module _ (to_end : GoToTheEnd) (b : Behavior) (negotiated : Negotiated) (s : Mai
           fits = record { fields = tt; payload = omega arith };
           out_is = refl;
           serving = refl;
-          back_is = ap (flat_map replied.encoding) (sym (ap (replies_by b transcript (Ok commands.Quit)) quit-fault ∙ quit-none));
+          back_is = ap (flat_map replied.encoding) (sym (ap (λ (f : Option FilterFault). (step_by b transcript (Ok commands.Quit) f).replies) quit-fault ∙ quit-none));
         },
         refl,
       ),
@@ -155,10 +157,13 @@ module _ (to_end : GoToTheEnd) (b : Behavior) (negotiated : Negotiated) (s : Mai
     abort-exchange : exchange_at b transcript commands.Abort ≡ aborted
     abort-exchange = ap (λ (o : Option Negotiated). record { command = commands.Abort; answer = answer_by b o (shown transcript) commands.Abort }) has
 
+    abort-step : step b (going transcript) (Ok commands.Abort) ≡ silent (going (aborted ∷ transcript))
+    abort-step =
+        ap (step_by b transcript (Ok commands.Abort)) abort-fault
+        ∙ ap (λ (x : Exchange). record { after = going (x ∷ transcript); replies = replies_to b (negotiated_in b transcript) commands.Abort x.answer }) abort-exchange
+
     abort-next : next b (going transcript) (Ok commands.Abort) ≡ going (aborted ∷ transcript)
-    abort-next =
-        ap (with_received b transcript (Ok commands.Abort)) abort-fault
-        ∙ ap (λ (x : Exchange). going (x ∷ transcript)) abort-exchange
+    abort-next = ap (λ (x : Step FilterEnd). x.after) abort-step
 
     abort-replied : IsReplied b (going transcript) abort_line
     abort-replied =
@@ -167,8 +172,7 @@ module _ (to_end : GoToTheEnd) (b : Behavior) (negotiated : Negotiated) (s : Mai
           fits = record { fields = tt; payload = omega arith };
           out_is = refl;
           serving = refl;
-          back_is = ap (flat_map replied.encoding) (sym (ap (replies_by b transcript (Ok commands.Abort)) abort-fault
-              ∙ ap (λ (x : Exchange). replies_to b (negotiated_in b transcript) commands.Abort x.answer) abort-exchange));
+          back_is = ap (λ (x : Step FilterEnd). flat_map replied.encoding x.replies) (sym abort-step);
         }
 
   -- after a message that was not sent to its end
@@ -241,8 +245,11 @@ module _ (to_end : GoToTheEnd) (b : Behavior) (offer : Options) (s : MailSession
   offer-fault : fault_at b [] (Ok (commands.Options offer)) ≡ None
   offer-fault = ap (λ (k : Bool). if k then Some Version else None) (le-ltb offer.version VERSION_MIN known)
 
+  offer-step : step b start (Ok (commands.Options offer)) ≡ record { after = record { transcript = offered ∷ []; state = Serving }; replies = options_reply g ∷ [] }
+  offer-step = ap (step_by b [] (Ok (commands.Options offer))) offer-fault
+
   offer-next : next b start (Ok (commands.Options offer)) ≡ record { transcript = offered ∷ []; state = Serving }
-  offer-next = ap (with_received b [] (Ok (commands.Options offer))) offer-fault
+  offer-next = ap (λ (x : Step FilterEnd). x.after) offer-step
 
   offer-replied : IsReplied b start (offer_line offer g)
   offer-replied =
@@ -251,7 +258,7 @@ module _ (to_end : GoToTheEnd) (b : Behavior) (offer : Options) (s : MailSession
         fits = fits;
         out_is = refl;
         serving = refl;
-        back_is = sym (ap (λ (l : List Reply). flat_map replied.encoding l) (ap (replies_by b [] (Ok (commands.Options offer))) offer-fault) ∙ one (options_reply g));
+        back_is = sym (ap (λ (x : Step FilterEnd). flat_map replied.encoding x.replies) offer-step ∙ one (options_reply g));
       }
     where
       one : (r : Reply) → flat_map replied.encoding (r ∷ []) ≡ replied.encoding r
