@@ -1,8 +1,7 @@
 -- Each event leaves both ends where the counts say.
 use Rattle.std.proofs.Common.{◌≡◌, inl, ℕ, ◌+◌, ◌-◌, ◌≤◌, ◌<◌, min, nat_lt, Bool, true, false, if◌then◌else◌, List, [], ◌∷◌, ◌++◌, Option, None, Some, refl, sym, ◌∙◌, ap, subst, arith, length, take, drop, append_assoc, append-nil, length-append, length-drop, length-take, length-take-le, take-append-drop}
 use Rattle.std.specs.List.{AllZip}
-use Rattle.std.proofs.lemmas.Bool.{le-ltb, le-leb, lt-leb, true≢false}
-use Rattle.std.proofs.Math.Dec.{ltb}
+use Rattle.std.proofs.lemmas.Bool.{le-ltb, true≢false}
 use Rattle.std.proofs.lemmas.List.Concat.{flat_map-cons}
 use Rattle.milter_message.specs.MailObject.{MailObject}
 use Rattle.milter_mail.specs.MailSession.{MailSession}
@@ -27,7 +26,7 @@ use Rattle.milter_world_ends.specs.Ends.{IsAt, IsFilterIn, IsIdle, IsLinked, IsR
 use Rattle.milter_world_schedule.specs.Schedule as states
 use Rattle.milter_world_schedule.specs.declared.state.Counts.{Counts}
 use Rattle.milter_world_schedule.specs.declared.state.State.{State}
-use Rattle.milter_world_schedule.specs.Schedule.{Scenario, happens, idle_at, lines_at, sent_to, entries_at}
+use Rattle.milter_world_schedule.specs.Schedule.{Scenario, happens, idle_at, lines_at, entries_at}
 use Rattle.milter_world_schedule.specs.declared.state.State.TheVariants.{Idle, Linked, Done}
 use Rattle.milter_world_transcript.specs.ConnectionEntries.{Entry, lines_of, default_within, reports_within}
 use Rattle.milter_world_transcript.proofs.ByteCounting.{by_lt, owed-le, positive}

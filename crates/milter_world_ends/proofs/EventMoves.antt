@@ -23,7 +23,7 @@ use Rattle.milter_world_progress.specs.FollowedLines.{IsMtaAt}
 use Rattle.milter_world_schedule.specs.Schedule as states
 use Rattle.milter_world_schedule.specs.declared.state.Counts.{Counts}
 use Rattle.milter_world_schedule.specs.declared.state.State.{State}
-use Rattle.milter_world_schedule.specs.Schedule.{Scenario, happens, idle_at, lines_at, sends, sent_to, entries_at}
+use Rattle.milter_world_schedule.specs.Schedule.{Scenario, happens, lines_at, sent_to, entries_at}
 use Rattle.milter_world_schedule.specs.declared.state.State.TheVariants.{Idle, Linked, Done}
 use Rattle.milter_world_transcript.specs.ConnectionEntries.{default_reports}
 use Rattle.milter_world_transcript.proofs.ByteCounting.{by_lt, due-le, lt-ltb, owed-le, owed-mono, packet_end-due}

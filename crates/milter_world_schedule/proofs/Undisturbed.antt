@@ -1,5 +1,5 @@
 -- Without a loss or a timeout each message is reported as its dialogue rules.
-use Rattle.std.proofs.Common.{◌≡◌, ◌⊎◌, inl, inr, ℕ, suc, ◌+◌, ◌≤◌, Bool, true, false, ◌||◌, if◌then◌else◌, List, [], ◌∷◌, ◌++◌, length, Option, None, Some, option_map, All, refl, sym, ◌∙◌, ap, subst, arith, append-nil, length-append}
+use Rattle.std.proofs.Common.{◌≡◌, inl, inr, suc, ◌+◌, ◌≤◌, Bool, true, false, ◌||◌, if◌then◌else◌, List, [], ◌∷◌, ◌++◌, length, Option, None, Some, option_map, All, refl, sym, ◌∙◌, ap, subst, arith, append-nil, length-append}
 use Rattle.std.specs.List.{AllZip}
 use Rattle.std.proofs.lemmas.List.Elements.{All-cons, All-head, All-nil, All-tail}
 use Rattle.milter_message.specs.MailObject.{MailObject}
@@ -15,7 +15,7 @@ use Rattle.milter_mta.specs.Dispositions.{report}
 use Rattle.milter_mta_laws.specs.Sessions.{settled_through}
 use Rattle.milter_mta_laws.specs.Settled.{ends_with_client}
 use Rattle.milter_world_schedule.specs.Schedule.{Scenario}
-use Rattle.milter_world_schedule.specs.DialogueReports.{AreReported, HasAllVerdicts, IsDefaultAfter, IsReportOf, IsRuledBy, negotiated_of, by_reset, by_timeout, count_reports, is_by_verdict, is_known, dialogue_about}
+use Rattle.milter_world_schedule.specs.DialogueReports.{AreReported, HasAllVerdicts, IsReportOf, IsRuledBy, negotiated_of, by_reset, by_timeout, count_reports, is_by_verdict, is_known, dialogue_about}
 use Rattle.milter_world_schedule.proofs.RunReports.{zip-length}
 
 -- ---- none is by default

@@ -1,8 +1,6 @@
-use Rattle.std.proofs.Common.{◌≡◌, ◌≤◌, ℕ, subst}
-use Rattle.std.specs.List.{AllZip}
-use Rattle.milter_mta_outcome.specs.declared.report.Report.{Report}
+use Rattle.std.proofs.Common.{◌≤◌, ℕ, subst}
 use Rattle.milter_world_schedule.specs.Schedule.{run_reports}
-use Rattle.milter_world_schedule.specs.DialogueReports.{IsRuledBy, by_reset, by_timeout, count_reports}
+use Rattle.milter_world_schedule.specs.DialogueReports.{by_reset, by_timeout, count_reports}
 use Rattle.milter_world_schedule.proofs.Undisturbed.{all-by-verdict, all-ruled-by, all-verdicts}
 use Rattle.milter_world_schedule.proofs.laws.undisturbed_schedules_are_ruled.Goals as goal
 
