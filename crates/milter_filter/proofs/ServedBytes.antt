@@ -15,7 +15,7 @@ use Rattle.milter_filter_core.specs.Cores.{Core, GivesUp, GoesOn, Takes, fresh_c
 use Rattle.milter_filter.specs.ServedPieces.{CutOff, Goes, PieceCut, PieceServed, Sends}
 use Rattle.milter_filter.specs.ServedConnections.{RepliedAs, RepliedInPart, RepliedToPart, Serves}
 use Rattle.milter_filter_core.specs.Streams.{filter_end_of, received_in, reply_bytes}
-use Rattle.milter_filter_core.proofs.Cutting.{goes_on-gives_up, goes_on-joins, goes_on-takes, replies-add, replies-from, state-from, stays}
+use Rattle.milter_filter_core.proofs.CutInputs.{goes_on-gives_up, goes_on-joins, goes_on-takes, replies-add, replies-from, state-from, stays}
 
 -- ---- the states of a connection
 

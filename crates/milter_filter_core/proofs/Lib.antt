@@ -6,4 +6,4 @@ pub mod LengthFaults
 pub mod PieceStreams
 pub mod Progress
 pub mod FirstReplies
-pub mod Cutting
+pub mod CutInputs

@@ -18,7 +18,7 @@ use Rattle.milter_protocol.specs.Steps.{Step, joined, silent, steps}
 use Rattle.milter_filter_core.specs.Cores.{Core, GivesUp, Takes}
 use Rattle.milter_filter_core.specs.AnswerPackets.{Replying, TakesBytes}
 use Rattle.milter_filter_core.specs.Streams.{fault_after, read_in, received_in}
-use Rattle.milter_protocol.proofs.Going.{after-append, replies-append}
+use Rattle.milter_protocol.proofs.StepSequences.{after-append, replies-append}
 
 -- what was made of the first bytes
 pub record Progress (b : Behavior) (s : OrderState) (bytes : List ℕ) (new : OrderState) (unread : List ℕ) (out : List ℕ) : Type 0 where

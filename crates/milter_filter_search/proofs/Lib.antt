@@ -1,6 +1,6 @@
 pub mod Occurrences
 pub mod FoldedTexts
 pub mod Values
-pub mod Looking
-pub mod Reading
+pub mod HeaderSearches
+pub mod BodySearches
 mod FirstBytes

@@ -9,7 +9,7 @@ use Rattle.milter_filter.specs.declared.served.Served.{Served}
 use Rattle.milter_filter.specs.declared.served.Served.TheVariants.{Quit, Ended, Failed, ReadFault, WriteFault, TurnLimit}
 use Rattle.milter_filter.specs.ServedConnections.{Replied, RepliedAs, RepliedInPart}
 use Rattle.milter_filter_core.specs.Streams.{filter_end_of, reply_bytes}
-use Rattle.milter_filter_core.proofs.Cutting.{replies-add, replies-from, state-from}
+use Rattle.milter_filter_core.proofs.CutInputs.{replies-add, replies-from, state-from}
 use Rattle.milter_filter_server.specs.Connections.{Completes, Connected, EndsAs, GoesFrom, ServesInTurns, fresh_connected}
 
 module _ {P : Type 0} (b : Behavior) (order : CommandOrder) (policy : P) where

@@ -11,7 +11,7 @@ use Rattle.milter_filter.specs.declared.served.Served.{Served}
 use Rattle.milter_filter.specs.declared.served.Served.TheVariants.{Quit, Ended, Failed, ReadFault, WriteFault, TurnLimit}
 use Rattle.milter_filter_core.specs.Cores.{Core, GoesOn, Takes, fresh_core_in, given_up}
 use Rattle.milter_filter.specs.ServedPieces.{CutOff, Goes, PieceCut, Sends}
-use Rattle.milter_filter_core.proofs.Cutting.{fresh-begins, goes_on-joins, goes_on-stays}
+use Rattle.milter_filter_core.proofs.CutInputs.{fresh-begins, goes_on-joins, goes_on-stays}
 use Rattle.milter_filter.proofs.ServedBytes.{goes-joins, goes_on-written, serving-or-quit}
 use Rattle.milter_filter_server.specs.declared.turn.Turn.{Turn}
 use Rattle.milter_filter_server.specs.declared.turn.Turn.TheVariants as turns

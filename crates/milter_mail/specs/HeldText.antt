@@ -5,7 +5,7 @@ use Rattle.milter_wire_fields.specs.declared.header.Header.{Header}
 use Rattle.milter_wire_fields.specs.declared.path.Path.{Path}
 use Rattle.milter_message.specs.declared.message.Held.{Held}
 use Rattle.milter_message.specs.MailObject.{MailObject}
-use Rattle.milter_text.specs.Quoting.{quoted}
+use Rattle.milter_text.specs.QuotedText.{quoted}
 
 -- a text in quotes, after a blank
 abbrev pub text_of : List ℕ → List ℕ

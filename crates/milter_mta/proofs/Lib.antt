@@ -2,7 +2,7 @@ mod Consistency
 mod Begun
 mod FedPieces
 mod ReceivedFrames
-mod Keeping
+mod KeptRecipients
 mod Reported
 mod Settled
 pub mod NextPackets

@@ -17,7 +17,7 @@ use Rattle.milter_mta_client.specs.ConnectionRuns.{IsBetween, IsOver, Moves, Ste
 use Rattle.milter_mta_client.specs.Events.{Event, IsOutside, Runs}
 use Rattle.milter_mta_client.specs.Events.Event.{GaveUp}
 use Rattle.milter_mta_client.proofs.Connected.{connected-fewer, connected-on, lost-between, lost-fewer}
-use Rattle.milter_mta_client.proofs.Stepping.{one-step, runs-append, steps-on}
+use Rattle.milter_mta_client.proofs.EventRuns.{one-step, runs-append, steps-on}
 
 -- ---- one connection
 

@@ -1,6 +1,6 @@
 mod OnDialogue
-mod Stepping
+mod EventRuns
 mod Connected
-mod Turning
+mod ConnectionTurns
 mod Dialled
 mod Conversed

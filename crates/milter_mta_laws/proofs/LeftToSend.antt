@@ -9,7 +9,7 @@ use Rattle.milter_wire.specs.Negotiation.{is_asked}
 use Rattle.milter_protocol.specs.Exchanges.{Exchange, onto}
 use Rattle.milter_protocol.specs.Dialogue.{has_end, is_end_command, is_left_out, is_skipping, sendable}
 use Rattle.milter_mta_laws.specs.Order.{AreInOrder}
-use Rattle.milter_protocol.proofs.Permitting.{filter-again}
+use Rattle.milter_protocol.proofs.PermittedEdits.{filter-again}
 use Rattle.milter_protocol.proofs.Lists.{same-tail}
 use Rattle.milter_protocol.proofs.Sendable.{end_left, no_end}
 use Rattle.milter_mta_laws.proofs.Ordered.{order-without}

@@ -1,3 +1,3 @@
-mod Keeping
+mod KeptRecipients
 mod ReceivedReplies
 mod ReceivedOptions

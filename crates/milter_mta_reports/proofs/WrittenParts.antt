@@ -14,7 +14,7 @@ use Rattle.milter_mta_reports.specs.ReportsText.{released_text}
 use Rattle.milter_text.specs.WrittenText.{WritesPrefix, WritesText}
 use Rattle.milter_text.specs.TextWriter.{WritesAllBut}
 use Rattle.milter_text.specs.declared.text_fault.TextFault.{TextFault}
-use Rattle.milter_text.proofs.Writing.{flat_map-next}
+use Rattle.milter_text.proofs.TextWriters.{flat_map-next}
 
 -- ---- a part of a text after those that were written
 

@@ -16,7 +16,7 @@ use Rattle.milter_protocol.specs.Dialogue.{is_body, is_rcpt}
 use Rattle.milter_mail.specs.Steps.{macro_step, macros_at}
 use Rattle.milter_wire.specs.Stages.{macro_command_of}
 use Rattle.milter_mta_transaction.specs.PlanCursor.{Outgoing, stages_after, steps_at, steps_from, without_body}
-use Rattle.milter_mta_transaction.proofs.Stepping.{steps_if}
+use Rattle.milter_mta_transaction.proofs.NumberedCommands.{steps_if}
 
 -- ---- one command more
 

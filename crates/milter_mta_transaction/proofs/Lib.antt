@@ -1,4 +1,4 @@
-mod Stepping
+mod NumberedCommands
 mod StagesFound
 mod PlanStages
 mod CursorSteps

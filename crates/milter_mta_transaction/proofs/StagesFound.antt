@@ -14,7 +14,7 @@ use Rattle.milter_message.specs.LeadingSpace.{sent_header}
 use Rattle.milter_message.specs.Chunks.{chunks_of}
 use Rattle.milter_mail.specs.Steps.{macro_step, macros_at}
 use Rattle.milter_mta_transaction.specs.PlanCursor.{Outgoing, commands_of, one_of_two, steps_at, steps_from}
-use Rattle.milter_mta_transaction.proofs.Stepping.{at_first, left_out, paired, plain, steps_if}
+use Rattle.milter_mta_transaction.proofs.NumberedCommands.{at_first, left_out, paired, plain, steps_if}
 
 abbrev IsOf : Stage → Command → Type 0
 IsOf stage command = stage_of command ≡ Some stage

@@ -18,7 +18,7 @@ use Rattle.milter_protocol.specs.Transcripts.{negotiated_in, last_rank, shown}
 use Rattle.milter_protocol.specs.Replies.{replies_to}
 use Rattle.milter_protocol.specs.OrderStates.{OrderState, fresh_in, order_state_after, order_state_fault, order_state_of, order_state_replies, order_step, order_step_by, order_step_in}
 use Rattle.milter_protocol.specs.Steps.{Step, joined, silent, steps}
-use Rattle.milter_protocol.proofs.Going.{steps-append}
+use Rattle.milter_protocol.proofs.StepSequences.{steps-append}
 use Rattle.milter_protocol.proofs.OrderStates.{kept, step-in, steps-kept}
 
 -- what a lenient end keeps where a strict one keeps this

@@ -1,11 +1,11 @@
 pub mod Lists
 pub mod Transcripts
-pub mod Seeing
-pub mod Permitting
+pub mod SeenCommands
+pub mod PermittedEdits
 pub mod DialogueSteps
 pub mod Sendable
 pub mod WholeDialogues
-pub mod Going
+pub mod StepSequences
 pub mod TranscriptParts
 pub mod OrderStates
 pub mod Lenient

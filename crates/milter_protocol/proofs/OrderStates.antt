@@ -10,7 +10,7 @@ use Rattle.milter_wire.specs.Stages.{stage_of}
 use Rattle.milter_protocol.specs.declared.command_order.CommandOrder.TheVariants.{Strict}
 use Rattle.milter_protocol.specs.Behavior.{Behavior, answer_to}
 use Rattle.milter_protocol.specs.Exchanges.{Exchange}
-use Rattle.milter_protocol.proofs.Seeing.{seen-with}
+use Rattle.milter_protocol.proofs.SeenCommands.{seen-with}
 use Rattle.milter_protocol.specs.declared.filter_fault.FilterFault.{FilterFault}
 use Rattle.milter_protocol.specs.declared.filter_state.FilterState.{FilterState}
 use Rattle.milter_protocol.specs.declared.filter_state.FilterState.TheVariants.{Failed, Quit, Serving}

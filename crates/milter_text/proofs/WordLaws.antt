@@ -8,7 +8,7 @@ use Rattle.milter_text.specs.declared.word.Word.{Word}
 use Rattle.milter_text.specs.declared.word.WordFault.{WordFault}
 use Rattle.milter_text.specs.declared.word.WordFault.TheVariants.{BadWord, NoMemory}
 use Rattle.milter_text.specs.Words.{AreBlanks, BeginsWith, HasWords, IsAfterWord, IsWordText, IsPlainWord, IsQuotedWord, QuotesText, is_plain}
-use Rattle.milter_text.specs.Unquoting.{behind_quote, byte_at, past_blanks}
+use Rattle.milter_text.specs.UnquotedBytes.{behind_quote, byte_at, past_blanks}
 use Rattle.milter_text.proofs.QuotedBytes.{quoted-byte_at, text_more, texts_same}
 use Rattle.milter_text.proofs.WordBounds.{ArePlain, leading_blanks, ends_at_position, list_all-plain, plain-list_all, position_after_plain, unwrap_or-position, past_blanks-all, past_blanks-append, past_blanks-twice, plain_is_no_blank, plain_is_no_quote}
 

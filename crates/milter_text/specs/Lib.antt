@@ -1,8 +1,8 @@
 pub mod Lines
 pub mod Words
 pub mod WordValues
-pub mod Unquoting
-pub mod Quoting
+pub mod UnquotedBytes
+pub mod QuotedText
 pub mod Runs
 pub mod WordFault
 pub mod LineFault

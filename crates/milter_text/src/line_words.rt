@@ -3,7 +3,7 @@
 ghost use Rattle.std.specs.Prelude.{◌≡◌, ◌==◌, ◌⊎◌, ◌↔◌, ◌∷◌, ℕ, false, not, IfOk, IsErrOf, IsTrue, List, MatchResult, option_map, position};
 ghost use Rattle.std.specs.List.{list_all};
 ghost use Rattle.milter_text.specs.declared.word.Word.{Word};
-ghost use Rattle.milter_text.specs.Unquoting.{behind_quote, past_blanks};
+ghost use Rattle.milter_text.specs.UnquotedBytes.{behind_quote, past_blanks};
 ghost use Rattle.milter_text.specs.Words.{BeginsWith, HasWords, IsAfterWord, is_plain};
 
 use crate::escapes::{bare_len, take_byte};

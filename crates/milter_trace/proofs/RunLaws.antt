@@ -9,7 +9,7 @@ use Rattle.milter_trace.specs.Trace.{Trace, prepend_text, trace_of}
 use Rattle.milter_trace.specs.TraceRun.{HasBytes, WritesPrefixOf, WritesTraceOf}
 use Rattle.milter_trace.specs.TraceState.{TraceState, initial_state, trace_to_come, trace_from}
 use Rattle.milter_text.specs.WrittenText.{WritesPrefix}
-use Rattle.milter_trace.specs.TraceWriting.{EndsTrace, IsInputFault, EndsWithFault, WritesTrace}
+use Rattle.milter_trace.specs.TraceOutput.{EndsTrace, IsInputFault, EndsWithFault, WritesTrace}
 use Rattle.milter_trace.proofs.PacketLaws.{prepend_text-append}
 use Rattle.milter_trace.proofs.TraceLaws.{trace_from-initial_state}
 

@@ -7,7 +7,7 @@ use Rattle.milter_trace.specs.declared.fault.TraceFault.TheVariants.{BadLine, Pa
 use Rattle.milter_trace.specs.Trace.{Trace, prepend_text}
 use Rattle.milter_trace.specs.TraceState.{ContinuesTrace, TraceState, AppendsTrace, trace_to_come}
 use Rattle.milter_text.specs.WrittenText.{WritesPrefix}
-use Rattle.milter_trace.specs.TraceWriting.{EndsTrace, IsInputFault, EndsWithFault, WritesTrace}
+use Rattle.milter_trace.specs.TraceOutput.{EndsTrace, IsInputFault, EndsWithFault, WritesTrace}
 
 -- ---- a write that failed
 

@@ -6,6 +6,6 @@ pub mod UndecodedLine
 pub mod PrinterState
 pub mod HexDigits
 pub mod AssemblerState
-pub mod TraceWriting
+pub mod TraceOutput
 pub mod TraceRun
 pub mod FaultText

@@ -20,7 +20,7 @@ use Rattle.milter_wire_stream.specs.Code.{code_text}
 use Rattle.milter_wire_stream.specs.Number.{number}
 use Rattle.milter_wire.specs.Frames.{frame_command, frame_reply}
 use Rattle.milter_wire_stream.specs.Stream.{Frame}
-use Rattle.milter_text.specs.Quoting.{quoted}
+use Rattle.milter_text.specs.QuotedText.{quoted}
 use Rattle.milter_trace.specs.declared.direction.Direction.{Direction}
 use Rattle.milter_trace.specs.declared.direction.Direction.TheVariants.{ToFilter, ToMta}
 

@@ -3,7 +3,7 @@ use Rattle.std.specs.Prelude.{ℕ, ◌≤◌, List, length, Option, IfSome}
 use Rattle.milter_trace.specs.declared.fault.TraceFault.{TraceFault}
 use Rattle.milter_trace.specs.Trace.{trace_of}
 use Rattle.milter_text.specs.WrittenText.{WritesPrefix}
-use Rattle.milter_trace.specs.TraceWriting.{WritesTrace}
+use Rattle.milter_trace.specs.TraceOutput.{WritesTrace}
 
 -- the text of the whole input was written, and the trace of the input ends so
 abbrev pub WritesTraceOf : Option TraceFault → Option (List ℕ) → Option (List ℕ) → Option (List ℕ) → Type 0

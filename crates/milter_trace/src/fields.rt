@@ -3,7 +3,7 @@
 ghost use Rattle.std.specs.Prelude.{◌≡◌, ◌++◌, ◌∷◌, [], OnOk, decimal, map};
 ghost use Rattle.std.specs.List.{flat_map};
 ghost use Rattle.milter_wire_stream.specs.Code.{code_text};
-ghost use Rattle.milter_text.specs.Quoting.{quoted};
+ghost use Rattle.milter_text.specs.QuotedText.{quoted};
 ghost use Rattle.milter_trace.specs.PacketText.{arguments_fields, body_fields, client_fields, command_fields, fields_text, header_fields, hex8, options_fields, origin_fields, pair_fields, path_fields, reply_fields, sym_list_fields};
 
 use itoa::Buffer;

@@ -9,7 +9,7 @@ ghost use Rattle.milter_trace.specs.declared.trace_line.TheConstants.{LINE_MAX};
 ghost use Rattle.milter_trace.specs.TraceRun.{HasBytes, read_max, WritesPrefixOf, WritesTraceOf};
 ghost use Rattle.milter_trace.specs.AssemblerState.{IsInitial, IsBetweenPieces};
 ghost use Rattle.milter_trace.specs.TraceState.{trace_to_come, trace_from};
-ghost use Rattle.milter_trace.specs.TraceWriting.{EndsTrace, EndsWithFault, IsInputFault};
+ghost use Rattle.milter_trace.specs.TraceOutput.{EndsTrace, EndsWithFault, IsInputFault};
 
 use crate::fault::TraceFault;
 use crate::line_assembler::LineAssembler;

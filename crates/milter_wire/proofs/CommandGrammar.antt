@@ -8,7 +8,7 @@ use Rattle.milter_wire.specs.declared.command.Command.TheVariants.{Options, Macr
 use Rattle.milter_wire_fields.specs.declared.path.Path.{Path}
 use Rattle.milter_wire_fields.specs.Layout.{path, PathFits}
 use Rattle.milter_wire_stream.specs.Packet.{packet, IsPayload}
-use Rattle.milter_wire_fields.specs.Decoding.{client_in, header_in, macro_in, path_in, string_in}
+use Rattle.milter_wire_fields.specs.Decoders.{client_in, header_in, macro_in, path_in, string_in}
 use Rattle.milter_wire_options.specs.Payload.{options_in}
 use Rattle.milter_wire.specs.Command.{code_of, payload_of, is_code, FieldsFit, IsEncodedAs, command_in, rows}
 use Rattle.milter_wire_stream.specs.Number.{IsBytes}

@@ -7,7 +7,7 @@ use Rattle.std.proofs.lemmas.Option.{none-some, same_Some}
 use Rattle.milter_wire_stream.specs.declared.fault.WireFault.{WireFault}
 use Rattle.milter_wire_stream.specs.declared.fault.WireFault.TheVariants.{ZeroLength, TooLong, UnknownCode, Malformed, Truncated, NoMemory}
 use Rattle.milter_wire.specs.Tables.{Decodes, Row, has_row, read_by}
-use Rattle.milter_wire_fields.specs.Decoding.{ended}
+use Rattle.milter_wire_fields.specs.Decoders.{ended}
 use Rattle.milter_wire_fields.proofs.Binds.{some_value}
 use Rattle.milter_wire_fields.proofs.Steps.{chosen, ended_takes}
 

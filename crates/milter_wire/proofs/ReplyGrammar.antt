@@ -5,7 +5,7 @@ use Rattle.std.proofs.lemmas.List.Elements.{All-from_get_or}
 use Rattle.milter_wire.specs.declared.reply.Reply.{Reply}
 use Rattle.milter_wire.specs.declared.reply.Reply.TheVariants.{Options, AddRcpt, DelRcpt, AddRcptPar, Accept, ReplaceBody, Continue, Discard, ChangeFrom, AddHeader, InsertHeader, ChangeHeader, Progress, Quarantine, Reject, Skip, Tempfail, Code}
 use Rattle.milter_wire_stream.specs.Packet.{packet, IsPayload}
-use Rattle.milter_wire_fields.specs.Decoding.{addressed_in, header_in, indexed_in, reply_code_in, string_in}
+use Rattle.milter_wire_fields.specs.Decoders.{addressed_in, header_in, indexed_in, reply_code_in, string_in}
 use Rattle.milter_wire_options.specs.Payload.{options_with_lists_in}
 use Rattle.milter_wire.specs.Reply.{code_of, payload_of, is_code, FieldsFit, IsEncodedAs, reply_in, rows}
 use Rattle.milter_wire_stream.specs.Number.{IsBytes}

@@ -10,7 +10,7 @@ use Rattle.milter_wire_options.specs.Payload.{options, OptionsFit, options_in}
 use Rattle.milter_wire_fields.specs.Layout.{pair, PairFits, client, ClientFits, path, PathFits, header, HeaderFits}
 use Rattle.milter_wire_stream.specs.Packet.{packet, IsPayload}
 use Rattle.milter_wire.specs.Tables.{Row, has_row, read_by}
-use Rattle.milter_wire_fields.specs.Decoding.{ended, macro_in, client_in, string_in, path_in, header_in}
+use Rattle.milter_wire_fields.specs.Decoders.{ended, macro_in, client_in, string_in, path_in, header_in}
 
 -- ---- the table
 

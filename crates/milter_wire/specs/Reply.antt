@@ -11,7 +11,7 @@ use Rattle.milter_wire_options.specs.Payload.{options_with_lists, OptionsWithLis
 use Rattle.milter_wire_fields.specs.Layout.{header, HeaderFits, IndexedFits, arguments, AddressedFits, ReplyCodeFits}
 use Rattle.milter_wire_stream.specs.Packet.{packet, IsPayload}
 use Rattle.milter_wire.specs.Tables.{Row, has_row, read_by}
-use Rattle.milter_wire_fields.specs.Decoding.{ended, string_in, header_in, indexed_in, addressed_in, reply_code_in}
+use Rattle.milter_wire_fields.specs.Decoders.{ended, string_in, header_in, indexed_in, addressed_in, reply_code_in}
 
 -- ---- the table
 

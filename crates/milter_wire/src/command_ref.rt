@@ -7,7 +7,7 @@ ghost use Rattle.milter_wire_stream.specs.declared.fault.WireFault.TheVariants a
 ghost use Rattle.milter_wire.specs.declared.command.Command.TheVariants as commands;
 ghost use Rattle.milter_wire_fields.specs.Layout.{pair};
 ghost use Rattle.milter_wire.specs.Command.{code_of, payload_of, is_code, Fits, FieldsFit, encoding, command_in};
-ghost use Rattle.milter_wire_fields.specs.Decoding.{macro_in};
+ghost use Rattle.milter_wire_fields.specs.Decoders.{macro_in};
 ghost use Rattle.milter_wire.specs.Tables.{map_ok};
 ghost use Rattle.milter_wire.specs.Frames.{frame_command};
 ghost use Rattle.milter_wire.specs.BorrowedCommand.{command_of};
@@ -260,7 +260,7 @@ fn put_macro(out: &mut Vec<u8>, command: u8, pairs: &PairsRef<'_>) -> Result<(),
 }
 
 /// The macros that these bytes encode, all of the bytes, and the code before them.
-#[tactic(auto, unfolding(milter_wire_fields::specs::Decoding::macro_in))]
+#[tactic(auto, unfolding(milter_wire_fields::specs::Decoders::macro_in))]
 fn macro_of(bytes: &[u8]) -> Option<CommandRef<'_>>
     ensures { option_map command_of result ≡ option_map (λ m. commands.Macro m.0 m.1) (macro_in bytes.now) }
 {

@@ -7,7 +7,7 @@ ghost use Rattle.milter_wire_stream.specs.Packet.{packet};
 ghost use Rattle.milter_wire.specs.Reply.{code_of, payload_of, is_code, Fits, FieldsFit, IsEncodedAs, encoding, reply_in};
 ghost use Rattle.milter_wire.specs.Payload.{PayloadFits, payload_bytes};
 ghost use Rattle.milter_wire.specs.Tables.{Decodes};
-ghost use Rattle.milter_wire_fields.specs.Decoding.{DecodesOptional};
+ghost use Rattle.milter_wire_fields.specs.Decoders.{DecodesOptional};
 
 use crate::codes::{
     SMFIC_OPTNEG, SMFIR_ACCEPT, SMFIR_ADDHEADER, SMFIR_ADDRCPT, SMFIR_ADDRCPT_PAR, SMFIR_CHGFROM,

@@ -8,7 +8,7 @@ use Rattle.milter_wire_fields.specs.declared.pair.Pair.{Pair}
 use Rattle.milter_wire_fields.specs.Field.{string, HasNoNul}
 use Rattle.milter_wire_fields.specs.Layout.{pair, PairFits}
 use Rattle.milter_wire_fields.specs.Bind.{◌>>=◌}
-use Rattle.milter_wire_fields.specs.Decoding.{string_at, strings_in, pairs_in}
+use Rattle.milter_wire_fields.specs.Decoders.{string_at, strings_in, pairs_in}
 use Rattle.milter_wire_fields.specs.Lists.{decoded, first_of}
 use Rattle.milter_wire_fields.proofs.SequenceLaws.{strings_in-first, strings_in-unended, strings_in-nil, strings_take, pairs_in-first, pairs_in-unended, pairs_in-odd, pairs_in-nil, pairs_take}
 

@@ -4,7 +4,7 @@ use Rattle.std.proofs.lemmas.Option.{same_Some}
 use Rattle.std.proofs.lemmas.List.Elements.{All-head, All-tail}
 use Rattle.milter_wire_stream.specs.Number.{IsBytes}
 use Rattle.milter_wire_fields.specs.Field.{port}
-use Rattle.milter_wire_fields.specs.Decoding.{port_of, port_at}
+use Rattle.milter_wire_fields.specs.Decoders.{port_of, port_at}
 use Rattle.milter_wire_fields.proofs.Ports.{two_bytes, port-port_of, port_of-lt}
 
 -- ---- ports

@@ -3,7 +3,7 @@ use Rattle.std.proofs.Common.{◌≡◌, ℕ, zero, suc, ◌<◌, ◌^◌, [], �
 use Rattle.std.specs.Int.{w16, to_be_bytes, from_be_bytes}
 use Rattle.std.proofs.lemmas.Nat.{be_bytes_2, from_be_bytes-to_be_bytes_2}
 use Rattle.milter_wire_fields.specs.Field.{port}
-use Rattle.milter_wire_fields.specs.Decoding.{port_of}
+use Rattle.milter_wire_fields.specs.Decoders.{port_of}
 
 pub record TwoBytes (n : ℕ) : Type 0 where
   pub a : ℕ

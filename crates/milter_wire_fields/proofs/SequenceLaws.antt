@@ -8,7 +8,7 @@ use Rattle.milter_wire_fields.specs.declared.pair.Pair.{Pair}
 use Rattle.milter_wire_fields.specs.Field.{string, HasNoNul}
 use Rattle.milter_wire_fields.specs.Layout.{pair, PairFits}
 use Rattle.milter_wire_fields.specs.Bind.{◌>>=◌}
-use Rattle.milter_wire_fields.specs.Decoding.{string_at, strings_in, with_byte, paired, pairs_in}
+use Rattle.milter_wire_fields.specs.Decoders.{string_at, strings_in, with_byte, paired, pairs_in}
 use Rattle.milter_wire_fields.proofs.Binds.{bind_some}
 use Rattle.milter_wire_fields.proofs.StringFields.{string_at-string}
 

@@ -1,7 +1,7 @@
 -- Steps of a decoding.
 use Rattle.std.proofs.Common.{◌≡◌, ℕ, Bool, true, false, List, [], ◌∷◌, Some, refl, ◌⊎◌, inl, inr}
 use Rattle.std.specs.Prelude.{if◌then◌else◌}
-use Rattle.milter_wire_fields.specs.Decoding.{ended}
+use Rattle.milter_wire_fields.specs.Decoders.{ended}
 
 pub ended_takes : {A : Type 0} (x : A) (rest : List ℕ) (y : A) → ended x rest ≡ Some y → (rest ≡ []) × (x ≡ y)
 ended_takes x [] y e = (refl, cc)

@@ -7,7 +7,7 @@ use Rattle.std.proofs.lemmas.Bool.{cases_lt, lt-ltb, ltb-true, ne_eqb}
 use Rattle.std.proofs.lemmas.Option.{cond_some, none-some, same_Some}
 use Rattle.std.proofs.lemmas.List.Elements.{All-nil, All-cons, All-head, All-tail}
 use Rattle.milter_wire_fields.specs.Field.{string, HasNoNul}
-use Rattle.milter_wire_fields.specs.Decoding.{ended, string_at, string_in}
+use Rattle.milter_wire_fields.specs.Decoders.{ended, string_at, string_in}
 use Rattle.milter_wire_fields.proofs.Lanes.{position_none}
 use Rattle.milter_wire_fields.proofs.Binds.{bind_some}
 use Rattle.milter_wire_fields.proofs.Steps.{ended_takes}

@@ -15,7 +15,7 @@ use Rattle.milter_wire_stream.specs.Number.{number, number_at, IsBytes}
 use Rattle.milter_wire_fields.specs.Field.{port, string, HasNoNul}
 use Rattle.milter_wire_fields.specs.Layout.{pair, PairFits, origin, OriginFits, EndpointFits, client, ClientFits, path, PathFits, header, HeaderFits, IndexedFits, arguments, ArgumentsFit, AddressedFits, is_reply_code, ReplyCodeFits}
 use Rattle.milter_wire_fields.specs.Bind.{◌>>=◌}
-use Rattle.milter_wire_fields.specs.Decoding.{ended, port_at, string_at, string_in, header_in, indexed_in, strings_in, pairs_in, macro_in, path_in, endpoint_in, origin_in, client_in, arguments_in, addressed_in, reply_code_in}
+use Rattle.milter_wire_fields.specs.Decoders.{ended, port_at, string_at, string_in, header_in, indexed_in, strings_in, pairs_in, macro_in, path_in, endpoint_in, origin_in, client_in, arguments_in, addressed_in, reply_code_in}
 use Rattle.milter_wire_fields.proofs.Binds.{bind_some}
 use Rattle.milter_wire_fields.proofs.Steps.{chosen, ended_takes}
 use Rattle.milter_wire_fields.proofs.StringFields.{string_takes, string_at-string, one_string_takes, string_in-string}

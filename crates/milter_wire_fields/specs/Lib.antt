@@ -1,6 +1,6 @@
 pub mod Bind
 pub mod Field
 pub mod Layout
-pub mod Decoding
+pub mod Decoders
 pub mod Lists
 pub mod Borrowed

@@ -4,7 +4,7 @@ ghost use Rattle.std.specs.Prelude.{◌≡◌, ◌++◌, ◌↔◌, IsTrue, OnOk
 ghost use Rattle.milter_wire_stream.specs.AppendedBytes.{PutsBytes};
 ghost use Rattle.milter_wire_fields.specs.Field.{string};
 ghost use Rattle.milter_wire_fields.specs.Layout.{arguments, ArgumentsFit};
-ghost use Rattle.milter_wire_fields.specs.Decoding.{DecodesOptional, addressed_in, arguments_in};
+ghost use Rattle.milter_wire_fields.specs.Decoders.{DecodesOptional, addressed_in, arguments_in};
 
 use crate::strings::{has_no_nul, one_string, put_string, string_len, take_string};
 use crate::text::Text;
@@ -54,7 +54,7 @@ pub fn put_addressed(
 }
 
 /// No arguments, where no byte is there, or the one string that these bytes are, all of the bytes.
-#[tactic(auto, unfolding(crate::specs::Decoding::arguments_in))]
+#[tactic(auto, unfolding(crate::specs::Decoders::arguments_in))]
 fn find_arguments(bytes: &[u8]) -> Option<Option<&[u8]>>
     ensures { option_map (λ found. option_map (λ text. text.now) found) result ≡ arguments_in bytes.now }
 {
@@ -66,7 +66,7 @@ fn find_arguments(bytes: &[u8]) -> Option<Option<&[u8]>>
 }
 
 /// The address, and the arguments if there are any, that these bytes encode, all of the bytes.
-#[tactic(auto, unfolding(crate::specs::Decoding::addressed_in))]
+#[tactic(auto, unfolding(crate::specs::Decoders::addressed_in))]
 pub fn take_addressed(alloc: Global, bytes: &[u8]) -> Result<Option<(Text, Option<Text>)>, NoMemory>
     ensures { DecodesOptional (addressed_in bytes.now) result }
 {

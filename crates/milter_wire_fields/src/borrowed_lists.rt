@@ -6,7 +6,7 @@ ghost use Rattle.std.specs.List.{flat_map};
 ghost use Rattle.milter_wire_stream.specs.AppendedBytes.{PutsBytes};
 ghost use Rattle.milter_wire_fields.specs.Field.{HasNoNul, string};
 ghost use Rattle.milter_wire_fields.specs.Layout.{pair, PairFits};
-ghost use Rattle.milter_wire_fields.specs.Decoding.{pairs_in, strings_in};
+ghost use Rattle.milter_wire_fields.specs.Decoders.{pairs_in, strings_in};
 ghost use Rattle.milter_wire_fields.specs.Borrowed.{pair_of};
 ghost use Rattle.milter_wire_fields.specs.Lists.{decoded, first_of};
 
@@ -29,7 +29,7 @@ pub struct ParamsRef<'a> {
 
 impl<'a> Model for ParamsRef<'a> {
     ghost use Rattle.std.specs.Prelude.{List, ℕ, ◌++◌, IsSome};
-    ghost use Rattle.milter_wire_fields.specs.Decoding.{strings_in};
+    ghost use Rattle.milter_wire_fields.specs.Decoders.{strings_in};
     ghost use Rattle.milter_wire_fields.specs.Lists.{decoded};
 
     ghost Value = { List (List ℕ) };
@@ -41,7 +41,7 @@ impl<'a> Model for ParamsRef<'a> {
 
 impl<'a> ParamsRef<'a> {
     /// The parameters that these texts are. Doesn't allocate.
-    #[tactic(auto, unfolding(crate::specs::Decoding::strings_in))]
+    #[tactic(auto, unfolding(crate::specs::Decoders::strings_in))]
     pub fn new(texts: &'a [Text]) -> Self
         ensures { result ≡ texts.now }
     {
@@ -134,7 +134,7 @@ pub struct PairsRef<'a> {
 impl<'a> Model for PairsRef<'a> {
     ghost use Rattle.std.specs.Prelude.{List, ◌++◌, IsSome};
     ghost use Rattle.milter_wire_fields.specs.declared.pair.Pair.{Pair};
-    ghost use Rattle.milter_wire_fields.specs.Decoding.{pairs_in};
+    ghost use Rattle.milter_wire_fields.specs.Decoders.{pairs_in};
     ghost use Rattle.milter_wire_fields.specs.Lists.{decoded};
 
     ghost Value = { List Pair };

@@ -5,7 +5,7 @@ ghost use Rattle.std.specs.Prelude.{◌≡◌, ◌-◌, ◌^◌, ◌∷◌, ◌+
 ghost use Rattle.milter_wire_stream.specs.AppendedBytes.{PutsBytes};
 ghost use Rattle.milter_wire_fields.specs.Field.{port, string};
 ghost use Rattle.milter_wire_fields.specs.Layout.{client, origin, ClientFits, OriginFits};
-ghost use Rattle.milter_wire_fields.specs.Decoding.{client_in, origin_in, endpoint_in};
+ghost use Rattle.milter_wire_fields.specs.Decoders.{client_in, origin_in, endpoint_in};
 ghost use Rattle.milter_wire_fields.specs.Borrowed.{client_of, origin_of};
 
 use crate::families::{SMFIA_INET, SMFIA_INET6, SMFIA_UNIX, SMFIA_UNKNOWN};
@@ -128,7 +128,7 @@ impl Origin {
 
 impl<'a> OriginRef<'a> {
     /// The origin that these bytes encode, all of the bytes.
-    #[tactic(auto, unfolding(crate::specs::Decoding::origin_in))]
+    #[tactic(auto, unfolding(crate::specs::Decoders::origin_in))]
     fn of_payload(bytes: &'a [u8]) -> Option<OriginRef<'a>>
         ensures { option_map origin_of result ≡ origin_in bytes.now }
     {
@@ -215,7 +215,7 @@ impl<'a> OriginRef<'a> {
 
 impl<'a> ClientRef<'a> {
     /// The client that these bytes encode, all of the bytes.
-    #[tactic(auto, unfolding(crate::specs::Decoding::client_in))]
+    #[tactic(auto, unfolding(crate::specs::Decoders::client_in))]
     pub fn of_payload(bytes: &'a [u8]) -> Option<ClientRef<'a>>
         ensures { option_map client_of result ≡ client_in bytes.now }
     {
@@ -265,7 +265,7 @@ fn put_endpoint(out: &mut Vec<u8>, family: u8, at: u16, address: &[u8]) -> Resul
 }
 
 /// The port and the address that these bytes encode, all of the bytes.
-#[tactic(auto, unfolding(crate::specs::Decoding::endpoint_in))]
+#[tactic(auto, unfolding(crate::specs::Decoders::endpoint_in))]
 fn endpoint_of(bytes: &[u8]) -> Option<(u16, &[u8])>
     ensures { option_map (λ x. (x.0, x.1.now)) result ≡ endpoint_in bytes.now }
 {

@@ -4,7 +4,7 @@ ghost use Rattle.std.specs.Prelude.{◌≡◌, ◌-◌, ◌^◌, ◌++◌, ◌�
 ghost use Rattle.milter_wire_stream.specs.AppendedBytes.{PutsBytes};
 ghost use Rattle.milter_wire_stream.specs.Number.{number};
 ghost use Rattle.milter_wire_fields.specs.Layout.{header, HeaderFits};
-ghost use Rattle.milter_wire_fields.specs.Decoding.{DecodesOptional, header_in, indexed_in};
+ghost use Rattle.milter_wire_fields.specs.Decoders.{DecodesOptional, header_in, indexed_in};
 ghost use Rattle.milter_wire_fields.specs.Borrowed.{header_of};
 
 use crate::strings::{has_no_nul, put_string, string_len, take_string};
@@ -45,7 +45,7 @@ impl Header {
 
 impl<'a> HeaderRef<'a> {
     /// The header field that these bytes encode, all of the bytes.
-    #[tactic(auto, unfolding(crate::specs::Decoding::header_in))]
+    #[tactic(auto, unfolding(crate::specs::Decoders::header_in))]
     pub fn of_payload(bytes: &'a [u8]) -> Option<HeaderRef<'a>>
         ensures { option_map header_of result ≡ header_in bytes.now }
     {
@@ -138,7 +138,7 @@ pub fn take_header(alloc: Global, bytes: &[u8]) -> Result<Option<Header>, NoMemo
 }
 
 /// The number and the header field that these bytes encode, all of the bytes.
-#[tactic(auto, unfolding(crate::specs::Decoding::indexed_in))]
+#[tactic(auto, unfolding(crate::specs::Decoders::indexed_in))]
 pub fn take_indexed(alloc: Global, bytes: &[u8]) -> Result<Option<(u32, Header)>, NoMemory>
     ensures { DecodesOptional (indexed_in bytes.now) result }
 {

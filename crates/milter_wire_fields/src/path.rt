@@ -3,7 +3,7 @@
 ghost use Rattle.std.specs.Prelude.{◌≡◌, ◌-◌, ◌^◌, ◌↔◌, IfOk, IsTrue, length, min, option_map};
 ghost use Rattle.milter_wire_stream.specs.AppendedBytes.{PutsBytes};
 ghost use Rattle.milter_wire_fields.specs.Layout.{path, PathFits};
-ghost use Rattle.milter_wire_fields.specs.Decoding.{path_in};
+ghost use Rattle.milter_wire_fields.specs.Decoders.{path_in};
 ghost use Rattle.milter_wire_fields.specs.Borrowed.{path_of};
 
 use crate::borrowed_lists::ParamsRef;
@@ -47,7 +47,7 @@ impl Path {
 
 impl<'a> PathRef<'a> {
     /// The path that these bytes encode, all of the bytes.
-    #[tactic(auto, unfolding(crate::specs::Decoding::path_in))]
+    #[tactic(auto, unfolding(crate::specs::Decoders::path_in))]
     pub fn of_payload(bytes: &'a [u8]) -> Option<PathRef<'a>>
         ensures { option_map path_of result ≡ path_in bytes.now }
     {

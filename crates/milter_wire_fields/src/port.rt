@@ -3,7 +3,7 @@
 ghost use Rattle.std.specs.Prelude.{◌≡◌, ◌++◌, OnOk, option_map};
 ghost use Rattle.milter_wire_stream.specs.AppendedBytes.{PutsBytes};
 ghost use Rattle.milter_wire_fields.specs.Field.{port};
-ghost use Rattle.milter_wire_fields.specs.Decoding.{port_at, port_of};
+ghost use Rattle.milter_wire_fields.specs.Decoders.{port_at, port_of};
 
 use milter_wire_stream::NoMemory;
 
@@ -17,7 +17,7 @@ pub(crate) fn put_port(out: &mut Vec<u8>, value: u16) -> Result<(), NoMemory>
 }
 
 /// The port that two bytes encode, the higher first.
-#[tactic(auto, unfolding(crate::specs::Decoding::port_of))]
+#[tactic(auto, unfolding(crate::specs::Decoders::port_of))]
 fn port_of(a: u8, b: u8) -> u16
     ensures { result ≡ port_of a b }
 {

@@ -2,7 +2,7 @@
 
 ghost use Rattle.std.specs.Prelude.{◌≡◌};
 ghost use Rattle.milter_wire_fields.specs.Layout.{is_reply_code};
-ghost use Rattle.milter_wire_fields.specs.Decoding.{DecodesOptional, reply_code_in};
+ghost use Rattle.milter_wire_fields.specs.Decoders.{DecodesOptional, reply_code_in};
 
 use crate::strings::one_string;
 use crate::text::Text;
@@ -22,7 +22,7 @@ pub fn is_reply_code(text: &[u8]) -> bool
 }
 
 /// The reply code that these bytes encode, all of the bytes.
-#[tactic(auto, unfolding(crate::specs::Decoding::reply_code_in))]
+#[tactic(auto, unfolding(crate::specs::Decoders::reply_code_in))]
 pub fn take_reply_code(alloc: Global, bytes: &[u8]) -> Result<Option<Text>, NoMemory>
     ensures { DecodesOptional (reply_code_in bytes.now) result }
 {

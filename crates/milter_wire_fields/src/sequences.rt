@@ -4,7 +4,7 @@ ghost use Rattle.std.specs.Prelude.{◌≡◌, ◌-◌, ◌^◌, ◌++◌, ◌�
 ghost use Rattle.std.specs.List.{flat_map};
 ghost use Rattle.milter_wire_stream.specs.AppendedBytes.{PutsBytes};
 ghost use Rattle.milter_wire_fields.specs.Field.{HasNoNul, string};
-ghost use Rattle.milter_wire_fields.specs.Decoding.{pairs_in, strings_in};
+ghost use Rattle.milter_wire_fields.specs.Decoders.{pairs_in, strings_in};
 
 use crate::strings::{has_no_nul, put_string, string_len, take_string};
 use crate::text::Text;

@@ -3,7 +3,7 @@
 ghost use Rattle.std.specs.Prelude.{◌≡◌, ◌++◌, ◌↔◌, IsTrue, OnOk, length, option_map};
 ghost use Rattle.milter_wire_stream.specs.AppendedBytes.{PutsBytes};
 ghost use Rattle.milter_wire_fields.specs.Field.{HasNoNul, string};
-ghost use Rattle.milter_wire_fields.specs.Decoding.{DecodesOptional, string_at, string_in};
+ghost use Rattle.milter_wire_fields.specs.Decoders.{DecodesOptional, string_at, string_in};
 
 use crate::nuls::first_nul;
 use crate::text::Text;
@@ -50,7 +50,7 @@ pub fn take_string(bytes: &[u8]) -> Option<(&[u8], &[u8])>
 }
 
 /// The text of the one string that these bytes are, all of the bytes.
-#[tactic(auto, unfolding(crate::specs::Decoding::string_in))]
+#[tactic(auto, unfolding(crate::specs::Decoders::string_in))]
 pub fn one_string(bytes: &[u8]) -> Option<&[u8]>
     ensures { option_map (λ text. text.now) result ≡ string_in bytes.now }
 {

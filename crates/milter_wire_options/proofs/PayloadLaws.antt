@@ -5,7 +5,7 @@ use Rattle.std.proofs.lemmas.Option.{same_Some}
 use Rattle.milter_wire_stream.specs.Number.{number, number_at, IsBytes}
 use Rattle.milter_wire_stream.proofs.StreamLaws.{number_at-number, number_takes}
 use Rattle.milter_wire_fields.specs.Bind.{◌>>=◌}
-use Rattle.milter_wire_fields.specs.Decoding.{ended}
+use Rattle.milter_wire_fields.specs.Decoders.{ended}
 use Rattle.milter_wire_fields.proofs.Binds.{bind_some}
 use Rattle.milter_wire_fields.proofs.Steps.{ended_takes}
 use Rattle.milter_wire_options.specs.declared.options.Options.{Options}

@@ -8,7 +8,7 @@ use Rattle.milter_wire_stream.specs.Number.{IsBytes, number, number_at}
 use Rattle.milter_wire_fields.specs.Field.{string}
 use Rattle.milter_wire_options.specs.Payload.{sym_list, SymListFits, sym_list_at, sym_lists_within, sym_lists_in}
 use Rattle.milter_wire_fields.specs.Bind.{◌>>=◌}
-use Rattle.milter_wire_fields.specs.Decoding.{string_at}
+use Rattle.milter_wire_fields.specs.Decoders.{string_at}
 use Rattle.milter_wire_fields.proofs.Binds.{bind_some}
 use Rattle.milter_wire_stream.proofs.StreamLaws.{number_takes, number_at-number}
 use Rattle.milter_wire_fields.proofs.StringFields.{string_takes, string_at-string, string_at-shorter}

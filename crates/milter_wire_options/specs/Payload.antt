@@ -4,7 +4,7 @@ use Rattle.std.specs.List.{flat_map}
 use Rattle.milter_wire_stream.specs.Number.{number, number_at}
 use Rattle.milter_wire_fields.specs.Field.{string, HasNoNul}
 use Rattle.milter_wire_fields.specs.Bind.{◌>>=◌}
-use Rattle.milter_wire_fields.specs.Decoding.{ended, string_at}
+use Rattle.milter_wire_fields.specs.Decoders.{ended, string_at}
 use Rattle.milter_wire_options.specs.declared.options.Options.{Options}
 use Rattle.milter_wire_options.specs.declared.symbol_lists.SymList.{SymList}
 

@@ -4,7 +4,7 @@ ghost use Rattle.std.specs.Prelude.{◌≡◌, ◌-◌, ◌^◌, ◌↔◌, IsTr
 ghost use Rattle.std.specs.List.{flat_map};
 ghost use Rattle.milter_wire_stream.specs.AppendedBytes.{PutsBytes};
 ghost use Rattle.milter_wire_options.specs.Payload.{options_with_lists, OptionsWithListsFit, sym_list, SymListFits, options_with_lists_in, sym_list_at, sym_lists_in};
-ghost use Rattle.milter_wire_fields.specs.Decoding.{DecodesOptional};
+ghost use Rattle.milter_wire_fields.specs.Decoders.{DecodesOptional};
 
 use crate::options::Options;
 use crate::payload::{OPTIONS_LEN, options_fit, put_options, take_options_first};

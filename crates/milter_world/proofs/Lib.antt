@@ -1,5 +1,5 @@
 mod Connections
 mod EndsByParts
-mod Feeding
-mod Leading
+mod FedFilter
+mod EventRuns
 mod PlayedRounds

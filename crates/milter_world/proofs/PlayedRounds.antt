@@ -11,7 +11,7 @@ use Rattle.milter_world_schedule.specs.DialogueReports.{IsUndisturbed, count_eve
 use Rattle.milter_world_ends.specs.Ends.{Ends, Steps, fresh_ends}
 use Rattle.milter_world.specs.PlayedSessions.{AreUndisturbed, Lives, left_to_move}
 use Rattle.milter_world.specs.Reached.{Leads, after_of}
-use Rattle.milter_world.proofs.Leading.{after-both, at_after, then-events}
+use Rattle.milter_world.proofs.EventRuns.{after-both, at_after, then-events}
 
 -- no event of a round is one of these
 count-none : (is_event : Event → Bool) (events : List Event) (n : ℕ) → count_events is_event events ≡ 0 → count_events is_event (round n) ≡ 0

@@ -29,7 +29,7 @@ use Rattle.milter_world_schedule.specs.declared.state.State.{State}
 use Rattle.milter_world_schedule.specs.Schedule.{Scenario, happens, idle_at, lines_at, entries_at}
 use Rattle.milter_world_schedule.specs.declared.state.State.TheVariants.{Idle, Linked, Done}
 use Rattle.milter_world_transcript.specs.ConnectionEntries.{Entry, lines_of, default_within, reports_within}
-use Rattle.milter_world_transcript.proofs.ByteCounting.{by_lt, owed-le, positive}
+use Rattle.milter_world_transcript.proofs.CountedBytes.{by_lt, owed-le, positive}
 use Rattle.milter_world_schedule.proofs.EntryAccounts.{added, drop-past}
 use Rattle.milter_world_progress.proofs.Pieces.{AddsUp, at-nothing}
 use Rattle.milter_world_ends.proofs.PieceMoves.{received-counts, received-way, receives_bytes-piece, is-owed}

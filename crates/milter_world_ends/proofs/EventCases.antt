@@ -7,7 +7,7 @@ use Rattle.milter_mta.specs.declared.want.Want.TheVariants as wants
 use Rattle.milter_mta.specs.Mta.{FilterConnection}
 use Rattle.milter_mta.specs.Output.{want, want_in, want_unconnected}
 use Rattle.milter_mta.specs.Dispositions.{lost as lost_by}
-use Rattle.milter_world_transcript.proofs.ByteCounting.{by_lt, lt-ltb}
+use Rattle.milter_world_transcript.proofs.CountedBytes.{by_lt, lt-ltb}
 use Rattle.milter_mta_outcome.specs.declared.loss.Loss.{Loss}
 use Rattle.milter_world_schedule.specs.declared.event.Event.{Event}
 use Rattle.milter_world_schedule.specs.declared.event.Event.TheVariants.{Dial, Send, ToFilter, Answer, ToMta, Die, Lose, Timeout}

@@ -26,7 +26,7 @@ use Rattle.milter_world_schedule.specs.declared.state.State.{State}
 use Rattle.milter_world_schedule.specs.Schedule.{Scenario, happens, lines_at, sent_to, entries_at}
 use Rattle.milter_world_schedule.specs.declared.state.State.TheVariants.{Idle, Linked, Done}
 use Rattle.milter_world_transcript.specs.ConnectionEntries.{default_reports}
-use Rattle.milter_world_transcript.proofs.ByteCounting.{by_lt, due-le, lt-ltb, owed-le, owed-mono, packet_end-due}
+use Rattle.milter_world_transcript.proofs.CountedBytes.{by_lt, due-le, lt-ltb, owed-le, owed-mono, packet_end-due}
 use Rattle.milter_world_progress.proofs.Pieces.{wants-nothing, wants-receive, wants-send}
 use Rattle.milter_world_progress.proofs.Steps.{want-advanced}
 use Rattle.milter_world_ends.proofs.PieceMoves.{CoresGiveUp, CoresSend, CoresTake, all-taken, answered-counts, answered-way, answers-piece, counts-now, fails-not, none_on_way, pending-length, pipe-len, pending-len, sends-piece, sent-counts, sent-way, serving, takes-piece, is-owed}

@@ -4,7 +4,7 @@ use Rattle.milter_message.specs.MailObject.{MailObject}
 use Rattle.milter_mta.specs.declared.want.Want.TheVariants as wants
 use Rattle.milter_mta.specs.Mta.{fresh}
 use Rattle.milter_mta.specs.Output.{want, want_unconnected}
-use Rattle.milter_world_transcript.proofs.ByteCounting.{lt-ltb}
+use Rattle.milter_world_transcript.proofs.CountedBytes.{lt-ltb}
 use Rattle.milter_world_schedule.specs.declared.state.State.TheVariants.{Idle, Done}
 use Rattle.milter_world_schedule.specs.Schedule.{Scenario, first}
 use Rattle.milter_world_ends.specs.Ends.{AreEndsOf, IsPossible, IsReportedByDialogues, fresh_ends}

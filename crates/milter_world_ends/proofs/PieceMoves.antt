@@ -21,7 +21,7 @@ use Rattle.milter_world_schedule.specs.Rounds.{AreCounts}
 use Rattle.milter_world_ends.specs.Ends.{IsFilterAt}
 use Rattle.milter_world_progress.specs.FollowedLines.{IsMtaAt}
 use Rattle.milter_world_schedule.specs.declared.state.Counts.{Counts}
-use Rattle.milter_world_transcript.proofs.ByteCounting.{due-le, due-mono, owed-due, owed-le, owed-mono, packet_end-due, packet_end-more}
+use Rattle.milter_world_transcript.proofs.CountedBytes.{due-le, due-mono, owed-due, owed-le, owed-mono, packet_end-due, packet_end-more}
 use Rattle.milter_world_progress.proofs.Pieces.{AddsUp, goes-on, receives_bytes, not_lost, pends, sends}
 use Rattle.milter_world_progress.proofs.Steps.{advanced-again, sent-nothing}
 

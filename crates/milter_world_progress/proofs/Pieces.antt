@@ -13,7 +13,7 @@ use Rattle.milter_mta.specs.Output.{advanced, pending, sent, want}
 use Rattle.milter_mta_laws.specs.Lines.{Line, after_line, next_packet, sent_whole}
 use Rattle.milter_world_transcript.specs.ByteCounts.{due, owed, packet_end, to_filter, to_mta}
 use Rattle.milter_world_progress.specs.FollowedLines.{IsWaiting, SendsLine, SendsLines, after_at, begun}
-use Rattle.milter_world_transcript.proofs.ByteCounting.{by_lt, due-past, due-wait, lt-ltb, owed-part, owed-whole, packet_end-part, packet_end-past, positive}
+use Rattle.milter_world_transcript.proofs.CountedBytes.{by_lt, due-past, due-wait, lt-ltb, owed-part, owed-whole, packet_end-part, packet_end-past, positive}
 use Rattle.milter_world_progress.proofs.Steps.{advanced-full, pending-sent, sent-nothing, want-advanced, want-sent}
 
 pub goes-on : (after : After) → after.loss ≡ None → after ≡ goes_on after.mta

@@ -18,7 +18,7 @@ use Rattle.milter_world_progress.specs.FollowedLines.{Follows, SendsLines, Takes
 use Rattle.milter_world_progress.specs.FollowedLines.{IsMtaAt}
 use Rattle.milter_world_schedule.specs.declared.state.Counts.{Counts}
 use Rattle.milter_world_transcript.specs.ConnectionEntries.{Entry, default_reports, lines_of, default_within, reports_within}
-use Rattle.milter_world_transcript.proofs.ByteCounting.{by_lt, owed-part, owed-whole}
+use Rattle.milter_world_transcript.proofs.CountedBytes.{by_lt, owed-part, owed-whole}
 use Rattle.milter_world_progress.proofs.Pieces.{at-part, at-past, at-wait, part-at}
 use Rattle.milter_world_progress.proofs.Steps.{sent-nothing}
 

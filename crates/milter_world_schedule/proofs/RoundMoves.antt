@@ -11,7 +11,7 @@ use Rattle.milter_world_schedule.specs.declared.state.State.TheVariants.{Linked,
 use Rattle.milter_world_schedule.specs.Rounds.{MovesOn, after_round, round}
 use Rattle.milter_world_schedule.specs.Rounds.{AreCounts}
 use Rattle.milter_world_schedule.specs.Schedule.{After, Scenario, after_all, if_lives, lines_at, sends, sent_to}
-use Rattle.milter_world_transcript.proofs.ByteCounting.{by_lt, due-le, lt-ltb, owed-mono, packet_end-due}
+use Rattle.milter_world_transcript.proofs.CountedBytes.{by_lt, due-le, lt-ltb, owed-mono, packet_end-due}
 use Rattle.milter_world_schedule.proofs.Moves.{sends-moves, waits-moves}
 
 not_all : (a b : ℕ) → (a == b) ≡ false → a ≤ b → a < b

@@ -20,7 +20,7 @@ use Rattle.milter_protocol.specs.OrderStates.{OrderState, fresh, order_state_aft
 use Rattle.milter_mta_laws.specs.Lines.{Line}
 use Rattle.milter_filter_core.specs.Streams.{fault_after, received_in}
 use Rattle.milter_world_transcript.specs.ByteCounts.{owed, to_filter, to_mta}
-use Rattle.milter_world_transcript.proofs.ByteCounting.{by_lt}
+use Rattle.milter_world_transcript.proofs.CountedBytes.{by_lt}
 use Rattle.milter_world_transcript.specs.Answered.{AnswersLines, Replies}
 
 take-past : {A : Type 0} (xs ys : List A) (n : ℕ) → length xs ≤ n → take n (xs ++ ys) ≡ xs ++ take (n - length xs) ys

@@ -22,7 +22,7 @@ use Rattle.milter_mta_laws.specs.Settled.{ends_with_client, ends_with_message}
 use Rattle.milter_mta_laws.specs.Dialogues.{opening_of}
 use Rattle.milter_world_transcript.specs.ByteCounts.{due, to_filter, to_mta}
 use Rattle.milter_world_transcript.specs.ConnectionEntries.{Entry, entries_after, entries_from, entry_of, exchange_entries, lines_of, reports_of, connection_entries}
-use Rattle.milter_world_transcript.proofs.ByteCounting.{by_lt, due-past, due-wait, positive}
+use Rattle.milter_world_transcript.proofs.CountedBytes.{by_lt, due-past, due-wait, positive}
 
 -- ---- the lines of the entries
 

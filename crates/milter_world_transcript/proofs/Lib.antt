@@ -1,4 +1,4 @@
-pub mod ByteCounting
+pub mod CountedBytes
 pub mod EntryLines
 mod DialogueAnswers
 mod ByteAnswers

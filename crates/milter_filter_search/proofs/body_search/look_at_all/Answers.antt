@@ -1,7 +1,7 @@
 use Rattle.std.proofs.Common.{subst, sym}
 use Rattle.std.proofs.lemmas.List.Elements.{All-set}
 use Rattle.milter_filter_search.specs.Searches.{HasRead}
-use Rattle.milter_filter_search.proofs.Reading.{read_all}
+use Rattle.milter_filter_search.proofs.BodySearches.{read_all}
 use Rattle.milter_filter_search.proofs.body_search.look_at_all.Goals as goal
 
 pub look_at-requires : goal.look_at-requires

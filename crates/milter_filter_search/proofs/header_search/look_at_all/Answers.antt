@@ -1,7 +1,7 @@
 use Rattle.std.proofs.Common.{subst, sym}
 use Rattle.std.proofs.lemmas.List.Elements.{All-set}
 use Rattle.milter_filter_search.specs.Searches.{HasLooked}
-use Rattle.milter_filter_search.proofs.Looking.{looked_all}
+use Rattle.milter_filter_search.proofs.HeaderSearches.{looked_all}
 use Rattle.milter_filter_search.proofs.header_search.look_at_all.Goals as goal
 
 pub look_at-requires : goal.look_at-requires

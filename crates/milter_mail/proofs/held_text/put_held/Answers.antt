@@ -1,6 +1,6 @@
 use Rattle.std.proofs.Common.{refl}
 use Rattle.milter_mail.specs.HeldText.{held_text, message_lines, reason_line}
-use Rattle.milter_text.proofs.Writing.{Progress-fail, Progress-last, Progress-next, Progress-none}
+use Rattle.milter_text.proofs.TextWriters.{Progress-fail, Progress-last, Progress-next, Progress-none}
 use Rattle.milter_mail.proofs.held_text.put_held.Goals as goal
 
 pub returns-in_err-put_reason : goal.returns-in_err-put_reason

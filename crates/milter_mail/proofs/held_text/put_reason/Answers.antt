@@ -1,5 +1,5 @@
 use Rattle.std.proofs.Common.{refl}
-use Rattle.milter_text.proofs.Writing.{Progress-all, Progress-none}
+use Rattle.milter_text.proofs.TextWriters.{Progress-all, Progress-none}
 use Rattle.milter_mail.proofs.held_text.put_reason.Goals as goal
 
 pub returns-in-None : goal.returns-in-None

@@ -1,7 +1,7 @@
 use Rattle.std.proofs.Common.{refl, [], ◌∷◌, ◌++◌, codes}
 use Rattle.std.specs.List.{flat_map}
 use Rattle.milter_mail.specs.HeldText.{header_line, line_of}
-use Rattle.milter_text.proofs.Writing.{Progress-fail, Progress-last, Progress-next, Progress-none}
+use Rattle.milter_text.proofs.TextWriters.{Progress-fail, Progress-last, Progress-next, Progress-none}
 use Rattle.milter_mail.proofs.message_lines.put_content.Goals as goal
 
 pub returns-in_err-put_headers : goal.returns-in_err-put_headers

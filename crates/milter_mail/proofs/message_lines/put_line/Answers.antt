@@ -1,6 +1,6 @@
 use Rattle.std.proofs.Common.{refl, [], ◌∷◌, ◌++◌, append_assoc}
 use Rattle.milter_mail.specs.HeldText.{line_of, text_of, texts_of}
-use Rattle.milter_text.proofs.Writing.{Progress-fail, Progress-last, Progress-next, Progress-none}
+use Rattle.milter_text.proofs.TextWriters.{Progress-fail, Progress-last, Progress-next, Progress-none}
 use Rattle.milter_mail.proofs.message_lines.put_line.Goals as goal
 
 pub returns-in_err-put : goal.returns-in_err-put

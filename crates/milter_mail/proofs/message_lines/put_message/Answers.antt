@@ -1,6 +1,6 @@
 use Rattle.std.proofs.Common.{refl}
 use Rattle.milter_mail.specs.HeldText.{content_lines, envelope_lines}
-use Rattle.milter_text.proofs.Writing.{Progress-fail, Progress-last, Progress-next, Progress-none}
+use Rattle.milter_text.proofs.TextWriters.{Progress-fail, Progress-last, Progress-next, Progress-none}
 use Rattle.milter_mail.proofs.message_lines.put_message.Goals as goal
 
 pub returns-in_err-put_envelope : goal.returns-in_err-put_envelope

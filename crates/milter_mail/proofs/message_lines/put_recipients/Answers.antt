@@ -1,6 +1,6 @@
 use Rattle.std.proofs.Common.{codes}
 use Rattle.milter_mail.specs.HeldText.{path_line}
-use Rattle.milter_text.proofs.Writing.{Progress-fail, Progress-next, Progress-none, flat_map-next}
+use Rattle.milter_text.proofs.TextWriters.{Progress-fail, Progress-next, Progress-none, flat_map-next}
 use Rattle.milter_mail.proofs.message_lines.put_recipients.Goals as goal
 
 pub loop-recipient-init : goal.loop-recipient-init

@@ -1,7 +1,7 @@
 use Rattle.std.proofs.Common.{drop, codes}
 use Rattle.std.specs.List.{flat_map}
 use Rattle.milter_mail.specs.HeldText.{path_line}
-use Rattle.milter_text.proofs.Writing.{Progress}
+use Rattle.milter_text.proofs.TextWriters.{Progress}
 use Rattle.milter_mail.proofs.message_lines.put_recipients.Given as goal
 
 abbrev pub invariant-loop-recipient : goal.invariant-loop-recipient

@@ -1,5 +1,5 @@
 use Rattle.milter_mail.specs.HeldText.{text_of}
-use Rattle.milter_text.proofs.Writing.{Progress-fail, Progress-next, Progress-none, flat_map-next}
+use Rattle.milter_text.proofs.TextWriters.{Progress-fail, Progress-next, Progress-none, flat_map-next}
 use Rattle.milter_mail.proofs.message_lines.put_texts.Goals as goal
 
 pub loop-text-init : goal.loop-text-init

@@ -1,7 +1,7 @@
 use Rattle.std.proofs.Common.{drop}
 use Rattle.std.specs.List.{flat_map}
 use Rattle.milter_mail.specs.HeldText.{text_of}
-use Rattle.milter_text.proofs.Writing.{Progress}
+use Rattle.milter_text.proofs.TextWriters.{Progress}
 use Rattle.milter_mail.proofs.message_lines.put_texts.Given as goal
 
 abbrev pub invariant-loop-text : goal.invariant-loop-text

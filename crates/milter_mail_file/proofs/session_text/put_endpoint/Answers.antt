@@ -1,7 +1,7 @@
 use Rattle.std.proofs.Common.{[], ◌∷◌, ◌++◌, refl}
 use Rattle.std.specs.Prelude.{decimal}
 use Rattle.milter_mail.specs.HeldText.{line_of, text_of}
-use Rattle.milter_text.proofs.Writing.{Progress-fail, Progress-last, Progress-next, Progress-none}
+use Rattle.milter_text.proofs.TextWriters.{Progress-fail, Progress-last, Progress-next, Progress-none}
 use Rattle.milter_mail_file.proofs.session_text.put_endpoint.Goals as goal
 
 pub returns-in_err-put : goal.returns-in_err-put

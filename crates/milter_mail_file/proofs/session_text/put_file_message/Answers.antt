@@ -1,6 +1,6 @@
 use Rattle.std.proofs.Common.{codes, refl}
 use Rattle.milter_mail.specs.HeldText.{message_lines}
-use Rattle.milter_text.proofs.Writing.{Progress-fail, Progress-last, Progress-next, Progress-none}
+use Rattle.milter_text.proofs.TextWriters.{Progress-fail, Progress-last, Progress-next, Progress-none}
 use Rattle.milter_mail_file.proofs.session_text.put_file_message.Goals as goal
 
 pub returns-in_err-put : goal.returns-in_err-put

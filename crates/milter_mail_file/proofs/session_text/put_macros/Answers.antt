@@ -5,7 +5,7 @@ use Rattle.milter_mail_file.specs.SessionText.{macro_lines}
 use Rattle.milter_wire_options.specs.declared.macro_stage.MacroStage.{MacroStage}
 use Rattle.milter_wire_options.specs.declared.macro_stage.MacroStage.TheVariants.{Connect}
 use Rattle.milter_wire_options.specs.MacroStages.{macro_stages}
-use Rattle.milter_text.proofs.Writing.{Progress-fail, Progress-next, Progress-none}
+use Rattle.milter_text.proofs.TextWriters.{Progress-fail, Progress-next, Progress-none}
 use Rattle.milter_mail_file.proofs.session_text.put_macros.Goals as goal
 
 next_stage : (macros : Macros) (stages : List MacroStage) (i : ℕ) → i < length stages

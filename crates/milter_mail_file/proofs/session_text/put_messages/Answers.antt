@@ -1,5 +1,5 @@
 use Rattle.milter_mail_file.specs.SessionText.{message_text}
-use Rattle.milter_text.proofs.Writing.{Progress-fail, Progress-next, Progress-none, flat_map-next}
+use Rattle.milter_text.proofs.TextWriters.{Progress-fail, Progress-next, Progress-none, flat_map-next}
 use Rattle.milter_mail_file.proofs.session_text.put_messages.Goals as goal
 
 pub loop-message-init : goal.loop-message-init

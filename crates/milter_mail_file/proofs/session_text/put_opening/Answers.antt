@@ -1,7 +1,7 @@
 use Rattle.std.proofs.Common.{◌++◌, ◌∷◌, [], codes, refl}
 use Rattle.milter_mail.specs.HeldText.{line_of}
 use Rattle.milter_mail_file.specs.SessionText.{all_macro_lines, client_line, opening_text}
-use Rattle.milter_text.proofs.Writing.{Progress-fail, Progress-last, Progress-next, Progress-none}
+use Rattle.milter_text.proofs.TextWriters.{Progress-fail, Progress-last, Progress-next, Progress-none}
 use Rattle.milter_mail_file.proofs.session_text.put_opening.Goals as goal
 
 pub returns-in_err-put_client : goal.returns-in_err-put_client

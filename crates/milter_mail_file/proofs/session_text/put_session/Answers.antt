@@ -1,7 +1,7 @@
 use Rattle.std.proofs.Common.{refl}
 use Rattle.std.specs.List.{flat_map}
 use Rattle.milter_mail_file.specs.SessionText.{message_text, opening_text, session_text}
-use Rattle.milter_text.proofs.Writing.{Progress-fail, Progress-last, Progress-next, Progress-none}
+use Rattle.milter_text.proofs.TextWriters.{Progress-fail, Progress-last, Progress-next, Progress-none}
 use Rattle.milter_mail_file.proofs.session_text.put_session.Goals as goal
 
 pub returns-in_err-put_opening : goal.returns-in_err-put_opening

@@ -1,5 +1,5 @@
 use Rattle.milter_mail_file.specs.SessionText.{macro_line}
-use Rattle.milter_text.proofs.Writing.{Progress-fail, Progress-next, Progress-none, flat_map-next}
+use Rattle.milter_text.proofs.TextWriters.{Progress-fail, Progress-next, Progress-none, flat_map-next}
 use Rattle.milter_mail_file.proofs.session_text.put_stage.Goals as goal
 
 pub loop-pair-init : goal.loop-pair-init

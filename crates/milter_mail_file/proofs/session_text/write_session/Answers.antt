@@ -1,6 +1,6 @@
 use Rattle.std.proofs.Common.{◌≡◌, rules}
 use Rattle.milter_mail_file.specs.SessionText.{session_text}
-use Rattle.milter_text.proofs.Writing.{on_err, on_ok, text_is_cut, text_is_flushed}
+use Rattle.milter_text.proofs.TextWriters.{on_err, on_ok, text_is_cut, text_is_flushed}
 use Rattle.milter_mail_file.proofs.session_text.write_session.Goals as goal
 
 pub returns-in_err-put_session-clause-begun : goal.returns-in_err-put_session-clause-begun

@@ -7,7 +7,7 @@ use Rattle.milter_mta.specs.Dispositions.{lost}
 use Rattle.milter_mta_client.specs.ConnectionRuns.{IsBetween, Steps}
 use Rattle.milter_mta_client.specs.Events.Event.{Dialled, GaveUp}
 use Rattle.milter_mta_client.proofs.Connected.{lost-between}
-use Rattle.milter_mta_client.proofs.Stepping.{one-step, steps-on}
+use Rattle.milter_mta_client.proofs.EventRuns.{one-step, steps-on}
 use Rattle.milter_mta_client.proofs.client.drive_all.Goals as goal
 
 pub loop-dial-preserved-in-Ok : goal.loop-dial-preserved-in-Ok

@@ -4,7 +4,7 @@ use Rattle.milter_mta.specs.Dispositions.{lost}
 use Rattle.milter_mta_client.specs.ConnectionRuns.{IsBetween, Steps}
 use Rattle.milter_mta_client.specs.Events.Event.{GaveUp}
 use Rattle.milter_mta_client.proofs.Connected.{lost-between}
-use Rattle.milter_mta_client.proofs.Stepping.{one-step, steps-on}
+use Rattle.milter_mta_client.proofs.EventRuns.{one-step, steps-on}
 use Rattle.milter_mta_client.proofs.client.give_up_messages.Goals as goal
 
 pub loop-core-preserved : goal.loop-core-preserved

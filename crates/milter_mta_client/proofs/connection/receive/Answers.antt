@@ -1,5 +1,5 @@
 use Rattle.std.proofs.Common.{Ok, Err, refl, take}
-use Rattle.milter_mta_client.proofs.Turning.{some-taken}
+use Rattle.milter_mta_client.proofs.ConnectionTurns.{some-taken}
 use Rattle.milter_mta_client.proofs.connection.receive.Goals as goal
 
 pub returns-in-Ok : goal.returns-in-Ok

@@ -1,4 +1,4 @@
-use Rattle.milter_mta_client.proofs.Turning.{writes}
+use Rattle.milter_mta_client.proofs.ConnectionTurns.{writes}
 use Rattle.milter_mta_client.proofs.connection.transmit.Goals as goal
 
 pub returns : goal.returns

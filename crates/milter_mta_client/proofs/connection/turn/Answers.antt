@@ -1,5 +1,5 @@
 use Rattle.std.proofs.Common.{sym, ◌∙◌}
-use Rattle.milter_mta_client.proofs.Turning.{receives-turns, transmits-turns}
+use Rattle.milter_mta_client.proofs.ConnectionTurns.{receives-turns, transmits-turns}
 use Rattle.milter_mta_client.proofs.connection.turn.Goals as goal
 
 pub returns-in-Send : goal.returns-in-Send

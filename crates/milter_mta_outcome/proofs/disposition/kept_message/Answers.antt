@@ -2,7 +2,7 @@ use Rattle.milter_wire.specs.declared.command.Command.TheVariants as commands
 use Rattle.milter_wire.specs.Command.{Fits}
 use Rattle.milter_message.specs.MailObject.{IsMessage}
 use Rattle.milter_mta_outcome.specs.ActedVerdicts.{rcpt_verdicts, kept}
-use Rattle.milter_mta_outcome.proofs.Keeping.{all_kept}
+use Rattle.milter_mta_outcome.proofs.KeptRecipients.{all_kept}
 use Rattle.milter_mta_outcome.proofs.disposition.kept_message.Goals as goal
 
 pub from_parts-requires : goal.from_parts-requires

@@ -1,6 +1,6 @@
 use Rattle.std.proofs.Common.{rules, drop}
 use Rattle.milter_mta_outcome.specs.ActedVerdicts.{rcpt_verdicts}
-use Rattle.milter_mta_outcome.proofs.Keeping.{kept_from_retain}
+use Rattle.milter_mta_outcome.proofs.KeptRecipients.{kept_from_retain}
 use Rattle.milter_mta_outcome.proofs.disposition.remove_refused.Goals as goal
 
 pub returns : goal.returns

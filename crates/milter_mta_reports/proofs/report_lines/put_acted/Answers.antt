@@ -1,7 +1,7 @@
 use Rattle.std.proofs.Common.{◌++◌, codes, refl}
 use Rattle.milter_wire.specs.Stages.{name_of}
 use Rattle.milter_mta_reports.specs.ReportsText.{numbered, verdict_line}
-use Rattle.milter_text.proofs.Writing.{Progress-fail, Progress-last, Progress-next, Progress-none}
+use Rattle.milter_text.proofs.TextWriters.{Progress-fail, Progress-last, Progress-next, Progress-none}
 use Rattle.milter_mta_reports.proofs.report_lines.put_acted.Goals as goal
 
 pub returns-in_err-put : goal.returns-in_err-put

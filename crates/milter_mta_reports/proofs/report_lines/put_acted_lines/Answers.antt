@@ -1,5 +1,5 @@
 use Rattle.milter_mta_reports.specs.ReportsText.{acted_line}
-use Rattle.milter_text.proofs.Writing.{Progress-fail, Progress-next, Progress-none, flat_map-next}
+use Rattle.milter_text.proofs.TextWriters.{Progress-fail, Progress-next, Progress-none, flat_map-next}
 use Rattle.milter_mta_reports.proofs.report_lines.put_acted_lines.Goals as goal
 
 pub loop-acted-init : goal.loop-acted-init

@@ -1,7 +1,7 @@
 use Rattle.std.proofs.Common.{drop}
 use Rattle.std.specs.List.{flat_map}
 use Rattle.milter_mta_reports.specs.ReportsText.{acted_line}
-use Rattle.milter_text.proofs.Writing.{Progress}
+use Rattle.milter_text.proofs.TextWriters.{Progress}
 use Rattle.milter_mta_reports.proofs.report_lines.put_acted_lines.Given as goal
 
 abbrev pub invariant-loop-acted : goal.invariant-loop-acted

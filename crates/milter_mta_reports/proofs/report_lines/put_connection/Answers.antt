@@ -1,6 +1,6 @@
 use Rattle.std.proofs.Common.{codes, refl}
 use Rattle.milter_mta_reports.specs.ReportsText.{verdict_line}
-use Rattle.milter_text.proofs.Writing.{Progress-all, Progress-fail, Progress-last, Progress-next, Progress-none}
+use Rattle.milter_text.proofs.TextWriters.{Progress-all, Progress-fail, Progress-last, Progress-next, Progress-none}
 use Rattle.milter_mta_reports.proofs.report_lines.put_connection.Goals as goal
 
 pub returns-in_default : goal.returns-in_default

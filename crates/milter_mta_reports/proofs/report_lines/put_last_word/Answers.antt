@@ -1,6 +1,6 @@
 use Rattle.std.proofs.Common.{ℕ, List, [], ◌∷◌, ◌++◌, ap, append-nil, refl}
 use Rattle.milter_mail.specs.HeldText.{line_of}
-use Rattle.milter_text.proofs.Writing.{Progress-fail, Progress-last, Progress-next, Progress-none}
+use Rattle.milter_text.proofs.TextWriters.{Progress-fail, Progress-last, Progress-next, Progress-none}
 use Rattle.milter_mta_reports.proofs.report_lines.put_last_word.Goals as goal
 
 pub returns-in_err-put : goal.returns-in_err-put

@@ -1,6 +1,6 @@
 use Rattle.std.proofs.Common.{◌++◌, codes, refl}
 use Rattle.milter_mta_reports.specs.ReportsText.{by_words, numbered, outcome_line}
-use Rattle.milter_text.proofs.Writing.{Progress-fail, Progress-last, Progress-next, Progress-none}
+use Rattle.milter_text.proofs.TextWriters.{Progress-fail, Progress-last, Progress-next, Progress-none}
 use Rattle.milter_mta_reports.proofs.report_lines.put_message_line.Goals as goal
 
 pub returns-in_err-put_numbered : goal.returns-in_err-put_numbered

@@ -1,7 +1,7 @@
 use Rattle.std.proofs.Common.{refl}
 use Rattle.std.specs.List.{flat_map}
 use Rattle.milter_mta_reports.specs.ReportsText.{acted_line, message_line}
-use Rattle.milter_text.proofs.Writing.{Progress-fail, Progress-last, Progress-next, Progress-none}
+use Rattle.milter_text.proofs.TextWriters.{Progress-fail, Progress-last, Progress-next, Progress-none}
 use Rattle.milter_mta_reports.proofs.report_lines.put_report.Goals as goal
 
 pub returns-in_err-put_message_line : goal.returns-in_err-put_message_line

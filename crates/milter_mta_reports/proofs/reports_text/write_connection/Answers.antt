@@ -1,7 +1,7 @@
 use Rattle.std.proofs.Common.{◌≡◌, rules}
 use Rattle.std.specs.Option.{option_copied}
 use Rattle.milter_mta_reports.specs.ReportsText.{connection_line}
-use Rattle.milter_text.proofs.Writing.{text_is_cut, text_is_flushed}
+use Rattle.milter_text.proofs.TextWriters.{text_is_cut, text_is_flushed}
 use Rattle.milter_mta_reports.proofs.reports_text.write_connection.Goals as goal
 
 pub returns-in_err-put_connection : goal.returns-in_err-put_connection

@@ -1,6 +1,6 @@
 use Rattle.std.proofs.Common.{◌≡◌, rules}
 use Rattle.milter_mta_reports.specs.ReportsText.{report_lines}
-use Rattle.milter_text.proofs.Writing.{text_is_cut, text_is_flushed}
+use Rattle.milter_text.proofs.TextWriters.{text_is_cut, text_is_flushed}
 use Rattle.milter_mta_reports.proofs.reports_text.write_lines.Goals as goal
 
 pub returns-in_err-put_report : goal.returns-in_err-put_report

@@ -1,5 +1,5 @@
 use Rattle.std.proofs.Common.{ap, refl}
-use Rattle.milter_text.proofs.Writing.{WritesAllBut-none}
+use Rattle.milter_text.proofs.TextWriters.{WritesAllBut-none}
 use Rattle.milter_mta_reports.specs.ReportsText.{released_text, report_lines, report_text}
 use Rattle.milter_mta_reports.proofs.WrittenParts.{all_is_written, is_written, last_is_written, nothing_released, part_fails, part_is_written}
 use Rattle.milter_mta_reports.proofs.reports_text.write_report.Goals as goal

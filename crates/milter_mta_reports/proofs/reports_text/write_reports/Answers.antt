@@ -1,9 +1,9 @@
 use Rattle.std.proofs.Common.{refl}
 use Rattle.std.specs.List.{enumerate_from, flat_map}
-use Rattle.milter_text.proofs.Writing.{WritesAllBut-none}
+use Rattle.milter_text.proofs.TextWriters.{WritesAllBut-none}
 use Rattle.milter_mta_reports.specs.ReportsText.{connection_line, report_text, reports_text}
 use Rattle.milter_mta_reports.proofs.WrittenParts.{last_is_written, part_fails, part_is_written}
-use Rattle.milter_text.proofs.Writing.{on_err, on_ok}
+use Rattle.milter_text.proofs.TextWriters.{on_err, on_ok}
 use Rattle.milter_mta_reports.proofs.reports_text.write_reports.Goals as goal
 
 pub returns-in_err-write_connection-clause-begun : goal.returns-in_err-write_connection-clause-begun

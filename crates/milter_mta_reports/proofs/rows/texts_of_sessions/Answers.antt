@@ -1,6 +1,6 @@
 use Rattle.std.proofs.Common.{refl}
 use Rattle.std.specs.Fmt.{digits}
-use Rattle.milter_text.specs.Quoting.{quoted}
+use Rattle.milter_text.specs.QuotedText.{quoted}
 use Rattle.milter_mail.specs.HeldText.{held_text, line_of}
 use Rattle.milter_mta_reports.specs.ReportsText.{report_text, reports_text}
 use Rattle.milter_mta_reports.proofs.rows.texts_of_sessions.Goals as goal

@@ -4,7 +4,7 @@ use Rattle.milter_wire.specs.Stages.{stage_of}
 use Rattle.milter_mta_transaction.specs.OutgoingValue.{outgoing}
 use Rattle.milter_mta_transaction.specs.PlanCursor.{steps_from}
 use Rattle.milter_mta_transaction.proofs.StagesFound.{first_found, none_mapped}
-use Rattle.milter_mta_transaction.proofs.Stepping.{at_end, fewer_after, in_next}
+use Rattle.milter_mta_transaction.proofs.NumberedCommands.{at_end, fewer_after, in_next}
 use Rattle.milter_mta_transaction.proofs.plan_cursor.first_from.Goals as goal
 
 pub loop-stage-smaller : goal.loop-stage-smaller

@@ -4,7 +4,7 @@ use Rattle.milter_wire.specs.declared.command_ref.CommandRef.{CommandRef}
 use Rattle.milter_wire.specs.BorrowedCommand.{command_of}
 use Rattle.milter_mta_transaction.specs.OutgoingValue.{outgoing}
 use Rattle.milter_mta_transaction.specs.PlanCursor.{commands_of, one_of_two}
-use Rattle.milter_mta_transaction.proofs.Stepping.{left_out, paired, plain}
+use Rattle.milter_mta_transaction.proofs.NumberedCommands.{left_out, paired, plain}
 use Rattle.milter_mta_transaction.proofs.plan_cursor.step_at.Goals as goal
 
 pub returns-then-not-is_sent : goal.returns-then-not-is_sent

@@ -1,5 +1,5 @@
 use Rattle.milter_protocol.specs.FilterEnds.{step}
-use Rattle.milter_protocol.proofs.Going.{after-append, replies-append}
+use Rattle.milter_protocol.proofs.StepSequences.{after-append, replies-append}
 use Rattle.milter_protocol.proofs.filter_end_laws.filter_ends_go_on.Goals as goal
 
 pub returns-clause-filter_end : goal.returns-clause-filter_end

@@ -1,5 +1,5 @@
 use Rattle.milter_protocol.specs.OrderStates.{order_step}
-use Rattle.milter_protocol.proofs.Going.{after-append, replies-append}
+use Rattle.milter_protocol.proofs.StepSequences.{after-append, replies-append}
 use Rattle.milter_protocol.proofs.filter_end_laws.order_states_go_on.Goals as goal
 
 pub returns-clause-order_state : goal.returns-clause-order_state

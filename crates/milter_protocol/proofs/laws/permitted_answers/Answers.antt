@@ -1,6 +1,6 @@
 use Rattle.std.proofs.lemmas.List.Elements.{filter_passes}
 use Rattle.milter_protocol.specs.Permitted.{is_permitted}
-use Rattle.milter_protocol.proofs.Permitting.{permitted-again}
+use Rattle.milter_protocol.proofs.PermittedEdits.{permitted-again}
 use Rattle.milter_protocol.proofs.laws.permitted_answers.Goals as goal
 
 pub returns-clause-edits : goal.returns-clause-edits

@@ -1,4 +1,4 @@
-use Rattle.milter_protocol.proofs.Seeing.{seen-with, value-append}
+use Rattle.milter_protocol.proofs.SeenCommands.{seen-with, value-append}
 use Rattle.milter_protocol.proofs.laws.seen_in_turn.Goals as goal
 
 pub returns-clause-seen : goal.returns-clause-seen

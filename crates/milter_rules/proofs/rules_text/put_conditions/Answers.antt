@@ -2,7 +2,7 @@ use Rattle.std.proofs.Common.{◌≡◌, ℕ, ◌+◌, ◌<◌, List, ◌∷◌,
 use Rattle.std.proofs.Common.{refl, ◌∙◌}
 use Rattle.std.proofs.lemmas.List.Concat.{flat_map-append}
 use Rattle.milter_text.specs.WordValues.{keyword}
-use Rattle.milter_text.proofs.Writing.{Progress-fail, Progress-next, Progress-none}
+use Rattle.milter_text.proofs.TextWriters.{Progress-fail, Progress-next, Progress-none}
 use Rattle.milter_filter_rules.specs.declared.rule.Condition.{Condition}
 use Rattle.milter_rules.specs.ConditionWords.{condition_words, joined}
 use Rattle.milter_rules.specs.WordsText.{spaced, spaced_word}

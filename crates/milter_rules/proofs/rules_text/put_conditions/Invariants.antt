@@ -1,5 +1,5 @@
 use Rattle.std.proofs.Common.{drop}
-use Rattle.milter_text.proofs.Writing.{Progress}
+use Rattle.milter_text.proofs.TextWriters.{Progress}
 use Rattle.milter_rules.specs.ConditionWords.{conditions_words, joined}
 use Rattle.milter_rules.specs.WordsText.{spaced}
 use Rattle.milter_rules.proofs.rules_text.put_conditions.Given as goal

@@ -1,6 +1,6 @@
 use Rattle.std.proofs.Common.{◌++◌, refl}
 use Rattle.std.specs.List.{flat_map}
-use Rattle.milter_text.proofs.Writing.{Progress-fail, Progress-last, Progress-next, Progress-none}
+use Rattle.milter_text.proofs.TextWriters.{Progress-fail, Progress-last, Progress-next, Progress-none}
 use Rattle.milter_rules.proofs.RuleParts.{rules_parts}
 use Rattle.milter_rules.specs.RulesText.{options_text, stages_text, symbols_text}
 use Rattle.milter_filter_rules.specs.RulesValue.{rule_set}

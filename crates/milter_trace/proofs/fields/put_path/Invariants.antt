@@ -1,5 +1,5 @@
 use Rattle.std.proofs.Common.{◌≡◌, ◌++◌, ◌∷◌, map, take}
-use Rattle.milter_text.specs.Quoting.{quoted}
+use Rattle.milter_text.specs.QuotedText.{quoted}
 use Rattle.milter_trace.specs.PacketText.{fields_text}
 use Rattle.milter_trace.proofs.fields.put_path.Given as goal
 

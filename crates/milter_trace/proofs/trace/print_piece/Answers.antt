@@ -5,7 +5,7 @@ use Rattle.milter_trace.specs.declared.fault.TraceFault.{TraceFault}
 use Rattle.milter_trace.specs.declared.fault.TraceFault.TheVariants.{NoMemory}
 use Rattle.milter_trace.specs.PrinterState.{printer_state}
 use Rattle.milter_trace.specs.TraceState.{trace_to_come, trace_from}
-use Rattle.milter_trace.specs.TraceWriting.{EndsWithFault}
+use Rattle.milter_trace.specs.TraceOutput.{EndsWithFault}
 use Rattle.milter_trace.proofs.WriteLaws.{ContinuesTrace-no_limit, ContinuesTrace-prefix, ContinuesTrace-going, ContinuesTrace-stops, EndsWithFault-write, each_more}
 use Rattle.milter_trace.proofs.trace.print_piece.Goals as goal
 

@@ -1,6 +1,6 @@
 use Rattle.std.proofs.Common.{◌≡◌, length}
 use Rattle.std.specs.Prelude.{is_some}
-use Rattle.milter_wire_fields.specs.Decoding.{pairs_in}
+use Rattle.milter_wire_fields.specs.Decoders.{pairs_in}
 use Rattle.milter_wire_fields.proofs.sequences.are_pairs.Given as goal
 
 abbrev pub invariant-loop-rest : goal.invariant-loop-rest

@@ -1,6 +1,6 @@
 use Rattle.std.proofs.Common.{◌≡◌, length}
 use Rattle.std.specs.Prelude.{is_some}
-use Rattle.milter_wire_fields.specs.Decoding.{strings_in}
+use Rattle.milter_wire_fields.specs.Decoders.{strings_in}
 use Rattle.milter_wire_fields.proofs.sequences.are_strings.Given as goal
 
 abbrev pub invariant-loop-rest : goal.invariant-loop-rest

@@ -2,7 +2,7 @@ use Rattle.std.proofs.Common.{◌≡◌, ℕ, List, Result, Ok, min, length, tak
 use Rattle.std.proofs.lemmas.List.{take_min}
 use Rattle.milter_protocol.specs.declared.filter_fault.FilterFault.{FilterFault}
 use Rattle.milter_world.specs.Reached.{CanTake}
-use Rattle.milter_world.proofs.Feeding.{all, fails-not, same-drop}
+use Rattle.milter_world.proofs.FedFilter.{all, fails-not, same-drop}
 use Rattle.milter_world.proofs.moves.feed_filter.Goals as goal
 
 -- what is handed over

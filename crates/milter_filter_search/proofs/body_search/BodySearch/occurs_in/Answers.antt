@@ -1,7 +1,7 @@
 use Rattle.std.proofs.Common.{◌≡◌, ◌∙◌, ◌-◌, ap, length, subst, sym}
 use Rattle.milter_filter_search.specs.Searches.{HasRead, occurs_in}
 use Rattle.milter_filter_search.specs.contracts.body_search.BodySearch.{the_view}
-use Rattle.milter_filter_search.proofs.Reading.{bytes_after, far_enough, read_before, read_late}
+use Rattle.milter_filter_search.proofs.BodySearches.{bytes_after, far_enough, read_before, read_late}
 use Rattle.milter_filter_search.proofs.body_search.BodySearch.occurs_in.Goals as goal
 
 pub returns-then-self : goal.returns-then-self

@@ -1,7 +1,7 @@
 use Rattle.std.proofs.Common.{◌≡◌, ◌∙◌, ap, subst, sym}
 use Rattle.milter_filter_search.specs.Searches.{HasLooked, is_found_among}
 use Rattle.milter_filter_search.specs.contracts.header_search.HeaderSearch.{the_view}
-use Rattle.milter_filter_search.proofs.Looking.{all_after, found_before, found_later}
+use Rattle.milter_filter_search.proofs.HeaderSearches.{all_after, found_before, found_later}
 use Rattle.milter_filter_search.proofs.header_search.HeaderSearch.finds_in.Goals as goal
 
 pub returns-then-self : goal.returns-then-self

@@ -17,7 +17,7 @@ use Rattle.milter_mta.specs.CoreParts.{mta_of, session_of, with_state_report}
 use Rattle.milter_mta.specs.Mta.{Mta, Position, connection_at}
 use Rattle.milter_mta.specs.Dispositions.{next_message, report}
 use Rattle.milter_mta.proofs.Begun.{next_after}
-use Rattle.milter_mta.proofs.Keeping.{kept_end}
+use Rattle.milter_mta.proofs.KeptRecipients.{kept_end}
 use Rattle.milter_mta.proofs.session_state.SessionState.finish_first.Goals as goal
 
 pub returns-in-Ok-finish-clause-settled : goal.returns-in-Ok-finish-clause-settled

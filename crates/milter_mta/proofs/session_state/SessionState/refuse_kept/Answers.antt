@@ -1,4 +1,4 @@
-use Rattle.milter_mta.proofs.Keeping.{kept_none}
+use Rattle.milter_mta.proofs.KeptRecipients.{kept_none}
 use Rattle.milter_mta.proofs.session_state.SessionState.refuse_kept.Goals as goal
 
 pub returns-clause-state : goal.returns-clause-state

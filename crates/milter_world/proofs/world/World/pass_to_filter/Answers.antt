@@ -8,7 +8,7 @@ use Rattle.milter_world.proofs.world.World.pass_to_filter.Goals as goal
 use Rattle.milter_protocol.specs.Behavior.{Behavior}
 use Rattle.milter_filter_core.specs.Cores.{Takes}
 use Rattle.milter_world.specs.Reached.{CanTake}
-use Rattle.milter_world.proofs.Feeding.{same-drop}
+use Rattle.milter_world.proofs.FedFilter.{same-drop}
 
 pub feed_filter-requires-clause-takes : goal.feed_filter-requires-clause-takes
 feed_filter-requires-clause-takes g c =

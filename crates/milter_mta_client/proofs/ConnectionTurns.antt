@@ -14,7 +14,7 @@ use Rattle.milter_mta_client.specs.ConnectionRuns.{IsBetween, IsConnected, IsOve
 use Rattle.milter_mta_client.specs.Events.{Reception}
 use Rattle.milter_mta_client.specs.Events.Event.{Advanced, Read, Wrote}
 use Rattle.milter_mta_client.proofs.Connected.{advanced-connected, receives_bytes-lost, receives_bytes-ok, connected-on, sent-connected, still-connected}
-use Rattle.milter_mta_client.proofs.Stepping.{no-steps, one-step, steps-on}
+use Rattle.milter_mta_client.proofs.EventRuns.{no-steps, one-step, steps-on}
 
 stays-put : (old new : Mta) → IsConnected old → new ≡ old → Moves old new
 stays-put old new on e = subst (Moves old) (sym e) (record { steps = no-steps old; stays = still-connected old on })

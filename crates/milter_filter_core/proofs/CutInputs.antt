@@ -14,7 +14,7 @@ use Rattle.milter_protocol.specs.declared.filter_state.FilterState.TheVariants.{
 use Rattle.milter_protocol.specs.FilterEnds.{Received}
 use Rattle.milter_protocol.specs.OrderStates.{OrderState, fresh_in, order_state_after, order_state_replies, order_step}
 use Rattle.milter_protocol.proofs.Lenient.{orders-replies, orders-state}
-use Rattle.milter_protocol.proofs.Going.{after-append, replies-append}
+use Rattle.milter_protocol.proofs.StepSequences.{after-append, replies-append}
 use Rattle.milter_filter_core.specs.Cores.{Core, GivesUp, GoesOn, Takes, fresh_core_in, given_up, unread_after}
 use Rattle.milter_filter_core.specs.Streams.{filter_end_of, fault_after, read_in, received_in, reply_bytes}
 use Rattle.milter_filter_core.proofs.Progress.{ended-stays, read-append}
