@@ -6,13 +6,16 @@ which it doesn't. What becomes of their messages is written in lib/recipes.py, b
 Besides, of each line of a recipe: without it, one of its sessions ends otherwise. And all recipes are one rule file,
 which is printed in the same lines.
 
+The rule files that a reader copies first are played too: there is nothing to be said of any of them, and README.md's
+does with its session what is written there.
+
 Counted are the runs, but those of a line that is left out are one.
 """
 import os
 import sys
 import tempfile
 
-from lib import checks, programs, recipes
+from lib import checks, first_rules, programs, recipes
 from lib.checks import checked, expect
 
 # The stages of a message with one command each, before and after those of its recipients and of its header fields.
@@ -103,11 +106,25 @@ def of_document(program, folder):
         yield from of_recipe(program, folder, title, rules, recipes.RECIPES.get(title, []))
 
 
+def of_first_rules(program, folder):
+    """The checks of the rule files that a reader copies first."""
+    files = first_rules.rule_files()
+    yield checked('the example', lambda: expect('its lines', files['docs/DEPLOY.md'], files['examples/mail.rules']))
+    for name, lines in files.items():
+        path = programs.written(os.path.join(folder, 'rules'), ''.join(line + '\n' for line in lines))
+        yield programs.compared(name, programs.ended([program, 'rules', '--check', path]), (0, b'', b''))
+    rules, session, printed = (''.join(line + '\n' for line in lines) for lines in first_rules.of_readme())
+    paths = [programs.written(os.path.join(folder, name), text) for name, text in (('session', session), ('rules', rules))]
+    command = [program, 'play', paths[0], '--rules', paths[1], '--ignore-case']
+    yield programs.compared('README.md: its session', programs.ended(command), (0, printed.encode(), b''))
+
+
 def groups(folder):
     """Groups of checks: of each its name, its function, and what that is called with."""
     for build in programs.BUILDS:
         program = programs.tool(build)
-        yield os.path.basename(program), of_document, (program, tempfile.mkdtemp(dir=folder))
+        for checks_of in (of_document, of_first_rules):
+            yield os.path.basename(program), checks_of, (program, tempfile.mkdtemp(dir=folder))
 
 
 if __name__ == '__main__':

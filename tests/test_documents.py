@@ -1,14 +1,17 @@
 #!/usr/bin/env python3
 """Checks the documents against the repository: each block of code in docs/LIBRARY.md, docs/FILTERS.md and
 docs/MAIL_SERVERS.md is lines of its example's program, each link between documents leads to a file, and each clause of
-docs/PROOFS.md and each definition of docs/DEFINITIONS.md is in the crate under which it is listed. And no line of the
-code or of the definitions is too long, but imports, and no comment, document or module has a word that is no longer used.
+docs/PROOFS.md and each definition of docs/DEFINITIONS.md is in the crate under which it is listed. README.md and
+docs/PROOFS.md count the crates of the toolchain that are trusted, README.md and docs/HEADLINE.md the lines of definitions
+under the headline, and no proof speaks of the code of another crate but by what it promises. And no line of the code or of
+the definitions is too long, but imports, and no comment, document or module has a word that is no longer used.
 """
 import glob
 import os
 import re
 import sys
 
+from lib import definitions as specs
 from lib import runner
 from lib.programs import TOP
 
@@ -16,6 +19,11 @@ from lib.programs import TOP
 EXAMPLES = {
     'docs/LIBRARY.md': 'example_mail', 'docs/FILTERS.md': 'example_loop_guard', 'docs/MAIL_SERVERS.md': 'milter_tests_pair'}
 COLUMNS = 120
+NUMBERS = ['ten', 'eleven', 'twelve', 'thirteen', 'fourteen', 'fifteen', 'sixteen']
+# The call whose contract is the headline, the clauses that are its words, and what its types promise of their values.
+HEADLINE = 'crates/milter_world/src/any_schedule.rt', 'run'
+ITS_WORDS = {'dialogues', 'resets', 'timeouts', 'causes'}
+ITS_PREMISES = {('milter_protocol', 'Lawful', 'IsLawful'), ('milter_mail', 'MailSession', 'IsSession')}
 DOCUMENTS = ['README.md', 'CHANGELOG.md', 'SECURITY.md', 'cases/README.md', 'cases/tables/README.md'] + sorted(
     os.path.relpath(path, TOP) for path in glob.glob(os.path.join(TOP, 'docs', '*.md')))
 
@@ -53,7 +61,7 @@ def clauses():
     """Whether each clause of a table of docs/PROOFS.md stands in the section's crate."""
     crate, source = None, ''
     for line in text_of('docs/PROOFS.md').splitlines():
-        if line.startswith('## '):
+        if re.match('## [a-z]', line):
             crate = line[3:].split(',')[0]
             files = glob.glob(os.path.join(TOP, 'crates', crate, 'src', '**', '*.rt'), recursive=True)
             source = '\n'.join(text_of(file) for file in files)
@@ -79,6 +87,37 @@ def definitions():
         for name in re.findall(r'`([^`]+)`', cells[1]):
             found = re.search(r'(?<!\w)%s(?!\w)' % re.escape(name), source) is not None
             yield 'docs/DEFINITIONS.md: %s: %s' % (crate, name), found
+
+
+def trusted():
+    """Whether the crates of the toolchain that docs/PROOFS.md names, and README.md counts, are those of crates.txt."""
+    listed = [line.split(':') for line in text_of('crates.txt').splitlines() if ':' in line and not line.startswith('#')]
+    own = {name for name, _ in listed}
+    used = sorted({name for _, names in listed for name in names.split()} - own)
+    sentence = re.search(r'(?s)by their contracts\nthe crates (.*?);', text_of('docs/PROOFS.md'))[1]
+    yield 'docs/PROOFS.md: the crates of the toolchain are %s' % used, re.findall('`(.*?)`', sentence) == used
+    number = NUMBERS[len(used) - 10]
+    yield 'README.md: %s crates of the toolchain' % number, '[%s crates of the toolchain]' % number in text_of('README.md')
+
+
+def counts():
+    """Whether README.md and docs/HEADLINE.md have the lines of definitions under the headline, under all clauses of its
+    function, and under these and the premises of its types."""
+    words = specs.under(specs.named_by(*HEADLINE, ITS_WORDS))
+    clauses = specs.under(specs.named_by(*HEADLINE))
+    premises = {**clauses, **specs.under(ITS_PREMISES)}
+    for document, found, text in [
+            ('README.md', words, 'over %d lines of definitions'), ('docs/HEADLINE.md', words, 'stand %d lines of definitions'),
+            ('docs/HEADLINE.md', clauses, '%d stand under all clauses'),
+            ('docs/HEADLINE.md', premises, '%d with the premises')]:
+        text %= sum(found.values())
+        yield '%s: %s' % (document, text), text in ' '.join(text_of(document).split())
+
+
+def lemmas():
+    """Whether each file of lemmas that another crate uses speaks of definitions alone."""
+    for crate, file, is_of_definitions in specs.shared_lemmas():
+        yield 'crates/%s/proofs/%s.antt speaks of code' % (crate, file), is_of_definitions
 
 
 def lines():
@@ -119,4 +158,5 @@ def play_of(check):
 
 
 if __name__ == '__main__':
-    sys.exit(runner.run_all(play_of(check) for check in (blocks, links, clauses, definitions, lines, vocabulary)))
+    sys.exit(runner.run_all(play_of(check) for check in (
+        blocks, links, clauses, definitions, trusted, counts, lemmas, lines, vocabulary)))

@@ -34,10 +34,10 @@ class Server(postfix.Postfix):
         for name, text in dict(tables).items():
             programs.written(os.path.join(config, name), text)
 
-    def asking(self, rules):
-        """The filter, with these rules."""
+    def asking(self, rules, *options):
+        """The filter, with these rules and options."""
         path = programs.written(os.path.join(self.work, 'rules'), ''.join(rule + '\n' for rule in rules))
-        return peers.Service(self.program, self.filter, path)
+        return peers.Service(self.program, self.filter, path, options=options)
 
     def client(self, address='192.0.2.1', helo='mail.example.org', login=None, kind='inet'):
         """A client at this address that has greeted so, and that has logged in where a login is given."""

@@ -117,11 +117,11 @@ class Service:
     """A run of the program that serves many connections at once at the address. To a Unix socket anyone may connect, or
     where a group is given that group alone."""
 
-    def __init__(self, program, address, rules, group=None):
+    def __init__(self, program, address, rules, group=None, options=()):
         self.address = address
         mode = ['--mode', '666'] if address.startswith('unix:') and group is None else []
-        self.process = subprocess.Popen([program, 'serve', address, '--rules', rules] + mode, bufsize=0, group=group,
-                                        stdout=subprocess.PIPE, stderr=subprocess.STDOUT)
+        self.process = subprocess.Popen([program, 'serve', address, '--rules', rules, *options] + mode, bufsize=0,
+                                        group=group, stdout=subprocess.PIPE, stderr=subprocess.STDOUT)
 
     def __enter__(self):
         listening(self.address)

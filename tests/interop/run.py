@@ -14,6 +14,7 @@ import cookbook
 import cookbook_settings
 import cookbook_statements
 import edit_rules
+import first_rules
 import many
 import mta
 import peers
@@ -95,7 +96,7 @@ def main():
     checks.part('Postfix, many at once', many.play, program, postfix.Postfix)
     checks.part('edits in memory', edit_rules.play, program)
     checks.part('Postfix, edits', edit_rules.play, program, postfix.Postfix)
-    for part in (cookbook, cookbook_settings, cookbook_statements):
+    for part in (cookbook, cookbook_settings, cookbook_statements, first_rules):
         checks.part(part.__name__, part.play, program)
     root = os.environ.get('SENDMAIL_ROOT', sendmail.UNPACKED)
     missing = sendmail.missing(root)

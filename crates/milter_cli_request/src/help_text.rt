@@ -135,7 +135,7 @@ lines that begin with #, are skipped. A file has at most 134,217,728 bytes and
 10,000 rules. As:
 
   protocol NOCONNECT|NOHELO|NOMAIL|NODATA|NOBODY
-  at rcpt when rcpt is \"<old@example.net>\" do code \"550 5.1.1 Moved\"
+  at rcpt when macro \"{rcpt_addr}\" is \"old@example.net\" do code \"550 5.1.1 Moved\"
   at eoh when header \"X-Spam\" is \"yes\" do reject
   at eob do add-header \"X-Seen\" \"mx.example.net\"
 

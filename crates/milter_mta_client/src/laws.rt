@@ -1,9 +1,10 @@
 //! Laws of a mail server's end that is driven over connections, each the contract of a function that does nothing.
 
-ghost use Rattle.std.specs.Prelude.{List};
+ghost use Rattle.std.specs.Prelude.{◌≡◌, ◌^◌, List};
 ghost use Rattle.milter_mta.specs.Mta.{Mta};
 ghost use Rattle.milter_mta_laws.specs.AnyFilter.{ConnectionIsReported, GoesOnDialogues, IsOnDialogue};
 ghost use Rattle.milter_mta_client.specs.Events.{Event, Runs};
+ghost use Rattle.milter_mta_client.specs.declared.connection.TheConstants.{CALLS_MAX, RETRIES_MAX};
 
 use milter_mta_laws::{connections_are_reported, messages_are_settled_by_dialogues};
 
@@ -24,3 +25,9 @@ pub fn events_report_connections()
     messages_are_settled_by_dialogues();
     connections_are_reported();
 }
+
+/// The most reads and writes of one connection, and how often in a row an interrupted one is made again.
+pub fn connection_limits()
+    ensures calls { CALLS_MAX ≡ 2 ^ 40 }
+    ensures retries { RETRIES_MAX ≡ 100 }
+{}

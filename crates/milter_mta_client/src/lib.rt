@@ -13,7 +13,7 @@ mod link_calls;
 
 pub use client::converse;
 pub use dialer::{Dial, DialFault};
-pub use laws::{events_keep_to_dialogues, events_report_connections};
+pub use laws::{connection_limits, events_keep_to_dialogues, events_report_connections};
 pub use milter_mta::{
     Acted, ActedVerdicts, By, Config, Loss, MtaCore, MtaFault, OnLoss, Outcome, Refusal, Report,
     Reports, Want,
