@@ -17,7 +17,9 @@ use Rattle.clap.specs.declared.error.kind.ErrorKind.{ErrorKind}
 use Rattle.clap.specs.declared.parser.matches.Found.{Found}
 use Rattle.clap.specs.declared.parser.matches.ArgMatches.{ArgMatches}
 use Rattle.milter_cli_request.specs.declared.command_line.Request.{Request}
-use Rattle.milter_cli_request.specs.CommandLine.{HasMatches, IsFlag, IsNumberOr, IsRequestOf, IsUnasked, LossWords, answer_app, filter_app, mta_app, play_app, rules_app, serve_app, session_app, text_of, tool_app, trace_app}
+use Rattle.milter_cli_words.specs.Subcommands.{answer_app, filter_app, mta_app, play_app, rules_app, serve_app, session_app, tool_app, trace_app}
+use Rattle.milter_cli_words.specs.Words.{BorrowedWords}
+use Rattle.milter_cli_request.specs.CommandLine.{HasMatches, IsFlag, IsNumberOr, IsRequestOf, IsUnasked, text_of}
 use Rattle.milter_cli_request.proofs.FaultlessRows.{AreFilled, Each, Fills, IsFilled, find_each, no_faults, settled_filled, some_fault}
 use Rattle.milter_cli_request.proofs.FaultlessWalk.{StopsBeforeHelp, defaults_filled, walk_rows, walk_stops}
 
@@ -185,7 +187,7 @@ never_help name other named =
     let is : codes "help" ≡ name = (bytes_eq-Decides (codes "help") name).0 (or_false _ named) in
     true≢false (ap (λ x. bytes_eq x (codes "help")) is ∙ other)
 
-module _ (losses : LossWords) where
+module _ (losses : BorrowedWords) where
   abbrev trace_shape : Shape
   trace_shape = built_leaf (inherited (with_leaf_noted (marked_built (tool_app losses).top)) trace_app.top)
 

@@ -2,50 +2,31 @@
 
 ghost use Rattle.std.specs.Prelude.{◌≡◌, ◌-◌, ◌^◌, ◌↔◌, IfOk, IsTrue, Some, codes, map};
 ghost use Rattle.clap.specs.Words.{found_of, rows_of, subcommand_rows_of};
-ghost use Rattle.milter_cli_request.specs.CommandLine.{AreLossWords, IsLoss, IsNumberOr, IsRequestOf, IsRequestOfNamed};
+ghost use Rattle.milter_cli_words.specs.Words.{AreLossWords};
+ghost use Rattle.milter_cli_words.specs.declared.limits.TheConstants.{AT_ONCE_MAX, COUNT_MAX, IDLE_MAX, MODE_MAX, TIMEOUT_MAX, WAIT_MAX};
+ghost use Rattle.milter_cli_request.specs.CommandLine.{IsLoss, IsNumberOr, IsRequestOf, IsRequestOfNamed};
 ghost use Rattle.milter_cli_request.specs.CommandLine.{MatchesAs, ParsesAs, text_of};
 
-use crate::subcommands::command;
 use clap::{ArgMatches, Error};
+use milter_cli_words::command;
 use milter_mta_outcome::OnLoss;
 use std::alloc::{AllocError, Global};
 use std::convert::AsStr;
 
-/// The version of the program.
-pub(crate) const VERSION: &str = "0.1.0";
-
 /// How many connections are served where the command line has no number of them.
 const COUNT_DEFAULT: u32 = 1;
-
-/// The most connections that one run serves.
-pub(crate) const COUNT_MAX: u64 = 1_000_000;
 
 /// How many seconds a read or a write may take where the command line has no number of them.
 const TIMEOUT_DEFAULT: u32 = 30;
 
-/// The most seconds that a read or a write may be given.
-pub(crate) const TIMEOUT_MAX: u64 = 3600;
-
-/// The most seconds for which connecting is tried again.
-pub(crate) const WAIT_MAX: u64 = 3600;
-
 /// How many connections are open at once where the command line has no number of them.
 const AT_ONCE_DEFAULT: u32 = 200;
-
-/// The most connections that are open at once.
-pub(crate) const AT_ONCE_MAX: u64 = 10_000;
 
 /// After how many seconds an idle connection is closed where the command line has no number of them: as libmilter.
 const IDLE_DEFAULT: u32 = 7_210;
 
-/// The most seconds that a connection may be idle.
-pub(crate) const IDLE_MAX: u64 = 86_400;
-
 /// The digits of a Unix socket's mode where the command line has none.
 const MODE_DEFAULT: u32 = 660;
-
-/// The greatest digits of a mode.
-pub(crate) const MODE_MAX: u64 = 777;
 
 /// The numbers that the definitions name: how many connections are served, and how many seconds a read or a write may
 /// take, where the command line has no such number and at most; for how many seconds connecting is tried again at most;

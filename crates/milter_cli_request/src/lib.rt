@@ -4,9 +4,7 @@
 
 mod address;
 mod command_line;
-mod help_text;
 mod mode;
-mod subcommands;
 mod target;
 mod usage_error;
 

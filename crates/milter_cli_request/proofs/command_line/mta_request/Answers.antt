@@ -1,7 +1,8 @@
 use Rattle.std.proofs.Common.{codes, refl, arith}
 use Rattle.clap.specs.Words.{found_of}
 use Rattle.milter_cli_request.specs.CommandLine.{IsLoss}
-use Rattle.milter_cli_request.specs.declared.command_line.TheConstants.{TIMEOUT_DEFAULT, TIMEOUT_MAX, WAIT_MAX}
+use Rattle.milter_cli_words.specs.declared.limits.TheConstants.{TIMEOUT_MAX, WAIT_MAX}
+use Rattle.milter_cli_request.specs.declared.command_line.TheConstants.{TIMEOUT_DEFAULT}
 use Rattle.milter_cli_request.proofs.RequestLaws.{holds_of, no_mta_address, no_mta_session, number_given, text_given, value_given}
 use Rattle.milter_cli_request.proofs.command_line.mta_request.Goals as goal
 

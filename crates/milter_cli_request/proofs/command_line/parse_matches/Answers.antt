@@ -4,18 +4,20 @@ use Rattle.clap.specs.declared.error.Error.{Error}
 use Rattle.clap.specs.declared.parser.matches.ArgMatches.{ArgMatches}
 use Rattle.clap.proofs.OnLiterals.{clap_on_literals}
 use Rattle.clap.specs.Faults.{fault_of}
-use Rattle.milter_cli_request.specs.CommandLine.{AreLossWords, LossWords, MatchesAs, tool_app}
+use Rattle.milter_cli_words.specs.Subcommands.{tool_app}
+use Rattle.milter_cli_words.specs.Words.{AreLossWords, BorrowedWords}
+use Rattle.milter_cli_request.specs.CommandLine.{MatchesAs}
 use Rattle.milter_cli_request.proofs.command_line.parse_matches.Goals as goal
 
-simple : (losses : LossWords) → is_simple (tool_app losses) ≡ true
+simple : (losses : BorrowedWords) → is_simple (tool_app losses) ≡ true
 unfolding clap_on_literals
 simple losses = refl
 
-free : (losses : LossWords) → is_simple_and_free (tool_app losses) ≡ true
+free : (losses : BorrowedWords) → is_simple_and_free (tool_app losses) ≡ true
 unfolding clap_on_literals
 free losses = refl
 
-matched : (losses : LossWords) (words : List Text) (r : Result ArgMatches Error) → AreLossWords losses → FailsBy (fault_of (tool_app losses) words) r → IfOk r (HasMatchesOf (tool_app losses) words) → MatchesAs words r
+matched : (losses : BorrowedWords) (words : List Text) (r : Result ArgMatches Error) → AreLossWords losses → FailsBy (fault_of (tool_app losses) words) r → IfOk r (HasMatchesOf (tool_app losses) words) → MatchesAs words r
 matched losses words (Ok m) are faultless is = (losses, are, (faultless, (is (simple losses)).1), tt)
 matched losses words (Err e) are fault is = (losses, are, tt, fault)
 

@@ -1,0 +1,22 @@
+use Rattle.milter_cli_words.specs.Words.{rule_of_kind}
+use Rattle.milter_cli_words.proofs.word.arg_of.Goals as goal
+
+pub returns-in-Place-clause-rule : goal.returns-in-Place-clause-rule
+unfolding rule_of_kind
+returns-in-Place-clause-rule c = rw c.in-Place.is c.place.ensures.rule
+
+pub returns-in-Places-clause-rule : goal.returns-in-Places-clause-rule
+unfolding rule_of_kind
+returns-in-Places-clause-rule c = rw c.in-Places.is c.places.ensures.rule
+
+pub returns-in-Value-clause-rule : goal.returns-in-Value-clause-rule
+unfolding rule_of_kind
+returns-in-Value-clause-rule c = rw c.in-Value.is c.option.ensures.rule
+
+pub returns-in-Number-clause-rule : goal.returns-in-Number-clause-rule
+unfolding rule_of_kind
+returns-in-Number-clause-rule c = rw c.in-Number.is c.number.ensures.rule
+
+pub returns-in-Flag-clause-rule : goal.returns-in-Flag-clause-rule
+unfolding rule_of_kind
+returns-in-Flag-clause-rule c = rw c.in-Flag.is c.flag.ensures.rule

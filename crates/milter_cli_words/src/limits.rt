@@ -1,0 +1,19 @@
+//! The greatest numbers of options.
+
+/// The most connections that one run serves.
+pub const COUNT_MAX: u64 = 1_000_000;
+
+/// The most seconds that a read or a write may be given.
+pub const TIMEOUT_MAX: u64 = 3600;
+
+/// The most seconds for which connecting is tried again.
+pub const WAIT_MAX: u64 = 3600;
+
+/// The most connections that are open at once.
+pub const AT_ONCE_MAX: u64 = 10_000;
+
+/// The most seconds that a connection may be idle.
+pub const IDLE_MAX: u64 = 86_400;
+
+/// The greatest digits of a mode.
+pub const MODE_MAX: u64 = 777;

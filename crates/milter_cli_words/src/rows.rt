@@ -1,0 +1,159 @@
+//! The words of the subcommands.
+
+use crate::limits::{AT_ONCE_MAX, COUNT_MAX, IDLE_MAX, MODE_MAX, TIMEOUT_MAX, WAIT_MAX};
+use crate::word::{Kind, Word};
+
+pub(crate) const ADDRESS: Word<'static> = Word {
+    kind: Kind::Place,
+    name: "address",
+    value: "ADDRESS",
+    help: "Where to listen: inet:PORT@HOST or unix:PATH",
+};
+
+pub(crate) const ADDRESSES: Word<'static> = Word {
+    kind: Kind::Places,
+    name: "address",
+    value: "ADDRESS",
+    help: "Where to listen: inet:PORT@HOST or unix:PATH",
+};
+
+pub(crate) const FILTER_ADDRESS: Word<'static> = Word {
+    kind: Kind::Place,
+    name: "address",
+    value: "ADDRESS",
+    help: "Where the filter listens: inet:PORT@HOST or unix:PATH",
+};
+
+pub(crate) const SESSION_FILE: Word<'static> = Word {
+    kind: Kind::Place,
+    name: "file",
+    value: "FILE",
+    help: "The path of the session file",
+};
+
+pub(crate) const RULE_FILE: Word<'static> = Word {
+    kind: Kind::Place,
+    name: "file",
+    value: "FILE",
+    help: "The path of the rule file",
+};
+
+pub(crate) const SESSION: Word<'static> = Word {
+    kind: Kind::Place,
+    name: "session",
+    value: "SESSION",
+    help: "The path of the session file",
+};
+
+pub(crate) const CHECK: Word<'static> = Word {
+    kind: Kind::Flag,
+    name: "check",
+    value: "",
+    help: "Prints what is wrong with the rules, and which of them can't do what they seem to",
+};
+
+pub(crate) const RULES: Word<'static> = Word {
+    kind: Kind::Value,
+    name: "rules",
+    value: "FILE",
+    help: "The path of a rule file; without one all mail goes on",
+};
+
+pub(crate) const LENIENT: Word<'static> = Word {
+    kind: Kind::Flag,
+    name: "lenient",
+    value: "",
+    help: "Has a greeting or a sender within a message end that message, as an abort does",
+};
+
+pub(crate) const IGNORE_CASE: Word<'static> = Word {
+    kind: Kind::Flag,
+    name: "ignore-case",
+    value: "",
+    help: "Takes the texts of conditions without regard to the case of ASCII letters",
+};
+
+pub(crate) const COUNT: Word<'static> = Word {
+    kind: Kind::Number(COUNT_MAX),
+    name: "count",
+    value: "N",
+    help: "How many connections to serve, from 1 to 1,000,000; without it one",
+};
+
+pub(crate) const AT_ONCE: Word<'static> = Word {
+    kind: Kind::Number(AT_ONCE_MAX),
+    name: "at-once",
+    value: "N",
+    help: "How many connections are open at once, from 1 to 10,000; without it 200",
+};
+
+pub(crate) const IDLE: Word<'static> = Word {
+    kind: Kind::Number(IDLE_MAX),
+    name: "timeout",
+    value: "SECONDS",
+    help: "After how long an idle connection is closed, from 1 to 86,400; without it 7,210",
+};
+
+pub(crate) const MODE: Word<'static> = Word {
+    kind: Kind::Number(MODE_MAX),
+    name: "mode",
+    value: "OCTAL",
+    help: "The mode of a Unix socket; without it 660",
+};
+
+pub(crate) const LOG: Word<'static> = Word {
+    kind: Kind::Flag,
+    name: "log",
+    value: "",
+    help: "Writes a line on standard error for each decision that isn't to go on",
+};
+
+pub(crate) const TIMEOUT: Word<'static> = Word {
+    kind: Kind::Number(TIMEOUT_MAX),
+    name: "timeout",
+    value: "SECONDS",
+    help: "How long a read or a write may take, from 1 to 3,600; without it 30",
+};
+
+pub(crate) const ACTIONS: Word<'static> = Word {
+    kind: Kind::Value,
+    name: "actions",
+    value: "NAMES",
+    help: "The actions to offer; without it all",
+};
+
+pub(crate) const PROTOCOL: Word<'static> = Word {
+    kind: Kind::Value,
+    name: "protocol",
+    value: "NAMES",
+    help: "The protocol bits to offer; without it all",
+};
+
+pub(crate) const WAIT: Word<'static> = Word {
+    kind: Kind::Number(WAIT_MAX),
+    name: "wait",
+    value: "SECONDS",
+    help: "For how long connecting is tried again at first, from 1 to 3,600; without it once",
+};
+
+pub(crate) const EXPECT: Word<'static> = Word {
+    kind: Kind::Value,
+    name: "expect",
+    value: "FILE",
+    help: "The path of a file with the reports that are expected; nothing is printed where they are these",
+};
+
+pub(crate) const EVENTS: Word<'static> = Word {
+    kind: Kind::Value,
+    name: "events",
+    value: "FILE",
+    help: "The path of an event file; without one everything arrives",
+};
+
+/// Its words are given where it is made.
+pub(crate) const LOSS: Word<'static> = Word {
+    kind: Kind::Value,
+    name: "loss",
+    value: "WORD",
+    help: "What becomes of a message whose filter is lost; without it tempfail",
+};

@@ -1,0 +1,173 @@
+//! The subcommands, as `clap` reads and explains them.
+
+ghost use Rattle.std.specs.Prelude.{◌≡◌, IfOk, false};
+ghost use Rattle.clap.specs.Words.{app_of, rule_of};
+ghost use Rattle.milter_cli_words.specs.Subcommands.{answer_app, filter_app, filtering_app, mta_app, play_app, reading_app};
+ghost use Rattle.milter_cli_words.specs.Subcommands.{rules_app, serve_app, session_app, tool_app, top_app, trace_app};
+ghost use Rattle.milter_cli_words.specs.Words.{IsLocal, loss_rule};
+
+use crate::help_text;
+use crate::rows::{
+    ACTIONS, ADDRESS, ADDRESSES, AT_ONCE, CHECK, COUNT, EVENTS, EXPECT, FILTER_ADDRESS, IDLE,
+    IGNORE_CASE, LENIENT, LOG, LOSS, MODE, PROTOCOL, RULE_FILE, RULES, SESSION, SESSION_FILE,
+    TIMEOUT, WAIT,
+};
+use crate::word::{Help, choice, subcommand, with_words};
+use clap::{Arg, Command};
+use std::alloc::{AllocError, Global};
+
+/// The version of the program.
+const VERSION: &str = "0.1.0";
+
+/// The whole command line, whose `--loss` takes these words.
+pub fn command<'a>(alloc: Global, losses: &'a [&'a str]) -> Result<Command<'a>, AllocError>
+    ensures { IfOk result (λ c. app_of c ≡ tool_app losses.entry) }
+{
+    filtering(alloc)?
+        .subcommand(mta(alloc, losses)?)?
+        .subcommand(play(alloc, losses)?)
+}
+
+/// The command line with the subcommands that read files, and those that are a filter's end.
+fn filtering<'a>(alloc: Global) -> Result<Command<'a>, AllocError>
+    ensures { IfOk result (λ c. app_of c ≡ filtering_app) }
+{
+    reading(alloc)?
+        .subcommand(answer(alloc)?)?
+        .subcommand(filter(alloc)?)?
+        .subcommand(serve(alloc)?)
+}
+
+/// The command line with the subcommands that only read files.
+fn reading<'a>(alloc: Global) -> Result<Command<'a>, AllocError>
+    ensures { IfOk result (λ c. app_of c ≡ reading_app) }
+{
+    top(alloc)?
+        .subcommand(trace(alloc)?)?
+        .subcommand(session(alloc)?)?
+        .subcommand(rules(alloc)?)
+}
+
+fn top<'a>(alloc: Global) -> Result<Command<'a>, AllocError>
+    ensures { IfOk result (λ c. app_of c ≡ top_app) }
+{
+    let named = Command::new(alloc, "milter_tool").bin_name("milter_tool")?;
+    Ok(
+        named
+            .about(
+                "Looks at conversations of mail servers with filters, and plays either side, in the milter protocol",
+            )
+            .version(VERSION)
+            .subcommand_required(true),
+    )
+}
+
+fn trace<'a>(alloc: Global) -> Result<Command<'a>, AllocError>
+    ensures shape { IfOk result (λ c. app_of c ≡ trace_app) }
+    ensures local { IfOk result IsLocal }
+{
+    let help = Help {
+        about: "Prints a line for each packet of a captured conversation, read from standard input",
+        after: help_text::TRACE,
+    };
+    subcommand(alloc, "trace", help, &[])
+}
+
+fn session<'a>(alloc: Global) -> Result<Command<'a>, AllocError>
+    ensures shape { IfOk result (λ c. app_of c ≡ session_app) }
+    ensures local { IfOk result IsLocal }
+{
+    let help = Help {
+        about: "Prints what a session file has, in canonical form",
+        after: help_text::SESSION,
+    };
+    subcommand(alloc, "session", help, &[SESSION_FILE])
+}
+
+fn rules<'a>(alloc: Global) -> Result<Command<'a>, AllocError>
+    ensures shape { IfOk result (λ c. app_of c ≡ rules_app) }
+    ensures local { IfOk result IsLocal }
+{
+    let help = Help {
+        about: "Prints what a rule file has, in canonical form",
+        after: help_text::RULES,
+    };
+    subcommand(alloc, "rules", help, &[RULE_FILE, CHECK])
+}
+
+fn answer<'a>(alloc: Global) -> Result<Command<'a>, AllocError>
+    ensures shape { IfOk result (λ c. app_of c ≡ answer_app) }
+    ensures local { IfOk result IsLocal }
+{
+    let help = Help {
+        about: "Replies to a mail server, on standard input and output, as a filter",
+        after: help_text::ANSWER,
+    };
+    subcommand(alloc, "answer", help, &[RULES, LENIENT, IGNORE_CASE])
+}
+
+fn filter<'a>(alloc: Global) -> Result<Command<'a>, AllocError>
+    ensures shape { IfOk result (λ c. app_of c ≡ filter_app) }
+    ensures local { IfOk result IsLocal }
+{
+    let help = Help {
+        about: "Serves connections of mail servers, one after another, as a filter",
+        after: help_text::FILTER,
+    };
+    subcommand(
+        alloc,
+        "filter",
+        help,
+        &[ADDRESS, RULES, COUNT, LENIENT, IGNORE_CASE],
+    )
+}
+
+fn serve<'a>(alloc: Global) -> Result<Command<'a>, AllocError>
+    ensures shape { IfOk result (λ c. app_of c ≡ serve_app) }
+    ensures local { IfOk result IsLocal }
+{
+    let help = Help {
+        about: "Serves many connections of mail servers at once, as a filter, until it is ended",
+        after: help_text::SERVE,
+    };
+    subcommand(
+        alloc,
+        "serve",
+        help,
+        &[ADDRESSES, RULES, AT_ONCE, IDLE, MODE, LOG, IGNORE_CASE],
+    )
+}
+
+fn mta<'a>(alloc: Global, losses: &'a [&'a str]) -> Result<Command<'a>, AllocError>
+    ensures shape { IfOk result (λ c. app_of c ≡ mta_app losses.entry) }
+    ensures local { IfOk result IsLocal }
+{
+    let help = Help {
+        about: "Plays a session to a filter, as a mail server, and prints what becomes of its messages",
+        after: help_text::MTA,
+    };
+    let places = subcommand(alloc, "mta", help, &[FILTER_ADDRESS, SESSION])?;
+    let command = places.arg(loss(alloc, losses))?;
+    with_words(alloc, command, &[TIMEOUT, ACTIONS, PROTOCOL, WAIT, EXPECT])
+}
+
+fn play<'a>(alloc: Global, losses: &'a [&'a str]) -> Result<Command<'a>, AllocError>
+    ensures shape { IfOk result (λ c. app_of c ≡ play_app losses.entry) }
+    ensures local { IfOk result IsLocal }
+{
+    let help = Help {
+        about: "Plays a session to a filter in memory, and prints what becomes of its messages",
+        after: help_text::PLAY,
+    };
+    let words = &[SESSION, RULES, IGNORE_CASE, ACTIONS, PROTOCOL, EVENTS];
+    let command = subcommand(alloc, "play", help, words)?.arg(loss(alloc, losses))?;
+    with_words(alloc, command, &[EXPECT])
+}
+
+/// What becomes of a message whose filter is lost.
+fn loss<'a>(alloc: Global, losses: &'a [&'a str]) -> Arg<'a>
+    ensures rule { rule_of result ≡ loss_rule losses.entry }
+    ensures local { result.global ≡ false }
+{
+    choice(alloc, LOSS, losses)
+}
