@@ -61,12 +61,16 @@ const NUMBER_AND_TWO_TEXTS: Form = Form {
 
 /// The form of the action of this word.
 fn form_of(action: &Word) -> Form {
-    match action.keyword() {
-        Some(b"code" | b"add-rcpt" | b"del-rcpt" | b"replace-body" | b"quarantine") => ONE_TEXT,
-        Some(b"add-rcpt-par" | b"change-from") => ONE_OR_TWO_TEXTS,
-        Some(b"add-header") => TWO_TEXTS,
-        Some(b"insert-header" | b"change-header") => NUMBER_AND_TWO_TEXTS,
-        _ => ALONE,
+    if is_one_of(action, "code|add-rcpt|del-rcpt|replace-body|quarantine") {
+        ONE_TEXT
+    } else if is_one_of(action, "add-rcpt-par|change-from") {
+        ONE_OR_TWO_TEXTS
+    } else if is_one_of(action, "add-header") {
+        TWO_TEXTS
+    } else if is_one_of(action, "insert-header|change-header") {
+        NUMBER_AND_TWO_TEXTS
+    } else {
+        ALONE
     }
 }
 
