@@ -9,3 +9,4 @@ pub mod StepSequences
 pub mod TranscriptParts
 pub mod OrderStates
 pub mod Lenient
+pub mod CommandsInTurn

@@ -1,5 +1,5 @@
 -- A greeting or a sender that comes within a message, and the abort that is due before it.
-use Rattle.std.specs.Prelude.{◌&&◌, nat_lt, ℕ, Bool, true, false, List, [], ◌∷◌, ◌++◌, Option, None, Some, Ok, Err}
+use Rattle.std.specs.Prelude.{◌≡◌, ◌&&◌, nat_lt, ℕ, Bool, true, false, List, [], ◌∷◌, ◌++◌, Option, None, Some, Ok, Err}
 use Rattle.milter_wire.specs.declared.negotiation.Negotiated.{Negotiated}
 use Rattle.milter_wire.specs.declared.command.Command.{Command}
 use Rattle.milter_wire.specs.declared.command.Command.TheVariants as commands
@@ -7,7 +7,7 @@ use Rattle.milter_wire.specs.declared.stage.Stage.TheVariants.{Helo}
 use Rattle.milter_protocol.specs.declared.command_order.CommandOrder.{CommandOrder}
 use Rattle.milter_protocol.specs.declared.command_order.CommandOrder.TheVariants.{Strict, Lenient}
 use Rattle.milter_protocol.specs.Behavior.{Behavior}
-use Rattle.milter_protocol.specs.FilterEnds.{FilterEnd, Received, after, start}
+use Rattle.milter_protocol.specs.FilterEnds.{FilterEnd, Received, after, next, start}
 use Rattle.milter_protocol.specs.Transcripts.{negotiated_in, last_rank}
 use Rattle.milter_protocol.specs.StageOrder.{rank_of}
 
@@ -43,3 +43,10 @@ with_aborts b c (received ∷ more) =
 abbrev pub taken_by : CommandOrder → Behavior → List Received → List Received
 taken_by Strict b received = received
 taken_by Lenient b received = with_aborts b start received
+
+-- of these commands to an end, which goes on by each, no greeting and no sender comes within a message
+abbrev pub NoneWithinMessage : Behavior → FilterEnd → List Received → Type 0
+NoneWithinMessage b c [] = Unit {0}
+NoneWithinMessage b c (received ∷ more) =
+    (is_within_message (negotiated_in b c.transcript) (last_rank c.transcript) received ≡ false)
+    × NoneWithinMessage b (next b c received) more

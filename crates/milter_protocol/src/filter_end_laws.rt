@@ -1,15 +1,17 @@
 //! Laws of a filter's end of a connection, each the contract of a function that does nothing.
 
-ghost use Rattle.std.specs.Prelude.{◌≡◌, ◌++◌, ◌∷◌, [], List, if◌then◌else◌};
+ghost use Rattle.std.specs.Prelude.{◌≡◌, ◌++◌, ◌∷◌, [], List, Ok, Some, true, if◌then◌else◌};
 ghost use Rattle.std.specs.Option.{option_or};
+ghost use Rattle.milter_wire.specs.declared.command.Command.{Command};
 ghost use Rattle.milter_wire.specs.Stages.{stage_of};
 ghost use Rattle.milter_protocol.specs.Behavior.{Behavior};
 ghost use Rattle.milter_protocol.specs.Exchanges.{Exchange};
 ghost use Rattle.milter_protocol.specs.Commands.{is_of_connection, is_shown};
-ghost use Rattle.milter_protocol.specs.FilterEnds.{FilterEnd, Received, after, replies, start};
+ghost use Rattle.milter_protocol.specs.FilterEnds.{FilterEnd, Received, after, fault_at, replies, start};
 ghost use Rattle.milter_protocol.specs.Transcripts.{negotiated_by, negotiated_in, begins_anew, ends_message, last_rank, of_connection, rank_from, shown};
 ghost use Rattle.milter_protocol.specs.declared.command_order.CommandOrder.{CommandOrder as Order};
-ghost use Rattle.milter_protocol.specs.Aborts.{taken_by};
+ghost use Rattle.milter_protocol.specs.declared.filter_fault.FilterFault.TheVariants.{OutOfOrder};
+ghost use Rattle.milter_protocol.specs.Aborts.{NoneWithinMessage, is_within_message, taken_by};
 ghost use Rattle.milter_protocol.specs.OrderStates.{OrderState, fresh, fresh_in, rank_by, order_state_after, order_state_of, order_state_replies};
 
 /// Going on by some commands and then by others is going on by all of them in a row.
@@ -66,4 +68,22 @@ pub fn lenient_orders()
         (order_state_after b (fresh_in order) received).state ≡ (after b start (taken_by order b received)).state }
     ensures replies { (b : Behavior) (order : Order) (received : List Received) →
         order_state_replies b (fresh_in order) received ≡ replies b start (taken_by order b received) }
+{}
+
+/// Where no greeting and no sender comes within a message, commands are taken for themselves in either order: what is
+/// kept has the same state, and the replies are the same. One that comes within a message is out of order for an end
+/// that takes commands in the strict order.
+pub fn orders_reply_the_same()
+    ensures taken { (b : Behavior) (order : Order) (received : List Received) → NoneWithinMessage b start received →
+        taken_by order b received ≡ received }
+    ensures state { (b : Behavior) (order : Order) (received : List Received) → NoneWithinMessage b start received →
+        (order_state_after b (fresh_in order) received).state ≡ (order_state_after b fresh received).state }
+    ensures replies { (b : Behavior) (order : Order) (received : List Received) →
+        NoneWithinMessage b start received →
+        order_state_replies b (fresh_in order) received ≡ order_state_replies b fresh received }
+    ensures beginning { (b : Behavior) (c : FilterEnd) (first second : List Received) →
+        NoneWithinMessage b c (first ++ second) → NoneWithinMessage b c first }
+    ensures out_of_order { (b : Behavior) (transcript : List Exchange) (command : Command) →
+        is_within_message (negotiated_in b transcript) (last_rank transcript) (Ok command) ≡ true →
+        fault_at b transcript (Ok command) ≡ Some OutOfOrder }
 {}

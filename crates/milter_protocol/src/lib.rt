@@ -23,7 +23,7 @@ pub use answer::{Answer, Edits};
 pub use command_order::CommandOrder;
 pub use filter_end_laws::{
     filter_ends_go_on, lenient_orders, order_states_go_on, order_states_of_filter_ends,
-    parts_of_transcripts,
+    orders_reply_the_same, parts_of_transcripts,
 };
 pub use filter_fault::FilterFault;
 pub use filter_state::FilterState;
