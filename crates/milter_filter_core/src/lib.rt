@@ -14,7 +14,7 @@ mod policy;
 mod replier;
 mod seen;
 
-pub use cutting_laws::{cores_go_on, cores_reply};
+pub use cutting_laws::{cores_go_on, cores_reply, orders_reply_the_same_bytes};
 pub use filter_core::FilterCore;
 pub use milter_filter_search::{Pattern, Test, TextCase};
 pub use milter_protocol::{
