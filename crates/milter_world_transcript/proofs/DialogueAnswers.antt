@@ -170,6 +170,7 @@ module _ (b : Behavior) (negotiated : Negotiated) (session : MailSession) where
           fits = All-head Fits command left at.fits;
           out_is = refl;
           serving = refl;
+          no_fault = no_fault;
           back_is = ap (flat_map replied.encoding) (sym replies-are);
         }
 

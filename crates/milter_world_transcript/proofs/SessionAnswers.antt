@@ -139,6 +139,7 @@ module _ (to_end : GoToTheEnd) (b : Behavior) (negotiated : Negotiated) (s : Mai
           fits = record { fields = tt; payload = omega arith };
           out_is = refl;
           serving = refl;
+          no_fault = quit-fault;
           back_is = ap (flat_map replied.encoding) (sym (ap (λ (f : Option FilterFault). (step_by b transcript (Ok commands.Quit) f).replies) quit-fault ∙ quit-none));
         },
         refl,
@@ -172,6 +173,7 @@ module _ (to_end : GoToTheEnd) (b : Behavior) (negotiated : Negotiated) (s : Mai
           fits = record { fields = tt; payload = omega arith };
           out_is = refl;
           serving = refl;
+          no_fault = abort-fault;
           back_is = ap (λ (x : Step FilterEnd). flat_map replied.encoding x.replies) (sym abort-step);
         }
 
@@ -258,6 +260,7 @@ module _ (to_end : GoToTheEnd) (b : Behavior) (offer : Options) (s : MailSession
         fits = fits;
         out_is = refl;
         serving = refl;
+        no_fault = offer-fault;
         back_is = sym (ap (λ (x : Step FilterEnd). flat_map replied.encoding x.replies) offer-step ∙ one (options_reply g));
       }
     where

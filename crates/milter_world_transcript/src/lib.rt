@@ -8,5 +8,5 @@ mod laws;
 
 pub use laws::{
     bytes_are_answered, counts_of_bytes, dialogues_are_answered, entries_of_sessions,
-    sessions_are_answered,
+    sessions_are_answered, sessions_are_replied_to, sessions_need_no_aborts,
 };

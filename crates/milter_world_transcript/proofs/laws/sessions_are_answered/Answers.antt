@@ -1,13 +1,7 @@
-use Rattle.std.proofs.Common.{[]}
 use Rattle.milter_mta_laws.specs.Sessions.{session_lines}
-use Rattle.milter_world_transcript.proofs.SessionAnswers.{GoToTheEnd, session}
 use Rattle.milter_world_transcript.proofs.laws.sessions_are_answered.Goals as goal
 
 pub returns : goal.returns
-returns c = λ b offer s messages is known fits good.
-    let to_end : GoToTheEnd = record {
-      steps = λ negotiated s m. (c.plans_are_sent.ensures.next negotiated [] s m (record { proper = tt; in_order = tt })).ends;
-      whole = λ negotiated s m. (c.plans_are_sent.ensures.plan negotiated s m).ends;
-    } in
-    let ends = session to_end b offer s is known fits messages good in
-    c.bytes_are_answered.ensures b (session_lines b offer s messages) ends.0 ends.1
+returns c = λ order b offer s messages is known fits good.
+    let ends = c.sessions_are_replied_to.ensures b offer s messages is known fits good in
+    c.bytes_are_answered.ensures.answered order b (session_lines b offer s messages) ends.0 ends.1
