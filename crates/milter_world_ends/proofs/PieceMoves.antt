@@ -4,6 +4,7 @@ use Rattle.std.specs.List.{flat_map}
 use Rattle.std.proofs.lemmas.List.{append_cancel_left}
 use Rattle.std.proofs.Math.Seq.{take-add, take-append_seam}
 use Rattle.milter_wire.specs.Reply.{encoding}
+use Rattle.milter_protocol.specs.declared.command_order.CommandOrder.TheVariants.{Strict}
 use Rattle.milter_protocol.specs.Behavior.{Behavior}
 use Rattle.milter_protocol.specs.declared.filter_fault.FilterFault.{FilterFault as Fault}
 use Rattle.milter_protocol.specs.declared.filter_state.FilterState.TheVariants.{Failed, Serving}
@@ -81,7 +82,7 @@ CoresGiveUp P = (b : Behavior) (old core : Core P) (input sent piece : List ℕ)
     GoesOn b old input sent core → core.pending ≡ [] → GivesUp b core.order_state (received_in (core.unread ++ piece)) fault →
     GoesOn b old (input ++ piece) sent (given_up core fault)
 
-module _ {P : Type 0} (b : Behavior) (policy : P) (lines : List Line) (answers : AnswersLines b lines) (c : Counts) (counts : AreCounts lines c)
+module _ {P : Type 0} (b : Behavior) (policy : P) (lines : List Line) (answers : AnswersLines Strict b lines) (c : Counts) (counts : AreCounts lines c)
     (core : Core P) (pipe : List ℕ) (is : IsFilterAt b policy lines c core pipe) where
   out_le : c.sent ≤ length (to_filter lines)
   out_le = let a = counts.sent in let d = due-le lines c.received in omega arith
@@ -206,7 +207,7 @@ abbrev pub CoresSend : Type 0 → Type 0
 CoresSend P = (b : Behavior) (old core : Core P) (input sent : List ℕ) (n : ℕ) → GoesOn b old input sent core →
     GoesOn b old input (sent ++ take n core.pending) (record core { pending = drop n core.pending })
 
-module _ {P : Type 0} (b : Behavior) (policy : P) (lines : List Line) (answers : AnswersLines b lines) (c : Counts) (counts : AreCounts lines c)
+module _ {P : Type 0} (b : Behavior) (policy : P) (lines : List Line) (answers : AnswersLines Strict b lines) (c : Counts) (counts : AreCounts lines c)
     (core : Core P) (pipe : List ℕ) (is : IsFilterAt b policy lines c core pipe) (laws : CoresSend P) (n : ℕ) where
   abbrev answered_now : Counts
   answered_now = record c { answered = c.answered + length (take n core.pending) }

@@ -1,5 +1,6 @@
 -- Both ends of a connection and the bytes between them, at any byte of it.
 use Rattle.std.specs.Prelude.{◌≡◌, ◌<◌, ◌≤◌, ◌^◌, ℕ, Bool, true, false, List, [], ◌++◌, drop, length, min, take, Option, None, Some}
+use Rattle.milter_protocol.specs.declared.command_order.CommandOrder.TheVariants.{Strict}
 use Rattle.milter_protocol.specs.Behavior.{Behavior}
 use Rattle.milter_mta_outcome.specs.declared.loss.Loss.{Loss}
 use Rattle.milter_mta_outcome.specs.declared.loss.Loss.TheVariants as losses
@@ -81,7 +82,7 @@ IsAt p Done ends = Unit {0}
 -- what is asked of a scenario: both ends follow each connection's transcript, and its bytes can be counted
 pub record IsPossible (p : Scenario) : Type 0 where
   -- the filter answers the lines of each connection as they stand
-  pub answered : (settled : ℕ) → AnswersLines p.filter (lines_at p settled)
+  pub answered : (settled : ℕ) → AnswersLines Strict p.filter (lines_at p settled)
   -- and the mail server's end follows them
   pub followed : (settled : ℕ) (m : Mta) → settled < length p.session.messages → m.filter_connection ≡ None →
       m.config ≡ p.config →
