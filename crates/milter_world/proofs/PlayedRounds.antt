@@ -1,5 +1,6 @@
 -- A round keeps what holds of a session that is played without a loss.
 use Rattle.std.proofs.Common.{◌≡◌, ◌≢◌, ◌⊎◌, inl, inr, nat_lt, length, ℕ, suc, ◌<◌, Bool, true, false, if◌then◌else◌, List, [], ◌∷◌, ◌++◌, refl, sym, ap, ◌∙◌, subst, arith}
+use Rattle.milter_protocol.specs.declared.command_order.CommandOrder.{CommandOrder}
 use Rattle.milter_world_schedule.specs.declared.event.Event.{Event}
 use Rattle.milter_world_schedule.specs.declared.event.Event.TheVariants.{Dial}
 use Rattle.milter_world_schedule.specs.declared.state.Counts.{Counts}
@@ -69,8 +70,8 @@ dial-lives p n = by_some (nat_lt n (length p.session.messages))
     by_some true = refl
     by_some false = tt
 
-pub dialled-lives : {P : Type 0} (p : Scenario) (policy : P) (old new : Ends P) → old ≡ fresh_ends p policy → Steps p old Dial new → AreUndisturbed p new
-dialled-lives p policy old new fresh steps =
+pub dialled-lives : {P : Type 0} (p : Scenario) (order : CommandOrder) (policy : P) (old new : Ends P) → old ≡ fresh_ends p order policy → Steps p old Dial new → AreUndisturbed p new
+dialled-lives p order policy old new fresh steps =
     record {
       are = steps.is;
       lives = subst Lives (sym (steps.state ∙ ap (λ e. (happens p e.state Dial).state) fresh)) (dial-lives p 0);

@@ -1,6 +1,7 @@
 //! Both ends and what is on its way between them.
 
 ghost use Rattle.std.specs.Prelude.{◌≡◌, IfOk, OnOk, []};
+ghost use Rattle.milter_protocol.specs.declared.command_order.CommandOrder.TheVariants.{Strict};
 ghost use Rattle.milter_world_schedule.specs.declared.event.Event.TheVariants as events;
 ghost use Rattle.milter_world_schedule.specs.declared.event.Event.{Event};
 ghost use Rattle.milter_world_schedule.specs.Schedule.{Scenario};
@@ -10,7 +11,7 @@ ghost use Rattle.milter_world.specs.Reached.{AreReached, StepsTo};
 use crate::moves::{feed_filter, feed_mta, send_bytes, take_replies};
 use crate::pipe::Pipe;
 use crate::scenario::possible_session;
-use milter_filter_core::{FilterCore, Policy};
+use milter_filter_core::{CommandOrder, FilterCore, Policy};
 use milter_mail::Session;
 use milter_mta::{Config, Loss, MtaCore, Reports, Want};
 use milter_wire::NoMemory;
@@ -25,12 +26,14 @@ use std::marker::Model;
 /// A mail server's end with a session, a filter's end with a policy while one lives, and the bytes on their way between
 /// them.
 ///
-/// Both ends are those that serve over sockets, and are driven by their public calls. The value is both ends, the bytes
-/// on their way each way, and the state, which counts the bytes of the connection.
+/// Both ends are those that serve over sockets, and are driven by their public calls. The value is both ends, the order
+/// in which the filter's takes commands, the bytes on their way each way, and the state, which counts the bytes of the
+/// connection.
 #[derive(Drop)]
 pub struct World<'p, P: Policy> {
     alloc: Global,
     policy: &'p P,
+    order: CommandOrder,
     mta: MtaCore,
     filter: Option<FilterCore<'p, P>>,
     to_filter: Pipe,
@@ -45,6 +48,7 @@ impl<'p, P: Policy> Model for World<'p, P> {
 
     ghost view = { λ w. record {
       policy = w.policy.now;
+      order = w.order;
       mta = w.mta;
       filter = w.filter;
       to_filter = w.to_filter;
@@ -63,8 +67,8 @@ const NOTHING: Counts = Counts {
 };
 
 impl<'p, P: Policy> World<'p, P> {
-    /// Both ends before their first connection. Memory for all reports is reserved here. After `NoMemory` the session
-    /// is given up.
+    /// Both ends before their first connection, on each of which the filter's end takes commands in the strict order.
+    /// Memory for all reports is reserved here. After `NoMemory` the session is given up.
     pub fn new(
         alloc: Global,
         config: Config,
@@ -75,7 +79,30 @@ impl<'p, P: Policy> World<'p, P> {
           filter = P.behavior policy.now;
           config = config;
           session = session;
-        }) policy.now) }
+        }) Strict policy.now) }
+        ensures are { IfOk result (AreEndsOf (record {
+          filter = P.behavior policy.now;
+          config = config;
+          session = session;
+        })) }
+    {
+        World::with_order(alloc, config, session, policy, CommandOrder::Strict)
+    }
+
+    /// Both ends before their first connection, on each of which the filter's end takes commands in this order. Memory
+    /// for all reports is reserved here. After `NoMemory` the session is given up.
+    pub fn with_order(
+        alloc: Global,
+        config: Config,
+        session: Session,
+        policy: &'p P,
+        order: CommandOrder,
+    ) -> Result<Self, NoMemory>
+        ensures begins { IfOk result (λ world. world ≡ fresh_ends (record {
+          filter = P.behavior policy.now;
+          config = config;
+          session = session;
+        }) order policy.now) }
         ensures are { IfOk result (AreEndsOf (record {
           filter = P.behavior policy.now;
           config = config;
@@ -94,6 +121,7 @@ impl<'p, P: Policy> World<'p, P> {
         Ok(World {
             alloc,
             policy,
+            order,
             mta,
             filter: None,
             to_filter: Pipe::new(alloc),
@@ -105,7 +133,7 @@ impl<'p, P: Policy> World<'p, P> {
     /// Lets the event happen: the state is the schedule's next one, and the mail server's end has the reports that the
     /// schedule adds. An event that can't apply changes nothing. After `NoMemory` the world is given up.
     ///
-    /// What is required is met by [`World::new`] and kept by each step.
+    /// What is required is met by [`World::new`] and [`World::with_order`], and kept by each step.
     pub fn step(self, event: Event) -> Result<Self, NoMemory>
         requires { AreReached (P.behavior self.policy) self }
         ensures { IfOk result (λ world. StepsTo (P.behavior self.entry.policy) self.entry event world) }
@@ -171,7 +199,7 @@ impl<'p, P: Policy> World<'p, P> {
         events_without_effect::<P>();
         match self.state {
             State::Idle(settled) => {
-                let filter = FilterCore::new(self.alloc, self.policy)?;
+                let filter = FilterCore::with_order(self.alloc, self.policy, self.order)?;
                 self.mta.dialled();
                 self.filter = Some(filter);
                 self.clear_pipes();

@@ -15,8 +15,9 @@ use Rattle.milter_mta.specs.Output.{advanced, dialled, dialled_if, sent, want, w
 use Rattle.milter_mta.specs.Dispositions.{lost}
 use Rattle.milter_mta_laws.specs.AnyFilter.{ConnectionIsReported, GoesOnDialogues, IsOnDialogue, IsReportByDialogue, without_messages}
 use Rattle.milter_mta_laws.specs.Lines.{Line}
+use Rattle.milter_protocol.specs.declared.command_order.CommandOrder.{CommandOrder}
 use Rattle.milter_protocol.specs.Behavior.{Behavior}
-use Rattle.milter_filter_core.specs.Cores.{Core, GoesOn, fresh_core}
+use Rattle.milter_filter_core.specs.Cores.{Core, GoesOn, fresh_core_in}
 use Rattle.milter_world_schedule.specs.declared.event.Event.{Event}
 use Rattle.milter_world_schedule.specs.declared.event.Event.TheVariants.{Dial, ToMta}
 use Rattle.milter_world_transcript.specs.ByteCounts.{owed, to_filter, to_mta}
@@ -44,7 +45,7 @@ pub record DialLaws (P : Type 0) : Type 0 where
   pub both : GoOnByBoth
   pub dialled_on : (m : Mta) → IsOnDialogue m → GoesOnDialogues m (dialled m)
   pub dialled_reported : (m : Mta) → ConnectionIsReported m → ConnectionIsReported (dialled m)
-  pub begins : (b : Behavior) (policy : P) → GoesOn b (fresh_core policy) [] [] (fresh_core policy)
+  pub begins : (b : Behavior) (order : CommandOrder) (policy : P) → GoesOn b (fresh_core_in order policy) [] [] (fresh_core_in order policy)
 
 pub record SendLaws : Type 0 where
   pub both : GoOnByBoth
@@ -110,6 +111,7 @@ module _ {P : Type 0} (p : Scenario) (ends : Ends P) (possible : IsPossible p) (
       record {
         is = record { possible = possible; by_dialogues = by_dialogues; is_at = is };
         policy = refl;
+        order = refl;
         state = sym (ap (λ (a : states.After). a.state) e);
         reports = sym (append-nil ends.mta.reports) ∙ ap (λ (l : List Report). ends.mta.reports ++ l) (sym (ap (λ (a : states.After). a.reports) e));
       }
@@ -121,8 +123,9 @@ module _ {P : Type 0} (p : Scenario) (ends : Ends P) (possible : IsPossible p) (
     dial_to =
         record {
           policy = ends.policy;
+          order = ends.order;
           mta = dialled ends.mta;
-          filter = Some (fresh_core ends.policy);
+          filter = Some (fresh_core_in ends.order ends.policy);
           to_filter = [];
           to_mta = [];
           state = Linked settled states.fresh;
@@ -179,29 +182,30 @@ module _ {P : Type 0} (p : Scenario) (ends : Ends P) (possible : IsPossible p) (
               opened_settled = ap length (reports-dialled ends.mta) ∙ idle.settled_is;
               follows = follows;
               mta = inl (sym (ap (λ (a : ReceivedReply). a.mta) (at-nothing (dialled ends.mta) (lines_at p settled) lines)));
-              filter = record { goes_on = laws.begins p.filter ends.policy; on_way = refl };
+              filter = record { goes_on = laws.begins p.filter ends.order ends.policy; on_way = refl };
               answers = refl;
               counts = first-counts (entries_at p settled) follows wants-first;
             };
           };
           policy = refl;
+          order = refl;
           state = ap (λ (s : State). (happens p s Dial).state) (sym at);
           reports = reports-dialled ends.mta ∙ sym (append-nil ends.mta.reports) ∙ ap (λ (s : State). ends.mta.reports ++ (happens p s Dial).reports) (sym at);
         }
 
   -- ---- lost
 
-  pub idle-at : (n : ℕ) (m : Mta) → m.filter_connection ≡ None → length m.reports ≡ n → IsAt p (idle_at p n) (record { policy = ends.policy; mta = m; filter = None; to_filter = []; to_mta = []; state = idle_at p n })
+  pub idle-at : (n : ℕ) (m : Mta) → m.filter_connection ≡ None → length m.reports ≡ n → IsAt p (idle_at p n) (record { policy = ends.policy; order = ends.order; mta = m; filter = None; to_filter = []; to_mta = []; state = idle_at p n })
   idle-at n m unconnected count = by_left (nat_lt n (length p.session.messages)) refl
     where
       by_left : (some : Bool) → nat_lt n (length p.session.messages) ≡ some
-          → IsAt p (if some then Idle n else Done) (record { policy = ends.policy; mta = m; filter = None; to_filter = []; to_mta = []; state = idle_at p n })
+          → IsAt p (if some then Idle n else Done) (record { policy = ends.policy; order = ends.order; mta = m; filter = None; to_filter = []; to_mta = []; state = idle_at p n })
       by_left false e = tt
       by_left true e = record { unconnected = unconnected; settled_is = count; some_left = lt-of n (length p.session.messages) e }
 
   abbrev pub lost_to : Loss → State → Ends P
   lost_to loss state =
-      record { policy = ends.policy; mta = lost loss ends.mta; filter = None; to_filter = []; to_mta = []; state = state }
+      record { policy = ends.policy; order = ends.order; mta = lost loss ends.mta; filter = None; to_filter = []; to_mta = []; state = state }
 
   pub dialogues-lost : LossLaws → (loss : Loss) → IsReportedByDialogues p (lost loss ends.mta)
   dialogues-lost laws loss = dialogues-on laws.both (lost loss ends.mta) (laws.lost_on ends.mta loss by_dialogues.dialogues.on_dialogue) (laws.lost_reported ends.mta loss by_dialogues.connection)
@@ -250,6 +254,7 @@ module _ {P : Type 0} (p : Scenario) (ends : Ends P) (possible : IsPossible p) (
                 (idle-at to (lost loss ends.mta) (laws.unconnected loss ends.mta) (count-by laws.settles_nothing loss));
           };
           policy = refl;
+          order = refl;
           state = refl;
           reports = loses-by laws.settles_nothing loss ∙ ap (λ (a : states.After). ends.mta.reports ++ a.reports) (sym is);
         }
@@ -317,6 +322,7 @@ module _ {P : Type 0} (p : Scenario) (ends : Ends P) (possible : IsPossible p) (
               };
             };
             policy = refl;
+            order = refl;
             state = ap (λ (h : ℕ). Linked settled (record c { received = h })) count-is ∙ ap (λ (s : State). (happens p s (ToMta n)).state) (sym at);
             reports =
                 reports_then
@@ -327,8 +333,8 @@ module _ {P : Type 0} (p : Scenario) (ends : Ends P) (possible : IsPossible p) (
                 ∙ ap (λ (s : State). ends.mta.reports ++ (happens p s (ToMta n)).reports) (sym at);
           }
         where
-          filter-stays : (lives : Bool) (filter : Option (Core P)) → IsFilterIn p.filter ends.policy lines c lives filter ends.to_filter
-              → IsFilterIn p.filter ends.policy lines received_counts lives filter ends.to_filter
+          filter-stays : (lives : Bool) (filter : Option (Core P)) → IsFilterIn p.filter ends.order ends.policy lines c lives filter ends.to_filter
+              → IsFilterIn p.filter ends.order ends.policy lines received_counts lives filter ends.to_filter
           filter-stays true (Some core) is = record { goes_on = is.goes_on; on_way = is.on_way }
           filter-stays true None is = absurd is
           filter-stays false (Some core) is = absurd is

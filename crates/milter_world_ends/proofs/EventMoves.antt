@@ -73,6 +73,7 @@ module _ {P : Type 0} (p : Scenario) (ends : Ends P) (possible : IsPossible p) (
                 (idle-at p ends possible by_dialogues (settled + length given_up_now) (lost loss ends.mta) (laws.unconnected loss ends.mta) count-idle);
           };
           policy = refl;
+          order = refl;
           state = refl;
           reports = loses-idle ∙ ap (λ (a : states.After). ends.mta.reports ++ a.reports) (sym is);
         }
@@ -86,7 +87,7 @@ module _ {P : Type 0} (p : Scenario) (ends : Ends P) (possible : IsPossible p) (
 
     -- where nothing changes but the filter and the pipes
     stays-linked : (k : Counts) (filter : Option (Core P)) (pipe back : List ℕ) → (k.sent ≡ c.sent) → (k.received ≡ c.received)
-        → IsFilterIn p.filter ends.policy lines k k.lives filter pipe → take k.received (to_mta lines) ++ back ≡ take k.answered (to_mta lines) → AreCounts lines k
+        → IsFilterIn p.filter ends.order ends.policy lines k k.lives filter pipe → take k.received (to_mta lines) ++ back ≡ take k.answered (to_mta lines) → AreCounts lines k
         → IsLinked p settled k (record ends { filter = filter; to_filter = pipe; to_mta = back; state = Linked settled k })
     stays-linked k filter pipe back s h is way counts =
         record {
@@ -108,6 +109,7 @@ module _ {P : Type 0} (p : Scenario) (ends : Ends P) (possible : IsPossible p) (
         record {
           is = record { possible = possible; by_dialogues = by_dialogues; is_at = is };
           policy = refl;
+          order = refl;
           state = sym (ap (λ (a : states.After). a.state) all);
           reports = sym (append-nil ends.mta.reports) ∙ ap (λ (a : states.After). ends.mta.reports ++ a.reports) (sym all);
         }
@@ -123,7 +125,7 @@ module _ {P : Type 0} (p : Scenario) (ends : Ends P) (possible : IsPossible p) (
     pub lives-not : ends.filter ≡ None → c.lives ≡ false
     lives-not e = by_lives c.lives ends.filter e linked.filter
       where
-        by_lives : (lives : Bool) (filter : Option (Core P)) → filter ≡ None → IsFilterIn p.filter ends.policy lines c lives filter ends.to_filter → lives ≡ false
+        by_lives : (lives : Bool) (filter : Option (Core P)) → filter ≡ None → IsFilterIn p.filter ends.order ends.policy lines c lives filter ends.to_filter → lives ≡ false
         by_lives false filter e is = refl
         by_lives true None e is = absurd is
         by_lives true (Some core) e is = absurd cc
@@ -131,14 +133,14 @@ module _ {P : Type 0} (p : Scenario) (ends : Ends P) (possible : IsPossible p) (
     module _ (core : Core P) (some : ends.filter ≡ Some core) where
       pub record Lives : Type 0 where
         pub lives : c.lives ≡ true
-        pub is : IsFilterAt p.filter ends.policy lines c core ends.to_filter
+        pub is : IsFilterAt p.filter ends.order ends.policy lines c core ends.to_filter
 
       pub lives-is : Lives
       lives-is = by_lives c.lives ends.filter refl some linked.filter
         where
           by_lives : (lives : Bool) (filter : Option (Core P)) → c.lives ≡ lives → filter ≡ Some core
-              → IsFilterIn p.filter ends.policy lines c lives filter ends.to_filter → Lives
-          by_lives true (Some other) l e is = record { lives = l; is = subst (λ (x : Core P). IsFilterAt p.filter ends.policy lines c x ends.to_filter) (same other core e) is }
+              → IsFilterIn p.filter ends.order ends.policy lines c lives filter ends.to_filter → Lives
+          by_lives true (Some other) l e is = record { lives = l; is = subst (λ (x : Core P). IsFilterAt p.filter ends.order ends.policy lines c x ends.to_filter) (same other core e) is }
             where
               same : (x y : Core P) → Some x ≡ Some y → x ≡ y
               same x y e = cc
@@ -163,7 +165,7 @@ module _ {P : Type 0} (p : Scenario) (ends : Ends P) (possible : IsPossible p) (
 
         taken-is : c.taken + length piece ≡ min (c.taken + n) c.sent
         taken-is =
-            let w = pipe-len p.filter ends.policy lines (possible.answered settled) c linked.counts core ends.to_filter lives-is.is in
+            let w = pipe-len p.filter ends.order ends.policy lines (possible.answered ends.order settled) c linked.counts core ends.to_filter lives-is.is in
             let l = length-take n ends.to_filter in
             omega arith
 
@@ -176,19 +178,19 @@ module _ {P : Type 0} (p : Scenario) (ends : Ends P) (possible : IsPossible p) (
             → (count ≡ length piece) × Steps p ends (ToFilter n) (record ends { filter = Some new; to_filter = rest; state = Linked settled taken_counts })
         takes laws count new none takes_it =
             let cut = take-append-drop n ends.to_filter in
-            let is = takes-piece p.filter ends.policy lines (possible.answered settled) c linked.counts core ends.to_filter lives-is.is piece rest cut laws none count new takes_it in (
-              all-taken p.filter ends.policy lines (possible.answered settled) c linked.counts core ends.to_filter lives-is.is piece rest cut laws none count new takes_it,
+            let is = takes-piece p.filter ends.order ends.policy lines (possible.answered ends.order settled) c linked.counts core ends.to_filter lives-is.is piece rest cut laws none count new takes_it in (
+              all-taken p.filter ends.order ends.policy lines (possible.answered ends.order settled) c linked.counts core ends.to_filter lives-is.is piece rest cut laws none count new takes_it,
               steps-to (ToFilter n) taken_counts (Some new) rest ends.to_mta taken-event
                   (stays-linked taken_counts (Some new) rest ends.to_mta refl refl
-                  (subst (λ (b : Bool). IsFilterIn p.filter ends.policy lines taken_counts b (Some new) rest) (sym lives-is.lives) is)
+                  (subst (λ (b : Bool). IsFilterIn p.filter ends.order ends.policy lines taken_counts b (Some new) rest) (sym lives-is.lives) is)
                   linked.answers
-                  (counts-now p.filter ends.policy lines (possible.answered settled) c linked.counts core ends.to_filter lives-is.is piece rest cut)),
+                  (counts-now p.filter ends.order ends.policy lines (possible.answered ends.order settled) c linked.counts core ends.to_filter lives-is.is piece rest cut)),
             )
 
         -- while it has bytes to answer nothing is on its way
         pub waits : core.pending ≢ [] → (length piece ≡ 0) × Steps p ends (ToFilter n) (record ends { state = Linked settled taken_counts })
         waits some_pending =
-            let none = none_on_way p.filter ends.policy lines (possible.answered settled) c linked.counts core ends.to_filter lives-is.is some_pending in
+            let none = none_on_way p.filter ends.order ends.policy lines (possible.answered ends.order settled) c linked.counts core ends.to_filter lives-is.is some_pending in
             let l = length-take n ends.to_filter in
             let z = ap length none in
             let nothing_more : length piece ≡ 0 = omega arith in
@@ -208,7 +210,7 @@ module _ {P : Type 0} (p : Scenario) (ends : Ends P) (possible : IsPossible p) (
 
         answered-is : c.answered + length given ≡ min (c.answered + n) (owed lines c.taken)
         answered-is =
-            let w = pending-len p.filter ends.policy lines (possible.answered settled) c linked.counts core ends.to_filter lives-is.is in
+            let w = pending-len p.filter ends.order ends.policy lines (possible.answered ends.order settled) c linked.counts core ends.to_filter lives-is.is in
             let l = length-take n core.pending in
             omega arith
 
@@ -224,13 +226,13 @@ module _ {P : Type 0} (p : Scenario) (ends : Ends P) (possible : IsPossible p) (
               state = Linked settled answered_counts;
             })
         answers laws =
-            let ans = possible.answered settled in
+            let ans = possible.answered ends.order settled in
             steps-to (Answer n) answered_counts (Some (record core { pending = drop n core.pending })) ends.to_filter (ends.to_mta ++ given) answered-event
             (stays-linked answered_counts (Some (record core { pending = drop n core.pending })) ends.to_filter (ends.to_mta ++ given) refl refl
-            (subst (λ (b : Bool). IsFilterIn p.filter ends.policy lines answered_counts b (Some (record core { pending = drop n core.pending })) ends.to_filter) (sym lives-is.lives)
-            (answers-piece p.filter ends.policy lines ans c linked.counts core ends.to_filter lives-is.is laws n))
-            (answered-way p.filter ends.policy lines ans c linked.counts core ends.to_filter lives-is.is laws n ends.to_mta linked.answers)
-            (answered-counts p.filter ends.policy lines ans c linked.counts core ends.to_filter lives-is.is laws n))
+            (subst (λ (b : Bool). IsFilterIn p.filter ends.order ends.policy lines answered_counts b (Some (record core { pending = drop n core.pending })) ends.to_filter) (sym lives-is.lives)
+            (answers-piece p.filter ends.order ends.policy lines ans c linked.counts core ends.to_filter lives-is.is laws n))
+            (answered-way p.filter ends.order ends.policy lines ans c linked.counts core ends.to_filter lives-is.is laws n ends.to_mta linked.answers)
+            (answered-counts p.filter ends.order ends.policy lines ans c linked.counts core ends.to_filter lives-is.is laws n))
 
     -- ---- a piece is sent
 
@@ -313,6 +315,7 @@ module _ {P : Type 0} (p : Scenario) (ends : Ends P) (possible : IsPossible p) (
             record {
               is = record { possible = possible; by_dialogues = dialogues-sent; is_at = is };
               policy = refl;
+              order = refl;
               state = sym (ap (λ (a : states.After). a.state) all);
               reports = same-reports ∙ sym (append-nil ends.mta.reports) ∙ ap (λ (a : states.After). ends.mta.reports ++ a.reports) (sym all);
             }
@@ -331,7 +334,7 @@ module _ {P : Type 0} (p : Scenario) (ends : Ends P) (possible : IsPossible p) (
 
         filter-sent : (lives : Bool) (filter : Option (Core P)) (pipe : List ℕ)
             → (lives ≡ true → pipe ≡ ends.to_filter ++ take count (pending (advanced ends.mta)))
-            → IsFilterIn p.filter ends.policy lines c lives filter ends.to_filter → IsFilterIn p.filter ends.policy lines sent_counts lives filter pipe
+            → IsFilterIn p.filter ends.order ends.policy lines c lives filter ends.to_filter → IsFilterIn p.filter ends.order ends.policy lines sent_counts lives filter pipe
         filter-sent true (Some core) pipe e is =
             record {
               goes_on = is.goes_on;
@@ -415,12 +418,12 @@ module _ {P : Type 0} (p : Scenario) (ends : Ends P) (possible : IsPossible p) (
     -- ---- what the filter's end is
 
     pub serves : (core : Core P) → ends.filter ≡ Some core → core.order_state.state ≡ Serving
-    serves core some = serving p.filter ends.policy lines (possible.answered settled) c linked.counts core ends.to_filter (lives-is core some).is
+    serves core some = serving p.filter ends.order ends.policy lines (possible.answered ends.order settled) c linked.counts core ends.to_filter (lives-is core some).is
 
     pub fails : CoresGiveUp P → (core : Core P) → ends.filter ≡ Some core → (n : ℕ) → core.pending ≡ [] → (fault : Fault)
         → GivesUp p.filter core.order_state (received_in (core.unread ++ take n ends.to_filter)) fault → ⊥
     fails laws core some n none fault gives =
-        fails-not p.filter ends.policy lines (possible.answered settled) c linked.counts core ends.to_filter (lives-is core some).is
+        fails-not p.filter ends.order ends.policy lines (possible.answered ends.order settled) c linked.counts core ends.to_filter (lives-is core some).is
         (take n ends.to_filter) (drop n ends.to_filter) (take-append-drop n ends.to_filter) laws none fault gives
 
     pub dead-to : ends.filter ≡ None → (n : ℕ) → Steps p ends (ToFilter n) ends

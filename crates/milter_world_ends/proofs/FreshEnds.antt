@@ -1,6 +1,7 @@
 -- Both ends before their first connection.
 use Rattle.std.proofs.Common.{◌≡◌, ◌≢◌, Bool, if◌then◌else◌, ltb, List, [], ◌∷◌, refl, ap, arith, length}
 use Rattle.milter_message.specs.MailObject.{MailObject}
+use Rattle.milter_protocol.specs.declared.command_order.CommandOrder.{CommandOrder}
 use Rattle.milter_mta.specs.declared.want.Want.TheVariants as wants
 use Rattle.milter_mta.specs.Mta.{fresh}
 use Rattle.milter_mta.specs.Output.{want, want_unconnected}
@@ -10,12 +11,12 @@ use Rattle.milter_world_schedule.specs.Schedule.{Scenario, first}
 use Rattle.milter_world_ends.specs.Ends.{AreEndsOf, IsPossible, IsReportedByDialogues, fresh_ends}
 use Rattle.milter_world_ends.proofs.EndSteps.{idle-at}
 
-pub begins : {P : Type 0} (p : Scenario) (policy : P) → IsPossible p → IsReportedByDialogues p (fresh p.config p.session) → AreEndsOf p (fresh_ends p policy)
-begins p policy possible by_dialogues =
+pub begins : {P : Type 0} (p : Scenario) (order : CommandOrder) (policy : P) → IsPossible p → IsReportedByDialogues p (fresh p.config p.session) → AreEndsOf p (fresh_ends p order policy)
+begins p order policy possible by_dialogues =
     record {
       possible = possible;
       by_dialogues = by_dialogues;
-      is_at = idle-at p (fresh_ends p policy) possible by_dialogues 0 (fresh p.config p.session) refl refl;
+      is_at = idle-at p (fresh_ends p order policy) possible by_dialogues 0 (fresh p.config p.session) refl refl;
     }
 
 pub dials-first : (p : Scenario) → want (fresh p.config p.session) ≡ wants.Dial → first p ≡ Idle 0

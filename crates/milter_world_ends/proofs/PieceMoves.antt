@@ -4,16 +4,16 @@ use Rattle.std.specs.List.{flat_map}
 use Rattle.std.proofs.lemmas.List.{append_cancel_left}
 use Rattle.std.proofs.Math.Seq.{take-add, take-append_seam}
 use Rattle.milter_wire.specs.Reply.{encoding}
-use Rattle.milter_protocol.specs.declared.command_order.CommandOrder.TheVariants.{Strict}
+use Rattle.milter_protocol.specs.declared.command_order.CommandOrder.{CommandOrder}
 use Rattle.milter_protocol.specs.Behavior.{Behavior}
 use Rattle.milter_protocol.specs.declared.filter_fault.FilterFault.{FilterFault as Fault}
 use Rattle.milter_protocol.specs.declared.filter_state.FilterState.TheVariants.{Failed, Serving}
-use Rattle.milter_protocol.specs.OrderStates.{OrderState, fresh as fresh_order_state, order_state_after, order_state_replies}
+use Rattle.milter_protocol.specs.OrderStates.{OrderState, fresh_in, order_state_after, order_state_replies}
 use Rattle.milter_mta.specs.Mta.{Mta}
 use Rattle.milter_mta.specs.Replies.{After, goes_on, received, received_on}
 use Rattle.milter_mta.specs.Output.{advanced, pending, sent}
 use Rattle.milter_mta_laws.specs.Lines.{Line}
-use Rattle.milter_filter_core.specs.Cores.{Core, GivesUp, GoesOn, Takes, fresh_core, given_up}
+use Rattle.milter_filter_core.specs.Cores.{Core, GivesUp, GoesOn, Takes, fresh_core_in, given_up}
 use Rattle.milter_filter_core.specs.Streams.{received_in}
 use Rattle.milter_world_transcript.specs.ByteCounts.{due, owed, packet_end, to_filter, to_mta}
 use Rattle.milter_world_progress.specs.FollowedLines.{SendsLines, after_at}
@@ -82,8 +82,8 @@ CoresGiveUp P = (b : Behavior) (old core : Core P) (input sent piece : List ℕ)
     GoesOn b old input sent core → core.pending ≡ [] → GivesUp b core.order_state (received_in (core.unread ++ piece)) fault →
     GoesOn b old (input ++ piece) sent (given_up core fault)
 
-module _ {P : Type 0} (b : Behavior) (policy : P) (lines : List Line) (answers : AnswersLines Strict b lines) (c : Counts) (counts : AreCounts lines c)
-    (core : Core P) (pipe : List ℕ) (is : IsFilterAt b policy lines c core pipe) where
+module _ {P : Type 0} (b : Behavior) (order : CommandOrder) (policy : P) (lines : List Line) (answers : AnswersLines order b lines) (c : Counts) (counts : AreCounts lines c)
+    (core : Core P) (pipe : List ℕ) (is : IsFilterAt b order policy lines c core pipe) where
   out_le : c.sent ≤ length (to_filter lines)
   out_le = let a = counts.sent in let d = due-le lines c.received in omega arith
 
@@ -146,7 +146,7 @@ module _ {P : Type 0} (b : Behavior) (policy : P) (lines : List Line) (answers :
     pub fails-not : CoresGiveUp P → core.pending ≡ [] → (fault : Fault)
         → GivesUp b core.order_state (received_in (core.unread ++ piece)) fault → ⊥
     fails-not laws none fault gives =
-        let new = laws b (fresh_core policy) core (take c.taken (to_filter lines)) (take c.answered (to_mta lines)) piece fault is.goes_on none gives in
+        let new = laws b (fresh_core_in order policy) core (take c.taken (to_filter lines)) (take c.answered (to_mta lines)) piece fault is.goes_on none gives in
         let over = counts.not_over in
         let w = here.within in
         let state : Failed fault ≡ Serving =
@@ -156,12 +156,12 @@ module _ {P : Type 0} (b : Behavior) (policy : P) (lines : List Line) (answers :
         absurd cc
       where
         order_state_of : List ℕ → OrderState
-        order_state_of l = order_state_after b fresh_order_state (received_in l)
+        order_state_of l = order_state_after b (fresh_in order) (received_in l)
 
     -- it takes all of the piece
     module _ (laws : CoresTake P) (none : core.pending ≡ []) (n : ℕ) (new : Core P) (takes : Takes b core piece n new) where
-      goes-now : GoesOn b (fresh_core policy) (take c.taken (to_filter lines) ++ take n piece) (take c.answered (to_mta lines)) new
-      goes-now = laws b (fresh_core policy) core new (take c.taken (to_filter lines)) (take c.answered (to_mta lines)) piece n is.goes_on none takes
+      goes-now : GoesOn b (fresh_core_in order policy) (take c.taken (to_filter lines) ++ take n piece) (take c.answered (to_mta lines)) new
+      goes-now = laws b (fresh_core_in order policy) core new (take c.taken (to_filter lines)) (take c.answered (to_mta lines)) piece n is.goes_on none takes
 
       part-is : take (c.taken + n) (to_filter lines) ≡ take c.taken (to_filter lines) ++ take n piece
       part-is =
@@ -179,7 +179,7 @@ module _ {P : Type 0} (b : Behavior) (policy : P) (lines : List Line) (answers :
           by_pending : (p : List ℕ) → new.pending ≡ p → n ≡ length piece
           by_pending [] e = takes.all e
           by_pending (byte ∷ bytes) e =
-              let p = goes-now.replied ∙ ap (λ (l : List ℕ). flat_map encoding (order_state_replies b fresh_order_state (received_in l))) (sym part-is) ∙ answers.replied (c.taken + n) in
+              let p = goes-now.replied ∙ ap (λ (l : List ℕ). flat_map encoding (order_state_replies b (fresh_in order) (received_in l))) (sym part-is) ∙ answers.replied (c.taken + n) in
               let m = owed-mono lines c.taken (c.taken + n) (omega arith) in
               let a = counts.answered in
               let len = nothing-left (to_mta lines) new.pending c.answered (owed lines (c.taken + n)) (omega arith) (owed-le lines (c.taken + n)) p in
@@ -191,12 +191,12 @@ module _ {P : Type 0} (b : Behavior) (policy : P) (lines : List Line) (answers :
               let t = takes.within in
               omega arith
 
-      pub takes-piece : IsFilterAt b policy lines now new rest
+      pub takes-piece : IsFilterAt b order policy lines now new rest
       takes-piece =
           let e = all-taken in
           let same : take n piece ≡ piece = ap (λ (k : ℕ). take k piece) e ∙ take_all (length piece) piece (omega arith) in
           record {
-            goes_on = subst (λ (l : List ℕ). GoesOn b (fresh_core policy) l (take c.answered (to_mta lines)) new)
+            goes_on = subst (λ (l : List ℕ). GoesOn b (fresh_core_in order policy) l (take c.answered (to_mta lines)) new)
                 (ap (λ (l : List ℕ). take c.taken (to_filter lines) ++ l) same ∙ sym here.goes) goes-now;
             on_way = left-is;
           }
@@ -207,21 +207,21 @@ abbrev pub CoresSend : Type 0 → Type 0
 CoresSend P = (b : Behavior) (old core : Core P) (input sent : List ℕ) (n : ℕ) → GoesOn b old input sent core →
     GoesOn b old input (sent ++ take n core.pending) (record core { pending = drop n core.pending })
 
-module _ {P : Type 0} (b : Behavior) (policy : P) (lines : List Line) (answers : AnswersLines Strict b lines) (c : Counts) (counts : AreCounts lines c)
-    (core : Core P) (pipe : List ℕ) (is : IsFilterAt b policy lines c core pipe) (laws : CoresSend P) (n : ℕ) where
+module _ {P : Type 0} (b : Behavior) (order : CommandOrder) (policy : P) (lines : List Line) (answers : AnswersLines order b lines) (c : Counts) (counts : AreCounts lines c)
+    (core : Core P) (pipe : List ℕ) (is : IsFilterAt b order policy lines c core pipe) (laws : CoresSend P) (n : ℕ) where
   abbrev answered_now : Counts
   answered_now = record c { answered = c.answered + length (take n core.pending) }
 
   answer-cut : IsCut (to_mta lines) (take n core.pending) c.answered (owed lines c.taken)
   answer-cut =
       cut-at (to_mta lines) (take n core.pending) (drop n core.pending) c.answered (owed lines c.taken) counts.answered (owed-le lines c.taken)
-      (ap (λ (l : List ℕ). take c.answered (to_mta lines) ++ l) (take-append-drop n core.pending) ∙ pending-is b policy lines answers c counts core pipe is)
+      (ap (λ (l : List ℕ). take c.answered (to_mta lines) ++ l) (take-append-drop n core.pending) ∙ pending-is b order policy lines answers c counts core pipe is)
 
-  pub answers-piece : IsFilterAt b policy lines answered_now (record core { pending = drop n core.pending }) pipe
+  pub answers-piece : IsFilterAt b order policy lines answered_now (record core { pending = drop n core.pending }) pipe
   answers-piece =
       record {
-        goes_on = subst (λ (l : List ℕ). GoesOn b (fresh_core policy) (take c.taken (to_filter lines)) l (record core { pending = drop n core.pending }))
-            (sym answer-cut.goes) (laws b (fresh_core policy) core (take c.taken (to_filter lines)) (take c.answered (to_mta lines)) n is.goes_on);
+        goes_on = subst (λ (l : List ℕ). GoesOn b (fresh_core_in order policy) (take c.taken (to_filter lines)) l (record core { pending = drop n core.pending }))
+            (sym answer-cut.goes) (laws b (fresh_core_in order policy) core (take c.taken (to_filter lines)) (take c.answered (to_mta lines)) n is.goes_on);
         on_way = is.on_way;
       }
 

@@ -1,6 +1,6 @@
 -- Both ends of a connection and the bytes between them, at any byte of it.
 use Rattle.std.specs.Prelude.{◌≡◌, ◌<◌, ◌≤◌, ◌^◌, ℕ, Bool, true, false, List, [], ◌++◌, drop, length, min, take, Option, None, Some}
-use Rattle.milter_protocol.specs.declared.command_order.CommandOrder.TheVariants.{Strict}
+use Rattle.milter_protocol.specs.declared.command_order.CommandOrder.{CommandOrder}
 use Rattle.milter_protocol.specs.Behavior.{Behavior}
 use Rattle.milter_mta_outcome.specs.declared.loss.Loss.{Loss}
 use Rattle.milter_mta_outcome.specs.declared.loss.Loss.TheVariants as losses
@@ -10,7 +10,7 @@ use Rattle.milter_mta.specs.Output.{advanced, dialled, pending, sent}
 use Rattle.milter_mta.specs.Dispositions.{lost}
 use Rattle.milter_mta_laws.specs.AnyFilter.{ConnectionIsReported, GoesOnDialogues}
 use Rattle.milter_mta_laws.specs.Lines.{Line}
-use Rattle.milter_filter_core.specs.Cores.{Core, GoesOn, fresh_core}
+use Rattle.milter_filter_core.specs.Cores.{Core, GoesOn, fresh_core_in}
 use Rattle.milter_world_transcript.specs.Answered.{AnswersLines}
 use Rattle.milter_world_transcript.specs.ByteCounts.{due, to_filter, to_mta}
 use Rattle.milter_world_schedule.specs.declared.event.Event.{Event}
@@ -22,10 +22,11 @@ use Rattle.milter_world_schedule.specs.Rounds.{AreCounts}
 use Rattle.milter_world_schedule.specs.Schedule.{Scenario, first, happens, lines_at, entries_at}
 use Rattle.milter_world_progress.specs.FollowedLines.{Follows, IsMtaAt}
 
--- both ends, the bytes on their way each way, and how far they are by the schedule's state; the filter's end is there
--- only while it lives
+-- both ends, the bytes on their way each way, and how far they are by the schedule's state; the filter's end, which
+-- takes commands in this order, is there only while it lives
 pub record Ends (P : Type 0) : Type 0 where
   pub policy : P
+  pub order : CommandOrder
   pub mta : Mta
   pub filter : Option (Core P)
   pub to_filter : List ℕ
@@ -35,17 +36,19 @@ pub record Ends (P : Type 0) : Type 0 where
 -- ---- the filter's end
 
 -- it has taken and answered as many bytes as the counts say, and what was sent beyond them is on its way
-pub record IsFilterAt {P : Type 0} (b : Behavior) (policy : P) (lines : List Line) (c : Counts) (core : Core P)
-    (pipe : List ℕ) : Type 0 where
-  pub goes_on : GoesOn b (fresh_core policy) (take c.taken (to_filter lines)) (take c.answered (to_mta lines)) core
+pub record IsFilterAt {P : Type 0} (b : Behavior) (order : CommandOrder) (policy : P) (lines : List Line) (c : Counts)
+    (core : Core P) (pipe : List ℕ) : Type 0 where
+  pub goes_on :
+      GoesOn b (fresh_core_in order policy) (take c.taken (to_filter lines)) (take c.answered (to_mta lines)) core
   pub on_way : take c.taken (to_filter lines) ++ pipe ≡ take c.sent (to_filter lines)
 
 -- it is there exactly while it lives
-abbrev pub IsFilterIn : {P : Type 0} → Behavior → P → List Line → Counts → Bool → Option (Core P) → List ℕ → Type 0
-IsFilterIn b policy lines c true (Some core) pipe = IsFilterAt b policy lines c core pipe
-IsFilterIn b policy lines c true None pipe = ⊥
-IsFilterIn b policy lines c false (Some core) pipe = ⊥
-IsFilterIn b policy lines c false None pipe = Unit {0}
+abbrev pub IsFilterIn : {P : Type 0} → Behavior → CommandOrder → P → List Line → Counts → Bool → Option (Core P)
+    → List ℕ → Type 0
+IsFilterIn b order policy lines c true (Some core) pipe = IsFilterAt b order policy lines c core pipe
+IsFilterIn b order policy lines c true None pipe = ⊥
+IsFilterIn b order policy lines c false (Some core) pipe = ⊥
+IsFilterIn b order policy lines c false None pipe = Unit {0}
 
 -- ---- the mail server's end
 
@@ -63,7 +66,7 @@ pub record IsLinked {P : Type 0} (p : Scenario) (settled : ℕ) (c : Counts) (en
   pub opened_settled : length opened.reports ≡ settled
   pub follows : Follows p.config.on_loss opened (entries_at p settled)
   pub mta : IsMtaAt opened (lines_at p settled) c ends.mta
-  pub filter : IsFilterIn p.filter ends.policy (lines_at p settled) c c.lives ends.filter ends.to_filter
+  pub filter : IsFilterIn p.filter ends.order ends.policy (lines_at p settled) c c.lives ends.filter ends.to_filter
   pub answers :
       take c.received (to_mta (lines_at p settled)) ++ ends.to_mta ≡ take c.answered (to_mta (lines_at p settled))
   pub counts : AreCounts (lines_at p settled) c
@@ -81,8 +84,8 @@ IsAt p Done ends = Unit {0}
 
 -- what is asked of a scenario: both ends follow each connection's transcript, and its bytes can be counted
 pub record IsPossible (p : Scenario) : Type 0 where
-  -- the filter answers the lines of each connection as they stand
-  pub answered : (settled : ℕ) → AnswersLines Strict p.filter (lines_at p settled)
+  -- the filter answers the lines of each connection as they stand, in whichever order it takes commands
+  pub answered : (order : CommandOrder) (settled : ℕ) → AnswersLines order p.filter (lines_at p settled)
   -- and the mail server's end follows them
   pub followed : (settled : ℕ) (m : Mta) → settled < length p.session.messages → m.filter_connection ≡ None →
       m.config ≡ p.config →
@@ -102,10 +105,11 @@ pub record AreEndsOf {P : Type 0} (p : Scenario) (ends : Ends P) : Type 0 where
   pub is_at : IsAt p ends.state ends
 
 -- before their first connection
-abbrev pub fresh_ends : {P : Type 0} → Scenario → P → Ends P
-fresh_ends p policy =
+abbrev pub fresh_ends : {P : Type 0} → Scenario → CommandOrder → P → Ends P
+fresh_ends p order policy =
     record {
       policy = policy;
+      order = order;
       mta = fresh p.config p.session;
       filter = None;
       to_filter = [];
@@ -117,6 +121,7 @@ fresh_ends p policy =
 pub record Steps {P : Type 0} (p : Scenario) (old : Ends P) (event : Event) (new : Ends P) : Type 0 where
   pub is : AreEndsOf p new
   pub policy : new.policy ≡ old.policy
+  pub order : new.order ≡ old.order
   pub state : new.state ≡ (happens p old.state event).state
   pub reports : new.mta.reports ≡ old.mta.reports ++ (happens p old.state event).reports
 
@@ -133,7 +138,15 @@ mta_sent n m = sent (sent_count n m) (advanced m)
 -- the connection was lost, or none could be made
 abbrev pub lost_ends : {P : Type 0} → Loss → Ends P → State → Ends P
 lost_ends loss ends state =
-    record { policy = ends.policy; mta = lost loss ends.mta; filter = None; to_filter = []; to_mta = []; state = state }
+    record {
+      policy = ends.policy;
+      order = ends.order;
+      mta = lost loss ends.mta;
+      filter = None;
+      to_filter = [];
+      to_mta = [];
+      state = state;
+    }
 
 -- it needs a connection
 abbrev pub IsOfConnection : Event → Type 0

@@ -2,9 +2,10 @@
 //! nothing.
 
 ghost use Rattle.std.specs.Prelude.{◌≡◌, ◌≢◌, ◌<◌, ◌+◌, ◌^◌, ◌++◌, [], List, None, Some, drop, false, length, take, true, ℕ};
+ghost use Rattle.milter_protocol.specs.declared.command_order.CommandOrder.{CommandOrder as Order};
 ghost use Rattle.milter_protocol.specs.declared.filter_fault.FilterFault.{FilterFault as Fault};
 ghost use Rattle.milter_protocol.specs.declared.filter_state.FilterState.TheVariants.{Serving};
-ghost use Rattle.milter_filter_core.specs.Cores.{Core, GivesUp, Takes, fresh_core};
+ghost use Rattle.milter_filter_core.specs.Cores.{Core, GivesUp, Takes, fresh_core_in};
 ghost use Rattle.milter_filter_core.specs.Streams.{received_in};
 ghost use Rattle.milter_mta_outcome.specs.declared.loss.Loss.{Loss};
 ghost use Rattle.milter_mta.specs.declared.want.Want.TheVariants as wants;
@@ -29,7 +30,8 @@ use milter_mta_laws::{
 /// Before their first connection both ends of a scenario that is possible are where the schedule begins; a connection
 /// is wanted exactly where the schedule has one made first.
 pub fn fresh_ends_begin<P: Policy>()
-    ensures begins { (p : Scenario) (policy : P) → IsPossible p → AreEndsOf p (fresh_ends p policy) }
+    ensures begins { (p : Scenario) (order : Order) (policy : P) → IsPossible p →
+        AreEndsOf p (fresh_ends p order policy) }
     ensures dials { (p : Scenario) → want (fresh_mta p.config p.session) ≡ wants.Dial → first p ≡ Idle 0 }
     ensures over { (p : Scenario) → want (fresh_mta p.config p.session) ≢ wants.Dial → first p ≡ Done }
 {
@@ -53,13 +55,14 @@ pub fn events_without_effect<P: Policy>()
         ends.state ≡ Linked settled c → want ends.mta ≢ wants.Send → Steps p ends (Send n) ends }
 {}
 
-/// A connection that is made has a fresh filter's end and nothing on its way.
+/// A connection that is made has a fresh filter's end, in the order in which all take commands, and nothing on its way.
 pub fn dialled_ends_step<P: Policy>()
     ensures { (p : Scenario) (ends : Ends P) (settled : ℕ) → AreEndsOf p ends → ends.state ≡ Idle settled →
         Steps p ends Dial (record {
           policy = ends.policy;
+          order = ends.order;
           mta = dialled ends.mta;
-          filter = Some (fresh_core ends.policy);
+          filter = Some (fresh_core_in ends.order ends.policy);
           to_filter = [];
           to_mta = [];
           state = Linked settled fresh;

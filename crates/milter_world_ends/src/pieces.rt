@@ -2,7 +2,7 @@
 
 ghost use Rattle.std.specs.Prelude.{◌≡◌, ◌≢◌, ◌≤◌, ◌<◌, ◌+◌, ◌++◌, [], List, None, drop, length, take, ℕ};
 ghost use Rattle.milter_protocol.specs.Behavior.{Behavior};
-ghost use Rattle.milter_protocol.specs.declared.command_order.CommandOrder.TheVariants.{Strict};
+ghost use Rattle.milter_protocol.specs.declared.command_order.CommandOrder.{CommandOrder as Order};
 ghost use Rattle.milter_protocol.specs.declared.filter_fault.FilterFault.{FilterFault as Fault};
 ghost use Rattle.milter_filter_core.specs.Cores.{Core, GivesUp, Takes};
 ghost use Rattle.milter_filter_core.specs.Streams.{received_in};
@@ -24,22 +24,23 @@ use milter_mta_laws::sent_bytes_add_up;
 /// its way there while it has bytes to answer. A piece that it answers, one that reaches the mail server's end, and one
 /// that this sends leave both ends where the counts say.
 pub fn pieces_move<P: Policy>()
-    ensures takes { (b : Behavior) (policy : P) (lines : List Line) (c : Counts) (core new : Core P)
-        (pipe piece rest : List ℕ) (n : ℕ) → AnswersLines Strict b lines → AreCounts lines c →
-        IsFilterAt b policy lines c core pipe → piece ++ rest ≡ pipe → core.pending ≡ [] → Takes b core piece n new →
+    ensures takes { (b : Behavior) (order : Order) (policy : P) (lines : List Line) (c : Counts) (core new : Core P)
+        (pipe piece rest : List ℕ) (n : ℕ) → AnswersLines order b lines → AreCounts lines c →
+        IsFilterAt b order policy lines c core pipe → piece ++ rest ≡ pipe → core.pending ≡ [] →
+        Takes b core piece n new →
         (n ≡ length piece)
-        × IsFilterAt b policy lines (record c { taken = c.taken + length piece }) new rest
+        × IsFilterAt b order policy lines (record c { taken = c.taken + length piece }) new rest
         × AreCounts lines (record c { taken = c.taken + length piece }) }
-    ensures fails_not { (b : Behavior) (policy : P) (lines : List Line) (c : Counts) (core : Core P)
-        (pipe piece rest : List ℕ) (fault : Fault) → AnswersLines Strict b lines → AreCounts lines c →
-        IsFilterAt b policy lines c core pipe → piece ++ rest ≡ pipe → core.pending ≡ [] →
+    ensures fails_not { (b : Behavior) (order : Order) (policy : P) (lines : List Line) (c : Counts) (core : Core P)
+        (pipe piece rest : List ℕ) (fault : Fault) → AnswersLines order b lines → AreCounts lines c →
+        IsFilterAt b order policy lines c core pipe → piece ++ rest ≡ pipe → core.pending ≡ [] →
         ¬ GivesUp b core.order_state (received_in (core.unread ++ piece)) fault }
-    ensures none_on_way { (b : Behavior) (policy : P) (lines : List Line) (c : Counts) (core : Core P)
-        (pipe : List ℕ) → AnswersLines Strict b lines → AreCounts lines c → IsFilterAt b policy lines c core pipe →
+    ensures none_on_way { (b : Behavior) (order : Order) (policy : P) (lines : List Line) (c : Counts) (core : Core P)
+        (pipe : List ℕ) → AnswersLines order b lines → AreCounts lines c → IsFilterAt b order policy lines c core pipe →
         core.pending ≢ [] → pipe ≡ [] }
-    ensures answers { (b : Behavior) (policy : P) (lines : List Line) (c : Counts) (core : Core P) (pipe : List ℕ)
-        (n : ℕ) → AnswersLines Strict b lines → AreCounts lines c → IsFilterAt b policy lines c core pipe →
-        IsFilterAt b policy lines (record c { answered = c.answered + length (take n core.pending) })
+    ensures answers { (b : Behavior) (order : Order) (policy : P) (lines : List Line) (c : Counts) (core : Core P)
+        (pipe : List ℕ) (n : ℕ) → AnswersLines order b lines → AreCounts lines c → IsFilterAt b order policy lines c core pipe →
+        IsFilterAt b order policy lines (record c { answered = c.answered + length (take n core.pending) })
         (record core { pending = drop n core.pending }) pipe }
     ensures receives_bytes { (opened m : Mta) (lines : List Line) (c : Counts) (back piece rest : List ℕ) →
         SendsLines opened lines → AreCounts lines c → IsMtaAt opened lines c m →

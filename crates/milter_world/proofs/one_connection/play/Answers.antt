@@ -1,5 +1,6 @@
 use Rattle.std.proofs.Common.{◌≡◌, All, List, true, sym, ap, subst, ◌∙◌, arith}
 use Rattle.std.specs.List.{AllZip}
+use Rattle.milter_protocol.specs.declared.command_order.CommandOrder.TheVariants.{Strict}
 use Rattle.milter_mta_outcome.specs.declared.report.Report.{Report}
 use Rattle.milter_world_schedule.specs.declared.state.State.{State}
 use Rattle.milter_world_schedule.specs.Schedule.{After, Scenario, run_reports}
@@ -16,7 +17,7 @@ loop-world-init g c =
     let p : Scenario = scenario_of (g.P.Policy.behavior c.args.policy.now) c.args.config c.args.session in
     let steps = c.in_ok-world-2.ensures p (ap g.P.Policy.behavior (sym (ap (λ e. e.policy) c.in_ok-world.ensures.begins))) c.in_ok-world.ensures.are in
     record {
-      undisturbed = dialled-lives p c.args.policy.now c.in_ok-world.world c.in_ok-world-2.world c.in_ok-world.ensures.begins steps;
+      undisturbed = dialled-lives p Strict c.args.policy.now c.in_ok-world.world c.in_ok-world-2.world c.in_ok-world.ensures.begins steps;
       policy = steps.policy ∙ ap (λ e. e.policy) c.in_ok-world.ensures.begins;
     }
 

@@ -1,4 +1,3 @@
-use Rattle.milter_protocol.specs.declared.command_order.CommandOrder.TheVariants.{Strict}
 use Rattle.milter_world_schedule.specs.declared.state.State.TheVariants.{Idle}
 use Rattle.milter_world_ends.proofs.EndSteps.{DialLaws, dials}
 use Rattle.milter_world_ends.proofs.EventCases.{at-state}
@@ -10,6 +9,6 @@ returns g c =
       both = c.messages_are_settled_by_dialogues.ensures.goes_on;
       dialled_on = c.messages_are_settled_by_dialogues.ensures.dialled;
       dialled_reported = c.connections_are_reported.ensures.dialled;
-      begins = (λ b policy. c.cores_go_on.ensures.begins b Strict policy);
+      begins = c.cores_go_on.ensures.begins;
     } in
     λ p ends settled is at. dials p ends is.possible is.by_dialogues settled at (at-state p ends is (Idle settled) at) laws

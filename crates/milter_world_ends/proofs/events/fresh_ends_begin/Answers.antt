@@ -5,7 +5,7 @@ use Rattle.milter_world_ends.proofs.events.fresh_ends_begin.Goals as goal
 pub returns : goal.returns
 returns g c =
     record {
-      begins = λ p policy possible. begins p policy possible (record {
+      begins = λ p order policy possible. begins p order policy possible (record {
         dialogues = c.messages_are_settled_by_dialogues.ensures.stays (fresh p.config p.session) (c.messages_are_settled_by_dialogues.ensures.fresh p.config p.session);
         connection = c.connections_are_reported.ensures.fresh p.config p.session;
       });

@@ -1,6 +1,5 @@
 use Rattle.std.proofs.Common.{◌≡◌, ◌≢◌, ℕ, ◌<◌, ◌≤◌, ◌^◌, List, [], ◌∷◌, None, drop, length, refl, sym, ap, subst, arith, length-drop, All}
 use Rattle.std.proofs.lemmas.List.Elements.{All-drop, All-head, All-tail}
-use Rattle.milter_protocol.specs.declared.command_order.CommandOrder.TheVariants.{Strict}
 use Rattle.milter_mta_laws.specs.Sessions.{session_lines}
 use Rattle.milter_world_transcript.specs.ByteCounts.{due, to_filter, to_mta}
 use Rattle.milter_world_ends.proofs.ShortLines.{AreShort, Each, short}
@@ -17,9 +16,9 @@ use Rattle.milter_world_ends.proofs.scenarios.scenarios_are_possible.Goals as go
 pub returns : goal.returns
 returns c p lawful is from to fits few =
     record {
-      answered = λ settled.
-          subst (λ (l : List Line). AnswersLines Strict p.filter l) (sym (c.entries_of_sessions.ensures.lines p.filter p.config.offer p.session (drop settled p.session.messages)))
-          (c.sessions_are_answered.ensures Strict p.filter p.config.offer p.session (drop settled p.session.messages) is from fits
+      answered = λ order settled.
+          subst (λ (l : List Line). AnswersLines order p.filter l) (sym (c.entries_of_sessions.ensures.lines p.filter p.config.offer p.session (drop settled p.session.messages)))
+          (c.sessions_are_answered.ensures order p.filter p.config.offer p.session (drop settled p.session.messages) is from fits
           (All-drop (IsSendable p.session.client p.session.helo p.session.macros) settled p.session.messages is.are_sendable));
       followed = λ settled m some unconnected same e. by_messages m unconnected same (drop settled p.session.messages) e (left-some settled p.session.messages some);
       last_unanswered = λ settled received. subst (λ (l : List Line). due l received ≡ length (to_filter l) → length (to_mta l) ≤ received)

@@ -14,13 +14,14 @@ returns-after-want g c = λ p event b is kind.
     let mta_is = ap (λ s. s.mta) u ∙ c.lost.ensures ∙ ap (λ s. lost c.args.loss s.mta) v in
     let want_is = sym (c.want.ensures ∙ ap want mta_is) in
     let policy_is = ap (λ s. s.policy) u ∙ ap (λ s. s.policy) v in
+    let order_is = ap (λ s. s.order) u ∙ ap (λ s. s.order) v in
     let steps = c.lost_ends_step.ensures.loses p c.args.self.now event c.args.loss is going kind in
     elim c.match-want.branch [
-      | in-Dial w ↦ steps-as p c.args.self.now event _ _ _ _ _ _ _
-          policy_is mta_is (ap (λ s. s.filter) u) (ap (λ s. s.to_filter) u) (ap (λ s. s.to_mta) u)
+      | in-Dial w ↦ steps-as p c.args.self.now event _ _ _ _ _ _ _ _
+          policy_is order_is mta_is (ap (λ s. s.filter) u) (ap (λ s. s.to_filter) u) (ap (λ s. s.to_mta) u)
           (w.self-is ∙ ap Idle (w.settled.ensures ∙ ap (λ m. length m.reports) mta_is)
           ∙ sym (c.lost_ends_step.ensures.dials_again p c.args.self.now event c.args.loss is going kind (want_is ∙ w.in-Dial.is))) steps
-      | in_default-want w ↦ steps-as p c.args.self.now event _ _ _ _ _ _ _
-          policy_is mta_is (ap (λ s. s.filter) u) (ap (λ s. s.to_filter) u) (ap (λ s. s.to_mta) u)
+      | in_default-want w ↦ steps-as p c.args.self.now event _ _ _ _ _ _ _ _
+          policy_is order_is mta_is (ap (λ s. s.filter) u) (ap (λ s. s.to_filter) u) (ap (λ s. s.to_mta) u)
           (w.self-is ∙ sym (c.lost_ends_step.ensures.ends_then p c.args.self.now event c.args.loss is going kind (λ dial. w.in_default-want.not-Dial (sym want_is ∙ dial)))) steps
     ]

@@ -10,6 +10,12 @@ use Rattle.milter_filter_core.specs.Cores.{Takes}
 use Rattle.milter_world.specs.Reached.{CanTake}
 use Rattle.milter_world.proofs.FedFilter.{same-drop}
 
+pub feed_filter-requires-clause-serves : goal.feed_filter-requires-clause-serves
+feed_filter-requires-clause-serves g c =
+    let v = c.self.view_is in
+    c.taken_bytes_step.ensures.serves c.requires.scenario c.args.self.now c.in-Linked.settled c.in-Linked.counts c.in-Some.filter c.requires.are
+    (sym (ap (λ s. s.state) v) ∙ c.in-Linked.is) (sym (ap (λ s. s.filter) v) ∙ c.in-Some.is)
+
 pub feed_filter-requires-clause-takes : goal.feed_filter-requires-clause-takes
 feed_filter-requires-clause-takes g c =
     let v = c.self.view_is in
@@ -44,6 +50,7 @@ returns-in_ok-taken-in-Linked g c = λ p b is. by_pending p b is c.in-Some.filte
         → Steps p c.args.self.now (events.ToFilter c.args.count)
         (record {
           policy = c.self.inside.policy.now;
+          order = c.self.inside.order;
           mta = c.self.inside.mta;
           filter = Some c.feed_filter.new.filter;
           to_filter = c.feed_filter.new.pipe;
@@ -61,8 +68,8 @@ returns-in_ok-taken-in-Linked g c = λ p b is. by_pending p b is c.in-Some.filte
         let takes_it = subst (λ (x : Behavior). Takes x core (take c.args.count ends.to_filter) c.in_ok-taken-in-Linked.taken c.feed_filter.new.filter) same
         (subst (λ (l : List ℕ). Takes (g.P.Policy.behavior core.policy) core (take c.args.count l) c.in_ok-taken-in-Linked.taken c.feed_filter.new.filter) (ap (λ s. s.to_filter) v)
         (c.in_ok-taken-in-Linked.ensures.taken e)) in
-        steps-as p ends (events.ToFilter c.args.count) _ _ _ _ _ _ _
-        (ap (λ s. s.policy) v) (ap (λ s. s.mta) v) refl
+        steps-as p ends (events.ToFilter c.args.count) _ _ _ _ _ _ _ _
+        (ap (λ s. s.policy) v) (ap (λ s. s.order) v) (ap (λ s. s.mta) v) refl
         (c.in_ok-taken-in-Linked.ensures.pipe ∙ ap (λ s. drop c.args.count s.to_filter) v)
         (ap (λ s. s.to_mta) v)
         (ap (λ k. Linked c.in-Linked.settled (record c.in-Linked.counts { taken = c.in-Linked.counts.taken + k }))
@@ -76,8 +83,8 @@ returns-in_ok-taken-in-Linked g c = λ p b is. by_pending p b is c.in-Some.filte
         let some = sym (ap (λ s. s.filter) v) ∙ c.in-Some.is in
         let full : core.pending ≢ [] = λ none. (let x : byte ∷ bytes ≡ [] = sym e ∙ none in absurd (cc)) in
         let w = c.taken_bytes_step.ensures.waits p ends c.in-Linked.settled c.in-Linked.counts core c.args.count is at some full in
-        steps-as p ends (events.ToFilter c.args.count) _ _ _ _ _ _ _
-        (ap (λ s. s.policy) v) (ap (λ s. s.mta) v)
+        steps-as p ends (events.ToFilter c.args.count) _ _ _ _ _ _ _ _
+        (ap (λ s. s.policy) v) (ap (λ s. s.order) v) (ap (λ s. s.mta) v)
         (ap Some (c.in_ok-taken-in-Linked.ensures.waits full) ∙ sym some)
         (c.in_ok-taken-in-Linked.ensures.pipe ∙ ap (λ s. drop c.args.count s.to_filter) v ∙ sym (same-drop 0 c.args.count ends.to_filter (sym w.0)))
         (ap (λ s. s.to_mta) v)

@@ -22,8 +22,8 @@ overflow_add-received g c =
 pub returns-in_ok-received-in-Linked : goal.returns-in_ok-received-in-Linked
 returns-in_ok-received-in-Linked g c = λ p b is.
     let v = c.self.view_is in
-    steps-as p c.args.self.now (events.ToMta c.args.count) _ _ _ _ _ _ _
-    (ap (λ s. s.policy) v)
+    steps-as p c.args.self.now (events.ToMta c.args.count) _ _ _ _ _ _ _ _
+    (ap (λ s. s.policy) v) (ap (λ s. s.order) v)
     (c.in_ok-received-in-Linked.ensures.mta ∙ ap (λ s. (received s.mta (take c.args.count s.to_mta)).mta) v)
     (ap (λ s. s.filter) v) (ap (λ s. s.to_filter) v)
     (c.in_ok-received-in-Linked.ensures.pipe ∙ ap (λ s. drop c.args.count s.to_mta) v)

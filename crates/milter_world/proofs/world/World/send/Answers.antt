@@ -36,11 +36,11 @@ returns-after-want-2 g c = λ p b is.
     let mta_is = e.mta ∙ ap (λ s. mta_sent c.args.count s.mta) v in
     let want_is = sym (c.want-in-Linked.ensures ∙ ap want mta_is) in
     elim c.match-want-2.branch [
-      | in-Done-want w ↦ steps-as p ends (events.Send c.args.count) _ _ _ _ _ _ _
-          (ap (λ s. s.policy) v) mta_is (ap (λ s. s.filter) v) refl (ap (λ s. s.to_mta) v) w.self-is
+      | in-Done-want w ↦ steps-as p ends (events.Send c.args.count) _ _ _ _ _ _ _ _
+          (ap (λ s. s.policy) v) (ap (λ s. s.order) v) mta_is (ap (λ s. s.filter) v) refl (ap (λ s. s.to_mta) v) w.self-is
           (c.sent_bytes_step.ensures.sends_last p ends c.in-Linked.settled c.in-Linked.counts c.args.count c.send_bytes.new.pipe is at wanted (want_is ∙ w.in-Done-want.is))
-      | in_default-want w ↦ steps-as p ends (events.Send c.args.count) _ _ _ _ _ _ _
-          (ap (λ s. s.policy) v) mta_is (ap (λ s. s.filter) v) refl (ap (λ s. s.to_mta) v)
+      | in_default-want w ↦ steps-as p ends (events.Send c.args.count) _ _ _ _ _ _ _ _
+          (ap (λ s. s.policy) v) (ap (λ s. s.order) v) mta_is (ap (λ s. s.filter) v) refl (ap (λ s. s.to_mta) v)
           (w.self-is ∙ ap (λ k. Linked c.in-Linked.settled (record c.in-Linked.counts { sent = c.in-Linked.counts.sent + k })) (e.sent ∙ ap (λ s. sent_count c.args.count s.mta) v))
           (c.sent_bytes_step.ensures.sends p ends c.in-Linked.settled c.in-Linked.counts c.args.count c.send_bytes.new.pipe is at wanted
           (λ done. w.in_default-want.not-Done (sym want_is ∙ done))

@@ -9,7 +9,7 @@ use Rattle.milter_world_schedule.specs.Schedule.{After, Scenario, after_all, fir
 use Rattle.milter_world_schedule.specs.DialogueReports.{AreReported, IsReportOf, WasGiven, by_reset, by_timeout, count_events, count_reports, is_known, is_lose, is_timeout}
 use Rattle.milter_world.specs.Reached.{after_of, scenario_of}
 use Rattle.milter_world.proofs.EventRuns.{leads-on}
-use Rattle.milter_world.proofs.any_schedule.run.Goals as goal
+use Rattle.milter_world.proofs.any_schedule.run_in_order.Goals as goal
 
 zip-map : (R S : MailObject → Report → Type 0) → ((m : MailObject) (r : Report) → R m r → S m r) → (ms : List MailObject) (rs : List Report) → AllZip R ms rs
     → AllZip S ms rs
