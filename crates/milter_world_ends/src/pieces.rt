@@ -39,7 +39,8 @@ pub fn pieces_move<P: Policy>()
         (pipe : List ℕ) → AnswersLines order b lines → AreCounts lines c → IsFilterAt b order policy lines c core pipe →
         core.pending ≢ [] → pipe ≡ [] }
     ensures answers { (b : Behavior) (order : Order) (policy : P) (lines : List Line) (c : Counts) (core : Core P)
-        (pipe : List ℕ) (n : ℕ) → AnswersLines order b lines → AreCounts lines c → IsFilterAt b order policy lines c core pipe →
+        (pipe : List ℕ) (n : ℕ) → AnswersLines order b lines → AreCounts lines c →
+        IsFilterAt b order policy lines c core pipe →
         IsFilterAt b order policy lines (record c { answered = c.answered + length (take n core.pending) })
         (record core { pending = drop n core.pending }) pipe }
     ensures receives_bytes { (opened m : Mta) (lines : List Line) (c : Counts) (back piece rest : List ℕ) →
