@@ -10,9 +10,9 @@ interrupted is taken up again where it was. Each crate keeps its work in its out
 alone proves all of it from nothing.
 
 Two `rt` wait for one another where they share a library, so each crate is proved in a folder of its own, in which the
-libraries below it are links, and its out/ is moved there and back. Three crates are proved at a time on four
-processors, as far as there is memory for them, since `rt` takes more than one processor for a large one; those with the
-longest way to the top first.
+libraries below it are links, and its out/ is moved there and back. As many crates are proved at a time as there are
+processors, as far as there is memory for them, each by one processor: a second one for the same crate costs a quarter
+more in all. Those with the longest way to the top come first.
 """
 
 import concurrent.futures
@@ -32,7 +32,7 @@ SOURCES = ("src", "specs", "proofs")
 MEMORY = 5 << 30
 # How many crates are proved at a time.
 WORKERS = max(
-    min(len(os.sched_getaffinity(0)) * 3 // 4, os.sysconf("SC_PHYS_PAGES") * os.sysconf("SC_PAGE_SIZE") // MEMORY), 1)
+    min(len(os.sched_getaffinity(0)), os.sysconf("SC_PHYS_PAGES") * os.sysconf("SC_PAGE_SIZE") // MEMORY), 1)
 # The commands that run.
 RUNNING = set()
 
@@ -171,11 +171,11 @@ def prove(crate, mark, command):
 def steps(crate, wanted):
     """What is to be done of a crate: of each step its mark in out/, and the words of rt."""
     if not crate.is_program:
-        yield "proved", ["lib"]
+        yield "proved", ["lib", "--jobs", "1"]
     elif "--build" in wanted:
         yield "built", ["run", "--", "--version"]
     else:
-        yield "proved", ["check"]
+        yield "proved", ["check", "--jobs", "1"]
     if "--test" in wanted and crate.has_tests():
         yield "tested", ["test"]
 

@@ -3,8 +3,8 @@
 //! A [`World`] has a mail server's end with a session, a filter's end with a policy while one lives, and the bytes on
 //! their way each way. [`World::step`] lets one [`Event`] happen; [`run`] plays a session while a list of events
 //! happens, [`run_in_order`] does so to a filter's end that takes commands in a given order, and [`play`] plays over
-//! one connection on which everything arrives. A world drives both ends by their public calls alone: only a filter's end
-//! asks the policy, and only a mail server's end makes reports.
+//! one connection on which everything arrives. A world drives both ends by their public calls alone: only a filter's
+//! end asks the policy, and only a mail server's end makes reports.
 #![tactic(auto)]
 
 mod any_schedule;
