@@ -1,13 +1,15 @@
 //! Worked connections, as the definitions compute them.
 
-ghost use Rattle.std.specs.Prelude.{◌≡◌, [], ◌∷◌, ◌++◌, codes, Err, List, ℕ, None, Some, true};
+ghost use Rattle.std.specs.Prelude.{◌≡◌, [], ◌∷◌, ◌++◌, codes, map, Err, List, Ok, ℕ, None, Some, true};
 ghost use Rattle.milter_wire_stream.specs.declared.fault.WireFault.TheVariants as wire_faults;
 ghost use Rattle.milter_wire.specs.declared.command.Command.TheVariants as commands;
 ghost use Rattle.milter_wire.specs.declared.reply.Reply.TheVariants as replies_with;
 ghost use Rattle.milter_wire.specs.declared.verdict.Verdict.TheVariants.{Accept, Continue, Discard, Reject, Skip};
 ghost use Rattle.milter_message.specs.declared.edit.Edit.TheVariants.{AddHeader, DelRcpt, Progress};
+ghost use Rattle.milter_protocol.specs.declared.command_order.CommandOrder.TheVariants.{Lenient};
 ghost use Rattle.milter_protocol.specs.declared.filter_fault.FilterFault.TheVariants.{NegotiatedTwice, NotNegotiated, OutOfOrder, Version, Wire};
 ghost use Rattle.milter_protocol.specs.declared.filter_state.FilterState.TheVariants.{Failed, Quit, Serving};
+ghost use Rattle.milter_protocol.specs.Aborts.{NoneWithinMessage, taken_by};
 ghost use Rattle.milter_protocol.specs.FilterEnds.{after, start};
 ghost use Rattle.milter_protocol.specs.Pass.{pass};
 ghost use Rattle.milter_protocol.specs.Worked.{negotiated, always, at, client, count_fields, deciding, edits_at_end, field, helo, mail, offer, options, rcpt, replied, state};
@@ -86,4 +88,16 @@ pub(crate) fn messages()
     ensures refused { state (deciding 0 (always Reject)) (offer ∷ rcpt ∷ rcpt ∷ commands.Eob [] ∷ []) ≡ Serving }
     ensures discarded { state (deciding 0 (always Discard)) (offer ∷ rcpt ∷ mail ∷ []) ≡ Serving }
     ensures not_ended { state pass (offer ∷ rcpt ∷ mail ∷ []) ≡ Failed OutOfOrder }
+{}
+
+/// What an end that takes commands in the lenient order takes them for.
+#[tactic(auto, unfolding(milter_wire_stream::specs::Number::number))]
+pub(crate) fn lenient_aborts()
+    ensures two_senders { taken_by Lenient pass (map Ok (offer ∷ mail ∷ mail ∷ []))
+        ≡ map Ok (offer ∷ mail ∷ commands.Abort ∷ mail ∷ []) }
+    ensures greets_again { taken_by Lenient pass (map Ok (offer ∷ helo ∷ mail ∷ rcpt ∷ helo ∷ []))
+        ≡ map Ok (offer ∷ helo ∷ mail ∷ rcpt ∷ commands.Abort ∷ helo ∷ []) }
+    // A client that greets twice before its first message, and messages one after the other, are in turn.
+    ensures in_turn { NoneWithinMessage pass start
+        (map Ok (offer ∷ helo ∷ helo ∷ mail ∷ rcpt ∷ commands.Eob [] ∷ mail ∷ commands.Abort ∷ helo ∷ mail ∷ [])) }
 {}
