@@ -1,18 +1,18 @@
 //! A session, played in memory to a filter that lets all mail go on while events happen. The input is a session file.
 //! The first word is what is printed, and each further word is a line of a file of events.
 //!
-//! `asked` prints for each event how often the filter was asked up to it, which shows that a world asks no sooner than
-//! the bytes come. The others print a number of messages: `read` of the session, `run` of those that the events settle,
-//! and `play` of those that are settled over one connection on which everything arrives.
+//! `asked` prints for each event how often the filter was asked up to it, in either order of commands, which shows that
+//! a world asks no sooner than the bytes come. The others print a number of messages: `read` of the session, `run` of
+//! those that the events settle, and `play` of those that are settled over one connection on which everything arrives.
 
 mod counting_filter;
 
 use crate::input::config_without_bits;
 use anyhow::bail;
 use counting_filter::Counting;
-use milter_filter::Pass;
+use milter_filter::{CommandOrder, Pass};
 use milter_mail_file::read_session;
-use milter_world::{play, run};
+use milter_world::{play, run, run_in_order};
 use milter_world_events::read_events;
 use milter_world_schedule::Event;
 use std::alloc::Global;
@@ -27,28 +27,38 @@ fn events_in(alloc: Global, lines: &[String]) -> anyhow::Result<Vec<Event>> {
     Ok(read_events(alloc, &file)?)
 }
 
-/// How often the filter is asked while the events happen.
-fn count_asked(alloc: Global, file: &[u8], events: &[Event]) -> anyhow::Result<u64> {
+/// How often the filter, which takes commands in this order, is asked while the events happen.
+fn count_asked(
+    alloc: Global,
+    order: CommandOrder,
+    file: &[u8],
+    events: &[Event],
+) -> anyhow::Result<u64> {
     let filter = Counting::new();
-    run(
+    run_in_order(
         alloc,
         config_without_bits()?,
         read_session(alloc, file)?,
         &filter,
+        order,
         events,
     )?;
     Ok(filter.asked())
 }
 
 /// Plays the session file while the first of the events happen, one more each time, and prints how often the filter was
-/// asked.
+/// asked, which is as often in either order.
 fn print_asked<R: Print + AllocGlobal>(
     rt: &R,
     file: &[u8],
     events: &[Event],
 ) -> anyhow::Result<()> {
     for count in 1..=events.len() {
-        println!(rt; "{}", count_asked(rt.alloc(), file, &events[..count])?)?;
+        let asked = count_asked(rt.alloc(), CommandOrder::Strict, file, &events[..count])?;
+        if asked != count_asked(rt.alloc(), CommandOrder::Lenient, file, &events[..count])? {
+            bail!("a filter is asked another number of times in the lenient order");
+        }
+        println!(rt; "{asked}")?;
     }
     Ok(())
 }
