@@ -1,5 +1,4 @@
-use Rattle.std.proofs.Common.{◌≢◌, [], drop, false, length, subst, IsTrue, arith}
-use Rattle.std.proofs.lemmas.Grind.{common_steps}
+use Rattle.std.proofs.Common.{◌≢◌, [], drop, false, length, subst, IsTrue}
 use Rattle.milter_protocol.specs.declared.filter_state.FilterState.TheVariants.{Serving}
 use Rattle.milter_filter_core.specs.Cores.{Core, Takes}
 use Rattle.milter_filter_core.specs.AnswerPackets.{Replying, StopsAt, TakesBytes}
@@ -25,6 +24,3 @@ returns-clause-takes g c =
     let takes : Takes b old piece (length piece) new =
     all-taken b old new piece left taken found ended c.clear.ensures (stops.silent_end ended) in
     subst (λ (core : Core g.row.P.Denot). Takes (g.P.Policy.behavior core.policy) core piece (length piece) new) c.self.view_is takes
-
-pub returns-in-Err-clause-gives_up : goal.returns-in-Err-clause-gives_up
-returns-in-Err-clause-gives_up g c = grind (arith, common_steps)
