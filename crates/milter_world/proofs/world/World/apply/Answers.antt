@@ -1,4 +1,5 @@
-use Rattle.std.proofs.Common.{refl, sym, subst}
+use Rattle.std.proofs.Common.{refl, sym, subst, arith}
+use Rattle.std.proofs.lemmas.Grind.{common_steps}
 use Rattle.milter_world_schedule.specs.declared.event.Event.{Event}
 use Rattle.milter_world_schedule.specs.declared.event.Event.TheVariants.{Lose, Timeout}
 use Rattle.milter_world_ends.specs.Ends.{Steps}
@@ -11,3 +12,6 @@ returns-in-Lose g c = λ p b is.
 pub returns-in-Timeout : goal.returns-in-Timeout
 returns-in-Timeout g c = λ p b is.
     subst (λ (e : Event). Steps p c.args.self.now e c.lose-in-Timeout.new.self) (sym c.in-Timeout.is) (c.lose-in-Timeout.ensures p Timeout b is refl)
+
+pub returns-in-ToMta : goal.returns-in-ToMta
+returns-in-ToMta g c = grind (arith, common_steps)
