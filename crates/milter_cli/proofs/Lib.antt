@@ -1,2 +1,3 @@
 pub mod FileLaws
 pub mod FilteringLaws
+pub mod KnownFileLaws

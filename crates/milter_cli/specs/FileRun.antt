@@ -32,6 +32,13 @@ IsFileFault (Fault file line number) = Unit {0}
 IsFileFault Write = ⊥
 IsFileFault NoMemory = ⊥
 
+-- a fault of the file's lines, where it has no value, or refused memory
+abbrev pub IsFaultOrMemory : {V : Type 0} → (List ℕ → V → Type 0) → List ℕ → FileError → Type 0
+IsFaultOrMemory IsFile bytes (Read file) = ⊥
+IsFaultOrMemory IsFile bytes (Fault file line number) = HasNone IsFile (Some bytes)
+IsFaultOrMemory IsFile bytes Write = ⊥
+IsFaultOrMemory IsFile bytes NoMemory = Unit {0}
+
 -- what names a file names this one
 abbrev pub IsOf : InputFile → FileError → Type 0
 IsOf file (Read named) = named ≡ file

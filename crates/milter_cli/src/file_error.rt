@@ -1,7 +1,7 @@
 //! How the reading of a file, and the printing of what it has, can end before their end.
 
-ghost use Rattle.std.specs.Prelude.{◌≡◌, Some};
-ghost use Rattle.milter_cli.specs.FileRun.{fault_error, file_error_text, file_word, read_error, text_error};
+ghost use Rattle.std.specs.Prelude.{◌≡◌, ◌↔◌, IsTrue, Some};
+ghost use Rattle.milter_cli.specs.FileRun.{IsFileFault, fault_error, file_error_text, file_word, read_error, text_error};
 
 use milter_text::TextFault;
 use std::error::Error;
@@ -71,6 +71,15 @@ impl fmt::Display for FileError {
 }
 
 impl Error for FileError {}
+
+impl FileError {
+    /// Whether it is a fault of what the file has, which stays until the file changes. Doesn't allocate.
+    pub fn is_file_fault(self) -> bool
+        ensures { IsTrue result ↔ IsFileFault self }
+    {
+        matches!(self, FileError::Fault { .. })
+    }
+}
 
 /// The error of a file that isn't opened, or not read.
 pub fn read_error(file: InputFile, kind: ErrorKind) -> FileError

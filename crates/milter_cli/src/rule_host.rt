@@ -1,5 +1,9 @@
 //! The subcommand `serve`: the rules of connections that are served at once, and the lines of these.
 
+ghost use Rattle.std.specs.Prelude.{◌≡◌, ◌++◌, [], ◌∷◌, IfErr, OnErr, OnOk};
+ghost use Rattle.milter_cli.specs.FileRun.{IsFileFault};
+ghost use Rattle.milter_cli.specs.RefreshedRules.{Refreshes, latest};
+
 use crate::connection_report::ConnectionReport;
 use crate::decision_log::{DecisionLog, LoggedPolicy};
 use crate::file_error::FileError;
@@ -27,13 +31,22 @@ pub struct RuleHost<'p, 'w, S: RuleSource, W: Write, E: Write> {
     pub arena: &'p Bump,
     /// What the lines of connections are written to.
     pub writer: &'w mut W,
-    /// Where decisions are logged, and rules that have a fault.
+    /// Where decisions are logged, and why rules were not read.
     pub log: &'p DecisionLog<E>,
+    /// Why rules were not read at the last look; none where they were, or did not change.
+    pub failed: Option<FileError>,
 }
 
 impl<'p, 'w, S: RuleSource, W: Write, E: Write> RuleHost<'p, 'w, S, W, E> {
     /// Has connections that come go by these rules; by those before where memory is refused.
-    fn change(&mut self, rules: Rules) -> Result<(), FileError> {
+    fn change(&mut self, rules: Rules) -> Result<(), FileError>
+        ensures kept { OnOk result ((policy : _) × (policy.now.policy.now ≡ rules)
+            × (policy.now.log ≡ self.old.first.now.log) × (self.new.later.items ≡ self.old.later.items ++ policy ∷ [])) }
+        ensures refused { OnErr result (self.new.later.items ≡ self.old.later.items) }
+        ensures memory { IfErr result (λ e. e ≡ FileError.NoMemory) }
+        ensures source { self.new.source ≡ self.old.source }
+        ensures first { self.new.first ≡ self.old.first }
+    {
         let Ok(rules) = self.arena.try_alloc(rules) else {
             return Err(FileError::NoMemory);
         };
@@ -50,22 +63,60 @@ impl<'p, 'w, S: RuleSource, W: Write, E: Write> RuleHost<'p, 'w, S, W, E> {
         }
     }
 
-    /// Looks whether the rules changed.
-    fn refresh(&mut self) -> Result<(), FileError> {
-        match self.source.changed(self.alloc) {
-            Some(Ok(rules)) => self.change(rules),
-            Some(Err(error)) => Err(error),
-            None => Ok(()),
+    /// Looks whether the rules changed. Where memory is refused for rules that did, they are asked for again at the next
+    /// look.
+    fn refresh(&mut self) -> Result<(), FileError>
+        ensures refreshed { Refreshes (λ policy rules. (policy.now.policy.now ≡ rules)
+            × (policy.now.log ≡ self.old.first.now.log)) S.answers S.looks_again
+            self.old.source self.old.later.items self.new.source self.new.later.items }
+        ensures again { IfErr result (λ e. ¬ IsFileFault e → S.looks_again self.new.source) }
+        ensures first { self.new.first ≡ self.old.first }
+    {
+        let rules = match self.source.changed(self.alloc) {
+            Some(Ok(rules)) => rules,
+            Some(Err(error)) => return Err(error),
+            None => return Ok(()),
+        };
+        match self.change(rules) {
+            Ok(()) => Ok(()),
+            Err(error) => {
+                self.source.forget();
+                Err(error)
+            }
         }
+    }
+
+    /// Logs why rules were not read, if they were not: a fault of theirs each time, since it comes once for each change;
+    /// any other error only where it isn't that of the look before.
+    fn note(&mut self, refreshed: Result<(), FileError>)
+        ensures source { self.new.source ≡ self.old.source }
+        ensures first { self.new.first ≡ self.old.first }
+        ensures later { self.new.later ≡ self.old.later }
+    {
+        let Err(error) = refreshed else {
+            self.failed = None;
+            return;
+        };
+        if error.is_file_fault() || self.failed != Some(error) {
+            self.log.write_error(error);
+        }
+        self.failed = Some(error);
     }
 }
 
 impl<'p, 'w, S: RuleSource, W: Write, E: Write> Host<'p, LoggedPolicy<'p, Rules, E>>
     for RuleHost<'p, 'w, S, W, E> {
-    fn policy(&mut self) -> &'p LoggedPolicy<'p, Rules, E> {
-        if let Err(error) = self.refresh() {
-            self.log.write_error(error);
-        }
+    /// The policy of a connection that has come: the rules that the source gives now where they changed, else those
+    /// before.
+    fn policy(&mut self) -> &'p LoggedPolicy<'p, Rules, E>
+        ensures latest { result ≡ latest self.new.first self.new.later.items }
+        ensures refreshed { Refreshes (λ policy rules. (policy.now.policy.now ≡ rules)
+            × (policy.now.log ≡ self.old.first.now.log)) S.answers S.looks_again
+            self.old.source self.old.later.items self.new.source self.new.later.items }
+        ensures first { self.new.first ≡ self.old.first }
+    {
+        let refreshed = self.refresh();
+        self.note(refreshed);
         self.later.last().copied().unwrap_or(self.first)
     }
 

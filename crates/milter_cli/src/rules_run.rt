@@ -5,7 +5,7 @@ ghost use Rattle.milter_rules.specs.RuleFile.{IsRuleFile};
 ghost use Rattle.milter_filter_rules.specs.RulesValue.{case_of, rule_set};
 ghost use Rattle.milter_filter_search.specs.declared.text_case.TextCase.TheVariants.{Exact, Ignored};
 ghost use Rattle.milter_rules.specs.RulesText.{rules_text};
-ghost use Rattle.milter_cli.specs.FileRun.{Has, HasNone, IsFileFault, IsOf, WritesCanonical};
+ghost use Rattle.milter_cli.specs.FileRun.{Has, HasNone, IsFaultOrMemory, IsFileFault, IsOf, WritesCanonical};
 
 use crate::file_error::{FileError, InputFile, fault_error, text_error};
 use crate::file_input::read_file;
@@ -27,7 +27,20 @@ pub fn load_rules<R: Read + Drop>(alloc: Global, reader: R) -> Result<Rules, Fil
     ensures fault { IfErr result (λ e. IsFileFault e → HasNone IsRuleFile (R.remaining reader)) }
 {
     let file = read_file(alloc, InputFile::Rules, reader)?;
-    match read_rules(alloc, file.as_slice()) {
+    rules_of(alloc, file.as_slice())
+}
+
+/// The rules of a file that has these bytes.
+pub(crate) fn rules_of(alloc: Global, bytes: &[u8]) -> Result<Rules, FileError>
+    ensures found { IfOk result (λ rules. IsRuleFile bytes.now (rule_set rules)) }
+    // The case of letters counts in their texts.
+    ensures case { IfOk result (λ rules. case_of rules ≡ Exact) }
+    // An error is a fault, which comes only of a file that has no rules, or refused memory.
+    ensures error { IfErr result (IsFaultOrMemory IsRuleFile bytes.now) }
+    // An error names no other kind of file.
+    ensures named { IfErr result (IsOf InputFile.Rules) }
+{
+    match read_rules(alloc, bytes) {
         Ok(rules) => Ok(rules),
         Err(fault) => Err(fault_error(InputFile::Rules, fault.line(), fault.number())),
     }

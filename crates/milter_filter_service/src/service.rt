@@ -1,6 +1,7 @@
 //! A service of many connections.
 
-ghost use Rattle.std.specs.Prelude.{◌<◌, length};
+ghost use Rattle.std.specs.Prelude.{◌≡◌, ◌≤◌, ◌<◌, ◌⊎◌, ◌++◌, [], ◌∷◌, IfSome, length};
+ghost use Rattle.milter_filter_server.specs.Connections.{fresh_connected};
 
 use crate::client::Client;
 use crate::listener::{Listener, Stream};
@@ -256,9 +257,11 @@ impl<'r, 'p, R: Net + Clock, P: Policy> Service<'r, 'p, R, P> {
         }
     }
 
-    /// A connection of which nothing has come, in the memory of one that has ended where there is one; `None` where
-    /// memory was refused.
-    fn connect(&mut self, policy: &'p P) -> Option<Connection<'p, P>> {
+    /// A connection of which nothing has come, in the lenient order, by this policy; in the memory of one that has ended
+    /// where there is one, of which nothing else is left. `None` where memory was refused.
+    fn connect(&mut self, policy: &'p P) -> Option<Connection<'p, P>>
+        ensures { IfSome result (λ connection. connection ≡ fresh_connected CommandOrder.Lenient policy.now) }
+    {
         let Some(mut connection) = self.spare.pop() else {
             return Connection::new(self.alloc, policy, CommandOrder::Lenient).ok();
         };
@@ -268,11 +271,15 @@ impl<'r, 'p, R: Net + Clock, P: Policy> Service<'r, 'p, R, P> {
 
     /// Keeps a connection that has ended for others, begun again so that it gives up much memory, unless there are
     /// enough.
-    fn keep(&mut self, mut connection: Connection<'p, P>) {
+    fn keep(&mut self, mut ended: Connection<'p, P>)
+        ensures kept { (self.new.spare.items ≡ self.old.spare.items) ⊎ (self.new.spare.items
+            ≡ self.old.spare.items ++ fresh_connected CommandOrder.Lenient ended.entry.core.policy ∷ []) }
+        ensures bounded { length self.old.spare.items ≤ 16 → length self.new.spare.items ≤ 16 }
+    {
         if self.spare.len() < SPARE_MAX {
-            let policy = connection.policy();
-            connection.restart(policy, CommandOrder::Lenient);
-            drop(self.spare.push(connection));
+            let policy = ended.policy();
+            ended.restart(policy, CommandOrder::Lenient);
+            drop(self.spare.push(ended));
         }
     }
 

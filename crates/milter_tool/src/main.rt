@@ -7,7 +7,7 @@
 
 use bumpalo::Bump;
 use milter_cli::{
-    Connections, DecisionLog, FileError, InputFile, LoggedPolicy, RuleFile, RuleHost, TcpDial,
+    Connections, DecisionLog, FileError, InputFile, LoggedPolicy, RuleFile, RuleHost, RuleSource, TcpDial,
     ToolError, UnixDial, WaitingDial, answer_run, argument_error, check_reports, check_rule_file,
     end_usage, ended_as, filter_run, listen_error, load_events, load_reports, load_rules,
     load_session, mta_run, output_error, play_run, print_rules, print_session, read_error, report,
@@ -26,6 +26,7 @@ use milter_rules::Rules;
 use milter_text::write_text;
 use milter_trace::trace_run;
 use milter_world::Event;
+use std::alloc::Global;
 use std::env::{self, Env};
 use std::io::Write;
 use std::net::{Net, TcpListener, TcpStream};
@@ -156,7 +157,7 @@ fn serve_connections<R: Print + AllocGlobal, C: Connections + Drop>(
 
 /// What connections are served with at once.
 #[derive(Drop)]
-struct Serving<'x, R: Files> {
+struct Serving<'x, R: Files + Clock> {
     limits: Limits,
     listeners: Vec<Listener>,
     source: RuleFile<'x, R>,
@@ -176,8 +177,8 @@ fn serve_many<
         Ok(mode) => mode,
         Err(error) => return Err(ToolError::Usage(error)),
     };
-    let source = RuleFile::new(rt, asked.rules, asked.ignore_case);
-    let rules = rules_at(rt, asked.rules, asked.ignore_case)?;
+    let mut source = RuleFile::new(rt, asked.rules, asked.ignore_case);
+    let rules = first_rules(rt.alloc(), &mut source)?;
     let listeners = listeners_at(rt, asked.addresses.as_slice(), mode)?;
     let limits = Limits {
         at_once: asked.at_once as usize,
@@ -191,6 +192,15 @@ fn serve_many<
     };
     let log = DecisionLog::new(errors);
     serve_rules(rt, serving, &rules, &log, &Bump::new(rt.alloc()))
+}
+
+/// The rules that a source has when it is asked first; none where it has none.
+fn first_rules<S: RuleSource>(alloc: Global, source: &mut S) -> Result<Rules, ToolError> {
+    match source.changed(alloc) {
+        Some(Ok(rules)) => Ok(rules),
+        Some(Err(error)) => Err(ToolError::File(error)),
+        None => Ok(Rules::new(alloc)),
+    }
 }
 
 /// Serves connections at once, first by these rules. The arena has the rules that come after them.
@@ -216,6 +226,7 @@ fn serve_rules<'x, 's, R: Net + Files + Clock + Print + AllocGlobal, E: Write + 
         arena,
         writer: &mut io::writer(rt),
         log,
+        failed: None,
     };
     serve_listeners(rt, serving.limits, serving.listeners, &mut host)
 }
