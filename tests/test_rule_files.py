@@ -27,6 +27,8 @@ NOBODY, LONG_AGO = 65534, 10 ** 18
 # For how many seconds the times of a file are too young to be trusted, and a little more.
 SETTLED = 3.2
 SENDER, RECIPIENT = packet(b'M', b'<a@x>'), packet(b'R', b'<b@y>')
+# The most bytes that a file has.
+FILE_MAX = 134_217_728
 # Refused memory: the number of connections of a run.
 CONNECTIONS = 4
 
@@ -166,8 +168,8 @@ def two_parts(program, folder):
 
 
 def unreadable(program, folder):
-    """A file that isn't for whoever runs the program, until it is; and one that is none, or is gone, until it is one.
-    That it isn't read is written once."""
+    """A file that isn't for whoever runs the program, until it is; and one that is none, gone or too large, until it is
+    one. That it isn't read is written once."""
     copy = os.path.join(folder, 'program')
     shutil.copy(program, copy)
     os.chmod(copy, 0o755)
@@ -187,6 +189,9 @@ def unreadable(program, folder):
         expect_answers(served, REJECTED, REJECTED)
         os.rmdir(path)
         expect_answers(served, REJECTED)
+        replace(path, ACCEPT)
+        os.truncate(path, FILE_MAX + 1)
+        expect_answers(served, REJECTED, REJECTED)
         link(path, path)
         expect_answers(served, REJECTED)
         os.rename(path + '.kept', path)

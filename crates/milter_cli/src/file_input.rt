@@ -8,7 +8,7 @@ use std::alloc::Global;
 use std::io::Read;
 
 /// The most bytes that a file has.
-const FILE_MAX: u64 = 134_217_728;
+pub(crate) const FILE_MAX: u64 = 134_217_728;
 
 /// The number that the clauses name: the most bytes of a file.
 pub fn file_limit()

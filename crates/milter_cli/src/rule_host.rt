@@ -41,7 +41,8 @@ impl<'p, 'w, S: RuleSource, W: Write, E: Write> RuleHost<'p, 'w, S, W, E> {
     /// Has connections that come go by these rules; by those before where memory is refused.
     fn change(&mut self, rules: Rules) -> Result<(), FileError>
         ensures kept { OnOk result ((policy : _) × (policy.now.policy.now ≡ rules)
-            × (policy.now.log ≡ self.old.first.now.log) × (self.new.later.items ≡ self.old.later.items ++ policy ∷ [])) }
+            × (policy.now.log ≡ self.old.first.now.log)
+            × (self.new.later.items ≡ self.old.later.items ++ policy ∷ [])) }
         ensures refused { OnErr result (self.new.later.items ≡ self.old.later.items) }
         ensures memory { IfErr result (λ e. e ≡ FileError.NoMemory) }
         ensures source { self.new.source ≡ self.old.source }
@@ -63,8 +64,8 @@ impl<'p, 'w, S: RuleSource, W: Write, E: Write> RuleHost<'p, 'w, S, W, E> {
         }
     }
 
-    /// Looks whether the rules changed. Where memory is refused for rules that did, they are asked for again at the next
-    /// look.
+    /// Looks whether the rules changed. Where memory is refused for rules that did, they are asked for again at the
+    /// next look.
     fn refresh(&mut self) -> Result<(), FileError>
         ensures refreshed { Refreshes (λ policy rules. (policy.now.policy.now ≡ rules)
             × (policy.now.log ≡ self.old.first.now.log)) S.answers S.looks_again
@@ -86,8 +87,8 @@ impl<'p, 'w, S: RuleSource, W: Write, E: Write> RuleHost<'p, 'w, S, W, E> {
         }
     }
 
-    /// Logs why rules were not read, if they were not: a fault of theirs each time, since it comes once for each change;
-    /// any other error only where it isn't that of the look before.
+    /// Logs why rules were not read, if they were not: a fault of theirs each time, since it comes once for each
+    /// change; any other error only where it isn't that of the look before.
     fn note(&mut self, refreshed: Result<(), FileError>)
         ensures source { self.new.source ≡ self.old.source }
         ensures first { self.new.first ≡ self.old.first }

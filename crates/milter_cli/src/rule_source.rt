@@ -1,7 +1,7 @@
 //! Rule files that may change while their rules are in use.
 
 use crate::file_error::{FileError, InputFile, read_error};
-use crate::file_input::read_file;
+use crate::file_input::{FILE_MAX, read_file};
 use crate::file_stamp::{FileStamp, current_second};
 use crate::known_file::{KnownFile, ReadFile};
 use milter_rules::Rules;
@@ -106,7 +106,7 @@ fn stamp_at<R: Files>(files: &R, path: &str) -> Option<FileStamp> {
 }
 
 /// Reads the file at this path. Its stamp is that of the file that was opened, and is trusted where it is older than
-/// the second before that.
+/// the second before that. Of a file that is too large nothing is read, since it is looked at again at each look.
 fn read_rule_file<R: Files + Clock>(
     files: &R,
     path: &str,
@@ -117,15 +117,24 @@ fn read_rule_file<R: Files + Clock>(
         Ok(file) => file,
         Err(error) => return Err(read_error(InputFile::Rules, error.kind())),
     };
-    let stamp = trusted_stamp(&file, second);
+    let found = stamp_of(&file);
+    if found.is_some_and(|stamp| stamp.size > FILE_MAX) {
+        return Err(FileError::Read(InputFile::Rules));
+    }
+    let stamp = trusted_stamp(found, second);
     match read_file(alloc, InputFile::Rules, file) {
         Ok(bytes) => Ok(ReadFile { bytes, stamp }),
         Err(error) => Err(error),
     }
 }
 
-/// The stamp of this open file, where it is trusted at this second.
-fn trusted_stamp<F: OpenFile>(file: &F, second: Option<u64>) -> Option<FileStamp> {
+/// The stamp of this open file; `None` where the system doesn't say it.
+fn stamp_of<F: OpenFile>(file: &F) -> Option<FileStamp> {
     let found = file.metadata().ok()?;
-    FileStamp::of(&found).trusted_at(second?)
+    Some(FileStamp::of(&found))
+}
+
+/// This stamp, where it is trusted at this second.
+fn trusted_stamp(found: Option<FileStamp>, second: Option<u64>) -> Option<FileStamp> {
+    found?.trusted_at(second?)
 }

@@ -2,6 +2,7 @@
 
 ghost use Rattle.std.specs.Prelude.{◌≡◌, ◌≤◌, ◌<◌, ◌⊎◌, ◌++◌, [], ◌∷◌, IfSome, length};
 ghost use Rattle.milter_filter_server.specs.Connections.{fresh_connected};
+ghost use Rattle.milter_filter_service.specs.declared.service.TheConstants.{SPARE_MAX};
 
 use crate::client::Client;
 use crate::listener::{Listener, Stream};
@@ -257,8 +258,8 @@ impl<'r, 'p, R: Net + Clock, P: Policy> Service<'r, 'p, R, P> {
         }
     }
 
-    /// A connection of which nothing has come, in the lenient order, by this policy; in the memory of one that has ended
-    /// where there is one, of which nothing else is left. `None` where memory was refused.
+    /// A connection of which nothing has come, in the lenient order, by this policy; in the memory of one that has
+    /// ended where there is one, of which nothing else is left. `None` where memory was refused.
     fn connect(&mut self, policy: &'p P) -> Option<Connection<'p, P>>
         ensures { IfSome result (λ connection. connection ≡ fresh_connected CommandOrder.Lenient policy.now) }
     {
@@ -274,7 +275,7 @@ impl<'r, 'p, R: Net + Clock, P: Policy> Service<'r, 'p, R, P> {
     fn keep(&mut self, mut ended: Connection<'p, P>)
         ensures kept { (self.new.spare.items ≡ self.old.spare.items) ⊎ (self.new.spare.items
             ≡ self.old.spare.items ++ fresh_connected CommandOrder.Lenient ended.entry.core.policy ∷ []) }
-        ensures bounded { length self.old.spare.items ≤ 16 → length self.new.spare.items ≤ 16 }
+        ensures bounded { length self.old.spare.items ≤ SPARE_MAX → length self.new.spare.items ≤ SPARE_MAX }
     {
         if self.spare.len() < SPARE_MAX {
             let policy = ended.policy();
