@@ -1,4 +1,5 @@
-use Rattle.std.proofs.Common.{List, [], None, Some, false, ap, sym, ◌∙◌, ◌≡◌}
+use Rattle.std.proofs.Common.{List, [], None, Some, false, ap, sym, ◌∙◌, ◌≡◌, arith}
+use Rattle.std.proofs.lemmas.Grind.{common_steps}
 use Rattle.milter_wire.specs.declared.stage.Stage.TheVariants.{Connect}
 use Rattle.milter_mail.specs.MailSession.{MailSession}
 use Rattle.milter_mta_outcome.specs.declared.acted.Acted.{Acted}
@@ -26,3 +27,6 @@ returns-clause-leaves c =
     ∙ begun
     ∙ ap (λ (l : Accounts). record (mta_of (record c.args.self.now { queue = l }) None [] []) { filter_connection = Some (connection_at false (position l)) })
     c.take_roomy.ensures.same))
+
+pub begin-requires-clause-chosen : goal.begin-requires-clause-chosen
+begin-requires-clause-chosen c = grind (arith, common_steps)
