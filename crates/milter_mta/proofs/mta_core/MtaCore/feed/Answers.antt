@@ -1,5 +1,4 @@
 use Rattle.std.proofs.Common.{◌≡◌, ◌<◌, ◌==◌, ℕ, zero, suc, Bool, true, false, Option, Some, ap, arith, length, sym, ◌∙◌}
-use Rattle.std.proofs.lemmas.Grind.{common_steps}
 use Rattle.milter_mta_outcome.specs.declared.loss.Loss.TheVariants.{Fault}
 use Rattle.milter_mta_outcome.specs.declared.loss.MtaFault.TheVariants.{Early}
 use Rattle.milter_mta.specs.declared.filter_connection.FilterConnection.{FilterConnection as Connected}
@@ -36,6 +35,3 @@ returns-then-not-filter_connection c =
     ∙ ap (λ (l : Option Connected). received (mta_of state l c.self.inside.pending c.self.inside.splitter) piece) c.in-Some.is
     ∙ early-sending state c.lose.new.self c.in-Some.filter_connection c.self.inside.pending c.self.inside.splitter piece
     c.if-not-filter_connection.true some c.lose.ensures.lost
-
-pub returns-in-Ok : goal.returns-in-Ok
-returns-in-Ok c = grind (arith, common_steps)
