@@ -20,7 +20,7 @@ import sys
 import tempfile
 import threading
 
-from lib import captures, checks, programs, serving, sessions, tables
+from lib import captures, checks, first_rules, programs, serving, sessions, tables
 from lib.checks import checked, expect
 
 TOOL = programs.tool(programs.BUILDS[0])
@@ -277,13 +277,9 @@ def played(kind, folder):
 
 def readme(kind, folder):
     """The rules and the session of README.md, by `serve` and `mta`, print what stands there."""
-    with open(os.path.join(programs.TOP, 'README.md'), encoding='utf-8') as file:
-        blocks = re.findall(r'(?m)(?:^    .*\n)+', file.read())
-    rules, session, printed = (
-        next(block.replace('\n    ', '\n')[4:] for block in blocks if block.startswith('    ' + first))
-        for first in ('at rcpt', 'client', 'message'))
+    rules, session, printed = (''.join(line + '\n' for line in lines) for lines in first_rules.of_readme())
     expected = programs.written(os.path.join(folder, 'expected'), printed)
-    options = ['--rules', programs.written(os.path.join(folder, 'mail.rules'), rules)]
+    options = ['--rules', programs.written(os.path.join(folder, 'mail.rules'), rules), '--ignore-case']
 
     def run():
         with serving.Service(TOOL, kind, folder, options) as served:
