@@ -4,9 +4,9 @@ then the second one, and so on, until a run makes fewer allocations than that. T
 by rules and with a log. What is run is what `rt ci` built; lib/refuse.c says what counts as an allocation.
 
 A run ends before it listens or later, with `out of memory` alone on standard error but for lines of the log, and status
-1; or it goes on, and gives up at most one connection, with the line `failed 7`, or has `out of memory` on standard error
-where the allocation was one by which the young file of rules is read again. What was replied is right as far as it goes,
-and whole on each connection that was not given up.
+1; or it goes on, and gives up at most one connection, with the line `failed 7`, or has one line `out of memory` on
+standard error, where the young file of rules is read again for a connection. What was replied is right as far as it
+goes, and whole on each connection that was not given up.
 
 Counted are the runs.
 """
@@ -79,7 +79,7 @@ def run(program, kind, folder, words, **started):
             expect_lines(served, talks, found)
             served.process.kill()
         errors = served.process.stderr.read()
-        expected = LOGGED + b'out of memory\n' if over else b'(out of memory\n)?' + LOGGED
+        expected = LOGGED + b'out of memory\n' if over else LOGGED + b'(out of memory\n)?' + LOGGED
         expect('errors', errors, errors if re.fullmatch(expected, errors) else expected)
 
 
