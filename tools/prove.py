@@ -2,6 +2,7 @@
 """Proves crates, side by side where neither stands on the other.
 
     tools/prove.py [--build] [--test] [CRATE ..]
+    tools/prove.py --workers
 
 It proves the crates that are named and those below them, and all of crates.txt where none is named: each by `rt lib`,
 or by `rt check` where it is a program; with --test the tests of each crate too, and with --build it builds the
@@ -11,8 +12,9 @@ alone proves all of it from nothing.
 
 Two `rt` wait for one another where they share a library, so each crate is proved in a folder of its own, in which the
 libraries below it are links, and its out/ is moved there and back. As many crates are proved at a time as there are
-processors, as far as there is memory for them, each by one processor: a second one for the same crate costs a quarter
-more in all. Those with the longest way to the top come first.
+processors, as far as there is memory for them: with --workers it prints that number, and proves nothing. A second
+processor for the same crate costs a quarter more in all, so a crate has one, or two where half of them would be idle.
+Those with the longest way to the top come first.
 """
 
 import concurrent.futures
@@ -168,21 +170,21 @@ def prove(crate, mark, command):
     return None
 
 
-def steps(crate, wanted):
+def steps(crate, wanted, jobs):
     """What is to be done of a crate: of each step its mark in out/, and the words of rt."""
     if not crate.is_program:
-        yield "proved", ["lib", "--jobs", "1"]
+        yield "proved", ["lib", "--jobs", str(jobs)]
     elif "--build" in wanted:
         yield "built", ["run", "--", "--version"]
     else:
-        yield "proved", ["check", "--jobs", "1"]
+        yield "proved", ["check", "--jobs", str(jobs)]
     if "--test" in wanted and crate.has_tests():
         yield "tested", ["test"]
 
 
-def prove_changed(crate, wanted):
+def prove_changed(crate, wanted, jobs):
     """Takes the steps whose outcome is no more that of the crate as it stands; what rt printed where one fails."""
-    for mark, command in steps(crate, wanted):
+    for mark, command in steps(crate, wanted, jobs):
         said = None if crate.is_proved(mark) else prove(crate, mark, command)
         if said is not None:
             return said
@@ -206,9 +208,10 @@ def work(pool, crates, wanted):
     waiting = sorted(crates, key=lambda it: -it.way_up)
     while waiting or running:
         ready = [it for it in waiting if not set(it.below) & {*waiting, *running.values()}]
+        jobs = 2 if 2 * len([*ready, *running]) <= WORKERS else 1
         for crate in ready[: WORKERS - len(running)]:
             waiting.remove(crate)
-            running[pool.submit(prove_changed, crate, wanted)] = crate
+            running[pool.submit(prove_changed, crate, wanted, jobs)] = crate
         for ended in concurrent.futures.wait(running, return_when=concurrent.futures.FIRST_COMPLETED).done:
             crate, said = running.pop(ended), ended.result()
             if said is not None:
@@ -240,6 +243,9 @@ def main():
     begun = time.time()
     wanted = {it for it in sys.argv[1:] if it.startswith("--")}
     names = [it for it in sys.argv[1:] if it not in wanted]
+    if sys.argv[1:] == ["--workers"]:
+        print(WORKERS)
+        return
     known = crates_listed()
     if not wanted <= {"--build", "--test"} or not known.keys() >= set(names):
         sys.exit(__doc__)

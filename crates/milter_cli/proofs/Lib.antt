@@ -1,3 +1,1 @@
-pub mod FileLaws
 pub mod FilteringLaws
-pub mod KnownFileLaws

@@ -3,8 +3,8 @@ use Rattle.std.specs.Prelude.{◌≡◌, ◌≢◌, ◌==◌, ◌+◌, ℕ, List
 use Rattle.std.specs.List.{filter}
 use Rattle.std.specs.Io.KnownBytes.{Appends}
 use Rattle.milter_text.specs.WrittenText.{WritesPrefix}
-use Rattle.milter_cli.specs.declared.tool_error.ToolError.{ToolError}
-use Rattle.milter_cli.specs.declared.tool_error.ToolError.TheVariants.{Differs}
+use Rattle.milter_cli_io.specs.declared.tool_error.ToolError.{ToolError}
+use Rattle.milter_cli_io.specs.declared.tool_error.ToolError.TheVariants.{Differs}
 
 -- how many lines end in these bytes
 abbrev pub line_feeds : List ℕ → ℕ

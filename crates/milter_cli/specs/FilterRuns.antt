@@ -1,25 +1,10 @@
 -- What the serving of connections one after another leaves.
-use Rattle.std.specs.Prelude.{◌≡◌, ℕ, ◌+◌, ◌<◌, List, [], ◌∷◌, ◌++◌, length, Option, codes, decimal}
+use Rattle.std.specs.Prelude.{◌≡◌, ℕ, ◌+◌, ◌<◌, List, [], ◌∷◌, ◌++◌, length, Option}
 use Rattle.std.specs.Io.KnownBytes.{Appends}
 use Rattle.milter_protocol.specs.Behavior.{Behavior}
-use Rattle.milter_protocol.specs.FilterFault.{filter_fault_number}
 use Rattle.milter_filter.specs.declared.served.Served.{Served}
-use Rattle.milter_filter.specs.declared.served.Served.TheVariants.{Quit, Ended, Failed, ReadFault, WriteFault}
-use Rattle.milter_filter.specs.declared.served.Served.TheVariants.{TurnLimit}
 use Rattle.milter_text.specs.WrittenText.{WritesPrefix}
-
--- the line of a connection, without its end
-abbrev pub report_text : ℕ → Served → List ℕ
-report_text number Quit = codes "connection " ++ decimal number ++ codes " quit"
-report_text number (Ended bytes) = codes "connection " ++ decimal number ++ codes " ended " ++ decimal bytes
-report_text number (Failed fault) =
-    codes "connection " ++ decimal number ++ codes " failed " ++ decimal (filter_fault_number fault)
-report_text number ReadFault = codes "connection " ++ decimal number ++ codes " read fault"
-report_text number WriteFault = codes "connection " ++ decimal number ++ codes " write fault"
-report_text number TurnLimit = codes "connection " ++ decimal number ++ codes " turn limit"
-
-abbrev pub report_line : ℕ → Served → List ℕ
-report_line number end = report_text number end ++ 10 ∷ []
+use Rattle.milter_cli_io.specs.ConnectionLine.{report_line}
 
 -- the lines of connections in turn, of which the first has this number
 abbrev pub report_lines : ℕ → List Served → List ℕ

@@ -1,10 +1,4 @@
-pub mod AnswerRun
 pub mod ExpectedReports
-pub mod FileRun
-pub mod FileStamp
 pub mod FilterRuns
 pub mod InMemory
-pub mod KnownFiles
 pub mod MtaRuns
-pub mod RefreshedRules
-pub mod ToolError

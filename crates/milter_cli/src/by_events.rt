@@ -4,11 +4,10 @@
 ghost use Rattle.std.specs.Prelude.{IfErr, IfOk, OnErr, OnOk};
 ghost use Rattle.milter_world_events.specs.EventFile.{IsEventFile};
 ghost use Rattle.milter_world.specs.Reached.{scenario_of};
-ghost use Rattle.milter_cli.specs.FileRun.{Has, HasNone, IsFileFault, IsOf};
+ghost use Rattle.milter_cli_io.specs.FileRun.{Has, HasNone, IsFileFault, IsOf};
 ghost use Rattle.milter_cli.specs.InMemory.{IsRun, WritesAtMost, WritesReports};
 
-use crate::file_error::{FileError, InputFile, fault_error};
-use crate::file_input::read_file;
+use milter_cli_io::{FileError, InputFile, fault_error, read_file};
 use milter_filter::Policy;
 use milter_mail::Session;
 use milter_mta::Config;

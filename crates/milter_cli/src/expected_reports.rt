@@ -2,11 +2,9 @@
 
 ghost use Rattle.std.specs.Prelude.{◌≡◌, ◌≢◌, ◌≤◌, IfErr, IfOk, IfSome, OnOk, length, slice_get, take};
 ghost use Rattle.milter_cli.specs.ExpectedReports.{DiffersAt, EndsBeside, line_feeds};
-ghost use Rattle.milter_cli.specs.FileRun.{IsFileFault, IsOf};
+ghost use Rattle.milter_cli_io.specs.FileRun.{IsFileFault, IsOf};
 
-use crate::file_error::{FileError, InputFile};
-use crate::file_input::read_file;
-use crate::tool_error::{ToolError, output_error};
+use milter_cli_io::{FileError, InputFile, ToolError, output_error, read_file};
 use milter_text::write_text;
 use std::alloc::Global;
 use std::io::{Read, Write};

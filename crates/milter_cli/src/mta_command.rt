@@ -2,11 +2,10 @@
 
 ghost use Rattle.std.specs.Prelude.{IfErr, OnOk};
 ghost use Rattle.milter_mail_file.specs.SessionFile.{IsSessionFile};
-ghost use Rattle.milter_cli.specs.FileRun.{HasNone, IsFileFault, IsOf};
+ghost use Rattle.milter_cli_io.specs.FileRun.{HasNone, IsFileFault, IsOf};
 ghost use Rattle.milter_cli.specs.MtaRuns.{PlaysFile};
 
-use crate::file_error::{FileError, InputFile, text_error};
-use crate::session_run::load_session;
+use milter_cli_io::{FileError, InputFile, load_session, text_error};
 use milter_mta::{Config, MtaCore};
 use milter_mta_client::{Dial, converse};
 use milter_mta_reports::write_reports;

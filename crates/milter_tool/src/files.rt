@@ -1,8 +1,9 @@
 //! The files that are named on the command line, and what is printed of them.
 
-use milter_cli::{
-    InputFile, ToolError, check_rule_file, load_events, load_reports, load_rules, load_session,
-    print_rules, print_session, read_error, with_case_ignored,
+use milter_cli::{load_events, load_reports};
+use milter_cli_io::{
+    InputFile, ToolError, check_rule_file, load_rules, load_session, print_rules, print_session,
+    read_error, with_case_ignored,
 };
 use milter_mail::Session;
 use milter_rules::Rules;

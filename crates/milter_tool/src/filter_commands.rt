@@ -1,9 +1,8 @@
 //! The subcommands `answer` and `filter`.
 
 use crate::files::rules_at;
-use milter_cli::{
-    Connections, ToolError, answer_run, ended_as, filter_run, listen_error, output_error,
-};
+use milter_cli::{Connections, answer_run, filter_run};
+use milter_cli_io::{ToolError, ended_as, listen_error, output_error};
 use milter_cli_request::{Address, AnswerRequest, FilterRequest, UsageError};
 use milter_filter::{CommandOrder, serve_in_order};
 use milter_rules::Rules;

@@ -14,7 +14,7 @@ use crate::files::{check_rules_at, print_rule_file, print_session_file, print_tr
 use crate::filter_commands::{answer_mail_server, serve_in_turn};
 use crate::serve_command::serve_many;
 use crate::session_commands::{play_in_memory, play_session};
-use milter_cli::{ToolError, argument_error, end_usage, report};
+use milter_cli_io::{ToolError, argument_error, end_usage, report};
 use milter_cli_request::{Request, parse};
 use std::env::{self, Env};
 use std::io::{self, Write};

@@ -1,11 +1,9 @@
 //! The subcommand `serve`.
 
 use bumpalo::Bump;
-use milter_cli::{
-    DecisionLog, LoggedPolicy, RuleFile, RuleHost, RuleSource, ToolError, listen_error,
-    service_error,
-};
+use milter_cli_io::{ToolError, listen_error, service_error};
 use milter_cli_request::{Address, ServeRequest, UsageError, parse_mode};
+use milter_cli_serve::{DecisionLog, LoggedPolicy, RuleFile, RuleHost, RuleSource};
 use milter_filter::Policy;
 use milter_filter_service::{Host, Limits, Listener, Service};
 use milter_rules::Rules;

@@ -1,10 +1,8 @@
 //! The subcommands `mta` and `play`.
 
 use crate::files::{events_at, expected_at, open, rules_at, session_at};
-use milter_cli::{
-    FileError, InputFile, TcpDial, ToolError, UnixDial, WaitingDial, check_reports, mta_run,
-    output_error, play_run, schedule_run,
-};
+use milter_cli::{TcpDial, UnixDial, WaitingDial, check_reports, mta_run, play_run, schedule_run};
+use milter_cli_io::{FileError, InputFile, ToolError, output_error};
 use milter_cli_request::{Address, MtaRequest, Offer, PlayRequest, Target};
 use milter_mail::Session;
 use milter_mta::Config;

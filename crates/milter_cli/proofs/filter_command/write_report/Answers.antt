@@ -1,4 +1,4 @@
-use Rattle.milter_cli.specs.FilterRuns.{report_line}
+use Rattle.milter_cli_io.specs.ConnectionLine.{report_line}
 use Rattle.milter_cli.proofs.FilteringLaws.{unwritten}
 use Rattle.milter_cli.proofs.filter_command.write_report.Goals as goal
 

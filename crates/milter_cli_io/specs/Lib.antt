@@ -1,0 +1,4 @@
+pub mod AnswerRun
+pub mod ConnectionLine
+pub mod FileRun
+pub mod ToolError

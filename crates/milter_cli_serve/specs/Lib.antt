@@ -1,0 +1,3 @@
+pub mod FileStamp
+pub mod KnownFiles
+pub mod RefreshedRules
