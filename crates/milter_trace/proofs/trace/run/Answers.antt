@@ -1,4 +1,5 @@
 use Rattle.std.proofs.Common.{◌<◌, ℕ, length, take, sym, ap, subst, arith}
+use Rattle.std.proofs.lemmas.Grind.{common_steps}
 use Rattle.std.proofs.lemmas.List.{length-take}
 use Rattle.std.proofs.lemmas.Result.{IfErr-weaker, err_from_is_err_and}
 use Rattle.milter_trace.specs.declared.fault.TraceFault.{TraceFault}
@@ -45,3 +46,6 @@ loop-turn-preserved g c =
       written = went.written;
       room = omega (arith, c.read.auto.buf, c.loop-turn.invariant.room);
     }
+
+pub returns-clause-long_input : goal.returns-clause-long_input
+returns-clause-long_input g c = grind (arith, common_steps)
