@@ -1,4 +1,5 @@
 use Rattle.std.proofs.Common.{arith, sym, ap, ◌∙◌, ◌≡◌, drop}
+use Rattle.std.proofs.lemmas.Grind.{common_steps}
 use Rattle.milter_mta_transaction.specs.PlanCursor.{Outgoing, steps_from, without_body}
 use Rattle.milter_mta_transaction.specs.Transactions.{left_of, outgoing_transaction}
 use Rattle.milter_mta_transaction.specs.OutgoingValue.{outgoing}
@@ -32,3 +33,6 @@ returns-else-skips-clause-sends c =
 
 pub cursor_after-self-requires-clause-some : goal.cursor_after-self-requires-clause-some
 cursor_after-self-requires-clause-some c = stage_some (left_of c.args.client_info.now c.args.self.now) c.args.stage c.requires.stage
+
+pub returns-else-skips-clause-left : goal.returns-else-skips-clause-left
+returns-else-skips-clause-left c = grind (arith, common_steps)
