@@ -68,3 +68,6 @@ returns-in-Err-clause-ends g c = λ rest.
     let w = g.W.Write.contents c.args.writer.now in
     let v = g.W.Write.contents c.write_pending.new.writer in
     subst (EndsAs b (connected core c.args.backlog.now) rest rest w v) (sym c.in-Err.ensures.fault) (stuck-ends b core mid c.args.backlog.now rest w v (sends-goes b core mid w v _ c.requires c.in-Err.ensures.sent))
+
+pub returns-in-Ok-false-clause-done : goal.returns-in-Ok-false-clause-done
+returns-in-Ok-false-clause-done g c = λ done. absurd cc

@@ -29,3 +29,6 @@ returns-clause-turns g c = λ unended.
       subst (λ (old : Connected g.row.P.Denot). EndsAs (g.P.Policy.behavior old.core.policy) old unread left w v c.in-Err.end) old_is c.in-Err.ensures.ends,
       refl,
     )
+
+pub invariant_of-self-2 : goal.invariant_of-self-2
+invariant_of-self-2 g c = λ unended. absurd cc
