@@ -4,6 +4,7 @@ use Rattle.std.specs.Prelude.{ℕ, ◌==◌, Bool, not, List, [], ◌∷◌, ◌
 use Rattle.std.specs.List.{filter, last_or, slice_split}
 use Rattle.std.specs.Option.{option_to_list}
 use Rattle.std.specs.Str.{bytes_eq}
+use Rattle.milter_wire_options.specs.declared.macro_stage.MacroStage.{MacroStage}
 use Rattle.milter_wire_options.specs.MacroStages.{macro_stage_number}
 use Rattle.milter_wire_fields.specs.declared.pair.Pair.{Pair}
 use Rattle.milter_wire_options.specs.declared.symbol_lists.SymList.{SymList}
@@ -41,7 +42,10 @@ abbrev pub pairs_by : Option SymList → List Pair → List Pair
 pairs_by None pairs = pairs
 pairs_by (Some list) pairs = chosen_pairs (names_of list.names) pairs
 
+-- those of a stage's macros that its last list asks for
+abbrev pub chosen_at : List SymList → MacroStage → List Pair → List Pair
+chosen_at lists stage pairs = pairs_by (list_of (macro_stage_number stage) lists) pairs
+
 -- the macros of each stage by the last list of it; a list of a stage above 6 is that of no stage
 abbrev pub chosen_macros : List SymList → Macros → Macros
-chosen_macros lists macros =
-    by_stage (λ stage. pairs_by (list_of (macro_stage_number stage) lists) (at_stage macros stage))
+chosen_macros lists macros = by_stage (λ stage. chosen_at lists stage (at_stage macros stage))

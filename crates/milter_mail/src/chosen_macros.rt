@@ -1,17 +1,14 @@
 //! The macros that a filter asked for by its symbol lists, out of those that a session has.
 
-ghost use Rattle.std.specs.Prelude.{◌≡◌, ◌==◌, IfOk, List, None, map, option_copied, ℕ};
+ghost use Rattle.std.specs.Prelude.{◌≡◌, ◌==◌, IfOk, List, None, map, option_copied, unwrap_or, ℕ};
 ghost use Rattle.std.specs.BTreeMap as tree;
 ghost use Rattle.std.specs.Cmp.Lexicographic.{slice_cmp};
 ghost use Rattle.std.specs.List.{slice_split};
 ghost use Rattle.std.specs.Ordering.{nat_cmp};
-ghost use Rattle.milter_mail.specs.ChosenMacros.{chosen_macros, chosen_pairs, last_pair, list_of, names_of, pairs_by};
+ghost use Rattle.milter_mail.specs.ChosenMacros.{chosen_at, chosen_macros, chosen_pairs, last_pair, list_of, names_of};
 
 use crate::macros::Macros;
-use milter_wire::codes::{
-    SMFIM_CONNECT, SMFIM_DATA, SMFIM_ENVFROM, SMFIM_ENVRCPT, SMFIM_EOH, SMFIM_EOM, SMFIM_HELO,
-};
-use milter_wire::{NoMemory, Pair, Pairs, SymList, SymLists, Text};
+use milter_wire::{MacroStage, NoMemory, Pair, Pairs, SymList, SymLists, Text};
 use std::alloc::Global;
 use std::collections::BTreeMap;
 
@@ -25,14 +22,13 @@ impl Macros {
     pub fn chosen(&self, alloc: Global, lists: &SymLists) -> Result<Macros, NoMemory>
         ensures { IfOk result (λ macros. macros ≡ chosen_macros lists.now self.now) }
     {
-        let lists = lists.as_slice();
-        let connect = pairs_for(alloc, lists, SMFIM_CONNECT, &self.connect)?;
-        let helo = pairs_for(alloc, lists, SMFIM_HELO, &self.helo)?;
-        let mail = pairs_for(alloc, lists, SMFIM_ENVFROM, &self.mail)?;
-        let rcpt = pairs_for(alloc, lists, SMFIM_ENVRCPT, &self.rcpt)?;
-        let data_cmd = pairs_for(alloc, lists, SMFIM_DATA, &self.data_cmd)?;
-        let eom = pairs_for(alloc, lists, SMFIM_EOM, &self.eom)?;
-        let eoh = pairs_for(alloc, lists, SMFIM_EOH, &self.eoh)?;
+        let connect = pairs_for(alloc, lists, MacroStage::Connect, &self.connect)?;
+        let helo = pairs_for(alloc, lists, MacroStage::Helo, &self.helo)?;
+        let mail = pairs_for(alloc, lists, MacroStage::Mail, &self.mail)?;
+        let rcpt = pairs_for(alloc, lists, MacroStage::Rcpt, &self.rcpt)?;
+        let data_cmd = pairs_for(alloc, lists, MacroStage::DataCmd, &self.data_cmd)?;
+        let eom = pairs_for(alloc, lists, MacroStage::Eom, &self.eom)?;
+        let eoh = pairs_for(alloc, lists, MacroStage::Eoh, &self.eoh)?;
         Ok(Macros {
             connect,
             helo,
@@ -45,12 +41,34 @@ impl Macros {
     }
 }
 
-/// Those of a stage's macros that its symbol list asks for; all of them, where it has none.
-fn pairs_for(alloc: Global, lists: &[SymList], stage: u32, pairs: &Pairs) -> Result<Pairs, NoMemory>
-    ensures { IfOk result (λ chosen. chosen ≡ pairs_by (list_of stage lists.now) pairs.now) }
+/// A copy of those of a stage's macros that the filter asked for by its last symbol list of the stage: the last pair
+/// of each of its names, in the order of the names. `None` where it has no list of the stage: it is sent all of them.
+/// Source: mfapi.h (smfi_setsymlist).
+pub fn pairs_asked_for(
+    alloc: Global,
+    lists: &SymLists,
+    stage: MacroStage,
+    pairs: &[Pair],
+) -> Result<Option<Pairs>, NoMemory>
+    ensures { IfOk result (λ chosen. unwrap_or chosen pairs.now ≡ chosen_at lists.now stage pairs.now) }
 {
-    match last_list(lists, stage) {
-        Some(list) => chosen_pairs(alloc, list.names.as_slice(), pairs.as_slice()),
+    match last_list(lists.as_slice(), stage.number()) {
+        Some(list) => Ok(Some(chosen_pairs(alloc, list.names.as_slice(), pairs)?)),
+        None => Ok(None),
+    }
+}
+
+/// Those of a stage's macros that its symbol list asks for; all of them, where it has none.
+fn pairs_for(
+    alloc: Global,
+    lists: &SymLists,
+    stage: MacroStage,
+    pairs: &Pairs,
+) -> Result<Pairs, NoMemory>
+    ensures { IfOk result (λ chosen. chosen ≡ chosen_at lists.now stage pairs.now) }
+{
+    match pairs_asked_for(alloc, lists, stage, pairs.as_slice())? {
+        Some(chosen) => Ok(chosen),
         None => copy_pairs(alloc, pairs.as_slice()),
     }
 }

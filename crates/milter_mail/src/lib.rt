@@ -15,6 +15,7 @@ mod session;
 mod weight;
 
 pub use by_macro_stage::ByMacroStage;
+pub use chosen_macros::pairs_asked_for;
 pub use held_text::write_message;
 pub use laws::{
     chosen_macros_fit, plans_fit, sendable_messages, weight_of_any_plan, weight_of_parts,

@@ -21,7 +21,7 @@ use Rattle.milter_mta_outcome.specs.declared.loss.Loss.TheVariants.{Fault, Memor
 use Rattle.milter_mta_outcome.specs.declared.loss.MtaFault.{MtaFault}
 use Rattle.milter_mta_outcome.specs.declared.loss.MtaFault.TheVariants.{Early, NotAtThisStage, Wire}
 use Rattle.milter_mta_outcome.specs.ReceivedReplies.{options_received, reply_received}
-use Rattle.milter_mta_transaction.specs.EditWeights.{weight_of_all}
+use Rattle.milter_mta_outcome.specs.EditWeights.{weight_of_all}
 use Rattle.milter_mta_transaction.specs.Transactions.{stage_first}
 use Rattle.milter_mta_transaction.specs.TransactionVerdicts.{ends_dialogue, left_after, with_verdict}
 use Rattle.milter_mta.specs.Mta.{FilterConnection, Mta, Position, at_packet}

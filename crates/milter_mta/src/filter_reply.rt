@@ -8,7 +8,7 @@ ghost use Rattle.milter_message.specs.declared.message.TheConstants.{WEIGHT_MAX}
 ghost use Rattle.milter_message.specs.EditReplies.{weight_of};
 ghost use Rattle.milter_mta_outcome.specs.ReceivedReplies.{options_received};
 ghost use Rattle.milter_mta_transaction.specs.declared.transaction.Transaction.{Transaction as TransactionValue};
-ghost use Rattle.milter_mta_transaction.specs.EditWeights.{weight_of_all};
+ghost use Rattle.milter_mta_outcome.specs.EditWeights.{weight_of_all};
 ghost use Rattle.milter_mta_transaction.specs.Transactions.{IsThere, left_of, stage_first};
 ghost use Rattle.milter_mta_transaction.specs.TransactionVerdicts.{with_verdict};
 ghost use Rattle.milter_mta.specs.declared.filter_connection.Next.TheVariants as nexts;
@@ -21,9 +21,9 @@ use crate::filter_connection::{FilterConnection, Next};
 use crate::session_state::SessionState;
 use milter_message::Edit;
 use milter_mta_outcome::{
-    Action, Loss, MtaFault, on_options, on_reply, on_verdict, received_replies,
+    Action, Loss, MtaFault, ReceivedEdits, on_options, on_reply, on_verdict, received_replies,
 };
-use milter_mta_transaction::{ClientInfo, ReceivedEdits, Transaction};
+use milter_mta_transaction::{ClientInfo, Transaction};
 use milter_wire::{Reply, Stage, Verdict};
 use std::alloc::Global;
 

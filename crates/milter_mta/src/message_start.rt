@@ -12,8 +12,8 @@ ghost use Rattle.milter_mta.specs.Dispositions.{after_message};
 use crate::filter_connection::{FilterConnection, Next};
 use crate::session_state::SessionState;
 use milter_mail::Macros;
-use milter_mta_outcome::{ActedVerdicts, Loss};
-use milter_mta_transaction::{ReceivedEdits, Transaction};
+use milter_mta_outcome::{ActedVerdicts, Loss, ReceivedEdits};
+use milter_mta_transaction::Transaction;
 use milter_wire::{Negotiated, Stage};
 
 /// Whether the stage is the end of a message.

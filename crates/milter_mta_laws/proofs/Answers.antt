@@ -36,7 +36,7 @@ use Rattle.milter_mta_outcome.specs.declared.acted.Acted.{Acted}
 use Rattle.milter_mta_outcome.specs.declared.loss.MtaFault.{MtaFault}
 use Rattle.milter_mta_outcome.specs.declared.loss.MtaFault.TheVariants.{NotAtThisStage, EditNotNegotiated, TooManyEdits}
 use Rattle.milter_mta_outcome.specs.ReceivedReplies.{received_by, is_end, is_given, reply_received}
-use Rattle.milter_mta_transaction.specs.EditWeights.{weight_of_all}
+use Rattle.milter_mta_outcome.specs.EditWeights.{weight_of_all}
 use Rattle.milter_mta_transaction.specs.Transactions.{stage_first}
 use Rattle.milter_mta_transaction.specs.TransactionVerdicts.{ends_dialogue, is_of_connection, left_after, with_verdict}
 use Rattle.milter_mta.specs.Mta.{FilterConnection, Mta, Position, at_packet}

@@ -18,7 +18,7 @@ use Rattle.milter_protocol.proofs.Sendable.{sendable-next}
 use Rattle.milter_mta_outcome.specs.declared.acted.Acted.{Acted}
 use Rattle.milter_mta_outcome.specs.declared.loss.Loss.{Loss}
 use Rattle.milter_mta_outcome.specs.Dialogues.{acted}
-use Rattle.milter_mta_transaction.specs.EditWeights.{weight_of_all}
+use Rattle.milter_mta_outcome.specs.EditWeights.{weight_of_all}
 use Rattle.milter_mta.specs.Mta.{Mta, at_packet}
 use Rattle.milter_mta.specs.Mta.Position.{Sending}
 use Rattle.milter_mta.specs.declared.want.Want.TheVariants as wants

@@ -14,7 +14,7 @@ use Rattle.milter_protocol.specs.Permitted.{is_permitted}
 use Rattle.milter_protocol.specs.StageOrder.{rank_of}
 use Rattle.milter_protocol.specs.Dialogue.{has_end, is_body, is_end_command, is_skipping}
 use Rattle.milter_mta_outcome.specs.ReceivedReplies.{is_given}
-use Rattle.milter_mta_transaction.specs.EditWeights.{weight_of_all}
+use Rattle.milter_mta_outcome.specs.EditWeights.{weight_of_all}
 
 -- each of the commands is of a stage of this rank or a lower one, or of none
 abbrev pub ReachAtMost : ℕ → List Command → Type 0

@@ -1,3 +1,4 @@
+pub mod EditWeights
 pub mod ActedVerdicts
 pub mod ReceivedReplies
 pub mod Losses

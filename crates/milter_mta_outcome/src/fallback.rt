@@ -3,6 +3,7 @@
 ghost use Rattle.std.specs.Prelude.{◌≡◌};
 ghost use Rattle.milter_mta_outcome.specs.ActedVerdicts.{kept};
 ghost use Rattle.milter_mta_outcome.specs.Outcomes.{fallback};
+ghost use Rattle.milter_mta_outcome.specs.Refusals.{default_refusal};
 
 use crate::acted::Acted;
 use crate::disposition::{kept_message, released};
@@ -20,6 +21,19 @@ pub enum OnLoss {
     Tempfail,
     /// It is refused for good.
     Reject,
+}
+
+impl OnLoss {
+    /// How a message is refused by this default; `None` where it is released. Doesn't allocate.
+    pub fn refusal(self) -> Option<Refusal>
+        ensures { result ≡ default_refusal self }
+    {
+        match self {
+            OnLoss::Accept => None,
+            OnLoss::Tempfail => Some(Refusal::Tempfail),
+            OnLoss::Reject => Some(Refusal::Reject),
+        }
+    }
 }
 
 /// What becomes of the message by default, after these verdicts. Doesn't allocate.

@@ -1,7 +1,7 @@
 //! How a mail server refuses a message.
 
 ghost use Rattle.std.specs.Prelude.{◌≡◌};
-ghost use Rattle.milter_mta_outcome.specs.Refusals.{refusal_of, refusal_text};
+ghost use Rattle.milter_mta_outcome.specs.Refusals.{refusal_by, refusal_of, refusal_text};
 
 use milter_wire::{Text, Verdict};
 
@@ -31,6 +31,19 @@ impl Refusal {
             Refusal::Reject => REJECT_TEXT,
             Refusal::Tempfail => TEMPFAIL_TEXT,
             Refusal::Code(text) => text.as_slice(),
+        }
+    }
+
+    /// The refusal by a verdict, where it refuses what was asked about: `Reject`, `Tempfail`, or a text. Doesn't
+    /// allocate. Source: the libmilter callback documentation (return values).
+    pub fn from_verdict(verdict: Verdict) -> Option<Self>
+        ensures { result ≡ refusal_by verdict }
+    {
+        match verdict {
+            Verdict::Reject => Some(Refusal::Reject),
+            Verdict::Tempfail => Some(Refusal::Tempfail),
+            Verdict::Code(text) => Some(Refusal::Code(text)),
+            _ => None,
         }
     }
 

@@ -1,6 +1,5 @@
 pub mod PlanCursor
 pub mod OutgoingValue
-pub mod EditWeights
 pub mod TransactionVerdicts
 pub mod Transactions
 pub mod PlanOrder

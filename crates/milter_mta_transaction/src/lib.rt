@@ -9,11 +9,9 @@ mod acted_verdicts;
 mod cursor;
 mod laws;
 mod plan_cursor;
-mod received_edits;
 mod transaction;
 
 pub use acted_verdicts::{begin_acted, copy_acted, without_last};
 pub use cursor::{ClientInfo, Cursor};
 pub use laws::{plans_by_stage, plans_in_order, plans_in_parts, transactions_begin};
-pub use received_edits::ReceivedEdits;
 pub use transaction::Transaction;

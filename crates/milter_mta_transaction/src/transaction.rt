@@ -13,9 +13,8 @@ ghost use Rattle.milter_mta_transaction.specs.TransactionVerdicts.{are_all_refus
 use crate::acted_verdicts::{act, are_refused};
 use crate::cursor::{ClientInfo, Cursor};
 use crate::plan_cursor::{OutgoingRef, after_body, first_command, first_from, has_recipient, next};
-use crate::received_edits::ReceivedEdits;
 use milter_mail::{Macros, Message};
-use milter_mta_outcome::ActedVerdicts;
+use milter_mta_outcome::{ActedVerdicts, ReceivedEdits};
 use milter_protocol::is_final_at;
 use milter_wire::{CommandRef, Negotiated, NoMemory, Stage, Verdict};
 

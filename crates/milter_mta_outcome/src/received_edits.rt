@@ -4,7 +4,7 @@ ghost use Rattle.std.specs.Prelude.{◌≡◌, ◌≤◌, ◌+◌, ◌++◌, ◌
 ghost use Rattle.milter_message.specs.declared.message.TheConstants.{WEIGHT_MAX};
 ghost use Rattle.milter_message.specs.EditReplies.{reply_of, weight_of};
 ghost use Rattle.milter_wire.specs.Reply.{Fits};
-ghost use Rattle.milter_mta_transaction.specs.EditWeights.{weight_of_all};
+ghost use Rattle.milter_mta_outcome.specs.EditWeights.{weight_of_all};
 
 use milter_message::Edit;
 use milter_protocol::Edits;
@@ -26,7 +26,7 @@ impl Model for ReceivedEdits {
     ghost use Rattle.milter_message.specs.declared.message.TheConstants.{WEIGHT_MAX};
     ghost use Rattle.milter_message.specs.EditReplies.{reply_of};
     ghost use Rattle.milter_wire.specs.Reply.{Fits};
-    ghost use Rattle.milter_mta_transaction.specs.EditWeights.{weight_of_all};
+    ghost use Rattle.milter_mta_outcome.specs.EditWeights.{weight_of_all};
 
     ghost Value = { List Edit };
 
@@ -53,6 +53,14 @@ impl ReceivedEdits {
         ensures bound { result ≤ WEIGHT_MAX }
     {
         self.weight
+    }
+
+    /// The edits, each of which fits a packet. Doesn't allocate.
+    pub fn as_slice(&self) -> &[Edit]
+        ensures edits { result.now ≡ self.now }
+        ensures fit { All (λ edit. Fits (reply_of edit)) result.now }
+    {
+        self.edits.as_slice()
     }
 
     /// Adds an edit as the last. After `NoMemory` they are as they were.
