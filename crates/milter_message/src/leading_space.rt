@@ -2,27 +2,35 @@
 //! they negotiated.
 
 ghost use Rattle.std.specs.Prelude.{◌≡◌, ◌-◌, ◌^◌, ◌↔◌, All, IfOk, IsTrue, false, length, min};
+ghost use Rattle.milter_wire_fields.specs.Borrowed.{header_of};
 ghost use Rattle.milter_wire_fields.specs.Layout.{header};
 ghost use Rattle.milter_message.specs.LeadingSpace.{FieldFits, put_header, put_value, sent_header};
 
-use milter_wire::{Header, NoMemory, PAYLOAD_MAX, Text, string_len};
+use milter_wire::{Header, HeaderRef, NoMemory, PAYLOAD_MAX, Text, string_len};
 use std::alloc::Global;
 
 /// The blank that the value of a header field begins with, after the colon. Source: mfdef.h (SMFIP_HDR_LEADSPC).
 const LEADING_SPACE: u8 = b' ';
 
-/// The value of a header field as it is sent: the whole value where leading spaces are sent, else without the one blank
-/// that it begins with, if it does. Doesn't allocate. Source: mfdef.h (SMFIP_HDR_LEADSPC).
+/// A header field as it is sent: with its whole value where leading spaces are sent, else without the one blank that
+/// the value begins with, if it does. Doesn't allocate. Source: mfdef.h (SMFIP_HDR_LEADSPC).
+pub fn sent_header(header: HeaderRef<'_>, leading_space: bool) -> HeaderRef<'_>
+    ensures { header_of result ≡ sent_header leading_space (header_of header.entry) }
+{
+    match header.value {
+        [LEADING_SPACE, rest @ ..] if !leading_space => HeaderRef {
+            name: header.name,
+            value: rest,
+        },
+        _ => header,
+    }
+}
+
+/// The value of a header field as it is sent. Doesn't allocate.
 pub fn sent_value(header: &Header, leading_space: bool) -> &[u8]
     ensures { result.now ≡ (sent_header leading_space header.now).value }
 {
-    if leading_space {
-        return header.value.as_slice();
-    }
-    match header.value.as_slice() {
-        [LEADING_SPACE, rest @ ..] => rest,
-        value => value,
-    }
+    sent_header(header.as_ref(), leading_space).value
 }
 
 /// Whether the packet of the header field fits without the blank that its value begins with.

@@ -16,5 +16,5 @@ mod recipient_edits;
 pub use application::apply;
 pub use edit::Edit;
 pub use laws::{changed_fields, edits_in_turn, edits_of_replies, leading_spaces, message_limits};
-pub use leading_space::sent_value;
+pub use leading_space::{sent_header, sent_value};
 pub use message::{CHUNK_LEN, Held, Message, MessageParts, WEIGHT_MAX};
