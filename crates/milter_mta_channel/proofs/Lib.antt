@@ -1,0 +1,4 @@
+pub mod ReceivedFrames
+pub mod FedPieces
+pub mod Offered
+pub mod ReceivedEvents

@@ -1,0 +1,4 @@
+pub mod Channel
+pub mod Received
+pub mod ChannelParts
+pub mod ReplyRules

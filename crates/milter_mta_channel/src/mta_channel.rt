@@ -1,0 +1,213 @@
+//! A channel to a filter.
+
+ghost use Rattle.std.specs.Prelude.{All, ◌≡◌, ◌≤◌, [], IfOk, OnErr, OnOk, length};
+ghost use Rattle.std.specs.Option.{option_copied};
+ghost use Rattle.milter_message.specs.EditReplies.{reply_of};
+ghost use Rattle.milter_wire.specs.BorrowedCommand.{command_of};
+ghost use Rattle.milter_wire.specs.Command.{Fits};
+ghost use Rattle.milter_wire.specs.Reply.{Fits as ReplyFits};
+ghost use Rattle.milter_mta_channel.specs.Channel.{cleared, is_idle, offered, queue, sent, unopened, without_edits, without_pending};
+ghost use Rattle.milter_mta_channel.specs.ChannelParts.{Receives};
+
+use crate::channel_state::ChannelState;
+use crate::expected_reply::ExpectedReply;
+use crate::filter_event::{Fed, FilterEvent};
+use crate::pending::Pending;
+use milter_message::Edit;
+use milter_mta_outcome::{Loss, MtaFault, ReceivedEdits};
+use milter_protocol::Edits;
+use milter_wire::{CommandRef, Negotiated, NoMemory, Options, Splitter};
+use std::alloc::Global;
+use std::marker::Model;
+use std::mem;
+
+/// A channel to a filter: the commands that a mail server sends on a connection, one by one, and the replies to them.
+/// It knows nothing of the order of commands. It neither reads nor writes. Source: mfdef.h.
+#[derive(Debug, Drop)]
+pub struct MtaChannel {
+    state: ChannelState,
+    pending: Pending,
+    splitter: Splitter,
+}
+
+impl Model for MtaChannel {
+    ghost use Rattle.milter_wire_stream.specs.Stream.{IsUnfinished};
+    ghost use Rattle.milter_mta_channel.specs.Channel.{Channel};
+    ghost use Rattle.milter_mta_channel.specs.ChannelParts.{channel_of};
+
+    ghost Value = { Channel };
+
+    ghost view = { λ c. channel_of c.state c.pending c.splitter };
+
+    ghost invariant = { λ c. IsUnfinished c.splitter };
+}
+
+impl MtaChannel {
+    /// A channel on which nothing was sent. It takes the memory for one packet, 65,540 bytes.
+    pub fn new(alloc: Global, offer: Options) -> Result<Self, NoMemory>
+        ensures { IfOk result (λ c. c ≡ unopened offer) }
+    {
+        Ok(MtaChannel {
+            state: ChannelState {
+                alloc,
+                offer,
+                negotiated: None,
+                expected: ExpectedReply::Nothing,
+                edits: ReceivedEdits::new(alloc),
+            },
+            pending: Pending::new(alloc),
+            splitter: Splitter::new(alloc)?,
+        })
+    }
+
+    /// Begins another connection, on which nothing was sent. The memory is kept. Doesn't allocate.
+    pub fn restart(&mut self)
+        ensures { self.new ≡ unopened self.old.offer }
+    {
+        self.clear();
+        self.clear_edits();
+        self.state.negotiated = None;
+    }
+
+    /// What the filter is offered. Doesn't allocate.
+    pub fn offer(&self) -> Options
+        ensures { result ≡ self.now.offer }
+    {
+        self.state.offer
+    }
+
+    /// Queues the offer, the first packet of a connection. After `NoMemory` nothing has changed.
+    pub fn queue_offer(&mut self) -> Result<(), NoMemory>
+        requires { self.old.pending ≡ [] }
+        ensures ok { OnOk result (self.new ≡ offered self.old) }
+        ensures err { OnErr result (self.new ≡ self.old) }
+    {
+        let offer = CommandRef::Options(self.offer());
+        self.pending.append(self.state.alloc, &offer)?;
+        self.state.expected = ExpectedReply::Options;
+        Ok(())
+    }
+
+    /// What was negotiated, once the filter replied to the offer. Doesn't allocate.
+    pub fn negotiated(&self) -> Option<&Negotiated>
+        ensures { option_copied result ≡ self.now.negotiated }
+    {
+        self.state.negotiated.as_ref()
+    }
+
+    /// What the filter is to reply once all that is pending was sent. Doesn't allocate.
+    pub fn expected(&self) -> ExpectedReply
+        ensures { result ≡ self.now.expected }
+    {
+        self.state.expected
+    }
+
+    /// The edits of the answer to the end of a message, in order: of the last one, or of the one that comes. Doesn't
+    /// allocate.
+    pub fn edits(&self) -> &[Edit]
+        ensures edits { result.now ≡ self.now.edits }
+        ensures fit { All (λ edit. ReplyFits (reply_of edit)) result.now }
+    {
+        self.state.edits.as_slice()
+    }
+
+    /// Takes these edits; there are none then. Doesn't allocate.
+    pub fn take_edits(&mut self) -> Edits
+        ensures edits { result ≡ self.old.edits }
+        ensures fit { All (λ edit. ReplyFits (reply_of edit)) result }
+        ensures left { self.new ≡ without_edits self.old }
+    {
+        let none = ReceivedEdits::new(self.state.alloc);
+        mem::replace(&mut self.state.edits, none).into_edits()
+    }
+
+    /// Drops these edits. Doesn't allocate.
+    pub fn clear_edits(&mut self)
+        ensures { self.new ≡ without_edits self.old }
+    {
+        self.state.edits = ReceivedEdits::new(self.state.alloc);
+    }
+
+    /// Whether the next command may be queued: the options came, nothing is pending, and no reply is expected. Doesn't
+    /// allocate.
+    pub fn is_idle(&self) -> bool
+        ensures { result ≡ is_idle self.now }
+    {
+        match (&self.state.negotiated, self.state.expected) {
+            (Some(_), ExpectedReply::Nothing) => self.pending.as_slice().is_empty(),
+            _ => false,
+        }
+    }
+
+    /// The bytes that wait to be sent. Doesn't allocate.
+    pub fn pending(&self) -> &[u8]
+        ensures { result.now ≡ self.now.pending }
+    {
+        self.pending.as_slice()
+    }
+
+    /// Notes that the first `count` bytes of what is pending were sent. Doesn't allocate.
+    pub fn sent(&mut self, count: usize)
+        requires { count ≤ length self.old.pending }
+        ensures { self.new ≡ sent count self.old }
+    {
+        self.pending.sent(count);
+    }
+
+    /// Queues the packet of a command after what is pending. Where the command is answered, it is the last one to be
+    /// queued before its answer. After `NoMemory` nothing has changed.
+    pub fn queue(&mut self, command: &CommandRef<'_>) -> Result<(), NoMemory>
+        requires { Fits (command_of command.now) }
+        ensures ok { OnOk result (self.new ≡ queue (command_of command.now) self.old) }
+        ensures err { OnErr result (self.new ≡ self.old) }
+    {
+        self.pending.append(self.state.alloc, command)?;
+        self.state.expected = self.state.expected_of(command);
+        Ok(())
+    }
+
+    /// Drops what is pending, as if it had not been queued: no reply is expected then. Doesn't allocate.
+    pub fn discard_pending(&mut self)
+        ensures { self.new ≡ without_pending self.old }
+    {
+        self.state.expect_nothing();
+        self.pending.clear();
+    }
+
+    /// Takes a piece of what the filter sent, all of it. An empty piece changes nothing. After a loss no reply is
+    /// expected, and nothing is pending.
+    pub fn feed(&mut self, piece: &[u8]) -> Fed
+        ensures { Receives self.old piece.now self.new result }
+    {
+        if piece.is_empty() {
+            return Fed {
+                event: FilterEvent::Nothing,
+                loss: None,
+            };
+        }
+        if !self.pending.as_slice().is_empty() {
+            self.clear();
+            return Fed {
+                event: FilterEvent::Nothing,
+                loss: Some(Loss::Fault(MtaFault::Early)),
+            };
+        }
+        let fed = self.state.feed_piece(&mut self.splitter, piece);
+        if fed.loss.is_none() {
+            return fed;
+        }
+        self.state.expect_nothing();
+        self.splitter.clear();
+        fed
+    }
+
+    /// Gives the connection up: no reply is expected, and nothing is pending. The edits stay, as a verdict may have come
+    /// before. Doesn't allocate.
+    pub fn clear(&mut self)
+        ensures { self.new ≡ cleared self.old }
+    {
+        self.state.expect_nothing();
+        self.pending.clear();
+        self.splitter.clear();
+    }
+}

@@ -1,0 +1,3 @@
+pub mod QueuedCommands
+pub mod Order
+pub mod CallOrder

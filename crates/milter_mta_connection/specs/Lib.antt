@@ -1,0 +1,3 @@
+pub mod Connection
+pub mod CommandOrder
+pub mod Calls
