@@ -12,9 +12,9 @@ use Rattle.milter_mta_outcome.specs.declared.loss.Loss.TheVariants.{Fault, Memor
 use Rattle.milter_mta_outcome.specs.declared.loss.MtaFault.TheVariants.{Early}
 use Rattle.milter_mta_channel.specs.declared.channel_state.ChannelState.{ChannelState}
 use Rattle.milter_mta_channel.specs.declared.filter_event.FilterEvent.{FilterEvent}
-use Rattle.milter_mta_channel.specs.Channel.{Channel, cleared, is_expecting, is_owed}
+use Rattle.milter_mta_channel.specs.Channel.{Channel, is_expecting, is_owed}
 use Rattle.milter_mta_channel.specs.ChannelParts.{ReceivesBy, Leaves, LeavesPrefix, channel_of}
-use Rattle.milter_mta_channel.specs.Received.{After, framed, goes_on, lost_by, received, received_byte, wire_loss}
+use Rattle.milter_mta_channel.specs.Received.{After, ended, framed, goes_on, lost_by, received, received_byte, wire_loss}
 use Rattle.milter_mta_channel.proofs.ReceivedFrames.{early, lost-stays, received-fault, received-packet, received-unfinished}
 
 -- with a loss the rest of a piece is not received
@@ -24,7 +24,7 @@ whole-lost h c loss piece n is =
     ap (fold received_byte (goes_on h c)) (sym (take-append-drop n piece))
     ∙ fold-append received_byte (goes_on h c) (take n piece) (drop n piece)
     ∙ ap (λ (a : After). fold received_byte a (drop n piece)) is
-    ∙ lost-stays h (cleared c) loss (drop n piece)
+    ∙ lost-stays h (ended h c) loss (drop n piece)
 
 -- ---- up to the end of one packet
 
@@ -85,7 +85,7 @@ module _ (old c : Channel) (h : FilterEvent) (piece : List ℕ) (i : ℕ) (so_fa
   receives-early owed some = received-rest _ (early h c (drop i piece) owed some)
 
   -- the filter is lost by the next bytes
-  pub receives-lost : (new : Channel) (loss : Loss) → i < length piece → is_owed c ≡ true → new ≡ cleared c
+  pub receives-lost : (new : Channel) (loss : Loss) → i < length piece → is_owed c ≡ true → new ≡ ended h c
       → LeavesPrefix h c (drop i piece) c (Err loss) → ReceivesBy (Some loss) old piece new h
   receives-lost new Memory within owed new_is leaves = record {
     count = i;

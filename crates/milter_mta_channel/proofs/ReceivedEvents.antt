@@ -24,8 +24,8 @@ use Rattle.milter_mta_channel.specs.declared.expected_reply.ExpectedReply.TheVar
 use Rattle.milter_mta_channel.specs.declared.filter_event.FilterEvent.{FilterEvent}
 use Rattle.milter_mta_channel.specs.declared.filter_event.FilterEvent.TheVariants as events
 use Rattle.milter_mta_outcome.specs.EditWeights.{weight_of_all}
-use Rattle.milter_mta_channel.specs.Channel.{Channel, cleared, is_expecting, is_owed, is_owed_by, verdict_stage}
-use Rattle.milter_mta_channel.specs.Received.{After, fails, framed, goes_on, negotiated_on, received, received_as, received_byte, replied, replied_at, unread_is}
+use Rattle.milter_mta_channel.specs.Channel.{Channel, cleared, is_expecting, is_owed, is_owed_by, verdict_stage, without_edits}
+use Rattle.milter_mta_channel.specs.Received.{After, edits_left, ended, fails, framed, goes_on, negotiated_on, received, received_as, received_byte, replied, replied_at, unread_is}
 use Rattle.milter_mta_channel.specs.ReplyRules.{ArePermitted, ArePermittedBy, IsAnswered, IsWaiting}
 
 abbrev AreGiven : Type 0
@@ -138,9 +138,25 @@ owed-waits given c bytes owed =
 
 -- ---- edits
 
+no_edits-permitted : (negotiated : Option Negotiated) → ArePermittedBy negotiated []
+no_edits-permitted None = refl
+no_edits-permitted (Some negotiated) = All-nil (λ (edit : Edit). is_permitted negotiated edit ≡ true)
+
+left-permitted : (h : FilterEvent) (negotiated : Option Negotiated) (edits : List Edit) → ArePermittedBy negotiated edits → ArePermittedBy negotiated (edits_left h edits)
+left-permitted (events.Verdict verdict) negotiated edits p = p
+left-permitted events.Nothing negotiated edits p = no_edits-permitted negotiated
+left-permitted events.InProgress negotiated edits p = no_edits-permitted negotiated
+left-permitted events.Negotiated negotiated edits p = no_edits-permitted negotiated
+
+pub permitted-cleared : (c : Channel) → ArePermitted (cleared c)
+permitted-cleared c = record { permitted = no_edits-permitted c.negotiated; none_offered = λ e. refl }
+
+pub permitted-without_edits : (c : Channel) → ArePermitted (without_edits c)
+permitted-without_edits c = record { permitted = no_edits-permitted c.negotiated; none_offered = λ e. refl }
+
 module _ (allowed : AreAllowed) (h : FilterEvent) (k : Channel) (p : ArePermitted k) where
-  permitted-lost : ArePermitted (cleared k)
-  permitted-lost = record { permitted = p.permitted; none_offered = λ e. absurd cc }
+  permitted-lost : ArePermitted (ended h k)
+  permitted-lost = record { permitted = left-permitted h k.negotiated k.edits p.permitted; none_offered = λ e. absurd cc }
 
   none-permitted : (negotiated : Negotiated) (edits : List Edit) → edits ≡ [] → ArePermittedBy (Some negotiated) edits
   none-permitted negotiated edits none = subst (λ (l : List Edit). ArePermittedBy (Some negotiated) l) (sym none) (All-nil (λ (edit : Edit). is_permitted negotiated edit ≡ true))

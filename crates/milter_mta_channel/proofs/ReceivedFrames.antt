@@ -22,8 +22,8 @@ use Rattle.milter_mta_channel.specs.declared.expected_reply.ExpectedReply.{Expec
 use Rattle.milter_mta_channel.specs.declared.expected_reply.ExpectedReply.TheVariants as expects
 use Rattle.milter_mta_channel.specs.declared.filter_event.FilterEvent.{FilterEvent}
 use Rattle.milter_mta_outcome.specs.EditWeights.{weight_of_all}
-use Rattle.milter_mta_channel.specs.Channel.{Channel, cleared, is_owed}
-use Rattle.milter_mta_channel.specs.Received.{After, fails, framed, goes_on, negotiated_on, received_as, received_byte, replied, replied_at, unread_is}
+use Rattle.milter_mta_channel.specs.Channel.{Channel, is_owed}
+use Rattle.milter_mta_channel.specs.Received.{After, ended, fails, framed, goes_on, negotiated_on, received_as, received_byte, replied, replied_at, unread_is}
 
 -- ---- bytes that begin with no packet
 
@@ -125,7 +125,7 @@ pub early : (h : FilterEvent) (c : Channel) (bytes : List ℕ) → is_owed c ≡
 early h c [] owed some = absurd (omega arith)
 early h c (x ∷ bytes) owed some =
     let step : received_byte (goes_on h c) x ≡ fails Early h c = rw owed refl in
-    ap (λ (a : After). fold received_byte a bytes) step ∙ lost-stays h (cleared c) _ bytes
+    ap (λ (a : After). fold received_byte a bytes) step ∙ lost-stays h (ended h c) _ bytes
 
 -- bytes that begin with no packet are only kept
 pub received-unfinished : (bytes unread : List ℕ) (h : FilterEvent) (c : Channel) → is_owed c ≡ true → IsUnfinished (unread ++ bytes)
@@ -166,7 +166,7 @@ received-fault_here bytes unread x h c f owed is =
     let step : received_byte (goes_on h (with_unread c unread)) x ≡ fails (Wire f) h (with_unread c unread) =
     one_byte h (with_unread c unread) x owed
     ∙ unread_fault h (with_unread c unread) (unread ++ x ∷ []) _ _ f is in
-    ap (λ (after : After). fold received_byte after bytes) step ∙ lost-stays h (cleared c) _ bytes
+    ap (λ (after : After). fold received_byte after bytes) step ∙ lost-stays h (ended h c) _ bytes
 
 no_fault_there : (f : WireFault) (found : Option WireFault) → found ≡ Some f → found ≡ None → ⊥
 no_fault_there f found some none = cc

@@ -110,6 +110,6 @@ without_edits c = record c { edits = [] }
 abbrev pub sent : ℕ → Channel → Channel
 sent count c = record c { pending = drop count c.pending }
 
--- nothing is expected, pending or unread; the edits stay, since a verdict may have come before
+-- the connection is given up: nothing is expected, pending or unread, and no edits are left
 abbrev pub cleared : Channel → Channel
-cleared c = record c { expected = expects.Nothing; pending = []; unread = [] }
+cleared c = record c { expected = expects.Nothing; edits = []; pending = []; unread = [] }

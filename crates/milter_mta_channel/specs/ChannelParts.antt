@@ -7,8 +7,8 @@ use Rattle.milter_mta_channel.specs.declared.channel_state.ChannelState.{Channel
 use Rattle.milter_mta_channel.specs.declared.channel_state.FedPrefix.{FedPrefix}
 use Rattle.milter_mta_channel.specs.declared.filter_event.Fed.{Fed}
 use Rattle.milter_mta_channel.specs.declared.filter_event.FilterEvent.{FilterEvent}
-use Rattle.milter_mta_channel.specs.Channel.{Channel, cleared, is_owed}
-use Rattle.milter_mta_channel.specs.Received.{After, goes_on, latest, lost_by, received, received_byte}
+use Rattle.milter_mta_channel.specs.Channel.{Channel, is_owed}
+use Rattle.milter_mta_channel.specs.Received.{After, ended, goes_on, latest, lost_by, received, received_byte}
 
 -- with the bytes that are pending, and those that are unread
 abbrev pub channel_of : ChannelState → List ℕ → List ℕ → Channel
@@ -24,7 +24,7 @@ channel_of state pending unread =
 
 -- ---- what a reply leaves
 
--- `all` is what is received of it, after this event; with a loss the channel is cleared, and nothing is said where
+-- `all` is what is received of it, after this event; with a loss the connection has ended, and nothing is said where
 -- memory was refused
 abbrev pub Leaves : FilterEvent → Channel → After → Channel → Result FilterEvent Loss → Type 0
 Leaves before old all new (Ok event) = all ≡ goes_on event new
@@ -48,7 +48,7 @@ pub record IsLostAfter (old : Channel) (piece : List ℕ) (new : Channel) (event
   pub within : count < length piece
   pub received_before : received old (take count piece) ≡ goes_on event before
   pub owed_before : is_owed before ≡ true
-  pub lost_then : new ≡ cleared before
+  pub lost_then : new ≡ ended event before
 
 abbrev pub ReceivesBy : Option Loss → Channel → List ℕ → Channel → FilterEvent → Type 0
 ReceivesBy (Some Memory) old piece new event = IsLostAfter old piece new event
@@ -58,7 +58,10 @@ ReceivesBy loss old piece new event = received old piece ≡ record { channel = 
 abbrev pub Receives : Channel → List ℕ → Channel → Fed → Type 0
 Receives old piece new fed = ReceivesBy fed.loss old piece new fed.event
 
--- after a loss nothing is left
-abbrev pub left_by : Option Loss → Channel → Channel
-left_by None c = c
-left_by (Some loss) c = cleared c
+abbrev pub left_after : Option Loss → FilterEvent → Channel → Channel
+left_after None event c = c
+left_after (Some loss) event c = ended event c
+
+-- what is left after this event, and perhaps a loss
+abbrev pub left_by : Fed → Channel → Channel
+left_by fed c = left_after fed.loss fed.event c

@@ -8,6 +8,7 @@ use Rattle.milter_wire.specs.declared.reply.Reply.{Reply}
 use Rattle.milter_wire.specs.declared.stage.Stage.{Stage}
 use Rattle.milter_wire.specs.declared.stage.Stage.TheVariants.{Rcpt}
 use Rattle.milter_wire.specs.Frames.{frame_reply}
+use Rattle.milter_message.specs.declared.edit.Edit.{Edit}
 use Rattle.milter_protocol.specs.declared.action.Action.{Action}
 use Rattle.milter_protocol.specs.declared.action.Action.TheVariants as actions
 use Rattle.milter_mta_outcome.specs.declared.loss.Loss.{Loss}
@@ -31,8 +32,17 @@ pub record After : Type 0 where
 abbrev pub goes_on : FilterEvent → Channel → After
 goes_on event c = record { channel = c; event = event; loss = None }
 
+-- the edits of a verdict that came before a loss; without a verdict none count
+abbrev pub edits_left : FilterEvent → List Edit → List Edit
+edits_left (events.Verdict verdict) edits = edits
+edits_left other edits = []
+
+-- the filter was lost after this event
+abbrev pub ended : FilterEvent → Channel → Channel
+ended event c = record (cleared c) { edits = edits_left event c.edits }
+
 abbrev pub lost_by : Loss → FilterEvent → Channel → After
-lost_by loss event c = record { channel = cleared c; event = event; loss = Some loss }
+lost_by loss event c = record { channel = ended event c; event = event; loss = Some loss }
 
 abbrev pub fails : MtaFault → FilterEvent → Channel → After
 fails fault event c = lost_by (Fault fault) event c

@@ -10,7 +10,7 @@ ghost use Rattle.milter_wire.specs.Verdicts.{reply_of as carrier};
 ghost use Rattle.milter_mta_channel.specs.declared.filter_event.FilterEvent.{FilterEvent as EventValue};
 ghost use Rattle.milter_mta_channel.specs.Channel.{expected_at, expected_by, expected_of, is_expecting};
 ghost use Rattle.milter_mta_channel.specs.ChannelParts.{Receives, Leaves, LeavesPrefix, channel_of, left_by};
-ghost use Rattle.milter_mta_channel.specs.Received.{framed, negotiated_on, replied, replied_at, wire_loss};
+ghost use Rattle.milter_mta_channel.specs.Received.{edits_left, framed, negotiated_on, replied, replied_at, wire_loss};
 ghost use Rattle.milter_mta_outcome.specs.ReceivedReplies.{options_received};
 
 use crate::expected_reply::ExpectedReply;
@@ -83,6 +83,26 @@ impl ChannelState {
         ensures { self.new ≡ record self.old { expected = ExpectedReply.Nothing } }
     {
         self.expected = ExpectedReply::Nothing;
+    }
+
+    /// Drops the edits. Doesn't allocate.
+    pub(crate) fn clear_edits(&mut self)
+        ensures { self.new ≡ record self.old { edits = [] } }
+    {
+        self.edits = ReceivedEdits::new(self.alloc);
+    }
+
+    /// Goes on after a loss: no reply is expected, and of the edits those of a verdict are left. Doesn't allocate.
+    pub(crate) fn end(&mut self, last: &FilterEvent)
+        ensures { self.new ≡ record self.old {
+          expected = ExpectedReply.Nothing;
+          edits = edits_left last.now self.old.edits;
+        } }
+    {
+        self.expect_nothing();
+        if !matches!(last, FilterEvent::Verdict(_)) {
+            self.clear_edits();
+        }
     }
 
     /// Takes the reply to the offer.
@@ -224,7 +244,7 @@ impl ChannelState {
     pub(crate) fn feed_piece(&mut self, splitter: &mut Splitter, piece: &[u8]) -> Fed
         requires { IsUnfinished splitter.old }
         ensures receives { Receives (channel_of self.old [] splitter.old) piece.now
-            (left_by result.loss (channel_of self.new [] splitter.new)) result }
+            (left_by result (channel_of self.new [] splitter.new)) result }
         ensures unfinished { result.loss ≡ None → IsUnfinished splitter.new }
     {
         let mut event = FilterEvent::Nothing;

@@ -65,7 +65,6 @@ impl MtaChannel {
         ensures { self.new ≡ unopened self.old.offer }
     {
         self.clear();
-        self.clear_edits();
         self.state.negotiated = None;
     }
 
@@ -125,7 +124,7 @@ impl MtaChannel {
     pub fn clear_edits(&mut self)
         ensures { self.new ≡ without_edits self.old }
     {
-        self.state.edits = ReceivedEdits::new(self.state.alloc);
+        self.state.clear_edits();
     }
 
     /// Whether the next command may be queued: the options came, nothing is pending, and no reply is expected. Doesn't
@@ -175,7 +174,7 @@ impl MtaChannel {
     }
 
     /// Takes a piece of what the filter sent, all of it. An empty piece changes nothing. After a loss no reply is
-    /// expected, and nothing is pending.
+    /// expected, nothing is pending, and the edits that are left are those of a verdict that came in this piece.
     pub fn feed(&mut self, piece: &[u8]) -> Fed
         ensures { Receives self.old piece.now self.new result }
     {
@@ -196,17 +195,17 @@ impl MtaChannel {
         if fed.loss.is_none() {
             return fed;
         }
-        self.state.expect_nothing();
+        self.state.end(&fed.event);
         self.splitter.clear();
         fed
     }
 
-    /// Gives the connection up: no reply is expected, and nothing is pending. The edits stay, as a verdict may have come
-    /// before. Doesn't allocate.
+    /// Gives the connection up: no reply is expected, nothing is pending, and no edits are left. Doesn't allocate.
     pub fn clear(&mut self)
         ensures { self.new ≡ cleared self.old }
     {
         self.state.expect_nothing();
+        self.state.clear_edits();
         self.pending.clear();
         self.splitter.clear();
     }

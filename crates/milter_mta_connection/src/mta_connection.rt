@@ -198,7 +198,11 @@ impl MtaConnection {
     // ---- calls for commands
 
     /// A client has connected.
-    pub fn connect(&mut self, client: ClientRef<'_>, macros: &[Pair]) -> Result<CallOutcome, CallFault>
+    pub fn connect(
+        &mut self,
+        client: ClientRef<'_>,
+        macros: &[Pair],
+    ) -> Result<CallOutcome, CallFault>
         ensures { CommandLeaves Stage.Connect (commands.Connect (client_of client.entry)) macros.now
             self.old self.new result }
     {
@@ -220,7 +224,11 @@ impl MtaConnection {
     }
 
     /// A recipient of the message.
-    pub fn rcpt(&mut self, recipient: PathRef<'_>, macros: &[Pair]) -> Result<CallOutcome, CallFault>
+    pub fn rcpt(
+        &mut self,
+        recipient: PathRef<'_>,
+        macros: &[Pair],
+    ) -> Result<CallOutcome, CallFault>
         ensures { CommandLeaves Stage.Rcpt (commands.Rcpt (path_of recipient.entry)) macros.now
             self.old self.new result }
     {

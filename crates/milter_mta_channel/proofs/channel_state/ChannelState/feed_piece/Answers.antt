@@ -2,9 +2,8 @@ use Rattle.std.proofs.Common.{◌<◌, ℕ, List, Err, [], drop, length, length-
 use Rattle.std.proofs.lemmas.List.{take_rest}
 use Rattle.milter_mta_channel.specs.declared.channel_state.ChannelState.{ChannelState}
 use Rattle.milter_mta_channel.specs.declared.filter_event.FilterEvent.{FilterEvent}
-use Rattle.milter_mta_channel.specs.Channel.{cleared}
 use Rattle.milter_mta_channel.specs.ChannelParts.{LeavesPrefix, channel_of}
-use Rattle.milter_mta_channel.specs.Received.{goes_on}
+use Rattle.milter_mta_channel.specs.Received.{ended, goes_on}
 use Rattle.milter_mta_channel.proofs.FedPieces.{receives-early, receives-lost, received-more}
 use Rattle.milter_mta_channel.proofs.channel_state.ChannelState.feed_piece.Goals as goal
 
@@ -33,8 +32,8 @@ returns-in-Err-clause-receives c =
     let piece = c.args.piece.now in
     let i = c.loop-taken.taken in
     receives-lost (channel_of c.args.self.now [] c.args.splitter.now) (channel_of c.loop-taken.self [] c.loop-taken.splitter) c.loop-taken.event
-    piece i c.loop-taken.invariant.received_so_far (cleared (channel_of c.feed_prefix.new.self [] c.feed_prefix.new.splitter)) c.in-Err.loss c.loop-taken-test.true
+    piece i c.loop-taken.invariant.received_so_far (ended c.loop-taken.event (channel_of c.feed_prefix.new.self [] c.feed_prefix.new.splitter)) c.in-Err.loss c.loop-taken-test.true
     (sym c.is_expecting.ensures ∙ c.if-not-is_expecting.false)
-    (ap (λ (s : ChannelState). cleared (channel_of s [] [])) c.in-Err.ensures.kept)
+    (ap (λ (s : ChannelState). ended c.loop-taken.event (channel_of s [] [])) c.in-Err.ensures.kept)
     (subst (λ (p : List ℕ). LeavesPrefix c.loop-taken.event (channel_of c.loop-taken.self [] c.loop-taken.splitter) p (channel_of c.loop-taken.self [] c.loop-taken.splitter) (Err c.in-Err.loss))
     (take_rest piece i) (c.in-Err.ensures.leaves c.loop-taken.event))
