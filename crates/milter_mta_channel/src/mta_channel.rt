@@ -6,7 +6,7 @@ ghost use Rattle.milter_message.specs.EditReplies.{reply_of};
 ghost use Rattle.milter_wire.specs.BorrowedCommand.{command_of};
 ghost use Rattle.milter_wire.specs.Command.{Fits};
 ghost use Rattle.milter_wire.specs.Reply.{Fits as ReplyFits};
-ghost use Rattle.milter_mta_channel.specs.Channel.{cleared, is_idle, offered, queue, sent, unopened, without_edits, without_pending};
+ghost use Rattle.milter_mta_channel.specs.Channel.{cleared, is_idle, is_owed, offered, queue, sent, unopened, without_edits, without_pending};
 ghost use Rattle.milter_mta_channel.specs.ChannelParts.{Receives};
 
 use crate::channel_state::ChannelState;
@@ -99,6 +99,13 @@ impl MtaChannel {
         ensures { result ≡ self.now.expected }
     {
         self.state.expected
+    }
+
+    /// Whether the reply that is expected is owed: all that was pending was sent. Doesn't allocate.
+    pub fn is_owed(&self) -> bool
+        ensures { result ≡ is_owed self.now }
+    {
+        self.pending.as_slice().is_empty() && self.state.is_expecting()
     }
 
     /// The edits of the answer to the end of a message, in order: of the last one, or of the one that comes. Doesn't
