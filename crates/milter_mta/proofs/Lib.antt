@@ -1,8 +1,11 @@
 mod Consistency
 mod Begun
-mod FedPieces
+mod UnreadReplies
 mod ReceivedFrames
+mod DrivenBytes
+mod CoreSteps
+mod TakenEvents
+mod EarlyPieces
 mod KeptRecipients
 mod Reported
-mod Settled
 pub mod NextPackets

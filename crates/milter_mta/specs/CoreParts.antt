@@ -1,43 +1,45 @@
 -- A mail server's end by its parts.
 use Rattle.std.specs.Prelude.{◌≡◌, ◌≤◌, ◌+◌, ◌-◌, ℕ, true, false, List, [], ◌∷◌, ◌++◌, length, map, Option, None, Some, Result, Ok, Err}
+use Rattle.milter_message.specs.declared.edit.Edit.{Edit}
 use Rattle.milter_message.specs.MailObject.{MailObject}
 use Rattle.milter_mail.specs.ChosenMacros.{chosen_macros}
 use Rattle.milter_mail.specs.MailSession.{IsSession, MailSession}
+use Rattle.milter_mta_channel.specs.declared.expected_reply.ExpectedReply.{ExpectedReply}
+use Rattle.milter_mta_channel.specs.declared.expected_reply.ExpectedReply.TheVariants as expects
+use Rattle.milter_mta_channel.specs.declared.filter_event.FilterEvent.{FilterEvent}
+use Rattle.milter_mta_channel.specs.declared.filter_event.FilterEvent.TheVariants as events
+use Rattle.milter_mta_channel.specs.Channel.{Channel, is_owed, without_edits}
 use Rattle.milter_mta_outcome.specs.declared.acted.Acted.{Acted}
 use Rattle.milter_mta_outcome.specs.declared.loss.By.TheVariants.{Connection}
 use Rattle.milter_mta_outcome.specs.declared.loss.Loss.{Loss}
-use Rattle.milter_mta_outcome.specs.declared.loss.Loss.TheVariants.{Memory}
 use Rattle.milter_mta_transaction.specs.declared.cursor.ClientInfo.{ClientInfo}
 use Rattle.milter_mta_transaction.specs.declared.transaction.Transaction.{Transaction}
 use Rattle.milter_mta_outcome.specs.declared.report.Report.{Report}
 use Rattle.milter_wire.specs.declared.negotiation.Negotiated.{Negotiated}
 use Rattle.milter_wire.specs.declared.stage.Stage.{Stage}
 use Rattle.milter_wire.specs.declared.verdict.Verdict.{Verdict}
+use Rattle.milter_wire.specs.Verdicts.{given_at}
 use Rattle.milter_mta_outcome.specs.Outcomes.{at_connection}
 use Rattle.milter_mta_transaction.specs.PlanCursor.{outgoing_of, steps_from}
-use Rattle.milter_mta_transaction.specs.Transactions.{Sends, left_of}
-use Rattle.milter_mta.specs.declared.filter_connection.Next.{Next}
-use Rattle.milter_mta.specs.declared.filter_connection.Next.TheVariants as nexts
-use Rattle.milter_mta.specs.declared.filter_connection.FilterConnection.{FilterConnection as Connected}
-use Rattle.milter_mta.specs.declared.session_state.SessionState.{SessionState}
-use Rattle.milter_mta.specs.Mta.{FilterConnection, Mta, Position}
+use Rattle.milter_mta_transaction.specs.Transactions.{Sends, left_of, stage_first}
+use Rattle.milter_mta.specs.declared.state.Next.{Next}
+use Rattle.milter_mta.specs.declared.state.Next.TheVariants as nexts
+use Rattle.milter_mta.specs.declared.state.FilterConnection.{FilterConnection as Connected}
+use Rattle.milter_mta.specs.declared.state.SessionState.{SessionState}
+use Rattle.milter_mta.specs.Mta.{FilterConnection, Mta, Position, connection_at}
 use Rattle.milter_mta.specs.Mta.Position.{Offering, Sending, Quitting, Ended}
-use Rattle.milter_mta.specs.Replies.{After, goes_on}
-use Rattle.milter_mta.specs.Dispositions.{lost, report}
+use Rattle.milter_mta.specs.Dispositions.{report}
+use Rattle.milter_mta.specs.Driven.{opened_by, ruled_in}
 
 -- ---- its value
 
-abbrev pub position_of : ClientInfo → Next → Position
-position_of client_info nexts.Offer = Offering
-position_of client_info (nexts.Command transaction) =
-    Sending transaction.negotiated transaction.acted transaction.edits (left_of client_info transaction)
-position_of client_info nexts.Quit = Quitting
-position_of client_info nexts.Nothing = Ended
-
--- the next command of a message
-abbrev pub IsCommand : Next → Type 0
-IsCommand (nexts.Command transaction) = Unit {0}
-IsCommand other = ⊥
+-- where these edits came since the last verdict
+abbrev pub position_of : ClientInfo → List Edit → Next → Position
+position_of client_info edits nexts.Offer = Offering
+position_of client_info edits (nexts.Command transaction) =
+    Sending transaction.negotiated transaction.acted edits (left_of client_info transaction)
+position_of client_info edits nexts.Quit = Quitting
+position_of client_info edits nexts.Nothing = Ended
 
 -- the message that is under way
 abbrev pub messages_at : Next → List MailObject
@@ -48,34 +50,52 @@ abbrev pub messages_in : Option Connected → List MailObject
 messages_in None = []
 messages_in (Some connection) = messages_at connection.next
 
-abbrev pub connection_of : ClientInfo → Connected → List ℕ → List ℕ → FilterConnection
-connection_of client_info connection pending unread =
+abbrev pub connection_of : ClientInfo → Connected → Channel → FilterConnection
+connection_of client_info connection channel =
     record {
       aborts = connection.aborts;
-      position = position_of client_info connection.next;
-      pending = pending;
-      owed = connection.owed;
-      unread = unread;
+      position = position_of client_info channel.edits connection.next;
+      pending = channel.pending;
+      owed = is_owed channel;
+      unread = channel.unread;
     }
 
-abbrev pub connection_in : ClientInfo → Option Connected → List ℕ → List ℕ → Option FilterConnection
-connection_in client_info None pending unread = None
-connection_in client_info (Some connection) pending unread = Some (connection_of client_info connection pending unread)
+abbrev pub connection_in : ClientInfo → Option Connected → Channel → Option FilterConnection
+connection_in client_info None channel = None
+connection_in client_info (Some connection) channel = Some (connection_of client_info connection channel)
 
 abbrev pub session_of : ClientInfo → List MailObject → MailSession
 session_of client_info messages =
     record { client = client_info.client; helo = client_info.helo; macros = client_info.macros; messages = messages }
 
--- with the bytes that are pending, and those that are unread
-abbrev pub mta_of : SessionState → Option Connected → List ℕ → List ℕ → Mta
-mta_of state connection pending unread =
+-- without a connection, with these messages under way
+abbrev pub unconnected : SessionState → List MailObject → Mta
+unconnected state messages =
     record {
       config = state.config;
-      session = session_of state.client_info (messages_in connection ++ state.queue.waiting);
+      session = session_of state.client_info (messages ++ state.queue.waiting);
       reports = state.queue.reports;
       connection = state.connection;
-      filter_connection = connection_in state.client_info connection pending unread;
+      filter_connection = None;
     }
+
+abbrev pub mta_of : SessionState → Option Connected → Channel → Mta
+mta_of state connection channel =
+    record (unconnected state (messages_in connection)) {
+      filter_connection = connection_in state.client_info connection channel;
+    }
+
+-- at the start of a packet
+abbrev pub mta_at : SessionState → Connected → Mta
+mta_at state connection =
+    record (unconnected state (messages_at connection.next)) {
+      filter_connection =
+          Some (connection_at connection.aborts (position_of state.client_info [] connection.next));
+    }
+
+-- no abort is due
+abbrev pub only : Next → Connected
+only next = record { aborts = false; next = next }
 
 -- with one report more
 abbrev pub with_state_report : Report → SessionState → SessionState
@@ -102,10 +122,6 @@ begun_position stage negotiated acted session [] = Quitting
 begun_position stage negotiated acted session (message ∷ messages) =
     Sending negotiated acted [] (steps_from (outgoing_of negotiated session message) stage 0)
 
--- a connection on which the reply to this is awaited
-abbrev pub awaiting : Next → Connected
-awaiting next = record { aborts = false; next = next; owed = true }
-
 -- ---- what always holds of it
 
 -- a message under way can be sent, with the macros that were asked for
@@ -127,22 +143,46 @@ pub record IsConsistent (state : SessionState) (connection : Option Connected) :
   pub room : length (messages_in connection) + length state.queue.waiting ≤ state.queue.spare
   pub can_send : CanSendIn state.client_info connection
 
--- ---- what a reply leaves
+-- the next command of a message is of this stage
+abbrev pub IsCommand : ClientInfo → Stage → Next → Type 0
+IsCommand client_info stage (nexts.Command transaction) = stage_first (left_of client_info transaction) ≡ Some stage
+IsCommand client_info stage other = ⊥
 
--- while the reply to what was sent is owed
-abbrev pub owing : SessionState → Connected → Mta
-owing state connection = mta_of state (Some (awaiting connection.next)) [] []
+-- the same packet is the next one, though its place in the plan may have been looked up
+pub record IsSamePlace (client_info : ClientInfo) (old new : Connected) : Type 0 where
+  pub aborts : new.aborts ≡ old.aborts
+  pub position : (edits : List Edit) → position_of client_info edits new.next ≡ position_of client_info edits old.next
+  pub can_send : CanSend client_info new.next
+  pub messages : messages_at new.next ≡ messages_at old.next
+
+-- ---- an event
+
+-- the event is one that comes at this position while this reply is expected
+abbrev pub IsTaken : ClientInfo → Next → ExpectedReply → FilterEvent → Channel → Type 0
+IsTaken client_info next (expects.Verdict stage) (events.Verdict verdict) channel =
+    IsCommand client_info stage next × (given_at verdict stage ≡ true)
+IsTaken client_info next other (events.Verdict verdict) channel = ⊥
+IsTaken client_info next expected events.Negotiated channel =
+    (next ≡ nexts.Offer) × (negotiated : Negotiated) × (channel.negotiated ≡ Some negotiated)
+IsTaken client_info next expected waiting channel = Unit {0}
+
+-- what the plan makes of it
+abbrev pub Follows : FilterEvent → SessionState → Connected → Channel → SessionState → Connected → Channel → Type 0
+Follows (events.Verdict verdict) old_state old old_channel state new channel =
+    (mta_at state new
+    ≡ ruled_in (position_of old_state.client_info [] old.next) verdict old_channel.edits (mta_at old_state (only old.next)))
+    × (channel ≡ without_edits old_channel)
+Follows events.Negotiated old_state old old_channel state new channel =
+    (mta_at state new ≡ opened_by old_channel.negotiated (mta_at old_state (only old.next))) × (channel ≡ old_channel)
+Follows waiting old_state old old_channel state new channel =
+    (state ≡ old_state) × (new ≡ old) × (channel ≡ old_channel)
+
+-- ---- after a reply
 
 -- after a loss there is no connection
-abbrev pub mta_after : {A : Type 0} → SessionState → Connected → List ℕ → Result A Loss → Mta
-mta_after state connection unread (Ok value) = mta_of state (Some connection) [] unread
-mta_after state connection unread (Err loss) = mta_of state None [] []
-
--- what was expected; or, where memory was refused, the filter is lost
-abbrev pub Leaves : Mta → After → Mta → Result Unit Loss → Type 0
-Leaves old expected new (Ok done) = expected ≡ goes_on new
-Leaves old expected new (Err Memory) = new ≡ lost Memory old
-Leaves old expected new (Err loss) = expected ≡ record { mta = new; loss = Some loss }
+abbrev pub mta_after : {A : Type 0} → SessionState → Connected → Result A Loss → Mta
+mta_after state connection (Ok value) = mta_at state connection
+mta_after state connection (Err loss) = unconnected state []
 
 abbrev pub IsConsistentAfter : {A : Type 0} → SessionState → Connected → Result A Loss → Type 0
 IsConsistentAfter state connection (Ok value) = IsConsistent state (Some connection)

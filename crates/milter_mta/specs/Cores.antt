@@ -1,24 +1,35 @@
 -- What always holds of a mail server's end, and how it goes on by pieces.
 use Rattle.std.specs.Prelude.{◌≡◌, ◌<◌, ℕ, Bool, true, false, List, [], length, take, Option, None, Some, Result, Ok, Err}
-use Rattle.milter_wire_stream.specs.Stream.{IsUnfinished}
+use Rattle.milter_mta_channel.specs.Channel.{Channel}
 use Rattle.milter_mta_outcome.specs.declared.loss.Loss.{Loss}
 use Rattle.milter_mta_outcome.specs.declared.loss.Loss.TheVariants.{Memory}
-use Rattle.milter_mta.specs.declared.filter_connection.FilterConnection.{FilterConnection as Connected}
-use Rattle.milter_mta.specs.declared.session_state.SessionState.{SessionState}
-use Rattle.milter_mta.specs.CoreParts.{IsConsistent}
+use Rattle.milter_mta_transaction.specs.declared.cursor.ClientInfo.{ClientInfo}
+use Rattle.milter_mta.specs.declared.state.FilterConnection.{FilterConnection as Connected}
+use Rattle.milter_mta.specs.declared.state.SessionState.{SessionState}
+use Rattle.milter_mta.specs.CoreParts.{IsConsistent, mta_of, position_of, unconnected}
+use Rattle.milter_mta.specs.Driven.{IsInStep}
 use Rattle.milter_mta.specs.Mta.{FilterConnection, Mta}
 use Rattle.milter_mta.specs.Replies.{goes_on, received}
 use Rattle.milter_mta.specs.Dispositions.{lost}
 
--- nothing is left to send of a packet whose reply is owed
-abbrev pub IsSentWhole : Option Connected → List ℕ → Type 0
-IsSentWhole None pending = Unit {0}
-IsSentWhole (Some connection) pending = connection.owed ≡ true → pending ≡ []
+abbrev pub IsInStepIn : ClientInfo → Option Connected → Channel → Type 0
+IsInStepIn client_info None channel = Unit {0}
+IsInStepIn client_info (Some connection) channel =
+    IsInStep connection.aborts (position_of client_info channel.edits connection.next) channel
 
-pub record IsCore (state : SessionState) (connection : Option Connected) (pending unread : List ℕ) : Type 0 where
+pub record IsCore (state : SessionState) (connection : Option Connected) (channel : Channel) : Type 0 where
   pub consistent : IsConsistent state connection
-  pub sent_whole : IsSentWhole connection pending
-  pub unfinished : IsUnfinished unread
+  pub offer : channel.offer ≡ state.config.offer
+  pub in_step : IsInStepIn state.client_info connection channel
+
+-- after a loss there is no connection
+abbrev pub mta_then : SessionState → Connected → Channel → Result Unit Loss → Mta
+mta_then state connection channel (Ok done) = mta_of state (Some connection) channel
+mta_then state connection channel (Err loss) = unconnected state []
+
+abbrev pub IsCoreAfter : SessionState → Connected → Channel → Result Unit Loss → Type 0
+IsCoreAfter state connection channel (Ok done) = IsCore state (Some connection) channel
+IsCoreAfter state connection channel (Err loss) = IsCore state None channel
 
 -- a reply is owed
 abbrev pub is_owed_in : Option FilterConnection → Bool
@@ -39,8 +50,3 @@ abbrev pub ReceivesBytes : Mta → List ℕ → Mta → Result Unit Loss → Typ
 ReceivesBytes old piece new (Ok done) = received old piece ≡ goes_on new
 ReceivesBytes old piece new (Err Memory) = IsLostAfter old piece new
 ReceivesBytes old piece new (Err loss) = received old piece ≡ record { mta = new; loss = Some loss }
-
--- the same of the first bytes of a piece, whose number is answered
-abbrev pub ReceivesSome : Mta → List ℕ → Mta → Result ℕ Loss → Type 0
-ReceivesSome old piece new (Ok taken) = received old (take taken piece) ≡ goes_on new
-ReceivesSome old piece new (Err loss) = ReceivesBytes old piece new (Err loss)

@@ -3,7 +3,8 @@ pub mod Output
 pub mod Dispositions
 pub mod Replies
 pub mod Accounts
+pub mod Driven
 pub mod CoreParts
+pub mod ActedReplies
 pub mod Cores
-pub mod TakenReplies
 pub mod Worked

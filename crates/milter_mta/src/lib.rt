@@ -13,18 +13,14 @@
 #![tactic(auto)]
 
 mod config;
-mod disposition;
-mod filter_connection;
-mod filter_reply;
 mod laws;
-mod message_start;
 mod mta_core;
-mod pending;
 mod queue;
-mod received_input;
+mod reply;
 mod reports;
 mod rows;
-mod session_state;
+mod settle;
+mod state;
 mod want;
 
 pub use config::Config;

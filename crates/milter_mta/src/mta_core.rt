@@ -1,22 +1,25 @@
 //! A mail server's end of a connection to a filter.
 
-ghost use Rattle.std.specs.Prelude.{◌≡◌, ◌≤◌, IfErr, IfOk, OnErr, OnOk, length};
+ghost use Rattle.std.specs.Prelude.{◌≡◌, ◌≤◌, IfErr, IfOk, List, OnErr, OnOk, length};
+ghost use Rattle.milter_message.specs.declared.edit.Edit.{Edit as EditValue};
 ghost use Rattle.milter_mta.specs.Cores.{ReceivesBytes};
 ghost use Rattle.milter_mta.specs.Mta.{fresh};
 ghost use Rattle.milter_mta.specs.Output as output;
+ghost use Rattle.milter_mta.specs.Output.{command_at};
+ghost use Rattle.milter_mta.specs.CoreParts.{CanSend, IsSamePlace, position_of};
 ghost use Rattle.milter_mta.specs.Dispositions.{lost};
+ghost use Rattle.milter_mta.specs.Driven.{expected_after, queued};
 
 use crate::config::Config;
-use crate::filter_connection::{FilterConnection, Next};
-use crate::pending::Pending;
 use crate::queue::Queue;
 use crate::reports::Reports;
-use crate::session_state::SessionState;
+use crate::state::{FilterConnection, Next, SessionState};
 use crate::want::Want;
 use milter_mail::{Session, SessionParts};
+use milter_mta_channel::MtaChannel;
 use milter_mta_outcome::{Loss, MtaFault};
 use milter_mta_transaction::ClientInfo;
-use milter_wire::{NoMemory, Splitter};
+use milter_wire::NoMemory;
 use std::alloc::Global;
 use std::marker::Model;
 
@@ -27,8 +30,7 @@ use std::marker::Model;
 pub struct MtaCore {
     state: SessionState,
     filter_connection: Option<FilterConnection>,
-    splitter: Splitter,
-    pending: Pending,
+    channel: MtaChannel,
 }
 
 impl Model for MtaCore {
@@ -38,9 +40,9 @@ impl Model for MtaCore {
 
     ghost Value = { Mta };
 
-    ghost view = { λ c. mta_of c.state c.filter_connection c.pending c.splitter };
+    ghost view = { λ c. mta_of c.state c.filter_connection c.channel };
 
-    ghost invariant = { λ c. IsCore c.state c.filter_connection c.pending c.splitter };
+    ghost invariant = { λ c. IsCore c.state c.filter_connection c.channel };
 }
 
 impl MtaCore {
@@ -50,7 +52,7 @@ impl MtaCore {
         ensures ok { IfOk result (λ core. core ≡ fresh config session) }
         ensures err { IfErr result (λ back. back ≡ session) }
     {
-        let Ok(splitter) = Splitter::new(alloc) else {
+        let Ok(channel) = MtaChannel::new(alloc, config.offer()) else {
             return Err(session);
         };
         let SessionParts {
@@ -77,8 +79,7 @@ impl MtaCore {
         Ok(MtaCore {
             state,
             filter_connection: None,
-            splitter,
-            pending: Pending::new(alloc),
+            channel,
         })
     }
 
@@ -87,7 +88,9 @@ impl MtaCore {
         ensures { result ≡ output.want self.now }
     {
         match &self.filter_connection {
-            Some(filter_connection) => filter_connection.want(&self.state.client_info),
+            Some(filter_connection) => {
+                filter_connection.want(&self.state.client_info, self.channel.is_owed())
+            }
             None if self.state.queue.len() == 0 => Want::Done,
             None => Want::Dial,
         }
@@ -101,8 +104,7 @@ impl MtaCore {
         if self.want() != Want::Dial {
             return;
         }
-        self.splitter.clear();
-        self.pending.clear();
+        self.channel.restart();
         drop(
             self.filter_connection
                 .replace(FilterConnection::at(Next::Offer)),
@@ -114,7 +116,7 @@ impl MtaCore {
         ensures { result.now ≡ output.pending self.now }
     {
         match &self.filter_connection {
-            Some(_) => self.pending.as_slice(),
+            Some(_) => self.channel.pending(),
             None => &[],
         }
     }
@@ -125,19 +127,21 @@ impl MtaCore {
         ensures ok { OnOk result (self.new ≡ output.advanced self.old) }
         ensures err { OnErr result (self.new ≡ self.old) }
     {
-        let Some(filter_connection) = &self.filter_connection else {
+        let Some(filter_connection) = &mut self.filter_connection else {
             return Ok(());
         };
-        let client_info = &self.state.client_info;
-        if filter_connection.want(client_info) != Want::Send
-            || !self.pending.as_slice().is_empty()
-        {
+        let is_owed = self.channel.is_owed();
+        if filter_connection.want(&self.state.client_info, is_owed) != Want::Send {
             return Ok(());
         }
-        match filter_connection.command(self.state.config.offer(), client_info) {
-            Some(command) => self.pending.encode(self.state.alloc, &command),
-            None => Ok(()),
+        if !self.channel.pending().is_empty() {
+            return Ok(());
         }
+        queue_next(
+            &mut self.channel,
+            filter_connection,
+            &self.state.client_info,
+        )
     }
 
     /// Notes that the first `count` bytes of what is pending were sent. With the last byte of the offer, or of a
@@ -146,16 +150,20 @@ impl MtaCore {
         requires { count ≤ length (output.pending self.old) }
         ensures { self.new ≡ output.sent count self.old }
     {
-        if self.pending().is_empty() {
+        let Some(filter_connection) = &mut self.filter_connection else {
+            return;
+        };
+        if self.channel.pending().is_empty() {
             return;
         }
-        self.pending.sent(count);
-        if !self.pending.as_slice().is_empty() {
+        self.channel.sent(count);
+        if !self.channel.pending().is_empty() {
             return;
         }
-        if let Some(filter_connection) = &mut self.filter_connection {
-            filter_connection.finish(&self.state.client_info);
+        if self.channel.is_owed() {
+            return;
         }
+        filter_connection.advance(&self.state.client_info);
     }
 
     /// Takes a piece of what the filter sent, all of it. An empty piece changes nothing. After a loss it is as after
@@ -172,23 +180,19 @@ impl MtaCore {
             self.state.lose_waiting(loss);
             return Err(loss);
         };
-        if !filter_connection.owed {
+        if !self.channel.is_owed() {
             let loss = Loss::Fault(MtaFault::Early);
             self.state.lose(filter_connection, loss);
             self.filter_connection = None;
             return Err(loss);
         }
-        match self
+        let received = self
             .state
-            .feed_piece(&mut self.splitter, filter_connection, piece)
-        {
-            Ok(()) => Ok(()),
-            Err(loss) => {
-                self.filter_connection = None;
-                self.splitter.clear();
-                Err(loss)
-            }
+            .receive(filter_connection, &mut self.channel, piece);
+        if received.is_err() {
+            self.filter_connection = None;
         }
+        received
     }
 
     /// Gives up the connection, or the dial, with what is pending. The first message that isn't settled is settled by
@@ -218,5 +222,27 @@ impl MtaCore {
         ensures messages { result.messages ≡ self.reports }
     {
         Reports::new(self.state.connection, self.state.queue.into_reports())
+    }
+}
+
+/// Queues the next packet, where none is pending.
+fn queue_next(
+    channel: &mut MtaChannel,
+    filter_connection: &mut FilterConnection,
+    client_info: &ClientInfo,
+) -> Result<(), NoMemory>
+    requires { CanSend client_info.now filter_connection.old.next }
+    ensures ok { OnOk result ((edits : List EditValue) → channel.new
+        ≡ queued (command_at channel.old.offer filter_connection.old.aborts
+        (position_of client_info.now edits filter_connection.old.next))
+        (expected_after filter_connection.old.aborts
+        (position_of client_info.now edits filter_connection.old.next)) channel.old) }
+    ensures err { OnErr result (channel.new ≡ channel.old) }
+    ensures same { IsSamePlace client_info.now filter_connection.old filter_connection.new }
+{
+    let expected = filter_connection.expected(client_info);
+    match filter_connection.command(channel.offer(), client_info) {
+        Some(command) => channel.queue_expecting(&command, expected),
+        None => Ok(()),
     }
 }

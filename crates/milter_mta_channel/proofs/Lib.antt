@@ -2,3 +2,4 @@ pub mod ReceivedFrames
 pub mod FedPieces
 pub mod Offered
 pub mod ReceivedEvents
+pub mod LeftChannels

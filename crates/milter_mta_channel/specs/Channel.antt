@@ -89,10 +89,13 @@ offered c = record c { expected = expects.Options; pending = encoding (commands.
 abbrev pub fresh : Options → Channel
 fresh offer = offered (unopened offer)
 
--- the packet of a command is the last one that is pending
+-- the packet of a command is the last one that is pending, and gets this reply
+abbrev pub queue_expecting : Command → ExpectedReply → Channel → Channel
+queue_expecting command expected c = record c { expected = expected; pending = c.pending ++ encoding command }
+
+-- the reply is the one of its stage
 abbrev pub queue : Command → Channel → Channel
-queue command c =
-    record c { expected = expected_of c.negotiated command; pending = c.pending ++ encoding command }
+queue command c = queue_expecting command (expected_of c.negotiated command) c
 
 abbrev pub queue_all : List Command → Channel → Channel
 queue_all [] c = c

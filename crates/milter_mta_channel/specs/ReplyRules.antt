@@ -1,5 +1,5 @@
 -- What holds of every verdict and every edit that comes, whatever the filter sends.
-use Rattle.std.specs.Prelude.{◌≡◌, true, List, [], All, Option, None, Some}
+use Rattle.std.specs.Prelude.{◌≡◌, ◌≢◌, true, List, [], All, Option, None, Some}
 use Rattle.milter_wire.specs.declared.negotiation.Negotiated.{Negotiated}
 use Rattle.milter_wire.specs.declared.stage.Stage.{Stage}
 use Rattle.milter_wire.specs.declared.verdict.Verdict.{Verdict}
@@ -27,6 +27,19 @@ abbrev pub IsWaiting : FilterEvent → Type 0
 IsWaiting events.Nothing = Unit {0}
 IsWaiting events.InProgress = Unit {0}
 IsWaiting other = ⊥
+
+-- ---- what is left of a channel
+
+-- after this event, without a loss
+abbrev pub IsLeftBy : FilterEvent → Channel → Channel → Type 0
+IsLeftBy events.Nothing old new = new ≡ record old { unread = new.unread }
+IsLeftBy events.InProgress old new =
+    (old.expected ≢ expects.Options) × (new ≡ record old { edits = new.edits; unread = new.unread })
+IsLeftBy events.Negotiated old new =
+    (negotiated : Negotiated) × (old.expected ≡ expects.Options)
+    × (new ≡ record old { negotiated = Some negotiated; expected = expects.Nothing; unread = [] })
+IsLeftBy (events.Verdict verdict) old new =
+    new ≡ record old { expected = expects.Nothing; edits = new.edits; unread = [] }
 
 -- ---- edits
 

@@ -1,15 +1,16 @@
 //! Laws of a channel, each the contract of a function that does nothing.
 
-ghost use Rattle.std.specs.Prelude.{◌≡◌, ◌≢◌, ◌++◌, List, [], false, true, ℕ};
+ghost use Rattle.std.specs.Prelude.{◌≡◌, ◌≢◌, ◌++◌, List, None, Some, [], false, true, ℕ};
 ghost use Rattle.std.specs.List.{fold};
 ghost use Rattle.milter_wire.specs.declared.command.Command.{Command};
 ghost use Rattle.milter_wire.specs.declared.verdict.Verdict.{Verdict};
 ghost use Rattle.milter_wire_options.specs.declared.options.Options.{Options};
+ghost use Rattle.milter_mta_outcome.specs.declared.loss.Loss.{Loss};
 ghost use Rattle.milter_mta_outcome.specs.declared.loss.MtaFault.TheVariants.{Early};
 ghost use Rattle.milter_mta_channel.specs.declared.filter_event.FilterEvent.TheVariants as events;
 ghost use Rattle.milter_mta_channel.specs.Channel.{Channel, cleared, fresh, is_owed, queue, sent, without_edits, without_pending};
-ghost use Rattle.milter_mta_channel.specs.Received.{fails, received, received_byte};
-ghost use Rattle.milter_mta_channel.specs.ReplyRules.{ArePermitted, IsAnswered, IsWaiting};
+ghost use Rattle.milter_mta_channel.specs.Received.{ended, fails, received, received_byte};
+ghost use Rattle.milter_mta_channel.specs.ReplyRules.{ArePermitted, IsAnswered, IsLeftBy, IsWaiting};
 
 use milter_mta_outcome::received_replies;
 
@@ -32,6 +33,16 @@ pub fn verdicts_follow_commands()
 {
     received_replies();
 }
+
+/// What is left of a channel by a piece: while no verdict and no options came the same reply is expected, and the
+/// first of these ends what is expected. After a loss it is what was left before, without what the connection had.
+pub fn events_leave_channels()
+    ensures left { (c : Channel) (bytes : List ℕ) → (received c bytes).loss ≡ None →
+        IsLeftBy (received c bytes).event c (received c bytes).channel }
+    ensures lost { (c : Channel) (bytes : List ℕ) (loss : Loss) → (received c bytes).loss ≡ Some loss →
+        (before : Channel) × IsLeftBy (received c bytes).event c before
+        × ((received c bytes).channel ≡ ended (received c bytes).event before) }
+{}
 
 /// Whatever a filter sends, the actions that its edits need were negotiated.
 pub fn edits_were_negotiated()

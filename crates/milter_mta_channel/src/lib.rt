@@ -16,5 +16,7 @@ mod pending;
 
 pub use expected_reply::ExpectedReply;
 pub use filter_event::{Fed, FilterEvent};
-pub use laws::{edits_were_negotiated, pieces_go_on, verdicts_follow_commands};
+pub use laws::{
+    edits_were_negotiated, events_leave_channels, pieces_go_on, verdicts_follow_commands,
+};
 pub use mta_channel::MtaChannel;

@@ -6,7 +6,7 @@ ghost use Rattle.milter_message.specs.EditReplies.{reply_of};
 ghost use Rattle.milter_wire.specs.BorrowedCommand.{command_of};
 ghost use Rattle.milter_wire.specs.Command.{Fits};
 ghost use Rattle.milter_wire.specs.Reply.{Fits as ReplyFits};
-ghost use Rattle.milter_mta_channel.specs.Channel.{cleared, is_idle, is_owed, offered, queue, sent, unopened, without_edits, without_pending};
+ghost use Rattle.milter_mta_channel.specs.Channel.{cleared, is_idle, is_owed, offered, queue, queue_expecting, sent, unopened, without_edits, without_pending};
 ghost use Rattle.milter_mta_channel.specs.ChannelParts.{Receives};
 
 use crate::channel_state::ChannelState;
@@ -167,8 +167,23 @@ impl MtaChannel {
         ensures ok { OnOk result (self.new ≡ queue (command_of command.now) self.old) }
         ensures err { OnErr result (self.new ≡ self.old) }
     {
+        let expected = self.state.expected_of(command);
+        self.queue_expecting(command, expected)
+    }
+
+    /// Queues the packet of a command after what is pending, where the caller knows which reply it gets. After
+    /// `NoMemory` nothing has changed.
+    pub fn queue_expecting(
+        &mut self,
+        command: &CommandRef<'_>,
+        expected: ExpectedReply,
+    ) -> Result<(), NoMemory>
+        requires { Fits (command_of command.now) }
+        ensures ok { OnOk result (self.new ≡ queue_expecting (command_of command.now) expected self.old) }
+        ensures err { OnErr result (self.new ≡ self.old) }
+    {
         self.pending.append(self.state.alloc, command)?;
-        self.state.expected = self.state.expected_of(command);
+        self.state.expected = expected;
         Ok(())
     }
 

@@ -1,8 +1,7 @@
 //! A message under way to a filter: what is sent of it, command by command, and what came of it so far.
 //!
 //! A mail server plans a message by what was negotiated with the filter. A [`Transaction`] knows which command of the
-//! plan is the next one, the verdicts that were acted on, and the edits that came since the last verdict. Nothing here
-//! reads, writes or waits.
+//! plan is the next one, and the verdicts that were acted on. Nothing here reads, writes or waits.
 #![tactic(auto)]
 
 mod acted_verdicts;

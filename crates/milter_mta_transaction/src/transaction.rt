@@ -14,7 +14,7 @@ use crate::acted_verdicts::{act, are_refused};
 use crate::cursor::{ClientInfo, Cursor};
 use crate::plan_cursor::{OutgoingRef, after_body, first_command, first_from, has_recipient, next};
 use milter_mail::{Macros, Message};
-use milter_mta_outcome::{ActedVerdicts, ReceivedEdits};
+use milter_mta_outcome::ActedVerdicts;
 use milter_protocol::is_final_at;
 use milter_wire::{CommandRef, Negotiated, NoMemory, Stage, Verdict};
 
@@ -29,8 +29,6 @@ pub struct Transaction {
     pub message: Message,
     /// The verdicts that were acted on, in order: those on the client and its greeting first.
     pub acted: ActedVerdicts,
-    /// The edits that came since the last verdict.
-    pub edits: ReceivedEdits,
     /// The next command, or one of those before it that aren't sent.
     pub cursor: Cursor,
 }
@@ -42,7 +40,6 @@ impl Transaction {
         macros: Macros,
         message: Message,
         acted: ActedVerdicts,
-        edits: ReceivedEdits,
         stage: Stage,
     ) -> Self
         ensures { result ≡ record {
@@ -50,7 +47,6 @@ impl Transaction {
           macros = macros;
           message = message;
           acted = acted;
-          edits = edits;
           cursor = record { stage = stage; step = 0 };
         } }
     {
@@ -59,7 +55,6 @@ impl Transaction {
             macros,
             message,
             acted,
-            edits,
             cursor: Cursor { stage, step: 0 },
         }
     }

@@ -8,7 +8,7 @@ use Rattle.milter_wire.specs.Reply.{is_code, reply_in}
 use Rattle.milter_mta_outcome.specs.declared.loss.Loss.{Loss}
 use Rattle.milter_mta_outcome.specs.declared.loss.MtaFault.TheVariants.{Wire}
 use Rattle.milter_mta.specs.Replies.{After, at, framed, goes_on, received, received_byte, received_on}
-use Rattle.milter_mta.proofs.FedPieces.{early, early-at_none, fails-over}
+use Rattle.milter_mta.proofs.UnreadReplies.{early, early-at_none, fails-over}
 use Rattle.milter_mta.proofs.ReceivedFrames.{received-fault, received-packet, lost-stays, with_unread}
 use Rattle.milter_mta.proofs.laws.faults_are_received.Goals as goal
 

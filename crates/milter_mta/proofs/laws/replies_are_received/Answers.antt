@@ -4,7 +4,7 @@ use Rattle.milter_wire.specs.declared.reply.Reply.{Reply}
 use Rattle.milter_wire.specs.Frames.{frame_reply, reply_frame}
 use Rattle.milter_wire.specs.Reply.{encoding}
 use Rattle.milter_mta.specs.Replies.{at, framed, received}
-use Rattle.milter_mta.proofs.FedPieces.{framed-over, message-left}
+use Rattle.milter_mta.proofs.UnreadReplies.{framed-over, message-left}
 use Rattle.milter_mta.proofs.ReceivedFrames.{received-packet, with_unread}
 use Rattle.milter_mta.proofs.laws.replies_are_received.Goals as goal
 
