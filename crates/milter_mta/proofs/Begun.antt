@@ -8,7 +8,7 @@ use Rattle.milter_mta_outcome.specs.declared.acted.Acted.{Acted}
 use Rattle.milter_mail.specs.MailSession.{MailSession}
 use Rattle.milter_mta_transaction.specs.PlanCursor.{outgoing_of}
 use Rattle.milter_mta_transaction.proofs.PlanLaws.{message_by_stages, plan_by_stages}
-use Rattle.milter_mta.specs.declared.state.Next.{Next}
+use Rattle.milter_mta.specs.declared.state.Position.{Position as PositionParts}
 use Rattle.milter_mta.specs.declared.state.SessionState.{SessionState}
 use Rattle.milter_mta.specs.CoreParts.{begun_position, messages_at, mta_at, position_of, session_of, unconnected}
 use Rattle.milter_mta.specs.Mta.{FilterConnection, Mta, Position, connection_at}
@@ -45,12 +45,12 @@ module _ (old : SessionState) where
     filter_connection = Some filter_connection;
   }
 
-  pub begun_mta : (new : SessionState) (next : Next) (aborts : Bool) (position : Position)
+  pub begun_mta : (new : SessionState) (next : PositionParts) (aborts : Bool) (position : Position)
       → new ≡ record old { queue = record old.queue { waiting = new.queue.waiting } }
       → messages_at next ++ new.queue.waiting ≡ old.queue.waiting → position_of new.client_info [] next ≡ position
-      → mta_at new (record { aborts = aborts; next = next })
+      → mta_at new (record { aborts = aborts; position = next })
       ≡ record (unconnected old []) { filter_connection = Some (connection_at aborts position) }
   begun_mta new next aborts position e messages at =
-      ap (λ (s : SessionState). mta_at s (record { aborts = aborts; next = next })) e
+      ap (λ (s : SessionState). mta_at s (record { aborts = aborts; position = next })) e
       ∙ ap (λ (ms : List MailObject). made ms (connection_at aborts (position_of old.client_info [] next))) messages
       ∙ ap (λ (p : Position). made old.queue.waiting (connection_at aborts p)) (ap (λ (s : SessionState). position_of s.client_info [] next) (sym e) ∙ at)

@@ -10,7 +10,7 @@ use Rattle.milter_mta_outcome.specs.declared.report.Report.{Report}
 use Rattle.milter_mta_transaction.specs.declared.cursor.Cursor.{Cursor}
 use Rattle.milter_mta_transaction.specs.declared.transaction.Transaction.{Transaction}
 use Rattle.milter_mta_transaction.proofs.PlanLaws.{begun_sends}
-use Rattle.milter_mta.specs.declared.state.Next.TheVariants as nexts
+use Rattle.milter_mta.specs.declared.state.Position.TheVariants as parts
 use Rattle.milter_mta.specs.declared.state.SessionState.{SessionState}
 use Rattle.milter_mta.specs.Accounts.{Accounts}
 use Rattle.milter_mta.specs.CoreParts.{IsConsistent, only, session_of, with_state_report}
@@ -36,7 +36,7 @@ pub begun_stands : (state : SessionState) (queue : Accounts) (message : MailObje
     → IsConsistent state None → state.queue.waiting ≡ message ∷ queue.waiting → queue.spare ≡ state.queue.spare
     → transaction.message ≡ message → transaction.macros ≡ chosen_macros transaction.negotiated.lists state.client_info.macros
     → transaction.cursor ≡ record { stage = stage; step = 0 } → ((stage ≡ Connect) ⊎ (stage ≡ Mail))
-    → IsConsistent (record state { queue = queue }) (Some (only (nexts.Command transaction)))
+    → IsConsistent (record state { queue = queue }) (Some (only (parts.Sending transaction)))
 begun_stands state queue message transaction stage consistent e spare is chosen cursor at =
     let P : MailObject → Type 0 = IsSendable state.client_info.client state.client_info.helo state.client_info.macros in
     let whole = consistent.whole in
@@ -67,7 +67,7 @@ settled_stands state queue message r consistent e spare =
     }
 
 -- the message under way was settled
-pub ended_stands : (state : SessionState) (queue : Accounts) (transaction : Transaction) → IsConsistent state (Some (only (nexts.Command transaction)))
+pub ended_stands : (state : SessionState) (queue : Accounts) (transaction : Transaction) → IsConsistent state (Some (only (parts.Sending transaction)))
     → queue.waiting ≡ state.queue.waiting → queue.spare ≡ state.queue.spare - 1
     → IsConsistent (record state { queue = queue }) None
 ended_stands state queue transaction consistent e spare =

@@ -64,7 +64,7 @@ asks-expecting Ended = refl
 
 module _ (state : SessionState) (f new : Connected) (k : Channel) (same : IsSamePlace state.client_info f new) where
   abbrev position : Position
-  position = position_of state.client_info k.edits f.next
+  position = position_of state.client_info k.edits f.position
 
   abbrev at : List ℕ → Bool → Bool → Position → List MailObject → Mta
   at pending owed aborts p messages = record (unconnected state messages) {
@@ -72,12 +72,12 @@ module _ (state : SessionState) (f new : Connected) (k : Channel) (same : IsSame
   }
 
   -- the same place is no other end
-  moved : (pending : List ℕ) (owed : Bool) → at pending owed new.aborts (position_of state.client_info k.edits new.next) (messages_at new.next)
-      ≡ at pending owed f.aborts position (messages_at f.next)
+  moved : (pending : List ℕ) (owed : Bool) → at pending owed new.aborts (position_of state.client_info k.edits new.position) (messages_at new.position)
+      ≡ at pending owed f.aborts position (messages_at f.position)
   moved pending owed =
-      ap (λ (ms : List MailObject). at pending owed new.aborts (position_of state.client_info k.edits new.next) ms) same.messages
-      ∙ ap (λ (p : Position). at pending owed new.aborts p (messages_at f.next)) (same.position k.edits)
-      ∙ ap (λ (a : Bool). at pending owed a position (messages_at f.next)) same.aborts
+      ap (λ (ms : List MailObject). at pending owed new.aborts (position_of state.client_info k.edits new.position) ms) same.messages
+      ∙ ap (λ (p : Position). at pending owed new.aborts p (messages_at f.position)) (same.position k.edits)
+      ∙ ap (λ (a : Bool). at pending owed a position (messages_at f.position)) same.aborts
 
   module _ (none : k.pending ≡ []) (owed : is_owed k ≡ false) where
     abbrev made_by : Option Command → Mta
@@ -86,15 +86,15 @@ module _ (state : SessionState) (f new : Connected) (k : Channel) (same : IsSame
     by_command : (command : Option Command) (expected : ExpectedReply) → mta_of state (Some new) (queued command expected k) ≡ made_by command
     unfolding number
     by_command None expected =
-        ap (λ (p : List ℕ). at p (is_owed_by k.expected p) new.aborts (position_of state.client_info k.edits new.next) (messages_at new.next)) none
+        ap (λ (p : List ℕ). at p (is_owed_by k.expected p) new.aborts (position_of state.client_info k.edits new.position) (messages_at new.position)) none
         ∙ moved [] (is_owed_by k.expected [])
-        ∙ ap (λ (p : List ℕ). at [] (is_owed_by k.expected p) f.aborts position (messages_at f.next)) (sym none)
-        ∙ ap (λ (p : List ℕ). at (output.pending_or p None) (is_owed k) f.aborts position (messages_at f.next)) (sym none)
+        ∙ ap (λ (p : List ℕ). at [] (is_owed_by k.expected p) f.aborts position (messages_at f.position)) (sym none)
+        ∙ ap (λ (p : List ℕ). at (output.pending_or p None) (is_owed k) f.aborts position (messages_at f.position)) (sym none)
     by_command (Some command) expected =
-        ap (λ (p : List ℕ). at (p ++ encoding command) (is_owed_by expected (p ++ encoding command)) new.aborts (position_of state.client_info k.edits new.next) (messages_at new.next)) none
+        ap (λ (p : List ℕ). at (p ++ encoding command) (is_owed_by expected (p ++ encoding command)) new.aborts (position_of state.client_info k.edits new.position) (messages_at new.position)) none
         ∙ moved (encoding command) false
-        ∙ ap (λ (o : Bool). at (encoding command) o f.aborts position (messages_at f.next)) (sym owed)
-        ∙ ap (λ (p : List ℕ). at (output.pending_or p (Some command)) (is_owed k) f.aborts position (messages_at f.next)) (sym none)
+        ∙ ap (λ (o : Bool). at (encoding command) o f.aborts position (messages_at f.position)) (sym owed)
+        ∙ ap (λ (p : List ℕ). at (output.pending_or p (Some command)) (is_owed k) f.aborts position (messages_at f.position)) (sym none)
 
   pub advanced-is : (after : Channel) → k.offer ≡ state.config.offer → k.pending ≡ [] → want (mta_of state (Some f) k) ≡ wants.Send
       → after ≡ queued (command_at k.offer f.aborts position) (expected_after f.aborts position) k
@@ -128,10 +128,10 @@ module _ (state : SessionState) (f new : Connected) (k : Channel) (same : IsSame
 
   pub queued-in_step : (after : Channel) → k.pending ≡ [] → IsInStep f.aborts position k
       → after ≡ queued (command_at k.offer f.aborts position) (expected_after f.aborts position) k
-      → IsInStep new.aborts (position_of state.client_info after.edits new.next) after
+      → IsInStep new.aborts (position_of state.client_info after.edits new.position) after
   queued-in_step after none s is =
-      subst (λ (c : Channel). IsInStep new.aborts (position_of state.client_info c.edits new.next) c) (sym is)
-      (subst (λ (e : List Edit). IsInStep new.aborts (position_of state.client_info e new.next) (queued (command_at k.offer f.aborts position) (expected_after f.aborts position) k)) (edits_same (command_at k.offer f.aborts position))
+      subst (λ (c : Channel). IsInStep new.aborts (position_of state.client_info c.edits new.position) c) (sym is)
+      (subst (λ (e : List Edit). IsInStep new.aborts (position_of state.client_info e new.position) (queued (command_at k.offer f.aborts position) (expected_after f.aborts position) k)) (edits_same (command_at k.offer f.aborts position))
       (subst (λ (p : Position). IsInStep new.aborts p (queued (command_at k.offer f.aborts position) (expected_after f.aborts position) k)) (sym (same.position k.edits))
       (subst (λ (a : Bool). IsInStep a position (queued (command_at k.offer f.aborts position) (expected_after f.aborts position) k)) (sym same.aborts)
       (in_step_by f.aborts position (command_at k.offer f.aborts position) none s))))
@@ -173,13 +173,13 @@ not_send c wants.Done m e = refl
 
 module _ (state : SessionState) (f : Connected) (k : Channel) where
   abbrev place : Position
-  place = position_of state.client_info k.edits f.next
+  place = position_of state.client_info k.edits f.position
 
   abbrev here : Mta
   here = mta_of state (Some f) k
 
   abbrev with_connection : FilterConnection → Mta
-  with_connection c = record (unconnected state (messages_at f.next)) { filter_connection = Some c }
+  with_connection c = record (unconnected state (messages_at f.position)) { filter_connection = Some c }
 
   -- what is pending is not made again
   pub made-already : HasBytes k.pending → with_connection (made state.config (connection_of state.client_info f k)) ≡ here
@@ -259,9 +259,9 @@ module _ (state : SessionState) (f : Connected) (k : Channel) where
 
     -- it was sent whole, and the next one follows
     module _ (new : Connected) (none : drop count k.pending ≡ []) (done : is_owed (sent count k) ≡ false)
-        (aborted : f.aborts ≡ true → new ≡ only f.next)
-        (after : f.aborts ≡ false → (edits : List Edit) → position_of state.client_info edits new.next ≡ after_packet (position_of state.client_info edits f.next))
-        (aborts : new.aborts ≡ false) (messages : messages_at new.next ≡ messages_at f.next) where
+        (aborted : f.aborts ≡ true → new ≡ only f.position)
+        (after : f.aborts ≡ false → (edits : List Edit) → position_of state.client_info edits new.position ≡ after_packet (position_of state.client_info edits f.position))
+        (aborts : new.aborts ≡ false) (messages : messages_at new.position ≡ messages_at f.position) where
       not_expecting : is_expecting k.expected ≡ false
       not_expecting = sym (ap (is_owed_by k.expected) none) ∙ done
 
@@ -272,13 +272,13 @@ module _ (state : SessionState) (f : Connected) (k : Channel) where
           else if asks_at place then record before { pending = []; owed = true } else record before { position = after_packet place; pending = []; owed = false })
       by_abort true e =
           ap (λ (n : Connected). mta_of state (Some n) (sent count k)) (aborted e)
-          ∙ ap (λ (l : List ℕ). at_new false place (messages_at f.next) l) none
+          ∙ ap (λ (l : List ℕ). at_new false place (messages_at f.position) l) none
           ∙ ap (λ (o : Bool). with_connection (record before { aborts = false; pending = []; owed = o })) not_expecting
       by_abort false e =
           let asks : asks_at place ≡ false = asks-expecting place ∙ ap is_expecting (sym (expected-is e)) ∙ not_expecting in
-          ap (λ (l : List ℕ). at_new new.aborts (position_of state.client_info k.edits new.next) (messages_at new.next) l) none
-          ∙ ap (λ (a : Bool). at_new a (position_of state.client_info k.edits new.next) (messages_at new.next) []) (aborts ∙ sym e)
-          ∙ ap (λ (p : Position). at_new f.aborts p (messages_at new.next) []) (after e k.edits)
+          ap (λ (l : List ℕ). at_new new.aborts (position_of state.client_info k.edits new.position) (messages_at new.position) l) none
+          ∙ ap (λ (a : Bool). at_new a (position_of state.client_info k.edits new.position) (messages_at new.position) []) (aborts ∙ sym e)
+          ∙ ap (λ (p : Position). at_new f.aborts p (messages_at new.position) []) (after e k.edits)
           ∙ ap (λ (ms : List MailObject). at_new f.aborts (after_packet place) ms []) messages
           ∙ ap (λ (o : Bool). with_connection (record before { position = after_packet place; pending = []; owed = o })) not_expecting
           ∙ ap (λ (q : Bool). with_connection (if q then record before { pending = []; owed = true } else record before { position = after_packet place; pending = []; owed = false })) (sym asks)
@@ -306,14 +306,14 @@ module _ (state : SessionState) (f : Connected) (k : Channel) where
         expecting = λ e. subst (λ (l : List ℕ). ExpectsAt p l k.expected) (sym none) (inl (nothing k.expected not_expecting));
       }
 
-      step_by : (a : Bool) → f.aborts ≡ a → IsInStep new.aborts (position_of state.client_info k.edits new.next) (sent count k)
+      step_by : (a : Bool) → f.aborts ≡ a → IsInStep new.aborts (position_of state.client_info k.edits new.position) (sent count k)
       step_by true e =
-          subst (λ (n : Connected). IsInStep new.aborts (position_of state.client_info k.edits n.next) (sent count k)) (sym (aborted e)) (step_from place s.negotiated s.edits)
+          subst (λ (n : Connected). IsInStep new.aborts (position_of state.client_info k.edits n.position) (sent count k)) (sym (aborted e)) (step_from place s.negotiated s.edits)
       step_by false e =
           subst (λ (p : Position). IsInStep new.aborts p (sent count k)) (sym (after e k.edits))
           (step_from (after_packet place) (after_negotiated place k.negotiated s.negotiated) (after_edits place k.edits s.edits))
 
-      pub next-in_step : IsInStep new.aborts (position_of state.client_info k.edits new.next) (sent count k)
+      pub next-in_step : IsInStep new.aborts (position_of state.client_info k.edits new.position) (sent count k)
       next-in_step = step_by f.aborts refl
 
 -- ---- what always holds of it
@@ -330,7 +330,7 @@ queued-offer None expected k = refl
 queued-offer (Some command) expected k = refl
 
 pub queued-core : (state : SessionState) (f new : Connected) (k after : Channel) → IsSamePlace state.client_info f new → k.pending ≡ [] → IsCore state (Some f) k
-    → after ≡ queued (command_at k.offer f.aborts (position_of state.client_info k.edits f.next)) (expected_after f.aborts (position_of state.client_info k.edits f.next)) k
+    → after ≡ queued (command_at k.offer f.aborts (position_of state.client_info k.edits f.position)) (expected_after f.aborts (position_of state.client_info k.edits f.position)) k
     → IsCore state (Some new) after
 queued-core state f new k after same none core is = record {
   consistent = moved-consistent state f new same core.consistent;
@@ -340,15 +340,15 @@ queued-core state f new k after same none core is = record {
 
 pub same-core : (state : SessionState) (f new : Connected) (k after : Channel) → IsSamePlace state.client_info f new → IsCore state (Some f) k → after ≡ k → IsCore state (Some new) after
 same-core state f new k after same core is =
-    let s : IsInStep f.aborts (position_of state.client_info k.edits f.next) k = core.in_step in
+    let s : IsInStep f.aborts (position_of state.client_info k.edits f.position) k = core.in_step in
     subst (λ (c : Channel). IsCore state (Some new) c) (sym is) (record {
       consistent = moved-consistent state f new same core.consistent;
       offer = core.offer;
-      in_step = subst (λ (a : Bool). IsInStep a (position_of state.client_info k.edits new.next) k) (sym same.aborts)
+      in_step = subst (λ (a : Bool). IsInStep a (position_of state.client_info k.edits new.position) k) (sym same.aborts)
           (subst (λ (p : Position). IsInStep f.aborts p k) (sym (same.position k.edits)) s);
     })
 
-pub stepped-consistent : (state : SessionState) (f new : Connected) → CanSend state.client_info new.next → messages_at new.next ≡ messages_at f.next → IsConsistent state (Some f) → IsConsistent state (Some new)
+pub stepped-consistent : (state : SessionState) (f new : Connected) → CanSend state.client_info new.position → messages_at new.position ≡ messages_at f.position → IsConsistent state (Some f) → IsConsistent state (Some new)
 stepped-consistent state f new can_send messages i = record {
   whole = i.whole;
   room = subst (λ (ms : List MailObject). length ms + length state.queue.waiting ≤ state.queue.spare) (sym messages) i.room;

@@ -79,7 +79,7 @@ ruled-owed false of_client m negotiated stage acted edits left verdict some = re
 -- more bytes are early, for both
 over : (position : Position) (m after : Mta) (h : FilterEvent) (c : Channel) (bytes : List ℕ) → NothingIsOwed after → c.expected ≡ expects.Nothing → c.pending ≡ []
     → driven_by position h c m ≡ after → driven_by position h (on_channel.ended h c) m ≡ after
-    → mta.received_on (mta.goes_on after) bytes ≡ driven position m (fold on_channel.received_byte (on_channel.goes_on h c) bytes)
+    → fold mta.received_byte (mta.goes_on after) bytes ≡ driven position m (fold on_channel.received_byte (on_channel.goes_on h c) bytes)
 over position m after h c [] owed none pending is emptied_is = ap (λ (n : Mta). mta.goes_on n) (sym is)
 over position m after h c (x ∷ bytes) owed none pending is emptied_is =
     let same : after ≡ mta.at owed.connection after = ap (λ (o : Option FilterConnection). record after { filter_connection = o }) owed.connection_is in
@@ -111,7 +111,7 @@ module _ (negotiated : Negotiated) (acted : List Acted) (left : List Command) (m
   waiting (events.Verdict verdict) c waits = absurd waits
 
   lost-both : (fault : MtaFault) (h : FilterEvent) (edits : List Edit) (unread bytes : List ℕ) → IsWaiting h
-      → mta.received_on (mta.fails fault (mta.at (connection edits unread) m)) bytes ≡ driven position m (fold on_channel.received_byte (on_channel.fails fault h (channel edits unread)) bytes)
+      → fold mta.received_byte (mta.fails fault (mta.at (connection edits unread) m)) bytes ≡ driven position m (fold on_channel.received_byte (on_channel.fails fault h (channel edits unread)) bytes)
   lost-both fault h edits unread bytes waits =
       lost_stays _ (Fault fault) bytes
       ∙ ap (λ (n : Mta). record { mta = n; loss = Some (Fault fault) }) (lost-over (connection edits unread) (connection (on_channel.edits_left h edits) []) m refl (Fault fault))
@@ -121,35 +121,35 @@ module _ (negotiated : Negotiated) (acted : List Acted) (left : List Command) (m
   -- the same after these bytes, whatever was event
   abbrev Goes : List ℕ → Type 0
   Goes bytes = (h : FilterEvent) (edits : List Edit) (unread : List ℕ) → IsWaiting h
-      → mta.received_on (mta.goes_on (mta.at (connection edits unread) m)) bytes ≡ driven position m (fold on_channel.received_byte (on_channel.goes_on h (channel edits unread)) bytes)
+      → fold mta.received_byte (mta.goes_on (mta.at (connection edits unread) m)) bytes ≡ driven position m (fold on_channel.received_byte (on_channel.goes_on h (channel edits unread)) bytes)
 
   ruled : (h : FilterEvent) (edits : List Edit) (unread bytes : List ℕ) (verdict : Verdict)
-      → mta.received_on (mta.goes_on (mta.ruled_on negotiated stage (with_verdict stage verdict acted) edits (drop 1 left) verdict (mta.at (connection edits unread) m))) bytes
+      → fold mta.received_byte (mta.goes_on (mta.ruled_on negotiated stage (with_verdict stage verdict acted) edits (drop 1 left) verdict (mta.at (connection edits unread) m))) bytes
       ≡ driven position m (fold on_channel.received_byte (on_channel.goes_on (events.Verdict verdict) (record (channel edits unread) { expected = expects.Nothing; unread = [] })) bytes)
   ruled h edits unread bytes verdict =
       let is : ruled_at negotiated (stage_first left) acted edits left verdict m ≡ mta.ruled_on negotiated stage (with_verdict stage verdict acted) edits (drop 1 left) verdict m =
       ap (λ (s : Option Stage). ruled_at negotiated s acted edits left verdict m) first in
-      ap (λ (n : Mta). mta.received_on (mta.goes_on n) bytes) (ruled_on-same (connection edits unread) m negotiated stage _ edits (drop 1 left) verdict some)
+      ap (λ (n : Mta). fold mta.received_byte (mta.goes_on n) bytes) (ruled_on-same (connection edits unread) m negotiated stage _ edits (drop 1 left) verdict some)
       ∙ over position m _ (events.Verdict verdict) (record (channel edits unread) { expected = expects.Nothing; unread = [] }) bytes
       (ruled-owed (ends_dialogue stage verdict (with_verdict stage verdict acted) (drop 1 left)) (is_of_connection stage) m negotiated stage _ edits (drop 1 left) verdict some) refl refl is is
 
   by_action : (action : Result Action MtaFault) (h : FilterEvent) (edits : List Edit) (unread bytes : List ℕ) → IsWaiting h → Goes bytes
-      → mta.received_on (mta.received_at negotiated stage acted edits left action (mta.at (connection edits unread) m)) bytes
+      → fold mta.received_byte (mta.received_at negotiated stage acted edits left action (mta.at (connection edits unread) m)) bytes
       ≡ driven position m (fold on_channel.received_byte (on_channel.received_as action h (channel edits unread)) bytes)
   by_action (Err fault) h edits unread bytes waits goes = lost-both fault h edits unread bytes waits
   by_action (Ok (actions.Edit edit)) h edits unread bytes waits goes = goes events.InProgress (edits ++ edit ∷ []) [] tt
   by_action (Ok (actions.Verdict verdict)) h edits unread bytes waits goes = ruled h edits unread bytes verdict
 
   by_reply : (reply : Result Reply WireFault) (h : FilterEvent) (edits : List Edit) (unread bytes : List ℕ) → IsWaiting h → Goes bytes
-      → mta.received_on (mta.framed (Sending negotiated acted edits left) reply (mta.at (connection edits unread) m)) bytes
+      → fold mta.received_byte (mta.framed (Sending negotiated acted edits left) reply (mta.at (connection edits unread) m)) bytes
       ≡ driven position m (fold on_channel.received_byte (on_channel.framed reply h (channel edits unread)) bytes)
   by_reply (Err fault) h edits unread bytes waits goes = lost-both (Wire fault) h edits unread bytes waits
   by_reply (Ok reply) h edits unread bytes waits goes =
-      ap (λ (s : Option Stage). mta.received_on (mta.replied_at negotiated acted edits left s reply (mta.at (connection edits unread) m)) bytes) first
+      ap (λ (s : Option Stage). fold mta.received_byte (mta.replied_at negotiated acted edits left s reply (mta.at (connection edits unread) m)) bytes) first
       ∙ by_action (reply_received negotiated stage (weight_of_all edits) reply) h edits unread bytes waits goes
 
   by_frame : (now : List ℕ) (fault : Option WireFault) (frame : Option (Frame × List ℕ)) (h : FilterEvent) (edits : List Edit) (unread bytes : List ℕ) → IsWaiting h → Goes bytes
-      → mta.received_on (mta.unread_is (connection edits unread) now fault frame (mta.at (connection edits unread) m)) bytes
+      → fold mta.received_byte (mta.unread_is (connection edits unread) now fault frame (mta.at (connection edits unread) m)) bytes
       ≡ driven position m (fold on_channel.received_byte (on_channel.unread_is now fault frame h (channel edits unread)) bytes)
   by_frame now (Some fault) frame h edits unread bytes waits goes = lost-both (Wire fault) h edits unread bytes waits
   by_frame now None None h edits unread bytes waits goes = goes h edits now waits
@@ -173,7 +173,7 @@ module _ (m : Mta) where
   waiting_offer (events.Verdict verdict) c waits = absurd waits
 
   lost_offer : (fault : MtaFault) (h : FilterEvent) (unread bytes : List ℕ) → IsWaiting h
-      → mta.received_on (mta.fails fault (mta.at (owing Offering unread) m)) bytes ≡ driven Offering m (fold on_channel.received_byte (on_channel.fails fault h (offered unread)) bytes)
+      → fold mta.received_byte (mta.fails fault (mta.at (owing Offering unread) m)) bytes ≡ driven Offering m (fold on_channel.received_byte (on_channel.fails fault h (offered unread)) bytes)
   lost_offer fault h unread bytes waits =
       lost_stays _ (Fault fault) bytes
       ∙ ap (λ (n : Mta). record { mta = n; loss = Some (Fault fault) }) (lost-over (owing Offering unread) (owing Offering []) m refl (Fault fault))
@@ -181,7 +181,7 @@ module _ (m : Mta) where
       ∙ ap (λ (a : on_channel.After). driven Offering m a) (sym (lost-stays h (on_channel.ended h (offered unread)) (Fault fault) bytes))
 
   by_options : (result : Result Negotiated MtaFault) (h : FilterEvent) (unread bytes : List ℕ) → IsWaiting h
-      → mta.received_on (mta.negotiated_on result (mta.at (owing Offering unread) m)) bytes
+      → fold mta.received_byte (mta.negotiated_on result (mta.at (owing Offering unread) m)) bytes
       ≡ driven Offering m (fold on_channel.received_byte (on_channel.negotiated_on result h (offered unread)) bytes)
   by_options (Err fault) h unread bytes waits = lost_offer fault h unread bytes waits
   by_options (Ok negotiated) h unread bytes waits =
@@ -189,20 +189,20 @@ module _ (m : Mta) where
       (record { connection = _; connection_is = refl; none_owed = refl }) refl refl refl refl
 
   by_offer_frame : (now : List ℕ) (fault : Option WireFault) (frame : Option (Frame × List ℕ)) (h : FilterEvent) (unread bytes : List ℕ) → IsWaiting h
-      → ((g : FilterEvent) (us : List ℕ) → IsWaiting g → mta.received_on (mta.goes_on (mta.at (owing Offering us) m)) bytes ≡ driven Offering m (fold on_channel.received_byte (on_channel.goes_on g (offered us)) bytes))
-      → mta.received_on (mta.unread_is (owing Offering unread) now fault frame (mta.at (owing Offering unread) m)) bytes
+      → ((g : FilterEvent) (us : List ℕ) → IsWaiting g → fold mta.received_byte (mta.goes_on (mta.at (owing Offering us) m)) bytes ≡ driven Offering m (fold on_channel.received_byte (on_channel.goes_on g (offered us)) bytes))
+      → fold mta.received_byte (mta.unread_is (owing Offering unread) now fault frame (mta.at (owing Offering unread) m)) bytes
       ≡ driven Offering m (fold on_channel.received_byte (on_channel.unread_is now fault frame h (offered unread)) bytes)
   by_offer_frame now (Some fault) frame h unread bytes waits goes = lost_offer (Wire fault) h unread bytes waits
   by_offer_frame now None None h unread bytes waits goes = goes h now waits
   by_offer_frame now None (Some found) h unread bytes waits goes = by_offer_reply (frame_reply found.0)
     where
       by_offer_reply : (reply : Result Reply WireFault)
-          → mta.received_on (mta.framed Offering reply (mta.at (owing Offering unread) m)) bytes ≡ driven Offering m (fold on_channel.received_byte (on_channel.framed reply h (offered unread)) bytes)
+          → fold mta.received_byte (mta.framed Offering reply (mta.at (owing Offering unread) m)) bytes ≡ driven Offering m (fold on_channel.received_byte (on_channel.framed reply h (offered unread)) bytes)
       by_offer_reply (Err fault) = lost_offer (Wire fault) h unread bytes waits
       by_offer_reply (Ok reply) = by_options (options_received m.config.offer reply) h unread bytes waits
 
   pub received-offer : (bytes : List ℕ) (h : FilterEvent) (unread : List ℕ) → IsWaiting h
-      → mta.received_on (mta.goes_on (mta.at (owing Offering unread) m)) bytes ≡ driven Offering m (fold on_channel.received_byte (on_channel.goes_on h (offered unread)) bytes)
+      → fold mta.received_byte (mta.goes_on (mta.at (owing Offering unread) m)) bytes ≡ driven Offering m (fold on_channel.received_byte (on_channel.goes_on h (offered unread)) bytes)
   received-offer [] h unread waits = ap (λ (n : Mta). mta.goes_on n) (sym (waiting_offer h (offered unread) waits))
   received-offer (x ∷ bytes) h unread waits =
       by_offer_frame (unread ++ x ∷ []) (length_fault (unread ++ x ∷ [])) (first_frame (unread ++ x ∷ [])) h unread bytes waits (received-offer bytes)

@@ -12,8 +12,8 @@ use Rattle.milter_wire.specs.Command.{Fits}
 use Rattle.milter_message.specs.declared.edit.Edit.{Edit}
 use Rattle.milter_mta_transaction.specs.declared.cursor.ClientInfo.{ClientInfo}
 use Rattle.milter_mta_transaction.specs.Transactions.{first_of, left_of}
-use Rattle.milter_mta.specs.declared.state.Next.{Next}
-use Rattle.milter_mta.specs.declared.state.Next.TheVariants as nexts
+use Rattle.milter_mta.specs.declared.state.Position.{Position as PositionParts}
+use Rattle.milter_mta.specs.declared.state.Position.TheVariants as parts
 use Rattle.milter_mta.specs.CoreParts.{CanSend, position_of}
 use Rattle.milter_mta.specs.Output.{command_at}
 
@@ -31,14 +31,14 @@ options_fit o fit =
     let p = length-number o.protocol.0 in
     record { fields = fit; payload = omega (arith, a, b, v, x, p) }
 
-pub next_fits : (offer : Options) (client_info : ClientInfo) (aborts : Bool) (edits : List Edit) (next : Next) (command : Command) → OptionsFit offer
+pub next_fits : (offer : Options) (client_info : ClientInfo) (aborts : Bool) (edits : List Edit) (next : PositionParts) (command : Command) → OptionsFit offer
     → CanSend client_info next → command_at offer aborts (position_of client_info edits next) ≡ Some command → Fits command
 next_fits offer client_info true edits next command offered can e =
     subst Fits (same_Some commands.Abort command e) (record { fields = tt; payload = omega arith })
-next_fits offer client_info false edits nexts.Offer command offered can e =
+next_fits offer client_info false edits parts.Offering command offered can e =
     subst Fits (same_Some (commands.Options offer) command e) (options_fit offer offered)
-next_fits offer client_info false edits (nexts.Command transaction) command offered can e =
+next_fits offer client_info false edits (parts.Sending transaction) command offered can e =
     first_fits (left_of client_info transaction) command can.sends.fits e
-next_fits offer client_info false edits nexts.Quit command offered can e =
+next_fits offer client_info false edits parts.Quitting command offered can e =
     subst Fits (same_Some commands.Quit command e) (record { fields = tt; payload = omega arith })
-next_fits offer client_info false edits nexts.Nothing command offered can e = absurd cc
+next_fits offer client_info false edits parts.Ended command offered can e = absurd cc

@@ -1,5 +1,6 @@
 -- What is received of the bytes of a piece, up to the end of one packet.
 use Rattle.std.proofs.Common.{◌≡◌, ℕ, ◌+◌, true, List, [], ◌∷◌, ◌++◌, length, Option, None, Some, refl, sym, ◌∙◌, ap, subst, append_assoc, append-nil, arith, length-append}
+use Rattle.std.specs.List.{fold}
 use Rattle.milter_wire_stream.specs.declared.fault.WireFault.{WireFault}
 use Rattle.milter_wire_stream.specs.Stream.{Frame, IsFrame, IsRest, IsUnfinished, fault_of, first_frame, frame_bytes, length_fault}
 use Rattle.milter_wire_stream.proofs.Frames.{fault_of-valid, first_frame-packet, first_frame-rest}
@@ -10,7 +11,7 @@ use Rattle.milter_wire.specs.Frames.{frame_reply}
 use Rattle.milter_mta_outcome.specs.declared.loss.Loss.{Loss}
 use Rattle.milter_mta_outcome.specs.declared.loss.MtaFault.TheVariants.{Wire}
 use Rattle.milter_mta.specs.Mta.{FilterConnection, Mta}
-use Rattle.milter_mta.specs.Replies.{After, at, fails, framed, goes_on, received, received_byte, received_on, unread_is}
+use Rattle.milter_mta.specs.Replies.{After, at, fails, framed, goes_on, received, received_byte, unread_is}
 
 -- ---- bytes that begin with no packet
 
@@ -73,7 +74,7 @@ unread_fault filter_connection m unread fault first is f = rw f refl
 -- ---- more bytes
 
 -- after a loss nothing more is received
-pub lost-stays : (m : Mta) (loss : Loss) (bytes : List ℕ) → received_on (record { mta = m; loss = Some loss }) bytes ≡ record { mta = m; loss = Some loss }
+pub lost-stays : (m : Mta) (loss : Loss) (bytes : List ℕ) → fold received_byte (record { mta = m; loss = Some loss }) bytes ≡ record { mta = m; loss = Some loss }
 lost-stays m loss [] = refl
 lost-stays m loss (x ∷ bytes) = lost-stays m loss bytes
 
@@ -88,7 +89,7 @@ received-unfinished (x ∷ bytes) unread filter_connection m owed u =
     let step : received_byte (goes_on (at (with_unread filter_connection unread) m)) x ≡ goes_on (at (with_unread filter_connection (unread ++ x ∷ [])) m) =
     one_byte (with_unread filter_connection unread) m x owed
     ∙ unread_none (with_unread filter_connection unread) (at (with_unread filter_connection unread) m) (unread ++ x ∷ []) _ _ (length_fault-unfinished _ here) (no_frame-unfinished _ here) in
-    ap (λ (after : After). received_on after bytes) step
+    ap (λ (after : After). fold received_byte after bytes) step
     ∙ received-unfinished bytes (unread ++ x ∷ []) filter_connection m owed all
     ∙ ap (λ (us : List ℕ). goes_on (at (with_unread filter_connection us) m)) whole
 
@@ -114,7 +115,7 @@ received-packet (x ∷ y ∷ bytes) unread filter_connection m f owed u fits is 
     one_byte (with_unread filter_connection unread) m x owed
     ∙ unread_none (with_unread filter_connection unread) (at (with_unread filter_connection unread) m) (unread ++ x ∷ []) _ _ (length_fault-unfinished _ here) (no_frame-unfinished _ here) in
     let rest = received-packet (y ∷ bytes) (unread ++ x ∷ []) filter_connection m f owed here fits (whole ∙ is) in
-    record { before = rest.before; received_is = ap (λ (after : After). received_on after (y ∷ bytes)) step ∙ rest.received_is }
+    record { before = rest.before; received_is = ap (λ (after : After). fold received_byte after (y ∷ bytes)) step ∙ rest.received_is }
 
 -- the fault of a length is received with its field's last byte, and what follows is not
 pub record ReceivedFault (filter_connection : FilterConnection) (m : Mta) (f : WireFault) (after : After) : Type 0 where
@@ -129,7 +130,7 @@ received-fault_here bytes unread x filter_connection m f owed is =
     ∙ unread_fault (with_unread filter_connection unread) (at (with_unread filter_connection unread) m) (unread ++ x ∷ []) _ _ f is in
     record {
       before = unread;
-      received_is = ap (λ (after : After). received_on after bytes) step ∙ lost-stays _ _ bytes;
+      received_is = ap (λ (after : After). fold received_byte after bytes) step ∙ lost-stays _ _ bytes;
     }
 
 no_fault_there : (f : WireFault) (found : Option WireFault) → found ≡ Some f → found ≡ None → ⊥
@@ -144,12 +145,12 @@ received-fault (x ∷ bytes) (a ∷ b ∷ c ∷ []) filter_connection m f owed u
 received-fault (x ∷ bytes) [] filter_connection m f owed u is =
     let step = one_byte (with_unread filter_connection []) m x owed ∙ unread_none (with_unread filter_connection []) (at (with_unread filter_connection []) m) (x ∷ []) _ _ refl (no_frame-unfinished (x ∷ []) tt) in
     let rest = received-fault bytes (x ∷ []) filter_connection m f owed tt is in
-    record { before = rest.before; received_is = ap (λ (after : After). received_on after bytes) step ∙ rest.received_is }
+    record { before = rest.before; received_is = ap (λ (after : After). fold received_byte after bytes) step ∙ rest.received_is }
 received-fault (x ∷ bytes) (a ∷ []) filter_connection m f owed u is =
     let step = one_byte (with_unread filter_connection (a ∷ [])) m x owed ∙ unread_none (with_unread filter_connection (a ∷ [])) (at (with_unread filter_connection (a ∷ [])) m) (a ∷ x ∷ []) _ _ refl (no_frame-unfinished (a ∷ x ∷ []) tt) in
     let rest = received-fault bytes (a ∷ x ∷ []) filter_connection m f owed tt is in
-    record { before = rest.before; received_is = ap (λ (after : After). received_on after bytes) step ∙ rest.received_is }
+    record { before = rest.before; received_is = ap (λ (after : After). fold received_byte after bytes) step ∙ rest.received_is }
 received-fault (x ∷ bytes) (a ∷ b ∷ []) filter_connection m f owed u is =
     let step = one_byte (with_unread filter_connection (a ∷ b ∷ [])) m x owed ∙ unread_none (with_unread filter_connection (a ∷ b ∷ [])) (at (with_unread filter_connection (a ∷ b ∷ [])) m) (a ∷ b ∷ x ∷ []) _ _ refl (no_frame-unfinished (a ∷ b ∷ x ∷ []) tt) in
     let rest = received-fault bytes (a ∷ b ∷ x ∷ []) filter_connection m f owed tt is in
-    record { before = rest.before; received_is = ap (λ (after : After). received_on after bytes) step ∙ rest.received_is }
+    record { before = rest.before; received_is = ap (λ (after : After). fold received_byte after bytes) step ∙ rest.received_is }

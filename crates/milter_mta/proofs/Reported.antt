@@ -12,7 +12,7 @@ use Rattle.milter_mta.specs.declared.state.SessionState.{SessionState}
 use Rattle.milter_mail.specs.MailSession.{IsSendable}
 use Rattle.milter_mta_transaction.specs.declared.transaction.Transaction.{Transaction}
 use Rattle.milter_mta.specs.declared.state.FilterConnection.{FilterConnection as Connected}
-use Rattle.milter_mta.specs.declared.state.Next.TheVariants as nexts
+use Rattle.milter_mta.specs.declared.state.Position.TheVariants as parts
 use Rattle.milter_mta.specs.Mta.{Mta}
 use Rattle.milter_mta.specs.Accounts.{Accounts}
 use Rattle.milter_mta.specs.CoreParts.{IsConsistent, mta_at, only, with_all_reports, with_state_report}
@@ -65,7 +65,7 @@ popped acted (copy ∷ copies) last h =
 -- ---- every message is settled by a verdict on the connection
 
 abbrev quitting : Connected
-quitting = only nexts.Quit
+quitting = only parts.Quitting
 
 abbrev ended_by : Verdict → SessionState → SessionState
 ended_by verdict state = record state { connection = Some verdict }
@@ -79,7 +79,7 @@ module _ (old first new : SessionState) (transaction : Transaction) (verdict : V
   all_is = others ∙ ap (with_all_reports transaction.acted verdict) one
 
   abbrev before : Mta
-  before = mta_at old (only (nexts.Command transaction))
+  before = mta_at old (only (parts.Sending transaction))
 
   pub all_settled : mta_at (ended_by verdict new) quitting ≡ settled_all verdict transaction.acted before
   all_settled =
@@ -87,7 +87,7 @@ module _ (old first new : SessionState) (transaction : Transaction) (verdict : V
       ∙ ap (λ (rs : List Report). record (settled_all verdict transaction.acted before) { reports = rs })
       (append_assoc old.queue.reports (f transaction.message ∷ []) (map f old.queue.waiting))
 
-  pub all_stand : IsConsistent old (Some (only (nexts.Command transaction))) → IsConsistent (ended_by verdict new) (Some quitting)
+  pub all_stand : IsConsistent old (Some (only (parts.Sending transaction))) → IsConsistent (ended_by verdict new) (Some quitting)
   all_stand consistent =
       subst (λ (s : SessionState). IsConsistent (ended_by verdict s) (Some quitting)) (sym all_is)
       (record {

@@ -28,8 +28,8 @@ use Rattle.milter_mta_outcome.specs.ReceivedReplies.{is_given}
 use Rattle.milter_mta_transaction.specs.declared.transaction.Transaction.{Transaction}
 use Rattle.milter_mta_transaction.specs.Transactions.{left_of, stage_first}
 use Rattle.milter_mta_transaction.specs.TransactionVerdicts.{ends_dialogue, is_of_connection, left_after, on_connection, with_verdict}
-use Rattle.milter_mta.specs.declared.state.Next.{Next}
-use Rattle.milter_mta.specs.declared.state.Next.TheVariants as nexts
+use Rattle.milter_mta.specs.declared.state.Position.{Position as PositionParts}
+use Rattle.milter_mta.specs.declared.state.Position.TheVariants as parts
 use Rattle.milter_mta.specs.declared.state.FilterConnection.{FilterConnection as Connected}
 use Rattle.milter_mta.specs.declared.state.SessionState.{SessionState}
 use Rattle.milter_mta.specs.CoreParts.{Follows, IsCommand, IsConsistent, IsTaken, messages_at, mta_at, mta_of, only, position_of, unconnected}
@@ -76,7 +76,7 @@ owed-negotiated Ended negotiated is e = absurd cc
 
 module _ (state : SessionState) (f : Connected) (k : Channel) (core : IsCore state (Some f) k) (owed : is_owed k ≡ true) where
   abbrev place : Position
-  place = position_of state.client_info k.edits f.next
+  place = position_of state.client_info k.edits f.position
 
   abbrev step : IsInStep f.aborts place k
   step = core.in_step
@@ -96,23 +96,23 @@ module _ (state : SessionState) (f : Connected) (k : Channel) (core : IsCore sta
   expecting_at : is_expecting (expected_by place) ≡ true
   expecting_at = subst (λ (e : ExpectedReply). is_expecting e ≡ true) expected_is expecting_now
 
-  edits-same : (next : Next) → HasEditsAt (position_of state.client_info k.edits next) k.edits → is_expecting (expected_by (position_of state.client_info k.edits next)) ≡ true
+  edits-same : (next : PositionParts) → HasEditsAt (position_of state.client_info k.edits next) k.edits → is_expecting (expected_by (position_of state.client_info k.edits next)) ≡ true
       → k.edits ≡ edits_by (position_of state.client_info k.edits next)
-  edits-same nexts.Offer has e = has
-  edits-same (nexts.Command transaction) has e = refl
-  edits-same nexts.Quit has e = absurd cc
-  edits-same nexts.Nothing has e = absurd cc
+  edits-same parts.Offering has e = has
+  edits-same (parts.Sending transaction) has e = refl
+  edits-same parts.Quitting has e = absurd cc
+  edits-same parts.Ended has e = absurd cc
 
   channel_is : k ≡ owed_channel state.config.offer place k.unread
   channel_is =
       ap (λ (o : Options). record k { offer = o }) core.offer
       ∙ ap (λ (n : Option Negotiated). record k { offer = state.config.offer; negotiated = n }) (owed-negotiated place k.negotiated step.negotiated expecting_at)
       ∙ ap (λ (e : ExpectedReply). record k { offer = state.config.offer; negotiated = negotiated_by place; expected = e }) expected_is
-      ∙ ap (λ (es : List Edit). record k { offer = state.config.offer; negotiated = negotiated_by place; expected = expected_by place; edits = es }) (edits-same f.next step.edits expecting_at)
+      ∙ ap (λ (es : List Edit). record k { offer = state.config.offer; negotiated = negotiated_by place; expected = expected_by place; edits = es }) (edits-same f.position step.edits expecting_at)
       ∙ ap (λ (p : List ℕ). record k { offer = state.config.offer; negotiated = negotiated_by place; expected = expected_by place; edits = edits_by place; pending = p }) pending_is
 
   abbrev m : Mta
-  m = mta_at state (only f.next)
+  m = mta_at state (only f.position)
 
   value_is : mta_of state (Some f) k ≡ mta.at (owing place k.unread) m
   value_is =
@@ -120,11 +120,11 @@ module _ (state : SessionState) (f : Connected) (k : Channel) (core : IsCore sta
       ∙ ap (λ (p : List ℕ). record m { filter_connection = Some (record { aborts = false; position = place; pending = p; owed = is_owed k; unread = k.unread }) }) pending_is
       ∙ ap (λ (o : Bool). record m { filter_connection = Some (record { aborts = false; position = place; pending = []; owed = o; unread = k.unread }) }) owed
 
-  with_message : (next : Next) → IsWithMessage (position_of state.client_info k.edits next) (mta_at state (only next))
-  with_message nexts.Offer = tt
-  with_message (nexts.Command transaction) = λ none. absurd cc
-  with_message nexts.Quit = tt
-  with_message nexts.Nothing = tt
+  with_message : (next : PositionParts) → IsWithMessage (position_of state.client_info k.edits next) (mta_at state (only next))
+  with_message parts.Offering = tt
+  with_message (parts.Sending transaction) = λ none. absurd cc
+  with_message parts.Quitting = tt
+  with_message parts.Ended = tt
 
   -- by what the plan makes of the event
   pub fed-is : ((c : Channel) (bytes : List ℕ) → is_owed (received_on_channel c bytes).channel ≡ true → IsWaiting (received_on_channel c bytes).event)
@@ -132,7 +132,7 @@ module _ (state : SessionState) (f : Connected) (k : Channel) (core : IsCore sta
       → ReceivesBytes (mta_of state (Some f) k) piece (driven place m (record { channel = new; event = fed.event; loss = fed.loss })).mta (result_of fed.loss)
   fed-is once piece new fed receives =
       subst (λ (v : Mta). ReceivesBytes v piece (driven place m (record { channel = new; event = fed.event; loss = fed.loss })).mta (result_of fed.loss)) (sym value_is)
-      (fed-any once m place k.unread piece (with_message f.next) expecting_at new fed (subst (λ (c : Channel). Receives c piece new fed) channel_is receives))
+      (fed-any once m place k.unread piece (with_message f.position) expecting_at new fed (subst (λ (c : Channel). Receives c piece new fed) channel_is receives))
 
   -- memory was refused before anything came of the piece
   pub refused-is : (piece : List ℕ) (new : SessionState) → 0 < length piece → unconnected new [] ≡ lost Memory m
@@ -143,14 +143,14 @@ module _ (state : SessionState) (f : Connected) (k : Channel) (core : IsCore sta
     within = some;
     received_before = refl;
     owed_before = owed;
-    lost_then = is ∙ lost-over (at_packet (position_of state.client_info [] f.next)) (record { aborts = f.aborts; position = place; pending = k.pending; owed = is_owed k; unread = k.unread }) m (acted-same f.next) Memory;
+    lost_then = is ∙ lost-over (at_packet (position_of state.client_info [] f.position)) (record { aborts = f.aborts; position = place; pending = k.pending; owed = is_owed k; unread = k.unread }) m (acted-same f.position) Memory;
   }
     where
-      acted-same : (next : Next) → acted_at (position_of state.client_info [] next) ≡ acted_at (position_of state.client_info k.edits next)
-      acted-same nexts.Offer = refl
-      acted-same (nexts.Command transaction) = refl
-      acted-same nexts.Quit = refl
-      acted-same nexts.Nothing = refl
+      acted-same : (next : PositionParts) → acted_at (position_of state.client_info [] next) ≡ acted_at (position_of state.client_info k.edits next)
+      acted-same parts.Offering = refl
+      acted-same (parts.Sending transaction) = refl
+      acted-same parts.Quitting = refl
+      acted-same parts.Ended = refl
 
   -- ---- the event is one that comes here
 
@@ -166,19 +166,19 @@ module _ (state : SessionState) (f : Connected) (k : Channel) (core : IsCore sta
       by_answered true e = e
       by_answered false e = absurd cc
 
-  taken-verdict : (next : Next) (expected : ExpectedReply) (verdict : Verdict) (stage : Stage) (channel : Channel)
+  taken-verdict : (next : PositionParts) (expected : ExpectedReply) (verdict : Verdict) (stage : Stage) (channel : Channel)
       → expected ≡ expected_by (position_of state.client_info k.edits next) → verdict_stage expected ≡ Some stage → given_at verdict stage ≡ true
       → IsTaken state.client_info next expected (events.Verdict verdict) channel
   taken-verdict next expects.Nothing verdict stage channel is at given = absurd cc
   taken-verdict next expects.Options verdict stage channel is at given = absurd cc
-  taken-verdict nexts.Offer (expects.Verdict s) verdict stage channel is at given = absurd cc
-  taken-verdict (nexts.Command transaction) (expects.Verdict s) verdict stage channel is at given =
+  taken-verdict parts.Offering (expects.Verdict s) verdict stage channel is at given = absurd cc
+  taken-verdict (parts.Sending transaction) (expects.Verdict s) verdict stage channel is at given =
       let same : s ≡ stage = same_Some s stage at in
       (verdict_first transaction.negotiated (stage_first (left_of state.client_info transaction)) s (ap verdict_stage (sym is)), ap (given_at verdict) same ∙ given)
-  taken-verdict nexts.Quit (expects.Verdict s) verdict stage channel is at given = absurd cc
-  taken-verdict nexts.Nothing (expects.Verdict s) verdict stage channel is at given = absurd cc
-  taken-verdict nexts.Offer expects.Unknown verdict stage channel is at given = absurd cc
-  taken-verdict (nexts.Command transaction) expects.Unknown verdict stage channel is at given =
+  taken-verdict parts.Quitting (expects.Verdict s) verdict stage channel is at given = absurd cc
+  taken-verdict parts.Ended (expects.Verdict s) verdict stage channel is at given = absurd cc
+  taken-verdict parts.Offering expects.Unknown verdict stage channel is at given = absurd cc
+  taken-verdict (parts.Sending transaction) expects.Unknown verdict stage channel is at given =
       absurd (never transaction.negotiated (stage_first (left_of state.client_info transaction)) is)
     where
       never : (negotiated : Negotiated) (first : Option Stage) → expects.Unknown ≡ expected_first negotiated first → ⊥
@@ -188,15 +188,15 @@ module _ (state : SessionState) (f : Connected) (k : Channel) (core : IsCore sta
           by_answered : (answered : Bool) → expects.Unknown ≡ (if answered then expects.Verdict at else expects.Nothing) → ⊥
           by_answered true e = absurd cc
           by_answered false e = absurd cc
-  taken-verdict nexts.Quit expects.Unknown verdict stage channel is at given = absurd cc
-  taken-verdict nexts.Nothing expects.Unknown verdict stage channel is at given = absurd cc
+  taken-verdict parts.Quitting expects.Unknown verdict stage channel is at given = absurd cc
+  taken-verdict parts.Ended expects.Unknown verdict stage channel is at given = absurd cc
 
-  pub taken-answered : (verdict : Verdict) (channel : Channel) → IsAnswered k verdict → IsTaken state.client_info f.next k.expected (events.Verdict verdict) channel
-  taken-answered verdict channel a = taken-verdict f.next k.expected verdict a.stage channel expected_is a.expected_is (both (given_at verdict a.stage) _ a.given)
+  pub taken-answered : (verdict : Verdict) (channel : Channel) → IsAnswered k verdict → IsTaken state.client_info f.position k.expected (events.Verdict verdict) channel
+  taken-answered verdict channel a = taken-verdict f.position k.expected verdict a.stage channel expected_is a.expected_is (both (given_at verdict a.stage) _ a.given)
 
-  offer_first : (next : Next) → expected_by (position_of state.client_info k.edits next) ≡ expects.Options → next ≡ nexts.Offer
-  offer_first nexts.Offer e = refl
-  offer_first (nexts.Command transaction) e = absurd (never transaction.negotiated (stage_first (left_of state.client_info transaction)) e)
+  offer_first : (next : PositionParts) → expected_by (position_of state.client_info k.edits next) ≡ expects.Options → next ≡ parts.Offering
+  offer_first parts.Offering e = refl
+  offer_first (parts.Sending transaction) e = absurd (never transaction.negotiated (stage_first (left_of state.client_info transaction)) e)
     where
       never : (negotiated : Negotiated) (first : Option Stage) → expected_first negotiated first ≡ expects.Options → ⊥
       never negotiated None e = absurd cc
@@ -205,20 +205,20 @@ module _ (state : SessionState) (f : Connected) (k : Channel) (core : IsCore sta
           by_answered : (answered : Bool) → (if answered then expects.Verdict at else expects.Nothing) ≡ expects.Options → ⊥
           by_answered true e = absurd cc
           by_answered false e = absurd cc
-  offer_first nexts.Quit e = absurd cc
-  offer_first nexts.Nothing e = absurd cc
+  offer_first parts.Quitting e = absurd cc
+  offer_first parts.Ended e = absurd cc
 
-  pub is_offer : k.expected ≡ expects.Options → f.next ≡ nexts.Offer
-  is_offer e = offer_first f.next (sym expected_is ∙ e)
+  pub is_offer : k.expected ≡ expects.Options → f.position ≡ parts.Offering
+  is_offer e = offer_first f.position (sym expected_is ∙ e)
 
   taken-negotiated : (expected : ExpectedReply) (channel : Channel) → k.expected ≡ expected → k.expected ≡ expects.Options → (negotiated : Negotiated) → channel.negotiated ≡ Some negotiated
-      → IsTaken state.client_info f.next expected events.Negotiated channel
+      → IsTaken state.client_info f.position expected events.Negotiated channel
   taken-negotiated expects.Options channel same e negotiated by = (is_offer e, negotiated, by)
   taken-negotiated expects.Nothing channel same e negotiated by = absurd (let o : expects.Nothing ≡ expects.Options = sym same ∙ e in cc)
   taken-negotiated (expects.Verdict s) channel same e negotiated by = absurd (let o : expects.Verdict s ≡ expects.Options = sym same ∙ e in cc)
   taken-negotiated expects.Unknown channel same e negotiated by = absurd (let o : expects.Unknown ≡ expects.Options = sym same ∙ e in cc)
 
-  taken-waiting : (expected : ExpectedReply) (h : FilterEvent) (channel : Channel) → IsWaiting h → IsTaken state.client_info f.next expected h channel
+  taken-waiting : (expected : ExpectedReply) (h : FilterEvent) (channel : Channel) → IsWaiting h → IsTaken state.client_info f.position expected h channel
   taken-waiting expected events.Negotiated channel w = absurd w
   taken-waiting expected (events.Verdict verdict) channel w = absurd w
   taken-waiting expects.Nothing events.Nothing channel w = tt
@@ -287,7 +287,7 @@ module _ (state : SessionState) (f : Connected) (k : Channel) (core : IsCore sta
     answered-by (Some Timeout) new verdict is = answered k piece verdict (ap (λ (a : _). a.event) is)
     answered-by (Some (Fault fault)) new verdict is = answered k piece verdict (ap (λ (a : _). a.event) is)
 
-    pub taken-is : (loss : Option Loss) (new : Channel) (h : FilterEvent) → ReceivesBy loss k piece new h → IsTaken state.client_info f.next k.expected h new
+    pub taken-is : (loss : Option Loss) (new : Channel) (h : FilterEvent) → ReceivesBy loss k piece new h → IsTaken state.client_info f.position k.expected h new
     taken-is loss new (events.Verdict verdict) r = taken-answered verdict new (answered-by loss new verdict r)
     taken-is loss new events.Nothing r = taken-waiting k.expected events.Nothing new tt
     taken-is loss new events.InProgress r = taken-waiting k.expected events.InProgress new tt
@@ -297,24 +297,24 @@ module _ (state : SessionState) (f : Connected) (k : Channel) (core : IsCore sta
 
   -- ---- what the plan makes of it
 
-  ruled-edits : (next : Next) (l r edits : List Edit) (verdict : Verdict) (v : Mta)
+  ruled-edits : (next : PositionParts) (l r edits : List Edit) (verdict : Verdict) (v : Mta)
       → ruled_in (position_of state.client_info l next) verdict edits v ≡ ruled_in (position_of state.client_info r next) verdict edits v
-  ruled-edits nexts.Offer l r edits verdict v = refl
-  ruled-edits (nexts.Command transaction) l r edits verdict v = refl
-  ruled-edits nexts.Quit l r edits verdict v = refl
-  ruled-edits nexts.Nothing l r edits verdict v = refl
+  ruled-edits parts.Offering l r edits verdict v = refl
+  ruled-edits (parts.Sending transaction) l r edits verdict v = refl
+  ruled-edits parts.Quitting l r edits verdict v = refl
+  ruled-edits parts.Ended l r edits verdict v = refl
 
-  with-edits : (next : Next) (l r : List Edit) → with_edits r (position_of state.client_info l next) ≡ position_of state.client_info r next
-  with-edits nexts.Offer l r = refl
-  with-edits (nexts.Command transaction) l r = refl
-  with-edits nexts.Quit l r = refl
-  with-edits nexts.Nothing l r = refl
+  with-edits : (next : PositionParts) (l r : List Edit) → with_edits r (position_of state.client_info l next) ≡ position_of state.client_info r next
+  with-edits parts.Offering l r = refl
+  with-edits (parts.Sending transaction) l r = refl
+  with-edits parts.Quitting l r = refl
+  with-edits parts.Ended l r = refl
 
-  acted-edits : (next : Next) (l r : List Edit) → acted_at (position_of state.client_info l next) ≡ acted_at (position_of state.client_info r next)
-  acted-edits nexts.Offer l r = refl
-  acted-edits (nexts.Command transaction) l r = refl
-  acted-edits nexts.Quit l r = refl
-  acted-edits nexts.Nothing l r = refl
+  acted-edits : (next : PositionParts) (l r : List Edit) → acted_at (position_of state.client_info l next) ≡ acted_at (position_of state.client_info r next)
+  acted-edits parts.Offering l r = refl
+  acted-edits (parts.Sending transaction) l r = refl
+  acted-edits parts.Quitting l r = refl
+  acted-edits parts.Ended l r = refl
 
   -- while it waits
   module _ (new : Channel) (same : new ≡ record k { edits = new.edits; unread = new.unread }) where
@@ -326,41 +326,41 @@ module _ (state : SessionState) (f : Connected) (k : Channel) (core : IsCore sta
 
     waiting-is : mta.at (owing (with_edits new.edits place) new.unread) m ≡ mta_of state (Some f) new
     waiting-is =
-        ap (λ (p : Position). mta.at (owing p new.unread) m) (with-edits f.next k.edits new.edits)
-        ∙ sym (ap (λ (a : Bool). record m { filter_connection = Some (record { aborts = a; position = position_of state.client_info new.edits f.next; pending = new.pending; owed = is_owed new; unread = new.unread }) }) no_abort
-        ∙ ap (λ (p : List ℕ). record m { filter_connection = Some (record { aborts = false; position = position_of state.client_info new.edits f.next; pending = p; owed = is_owed new; unread = new.unread }) }) still_none
-        ∙ ap (λ (o : Bool). record m { filter_connection = Some (record { aborts = false; position = position_of state.client_info new.edits f.next; pending = []; owed = o; unread = new.unread }) }) still_owed)
+        ap (λ (p : Position). mta.at (owing p new.unread) m) (with-edits f.position k.edits new.edits)
+        ∙ sym (ap (λ (a : Bool). record m { filter_connection = Some (record { aborts = a; position = position_of state.client_info new.edits f.position; pending = new.pending; owed = is_owed new; unread = new.unread }) }) no_abort
+        ∙ ap (λ (p : List ℕ). record m { filter_connection = Some (record { aborts = false; position = position_of state.client_info new.edits f.position; pending = p; owed = is_owed new; unread = new.unread }) }) still_none
+        ∙ ap (λ (o : Bool). record m { filter_connection = Some (record { aborts = false; position = position_of state.client_info new.edits f.position; pending = []; owed = o; unread = new.unread }) }) still_owed)
 
     expected_then : new.expected ≡ k.expected
     expected_then = ap (λ (c : Channel). c.expected) same
 
-    negotiated_then : (next : Next) → IsNegotiatedAt (position_of state.client_info k.edits next) k.negotiated → IsNegotiatedAt (position_of state.client_info new.edits next) new.negotiated
-    negotiated_then nexts.Offer is = ap (λ (c : Channel). c.negotiated) same ∙ is
-    negotiated_then (nexts.Command transaction) is = ap (λ (c : Channel). c.negotiated) same ∙ is
-    negotiated_then nexts.Quit is = tt
-    negotiated_then nexts.Nothing is = tt
+    negotiated_then : (next : PositionParts) → IsNegotiatedAt (position_of state.client_info k.edits next) k.negotiated → IsNegotiatedAt (position_of state.client_info new.edits next) new.negotiated
+    negotiated_then parts.Offering is = ap (λ (c : Channel). c.negotiated) same ∙ is
+    negotiated_then (parts.Sending transaction) is = ap (λ (c : Channel). c.negotiated) same ∙ is
+    negotiated_then parts.Quitting is = tt
+    negotiated_then parts.Ended is = tt
 
-    edits_then : (next : Next) → (next ≡ nexts.Offer → new.edits ≡ []) → HasEditsAt (position_of state.client_info new.edits next) new.edits
-    edits_then nexts.Offer none = none refl
-    edits_then (nexts.Command transaction) none = tt
-    edits_then nexts.Quit none = tt
-    edits_then nexts.Nothing none = tt
+    edits_then : (next : PositionParts) → (next ≡ parts.Offering → new.edits ≡ []) → HasEditsAt (position_of state.client_info new.edits next) new.edits
+    edits_then parts.Offering none = none refl
+    edits_then (parts.Sending transaction) none = tt
+    edits_then parts.Quitting none = tt
+    edits_then parts.Ended none = tt
 
-    by_edits : (next : Next) → expected_by (position_of state.client_info k.edits next) ≡ expected_by (position_of state.client_info new.edits next)
-    by_edits nexts.Offer = refl
-    by_edits (nexts.Command transaction) = refl
-    by_edits nexts.Quit = refl
-    by_edits nexts.Nothing = refl
+    by_edits : (next : PositionParts) → expected_by (position_of state.client_info k.edits next) ≡ expected_by (position_of state.client_info new.edits next)
+    by_edits parts.Offering = refl
+    by_edits (parts.Sending transaction) = refl
+    by_edits parts.Quitting = refl
+    by_edits parts.Ended = refl
 
-    waiting-core : (f.next ≡ nexts.Offer → new.edits ≡ []) → IsCore state (Some f) new
+    waiting-core : (f.position ≡ parts.Offering → new.edits ≡ []) → IsCore state (Some f) new
     waiting-core none = record {
       consistent = core.consistent;
       offer = ap (λ (c : Channel). c.offer) same ∙ core.offer;
       in_step = record {
-        negotiated = negotiated_then f.next step.negotiated;
-        edits = edits_then f.next none;
+        negotiated = negotiated_then f.position step.negotiated;
+        edits = edits_then f.position none;
         aborting = λ e. absurd (nothing-expected k.expected (step.aborting e) expecting_now);
-        expecting = λ e. subst (λ (p : List ℕ). ExpectsAt (position_of state.client_info new.edits f.next) p new.expected) (sym still_none) (inr (expected_then ∙ expected_is ∙ by_edits f.next));
+        expecting = λ e. subst (λ (p : List ℕ). ExpectsAt (position_of state.client_info new.edits f.position) p new.expected) (sym still_none) (inr (expected_then ∙ expected_is ∙ by_edits f.position));
       };
     }
 
@@ -370,32 +370,32 @@ module _ (state : SessionState) (f : Connected) (k : Channel) (core : IsCore sta
   module _ (s1 : SessionState) (f1 : Connected) (k1 : Channel) (nothing : k1.expected ≡ expects.Nothing) (none : k1.pending ≡ []) (no_unread : k1.unread ≡ []) (no_edits : k1.edits ≡ []) where
     begun-is : mta_at s1 f1 ≡ mta_of s1 (Some f1) k1
     begun-is =
-        sym (ap (λ (es : List Edit). record (unconnected s1 (messages_at f1.next)) { filter_connection = Some (record { aborts = f1.aborts; position = position_of s1.client_info es f1.next; pending = k1.pending; owed = is_owed k1; unread = k1.unread }) }) no_edits
-        ∙ ap (λ (p : List ℕ). record (unconnected s1 (messages_at f1.next)) { filter_connection = Some (record { aborts = f1.aborts; position = position_of s1.client_info [] f1.next; pending = p; owed = is_owed_by k1.expected p; unread = k1.unread }) }) none
-        ∙ ap (λ (e : ExpectedReply). record (unconnected s1 (messages_at f1.next)) { filter_connection = Some (record { aborts = f1.aborts; position = position_of s1.client_info [] f1.next; pending = []; owed = is_owed_by e []; unread = k1.unread }) }) nothing
-        ∙ ap (λ (u : List ℕ). record (unconnected s1 (messages_at f1.next)) { filter_connection = Some (record { aborts = f1.aborts; position = position_of s1.client_info [] f1.next; pending = []; owed = false; unread = u }) }) no_unread)
+        sym (ap (λ (es : List Edit). record (unconnected s1 (messages_at f1.position)) { filter_connection = Some (record { aborts = f1.aborts; position = position_of s1.client_info es f1.position; pending = k1.pending; owed = is_owed k1; unread = k1.unread }) }) no_edits
+        ∙ ap (λ (p : List ℕ). record (unconnected s1 (messages_at f1.position)) { filter_connection = Some (record { aborts = f1.aborts; position = position_of s1.client_info [] f1.position; pending = p; owed = is_owed_by k1.expected p; unread = k1.unread }) }) none
+        ∙ ap (λ (e : ExpectedReply). record (unconnected s1 (messages_at f1.position)) { filter_connection = Some (record { aborts = f1.aborts; position = position_of s1.client_info [] f1.position; pending = []; owed = is_owed_by e []; unread = k1.unread }) }) nothing
+        ∙ ap (λ (u : List ℕ). record (unconnected s1 (messages_at f1.position)) { filter_connection = Some (record { aborts = f1.aborts; position = position_of s1.client_info [] f1.position; pending = []; owed = false; unread = u }) }) no_unread)
 
-    begun-edits : (next : Next) → HasEditsAt (position_of s1.client_info k1.edits next) k1.edits
-    begun-edits nexts.Offer = no_edits
-    begun-edits (nexts.Command transaction) = tt
-    begun-edits nexts.Quit = tt
-    begun-edits nexts.Nothing = tt
+    begun-edits : (next : PositionParts) → HasEditsAt (position_of s1.client_info k1.edits next) k1.edits
+    begun-edits parts.Offering = no_edits
+    begun-edits (parts.Sending transaction) = tt
+    begun-edits parts.Quitting = tt
+    begun-edits parts.Ended = tt
 
-    begun-negotiated : (next : Next) (n : Option Negotiated) → IsNegotiatedAt (position_of s1.client_info [] next) n → IsNegotiatedAt (position_of s1.client_info k1.edits next) n
-    begun-negotiated nexts.Offer n is = is
-    begun-negotiated (nexts.Command transaction) n is = is
-    begun-negotiated nexts.Quit n is = tt
-    begun-negotiated nexts.Nothing n is = tt
+    begun-negotiated : (next : PositionParts) (n : Option Negotiated) → IsNegotiatedAt (position_of s1.client_info [] next) n → IsNegotiatedAt (position_of s1.client_info k1.edits next) n
+    begun-negotiated parts.Offering n is = is
+    begun-negotiated (parts.Sending transaction) n is = is
+    begun-negotiated parts.Quitting n is = tt
+    begun-negotiated parts.Ended n is = tt
 
-    begun-core : IsConsistent s1 (Some f1) → k1.offer ≡ s1.config.offer → IsNegotiatedAt (position_of s1.client_info [] f1.next) k1.negotiated → IsCore s1 (Some f1) k1
+    begun-core : IsConsistent s1 (Some f1) → k1.offer ≡ s1.config.offer → IsNegotiatedAt (position_of s1.client_info [] f1.position) k1.negotiated → IsCore s1 (Some f1) k1
     begun-core consistent offer negotiated = record {
       consistent = consistent;
       offer = offer;
       in_step = record {
-        negotiated = begun-negotiated f1.next k1.negotiated negotiated;
-        edits = begun-edits f1.next;
+        negotiated = begun-negotiated f1.position k1.negotiated negotiated;
+        edits = begun-edits f1.position;
         aborting = λ e. nothing;
-        expecting = λ e. subst (λ (p : List ℕ). ExpectsAt (position_of s1.client_info k1.edits f1.next) p k1.expected) (sym none) (inl nothing);
+        expecting = λ e. subst (λ (p : List ℕ). ExpectsAt (position_of s1.client_info k1.edits f1.position) p k1.expected) (sym none) (inl nothing);
       };
     }
 
@@ -433,45 +433,45 @@ module _ (state : SessionState) (f : Connected) (k : Channel) (core : IsCore sta
   ruled-has true false negotiated stage acted edits left verdict v config some = record { config = settled-config negotiated stage edits verdict acted v.session.messages v ∙ config; negotiated = settled-negotiated negotiated stage edits verdict acted v.session.messages v some }
   ruled-has false of_client negotiated stage acted edits left verdict v config some = record { config = config; negotiated = refl }
 
-  verdict-has : (next : Next) (l edits : List Edit) (verdict : Verdict) (n : Option Negotiated) (stage : Stage) → IsCommand state.client_info stage next → IsNegotiatedAt (position_of state.client_info l next) n
+  verdict-has : (next : PositionParts) (l edits : List Edit) (verdict : Verdict) (n : Option Negotiated) (stage : Stage) → IsCommand state.client_info stage next → IsNegotiatedAt (position_of state.client_info l next) n
       → HasConfig (ruled_in (position_of state.client_info l next) verdict edits (mta_at state (only next))) n
-  verdict-has nexts.Offer l edits verdict n stage is by = absurd is
-  verdict-has (nexts.Command transaction) l edits verdict n stage is by =
+  verdict-has parts.Offering l edits verdict n stage is by = absurd is
+  verdict-has (parts.Sending transaction) l edits verdict n stage is by =
       let left = left_of state.client_info transaction in
-      let v : Mta = mta_at state (only (nexts.Command transaction)) in
+      let v : Mta = mta_at state (only (parts.Sending transaction)) in
       let acted = with_verdict stage verdict transaction.acted in
       subst (λ (o : Option Negotiated). HasConfig (ruled_at transaction.negotiated (stage_first left) transaction.acted edits left verdict v) o) (sym by)
       (subst (λ (s : Option Stage). HasConfig (ruled_at transaction.negotiated s transaction.acted edits left verdict v) (Some transaction.negotiated)) (sym is)
       (ruled-has (ends_dialogue stage verdict acted (drop 1 left)) (is_of_connection stage) transaction.negotiated stage acted edits (drop 1 left) verdict v refl (λ none. absurd cc)))
-  verdict-has nexts.Quit l edits verdict n stage is by = absurd is
-  verdict-has nexts.Nothing l edits verdict n stage is by = absurd is
+  verdict-has parts.Quitting l edits verdict n stage is by = absurd is
+  verdict-has parts.Ended l edits verdict n stage is by = absurd is
 
   -- the last verdicts don't matter for how a loss settles a message that has begun
-  lost-at : (s1 : SessionState) (f1 : Connected) (loss : Loss) → lost loss (mta_at s1 (only f1.next)) ≡ lost loss (mta_at s1 f1)
-  lost-at s1 f1 loss = lost-over (at_packet (position_of s1.client_info [] f1.next)) (record (at_packet (position_of s1.client_info [] f1.next)) { aborts = f1.aborts }) (unconnected s1 (messages_at f1.next)) refl loss
+  lost-at : (s1 : SessionState) (f1 : Connected) (loss : Loss) → lost loss (mta_at s1 (only f1.position)) ≡ lost loss (mta_at s1 f1)
+  lost-at s1 f1 loss = lost-over (at_packet (position_of s1.client_info [] f1.position)) (record (at_packet (position_of s1.client_info [] f1.position)) { aborts = f1.aborts }) (unconnected s1 (messages_at f1.position)) refl loss
 
   -- ---- all of it
 
   -- what an event leaves, and what the plan makes of it
   record Leaves (h : FilterEvent) (new : Channel) (s1 : SessionState) (f1 : Connected) (k1 : Channel) : Type 0 where
     config : s1.config ≡ state.config
-    lost_is : (loss : Loss) → lost loss (mta_at s1 (only f1.next)) ≡ lost loss (driven_by place h new m)
+    lost_is : (loss : Loss) → lost loss (mta_at s1 (only f1.position)) ≡ lost loss (driven_by place h new m)
     now_is : IsLeftBy h k new → driven_by place h new m ≡ mta_of s1 (Some f1) k1
     core_is : IsLeftBy h k new → IsCore s1 (Some f1) k1
 
   lost-waiting : (new : Channel) (loss : Loss) → lost loss m ≡ lost loss (mta.at (owing (with_edits new.edits place) new.unread) m)
   lost-waiting new loss =
-      lost-over (at_packet (position_of state.client_info [] f.next)) (owing (with_edits new.edits place) new.unread) m
-      (acted-edits f.next [] new.edits ∙ ap acted_at (sym (with-edits f.next k.edits new.edits))) loss
+      lost-over (at_packet (position_of state.client_info [] f.position)) (owing (with_edits new.edits place) new.unread) m
+      (acted-edits f.position [] new.edits ∙ ap acted_at (sym (with-edits f.position k.edits new.edits))) loss
 
-  offer_edits : f.next ≡ nexts.Offer → k.edits ≡ []
-  offer_edits is = subst (λ (next : Next). HasEditsAt (position_of state.client_info k.edits next) k.edits) is step.edits
+  offer_edits : f.position ≡ parts.Offering → k.edits ≡ []
+  offer_edits is = subst (λ (next : PositionParts). HasEditsAt (position_of state.client_info k.edits next) k.edits) is step.edits
 
   -- no edit came where the options are expected
-  no_edit : (h : FilterEvent) (new : Channel) → IsWaiting h → IsLeftBy h k new → f.next ≡ nexts.Offer → new.edits ≡ []
+  no_edit : (h : FilterEvent) (new : Channel) → IsWaiting h → IsLeftBy h k new → f.position ≡ parts.Offering → new.edits ≡ []
   no_edit events.Nothing new w left is = ap (λ (c : Channel). c.edits) left ∙ offer_edits is
   no_edit events.InProgress new w left is =
-      absurd (left.0 (expected_is ∙ ap (λ (next : Next). expected_by (position_of state.client_info k.edits next)) is))
+      absurd (left.0 (expected_is ∙ ap (λ (next : PositionParts). expected_by (position_of state.client_info k.edits next)) is))
   no_edit events.Negotiated new w left is = absurd w
   no_edit (events.Verdict verdict) new w left is = absurd w
 
@@ -502,16 +502,16 @@ module _ (state : SessionState) (f : Connected) (k : Channel) (core : IsCore sta
     config-is : s1.config ≡ state.config
     config-is = ap (λ (v : Mta). v.config) is ∙ has.config
 
-    negotiated-is : IsNegotiatedAt (position_of s1.client_info [] f1.next) n
+    negotiated-is : IsNegotiatedAt (position_of s1.client_info [] f1.position) n
     negotiated-is = subst (λ (c : Option FilterConnection). IsNegotiatedIn c n) (sym (ap (λ (v : Mta). v.filter_connection) is)) has.negotiated
 
-  leaves-verdict : (verdict : Verdict) (stage : Stage) (new : Channel) (s1 : SessionState) (f1 : Connected) (k1 : Channel) → IsCommand state.client_info stage f.next
-      → mta_at s1 f1 ≡ ruled_in (position_of state.client_info [] f.next) verdict new.edits m → k1 ≡ record new { edits = [] } → IsConsistent s1 (Some f1)
+  leaves-verdict : (verdict : Verdict) (stage : Stage) (new : Channel) (s1 : SessionState) (f1 : Connected) (k1 : Channel) → IsCommand state.client_info stage f.position
+      → mta_at s1 f1 ≡ ruled_in (position_of state.client_info [] f.position) verdict new.edits m → k1 ≡ record new { edits = [] } → IsConsistent s1 (Some f1)
       → Leaves (events.Verdict verdict) new s1 f1 k1
   leaves-verdict verdict stage new s1 f1 k1 command is channel consistent =
       let value : Mta = ruled_in place verdict new.edits m in
-      let at_place : mta_at s1 f1 ≡ value = is ∙ ruled-edits f.next [] k.edits new.edits verdict m in
-      let has : HasConfig value k.negotiated = verdict-has f.next k.edits new.edits verdict k.negotiated stage command step.negotiated in
+      let at_place : mta_at s1 f1 ≡ value = is ∙ ruled-edits f.position [] k.edits new.edits verdict m in
+      let has : HasConfig value k.negotiated = verdict-has f.position k.edits new.edits verdict k.negotiated stage command step.negotiated in
       let config = config-is new s1 f1 k1 value at_place k.negotiated has in
       record {
         config = config;
@@ -528,10 +528,10 @@ module _ (state : SessionState) (f : Connected) (k : Channel) (core : IsCore sta
             let offer = ap (λ (c : Channel). c.offer) channel ∙ ap (λ (c : Channel). c.offer) left ∙ core.offer ∙ ap (λ (g : Configuration). g.offer) (sym config) in
             let same_n : k1.negotiated ≡ k.negotiated = ap (λ (c : Channel). c.negotiated) channel ∙ ap (λ (c : Channel). c.negotiated) left in
             begun-core s1 f1 k1 nothing none no_unread (ap (λ (c : Channel). c.edits) channel) consistent offer
-            (subst (λ (o : Option Negotiated). IsNegotiatedAt (position_of s1.client_info [] f1.next) o) (sym same_n) (negotiated-is new s1 f1 k1 value at_place k.negotiated has));
+            (subst (λ (o : Option Negotiated). IsNegotiatedAt (position_of s1.client_info [] f1.position) o) (sym same_n) (negotiated-is new s1 f1 k1 value at_place k.negotiated has));
       }
 
-  leaves-negotiated : (new : Channel) (s1 : SessionState) (f1 : Connected) (k1 : Channel) (negotiated : Negotiated) → new.negotiated ≡ Some negotiated → f.next ≡ nexts.Offer
+  leaves-negotiated : (new : Channel) (s1 : SessionState) (f1 : Connected) (k1 : Channel) (negotiated : Negotiated) → new.negotiated ≡ Some negotiated → f.position ≡ parts.Offering
       → mta_at s1 f1 ≡ opened_by new.negotiated m → k1 ≡ new → IsConsistent s1 (Some f1) → Leaves events.Negotiated new s1 f1 k1
   leaves-negotiated new s1 f1 k1 negotiated by offered is channel consistent =
       let value : Mta = opened_by new.negotiated m in
@@ -554,28 +554,28 @@ module _ (state : SessionState) (f : Connected) (k : Channel) (core : IsCore sta
             let no_edits = ap (λ (c : Channel). c.edits) channel ∙ ap (λ (c : Channel). c.edits) left.2 ∙ offer_edits offered in
             let offer = ap (λ (c : Channel). c.offer) channel ∙ ap (λ (c : Channel). c.offer) left.2 ∙ core.offer ∙ ap (λ (g : Configuration). g.offer) (sym config) in
             begun-core s1 f1 k1 nothing none no_unread no_edits consistent offer
-            (subst (λ (o : Option Negotiated). IsNegotiatedAt (position_of s1.client_info [] f1.next) o) (sym (ap (λ (c : Channel). c.negotiated) channel ∙ by)) (negotiated-is new s1 f1 k1 value is (Some negotiated) has));
+            (subst (λ (o : Option Negotiated). IsNegotiatedAt (position_of s1.client_info [] f1.position) o) (sym (ap (λ (c : Channel). c.negotiated) channel ∙ by)) (negotiated-is new s1 f1 k1 value is (Some negotiated) has));
       }
 
   same-leaves : (h : FilterEvent) (new : Channel) (s1 : SessionState) (f1 : Connected) (k1 : Channel) → s1 ≡ state → f1 ≡ f → k1 ≡ new → Leaves h new state f new → Leaves h new s1 f1 k1
   same-leaves h new s1 f1 k1 a b c l =
       subst (λ (s : SessionState). Leaves h new s f1 k1) (sym a) (subst (λ (g : Connected). Leaves h new state g k1) (sym b) (subst (λ (d : Channel). Leaves h new state f d) (sym c) l))
 
-  follows-verdict : (expected : ExpectedReply) (verdict : Verdict) (new : Channel) (s1 : SessionState) (f1 : Connected) (k1 : Channel) → IsTaken state.client_info f.next expected (events.Verdict verdict) new
+  follows-verdict : (expected : ExpectedReply) (verdict : Verdict) (new : Channel) (s1 : SessionState) (f1 : Connected) (k1 : Channel) → IsTaken state.client_info f.position expected (events.Verdict verdict) new
       → Follows (events.Verdict verdict) state f new s1 f1 k1 → IsConsistent s1 (Some f1) → Leaves (events.Verdict verdict) new s1 f1 k1
   follows-verdict (expects.Verdict stage) verdict new s1 f1 k1 taken follows consistent = leaves-verdict verdict stage new s1 f1 k1 taken.0 follows.0 follows.1 consistent
   follows-verdict expects.Nothing verdict new s1 f1 k1 taken follows consistent = absurd taken
   follows-verdict expects.Options verdict new s1 f1 k1 taken follows consistent = absurd taken
   follows-verdict expects.Unknown verdict new s1 f1 k1 taken follows consistent = absurd taken
 
-  follows-negotiated : (expected : ExpectedReply) (new : Channel) (s1 : SessionState) (f1 : Connected) (k1 : Channel) → IsTaken state.client_info f.next expected events.Negotiated new
+  follows-negotiated : (expected : ExpectedReply) (new : Channel) (s1 : SessionState) (f1 : Connected) (k1 : Channel) → IsTaken state.client_info f.position expected events.Negotiated new
       → Follows events.Negotiated state f new s1 f1 k1 → IsConsistent s1 (Some f1) → Leaves events.Negotiated new s1 f1 k1
   follows-negotiated expects.Nothing new s1 f1 k1 taken follows consistent = leaves-negotiated new s1 f1 k1 taken.1 taken.2 taken.0 follows.0 follows.1 consistent
   follows-negotiated expects.Options new s1 f1 k1 taken follows consistent = leaves-negotiated new s1 f1 k1 taken.1 taken.2 taken.0 follows.0 follows.1 consistent
   follows-negotiated (expects.Verdict stage) new s1 f1 k1 taken follows consistent = leaves-negotiated new s1 f1 k1 taken.1 taken.2 taken.0 follows.0 follows.1 consistent
   follows-negotiated expects.Unknown new s1 f1 k1 taken follows consistent = leaves-negotiated new s1 f1 k1 taken.1 taken.2 taken.0 follows.0 follows.1 consistent
 
-  leaves-any : (h : FilterEvent) (new : Channel) (s1 : SessionState) (f1 : Connected) (k1 : Channel) → IsTaken state.client_info f.next k.expected h new
+  leaves-any : (h : FilterEvent) (new : Channel) (s1 : SessionState) (f1 : Connected) (k1 : Channel) → IsTaken state.client_info f.position k.expected h new
       → Follows h state f new s1 f1 k1 → IsConsistent s1 (Some f1) → Leaves h new s1 f1 k1
   leaves-any (events.Verdict verdict) new s1 f1 k1 taken follows consistent = follows-verdict k.expected verdict new s1 f1 k1 taken follows consistent
   leaves-any events.Negotiated new s1 f1 k1 taken follows consistent = follows-negotiated k.expected new s1 f1 k1 taken follows consistent
@@ -583,7 +583,7 @@ module _ (state : SessionState) (f : Connected) (k : Channel) (core : IsCore sta
   leaves-any events.InProgress new s1 f1 k1 taken follows consistent = same-leaves events.InProgress new s1 f1 k1 follows.0 follows.1 follows.2 (leaves-waiting events.InProgress new tt)
 
   -- the piece leaves this, without a loss
-  pub now-is : (piece : List ℕ) (new : Channel) (h : FilterEvent) (s1 : SessionState) (f1 : Connected) (k1 : Channel) → IsTaken state.client_info f.next k.expected h new
+  pub now-is : (piece : List ℕ) (new : Channel) (h : FilterEvent) (s1 : SessionState) (f1 : Connected) (k1 : Channel) → IsTaken state.client_info f.position k.expected h new
       → Follows h state f new s1 f1 k1 → IsConsistent s1 (Some f1) → IsLeftBy h k new
       → ReceivesBytes (mta_of state (Some f) k) piece (driven place m (record { channel = new; event = h; loss = None })).mta (Ok tt)
       → mta.received (mta_of state (Some f) k) piece ≡ mta.goes_on (mta_of s1 (Some f1) k1)
@@ -591,13 +591,13 @@ module _ (state : SessionState) (f : Connected) (k : Channel) (core : IsCore sta
       let l = leaves-any h new s1 f1 k1 taken follows consistent in
       receives ∙ ap mta.goes_on (l.now_is left)
 
-  pub now-core : (new : Channel) (h : FilterEvent) (s1 : SessionState) (f1 : Connected) (k1 : Channel) → IsTaken state.client_info f.next k.expected h new
+  pub now-core : (new : Channel) (h : FilterEvent) (s1 : SessionState) (f1 : Connected) (k1 : Channel) → IsTaken state.client_info f.position k.expected h new
       → Follows h state f new s1 f1 k1 → IsConsistent s1 (Some f1) → IsLeftBy h k new → IsCore s1 (Some f1) k1
   now-core new h s1 f1 k1 taken follows consistent left = let l = leaves-any h new s1 f1 k1 taken follows consistent in l.core_is left
 
   -- and this where the filter is lost then
-  pub then-lost : (piece : List ℕ) (new : Channel) (h : FilterEvent) (loss : Loss) (s1 s2 : SessionState) (f1 : Connected) (k1 : Channel) → IsTaken state.client_info f.next k.expected h new
-      → Follows h state f new s1 f1 k1 → IsConsistent s1 (Some f1) → unconnected s2 [] ≡ lost loss (mta_at s1 (only f1.next))
+  pub then-lost : (piece : List ℕ) (new : Channel) (h : FilterEvent) (loss : Loss) (s1 s2 : SessionState) (f1 : Connected) (k1 : Channel) → IsTaken state.client_info f.position k.expected h new
+      → Follows h state f new s1 f1 k1 → IsConsistent s1 (Some f1) → unconnected s2 [] ≡ lost loss (mta_at s1 (only f1.position))
       → ReceivesBytes (mta_of state (Some f) k) piece (driven place m (record { channel = new; event = h; loss = Some loss })).mta (Err loss)
       → ReceivesBytes (mta_of state (Some f) k) piece (unconnected s2 []) (Err loss)
   then-lost piece new h loss s1 s2 f1 k1 taken follows consistent is receives =
@@ -608,11 +608,11 @@ module _ (state : SessionState) (f : Connected) (k : Channel) (core : IsCore sta
   lost-config loss acted [] v = refl
   lost-config loss acted (message ∷ messages) v = refl
 
-  pub config-lost : (loss : Loss) (s1 s2 : SessionState) (f1 : Connected) → unconnected s2 [] ≡ lost loss (mta_at s1 (only f1.next)) → s2.config ≡ s1.config
-  config-lost loss s1 s2 f1 is = ap (λ (v : Mta). v.config) is ∙ lost-config loss _ (mta_at s1 (only f1.next)).session.messages (mta_at s1 (only f1.next))
+  pub config-lost : (loss : Loss) (s1 s2 : SessionState) (f1 : Connected) → unconnected s2 [] ≡ lost loss (mta_at s1 (only f1.position)) → s2.config ≡ s1.config
+  config-lost loss s1 s2 f1 is = ap (λ (v : Mta). v.config) is ∙ lost-config loss _ (mta_at s1 (only f1.position)).session.messages (mta_at s1 (only f1.position))
 
-  pub then-config : (new : Channel) (h : FilterEvent) (loss : Loss) (s1 s2 : SessionState) (f1 : Connected) (k1 : Channel) → IsTaken state.client_info f.next k.expected h new
-      → Follows h state f new s1 f1 k1 → IsConsistent s1 (Some f1) → unconnected s2 [] ≡ lost loss (mta_at s1 (only f1.next)) → s2.config ≡ state.config
+  pub then-config : (new : Channel) (h : FilterEvent) (loss : Loss) (s1 s2 : SessionState) (f1 : Connected) (k1 : Channel) → IsTaken state.client_info f.position k.expected h new
+      → Follows h state f new s1 f1 k1 → IsConsistent s1 (Some f1) → unconnected s2 [] ≡ lost loss (mta_at s1 (only f1.position)) → s2.config ≡ state.config
   then-config new h loss s1 s2 f1 k1 taken follows consistent is =
       let l = leaves-any h new s1 f1 k1 taken follows consistent in
       config-lost loss s1 s2 f1 is ∙ l.config
@@ -635,7 +635,7 @@ module _ (state : SessionState) (f : Connected) (k : Channel) (core : IsCore sta
         let l = left-after answered once left lost_left piece loss new h receives in
         l.same_offer ∙ left-offer h l.before l.left_before
 
-    taken-now : IsTaken state.client_info f.next k.expected h new
+    taken-now : IsTaken state.client_info f.position k.expected h new
     taken-now = taken-is answered once left lost_left piece loss new h receives
 
     fed-now : ReceivesBytes (mta_of state (Some f) k) piece (driven place m (record { channel = new; event = h; loss = loss })).mta (result_of loss)
@@ -653,11 +653,11 @@ module _ (state : SessionState) (f : Connected) (k : Channel) (core : IsCore sta
       pub received-core : loss ≡ None → IsCore s1 (Some f1) k1
       received-core is = now-core new h s1 f1 k1 taken-now follows consistent (left-then is)
 
-      pub lost-receives : (by : Loss) (s2 : SessionState) → loss ≡ Some by → unconnected s2 [] ≡ lost by (mta_at s1 (only f1.next))
+      pub lost-receives : (by : Loss) (s2 : SessionState) → loss ≡ Some by → unconnected s2 [] ≡ lost by (mta_at s1 (only f1.position))
           → ReceivesBytes (mta_of state (Some f) k) piece (unconnected s2 []) (Err by)
       lost-receives by s2 is lost_is =
           then-lost piece new h by s1 s2 f1 k1 taken-now follows consistent lost_is
           (subst (λ (l : Option Loss). ReceivesBytes (mta_of state (Some f) k) piece (driven place m (record { channel = new; event = h; loss = l })).mta (result_of l)) is fed-now)
 
-      pub lost-config-is : (by : Loss) (s2 : SessionState) → unconnected s2 [] ≡ lost by (mta_at s1 (only f1.next)) → s2.config ≡ state.config
+      pub lost-config-is : (by : Loss) (s2 : SessionState) → unconnected s2 [] ≡ lost by (mta_at s1 (only f1.position)) → s2.config ≡ state.config
       lost-config-is by s2 lost_is = then-config new h by s1 s2 f1 k1 taken-now follows consistent lost_is

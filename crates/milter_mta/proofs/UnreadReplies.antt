@@ -1,5 +1,6 @@
 -- What becomes of a mail server's end by a piece of what a filter sends.
 use Rattle.std.proofs.Common.{◌≡◌, ◌≢◌, ℕ, true, false, List, [], ◌∷◌, ◌++◌, Option, None, Some, Result, Ok, Err, refl, sym, ◌∙◌, ap, subst, take, drop, length, ◌+◌, ◌<◌, arith, take-add, take-append-drop, length-drop}
+use Rattle.std.specs.List.{fold}
 use Rattle.std.specs.Prelude.{if◌then◌else◌}
 use Rattle.std.proofs.lemmas.List.Sums.{fold-append}
 use Rattle.milter_wire_stream.specs.declared.fault.WireFault.{WireFault}
@@ -26,13 +27,13 @@ use Rattle.milter_mta_outcome.specs.EditWeights.{weight_of_all}
 use Rattle.milter_mta_transaction.specs.Transactions.{stage_first}
 use Rattle.milter_mta_transaction.specs.TransactionVerdicts.{ends_dialogue, is_of_connection, left_after, with_verdict}
 use Rattle.milter_mta_transaction.specs.declared.cursor.ClientInfo.{ClientInfo}
-use Rattle.milter_mta.specs.declared.state.Next.{Next}
-use Rattle.milter_mta.specs.declared.state.Next.TheVariants as nexts
+use Rattle.milter_mta.specs.declared.state.Position.{Position as PositionParts}
+use Rattle.milter_mta.specs.declared.state.Position.TheVariants as parts
 use Rattle.milter_mta.specs.declared.state.FilterConnection.{FilterConnection as Connected}
 use Rattle.milter_mta.specs.declared.state.SessionState.{SessionState}
 use Rattle.milter_mta.specs.Mta.{FilterConnection, Mta, Position, at_packet}
 use Rattle.milter_mta.specs.Mta.Position.{Offering, Sending, Quitting, Ended}
-use Rattle.milter_mta.specs.Replies.{After, negotiated_on, at, byte_at, fails, framed, goes_on, received, received_at, received_byte, received_on, replied, replied_at, ruled_on, wire_loss}
+use Rattle.milter_mta.specs.Replies.{After, negotiated_on, at, byte_at, fails, framed, goes_on, received, received_at, received_byte, replied, replied_at, ruled_on, wire_loss}
 use Rattle.milter_mta.specs.Dispositions.{acted_at, defaulted, lost, settled_all, settled_in}
 use Rattle.milter_mta.proofs.ReceivedFrames.{received-fault, received-packet, received-unfinished, lost-stays, with_unread}
 
@@ -108,9 +109,9 @@ pub early : (filter_connection : FilterConnection) (m : Mta) (bytes : List ℕ) 
 early filter_connection m [] owed some = absurd (omega arith)
 early filter_connection m (x ∷ bytes) owed some =
     let step : received_byte (goes_on (at filter_connection m)) x ≡ fails Early (at filter_connection m) = rw owed refl in
-    ap (λ (a : After). received_on a bytes) step ∙ lost-stays _ _ bytes
+    ap (λ (a : After). fold received_byte a bytes) step ∙ lost-stays _ _ bytes
 
 pub early-at_none : (m : Mta) (byte : ℕ) (bytes : List ℕ) → m.filter_connection ≡ None → received m (byte ∷ bytes) ≡ fails Early m
 early-at_none m byte bytes unconnected =
     let step : received_byte (goes_on m) byte ≡ fails Early m = ap (λ (l : Option FilterConnection). byte_at l byte m) unconnected in
-    ap (λ (a : After). received_on a bytes) step ∙ lost-stays _ _ bytes
+    ap (λ (a : After). fold received_byte a bytes) step ∙ lost-stays _ _ bytes

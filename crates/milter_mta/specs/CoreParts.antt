@@ -22,8 +22,8 @@ use Rattle.milter_wire.specs.Verdicts.{given_at}
 use Rattle.milter_mta_outcome.specs.Outcomes.{at_connection}
 use Rattle.milter_mta_transaction.specs.PlanCursor.{outgoing_of, steps_from}
 use Rattle.milter_mta_transaction.specs.Transactions.{Sends, left_of, stage_first}
-use Rattle.milter_mta.specs.declared.state.Next.{Next}
-use Rattle.milter_mta.specs.declared.state.Next.TheVariants as nexts
+use Rattle.milter_mta.specs.declared.state.Position.{Position as PositionParts}
+use Rattle.milter_mta.specs.declared.state.Position.TheVariants as parts
 use Rattle.milter_mta.specs.declared.state.FilterConnection.{FilterConnection as Connected}
 use Rattle.milter_mta.specs.declared.state.SessionState.{SessionState}
 use Rattle.milter_mta.specs.Mta.{FilterConnection, Mta, Position, connection_at}
@@ -34,27 +34,27 @@ use Rattle.milter_mta.specs.Driven.{opened_by, ruled_in}
 -- ---- its value
 
 -- where these edits came since the last verdict
-abbrev pub position_of : ClientInfo → List Edit → Next → Position
-position_of client_info edits nexts.Offer = Offering
-position_of client_info edits (nexts.Command transaction) =
+abbrev pub position_of : ClientInfo → List Edit → PositionParts → Position
+position_of client_info edits parts.Offering = Offering
+position_of client_info edits (parts.Sending transaction) =
     Sending transaction.negotiated transaction.acted edits (left_of client_info transaction)
-position_of client_info edits nexts.Quit = Quitting
-position_of client_info edits nexts.Nothing = Ended
+position_of client_info edits parts.Quitting = Quitting
+position_of client_info edits parts.Ended = Ended
 
 -- the message that is under way
-abbrev pub messages_at : Next → List MailObject
-messages_at (nexts.Command transaction) = transaction.message ∷ []
+abbrev pub messages_at : PositionParts → List MailObject
+messages_at (parts.Sending transaction) = transaction.message ∷ []
 messages_at other = []
 
 abbrev pub messages_in : Option Connected → List MailObject
 messages_in None = []
-messages_in (Some connection) = messages_at connection.next
+messages_in (Some connection) = messages_at connection.position
 
 abbrev pub connection_of : ClientInfo → Connected → Channel → FilterConnection
 connection_of client_info connection channel =
     record {
       aborts = connection.aborts;
-      position = position_of client_info channel.edits connection.next;
+      position = position_of client_info channel.edits connection.position;
       pending = channel.pending;
       owed = is_owed channel;
       unread = channel.unread;
@@ -88,14 +88,14 @@ mta_of state connection channel =
 -- at the start of a packet
 abbrev pub mta_at : SessionState → Connected → Mta
 mta_at state connection =
-    record (unconnected state (messages_at connection.next)) {
+    record (unconnected state (messages_at connection.position)) {
       filter_connection =
-          Some (connection_at connection.aborts (position_of state.client_info [] connection.next));
+          Some (connection_at connection.aborts (position_of state.client_info [] connection.position));
     }
 
 -- no abort is due
-abbrev pub only : Next → Connected
-only next = record { aborts = false; next = next }
+abbrev pub only : PositionParts → Connected
+only next = record { aborts = false; position = next }
 
 -- with one report more
 abbrev pub with_state_report : Report → SessionState → SessionState
@@ -129,13 +129,13 @@ pub record IsUnderWay (client_info : ClientInfo) (transaction : Transaction) : T
   pub sends : Sends client_info transaction
   pub chosen : transaction.macros ≡ chosen_macros transaction.negotiated.lists client_info.macros
 
-abbrev pub CanSend : ClientInfo → Next → Type 0
-CanSend client_info (nexts.Command transaction) = IsUnderWay client_info transaction
+abbrev pub CanSend : ClientInfo → PositionParts → Type 0
+CanSend client_info (parts.Sending transaction) = IsUnderWay client_info transaction
 CanSend client_info other = Unit {0}
 
 abbrev pub CanSendIn : ClientInfo → Option Connected → Type 0
 CanSendIn client_info None = Unit {0}
-CanSendIn client_info (Some connection) = CanSend client_info connection.next
+CanSendIn client_info (Some connection) = CanSend client_info connection.position
 
 -- the session is one, each of its messages has room for its report, and that under way can be sent
 pub record IsConsistent (state : SessionState) (connection : Option Connected) : Type 0 where
@@ -144,36 +144,36 @@ pub record IsConsistent (state : SessionState) (connection : Option Connected) :
   pub can_send : CanSendIn state.client_info connection
 
 -- the next command of a message is of this stage
-abbrev pub IsCommand : ClientInfo → Stage → Next → Type 0
-IsCommand client_info stage (nexts.Command transaction) = stage_first (left_of client_info transaction) ≡ Some stage
+abbrev pub IsCommand : ClientInfo → Stage → PositionParts → Type 0
+IsCommand client_info stage (parts.Sending transaction) = stage_first (left_of client_info transaction) ≡ Some stage
 IsCommand client_info stage other = ⊥
 
 -- the same packet is the next one, though its place in the plan may have been looked up
 pub record IsSamePlace (client_info : ClientInfo) (old new : Connected) : Type 0 where
   pub aborts : new.aborts ≡ old.aborts
-  pub position : (edits : List Edit) → position_of client_info edits new.next ≡ position_of client_info edits old.next
-  pub can_send : CanSend client_info new.next
-  pub messages : messages_at new.next ≡ messages_at old.next
+  pub position : (edits : List Edit) → position_of client_info edits new.position ≡ position_of client_info edits old.position
+  pub can_send : CanSend client_info new.position
+  pub messages : messages_at new.position ≡ messages_at old.position
 
 -- ---- an event
 
 -- the event is one that comes at this position while this reply is expected
-abbrev pub IsTaken : ClientInfo → Next → ExpectedReply → FilterEvent → Channel → Type 0
+abbrev pub IsTaken : ClientInfo → PositionParts → ExpectedReply → FilterEvent → Channel → Type 0
 IsTaken client_info next (expects.Verdict stage) (events.Verdict verdict) channel =
     IsCommand client_info stage next × (given_at verdict stage ≡ true)
 IsTaken client_info next other (events.Verdict verdict) channel = ⊥
 IsTaken client_info next expected events.Negotiated channel =
-    (next ≡ nexts.Offer) × (negotiated : Negotiated) × (channel.negotiated ≡ Some negotiated)
+    (next ≡ parts.Offering) × (negotiated : Negotiated) × (channel.negotiated ≡ Some negotiated)
 IsTaken client_info next expected waiting channel = Unit {0}
 
 -- what the plan makes of it
 abbrev pub Follows : FilterEvent → SessionState → Connected → Channel → SessionState → Connected → Channel → Type 0
 Follows (events.Verdict verdict) old_state old old_channel state new channel =
     (mta_at state new
-    ≡ ruled_in (position_of old_state.client_info [] old.next) verdict old_channel.edits (mta_at old_state (only old.next)))
+    ≡ ruled_in (position_of old_state.client_info [] old.position) verdict old_channel.edits (mta_at old_state (only old.position)))
     × (channel ≡ without_edits old_channel)
 Follows events.Negotiated old_state old old_channel state new channel =
-    (mta_at state new ≡ opened_by old_channel.negotiated (mta_at old_state (only old.next))) × (channel ≡ old_channel)
+    (mta_at state new ≡ opened_by old_channel.negotiated (mta_at old_state (only old.position))) × (channel ≡ old_channel)
 Follows waiting old_state old old_channel state new channel =
     (state ≡ old_state) × (new ≡ old) × (channel ≡ old_channel)
 

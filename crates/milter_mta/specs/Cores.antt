@@ -15,7 +15,7 @@ use Rattle.milter_mta.specs.Dispositions.{lost}
 abbrev pub IsInStepIn : ClientInfo → Option Connected → Channel → Type 0
 IsInStepIn client_info None channel = Unit {0}
 IsInStepIn client_info (Some connection) channel =
-    IsInStep connection.aborts (position_of client_info channel.edits connection.next) channel
+    IsInStep connection.aborts (position_of client_info channel.edits connection.position) channel
 
 pub record IsCore (state : SessionState) (connection : Option Connected) (channel : Channel) : Type 0 where
   pub consistent : IsConsistent state connection

@@ -1,5 +1,5 @@
 -- What a mail server's end makes of what a filter sends, whatever filter it is: one byte after the other.
-use Rattle.std.specs.Prelude.{ℕ, true, List, [], ◌∷◌, ◌++◌, drop, Option, None, Some, Result, Ok, Err, if◌then◌else◌}
+use Rattle.std.specs.Prelude.{ℕ, true, List, [], ◌∷◌, ◌++◌, drop, Option, None, Some, Result, Ok, Err, if◌then◌else◌, is_some}
 use Rattle.std.specs.List.{fold}
 use Rattle.milter_wire_stream.specs.declared.fault.WireFault.{WireFault}
 use Rattle.milter_wire_stream.specs.Stream.{Frame, first_frame, length_fault}
@@ -109,18 +109,11 @@ byte_at (Some filter_connection) byte m =
     unread_is filter_connection unread (length_fault unread) (first_frame unread) m)
     else fails Early m
 
-abbrev pub received_if : Option Loss → After → ℕ → After
-received_if (Some loss) after byte = after
-received_if None after byte = byte_at after.mta.filter_connection byte after.mta
-
 -- after a loss nothing more is received
 abbrev pub received_byte : After → ℕ → After
-received_byte after byte = received_if after.loss after byte
+received_byte after byte = if is_some after.loss then after else byte_at after.mta.filter_connection byte after.mta
 
 -- ---- a piece
 
-abbrev pub received_on : After → List ℕ → After
-received_on after bytes = fold received_byte after bytes
-
 abbrev pub received : Mta → List ℕ → After
-received m bytes = received_on (goes_on m) bytes
+received m bytes = fold received_byte (goes_on m) bytes

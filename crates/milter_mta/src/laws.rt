@@ -1,6 +1,7 @@
 //! Laws of a mail server's end, each the contract of a function that does nothing.
 
 ghost use Rattle.std.specs.Prelude.{◌≡◌, ◌≢◌, ◌++◌, ◌∷◌, ◌↔◌, [], Err, List, None, Some, false, true, ℕ};
+ghost use Rattle.std.specs.List.{fold};
 ghost use Rattle.milter_wire_stream.specs.declared.fault.WireFault.{WireFault};
 ghost use Rattle.milter_wire_stream.specs.declared.fault.WireFault.TheVariants.{Malformed, UnknownCode};
 ghost use Rattle.milter_wire_stream.specs.Stream.{Frame, IsFrame, IsUnfinished, frame_bytes, length_fault};
@@ -11,14 +12,14 @@ ghost use Rattle.milter_message.specs.MailObject.{MailObject};
 ghost use Rattle.milter_mta_outcome.specs.declared.loss.Loss.{Loss};
 ghost use Rattle.milter_mta_outcome.specs.declared.loss.MtaFault.TheVariants.{Early, Wire};
 ghost use Rattle.milter_mta.specs.Mta.{FilterConnection, Mta};
-ghost use Rattle.milter_mta.specs.Replies.{at, fails, goes_on, received, received_on, replied};
+ghost use Rattle.milter_mta.specs.Replies.{at, fails, goes_on, received, received_byte, replied};
 ghost use Rattle.milter_mta.specs.Dispositions.{acted_in, default_report, lost};
 
 use milter_wire::reply_frames;
 
 /// What is received of a piece and then of another is what is received of both in one.
 pub fn pieces_go_on()
-    ensures { (m : Mta) (first second : List ℕ) → received m (first ++ second) ≡ received_on (received m first) second }
+    ensures { (m : Mta) (first second : List ℕ) → received m (first ++ second) ≡ fold received_byte (received m first) second }
 {}
 
 /// The bytes of a reply that is owed are received as that reply, while a message isn't settled.

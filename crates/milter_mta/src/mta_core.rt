@@ -13,7 +13,7 @@ ghost use Rattle.milter_mta.specs.Driven.{expected_after, queued};
 use crate::config::Config;
 use crate::queue::Queue;
 use crate::reports::Reports;
-use crate::state::{FilterConnection, Next, SessionState};
+use crate::state::{FilterConnection, Position, SessionState};
 use crate::want::Want;
 use milter_mail::{Session, SessionParts};
 use milter_mta_channel::MtaChannel;
@@ -107,7 +107,7 @@ impl MtaCore {
         self.channel.restart();
         drop(
             self.filter_connection
-                .replace(FilterConnection::at(Next::Offer)),
+                .replace(FilterConnection::at(Position::Offering)),
         );
     }
 
@@ -231,12 +231,12 @@ fn queue_next(
     filter_connection: &mut FilterConnection,
     client_info: &ClientInfo,
 ) -> Result<(), NoMemory>
-    requires { CanSend client_info.now filter_connection.old.next }
+    requires { CanSend client_info.now filter_connection.old.position }
     ensures ok { OnOk result ((edits : List EditValue) → channel.new
         ≡ queued (command_at channel.old.offer filter_connection.old.aborts
-        (position_of client_info.now edits filter_connection.old.next))
+        (position_of client_info.now edits filter_connection.old.position))
         (expected_after filter_connection.old.aborts
-        (position_of client_info.now edits filter_connection.old.next)) channel.old) }
+        (position_of client_info.now edits filter_connection.old.position)) channel.old) }
     ensures err { OnErr result (channel.new ≡ channel.old) }
     ensures same { IsSamePlace client_info.now filter_connection.old filter_connection.new }
 {

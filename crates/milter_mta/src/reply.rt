@@ -7,14 +7,14 @@ ghost use Rattle.milter_mail.specs.ChosenMacros.{chosen_macros};
 ghost use Rattle.milter_message.specs.EditReplies.{reply_of};
 ghost use Rattle.milter_mta_channel.specs.Channel.{is_owed};
 ghost use Rattle.milter_mta_transaction.specs.Transactions.{stage_first, left_of};
-ghost use Rattle.milter_mta.specs.declared.state.Next.TheVariants as nexts;
+ghost use Rattle.milter_mta.specs.declared.state.Position.TheVariants as parts;
 ghost use Rattle.milter_mta.specs.ActedReplies.{ActsOn};
 ghost use Rattle.milter_mta.specs.CoreParts.{Follows, IsCommand, IsConsistent, IsConsistentAfter, IsTaken, IsUnderWay, mta_at, mta_of, only, position_of, unconnected};
 ghost use Rattle.milter_mta.specs.Cores.{IsCore, IsCoreAfter, ReceivesBytes, mta_then};
 ghost use Rattle.milter_mta.specs.Dispositions.{lost};
 ghost use Rattle.milter_mta.specs.Driven.{opened_by, ruled_in};
 
-use crate::state::{FilterConnection, Next, SessionState};
+use crate::state::{FilterConnection, Position, SessionState};
 use milter_mail::Macros;
 use milter_mta_channel::{
     ExpectedReply, Fed, FilterEvent, MtaChannel, events_leave_channels, verdicts_follow_commands,
@@ -102,12 +102,12 @@ impl SessionState {
         filter_connection: &mut FilterConnection,
         negotiated: &Negotiated,
     ) -> Result<(), Loss>
-        requires { IsConsistent self.old (Some (only nexts.Offer)) }
+        requires { IsConsistent self.old (Some (only parts.Offering)) }
         ensures opened { OnOk result (mta_at self.new filter_connection.new
-            ≡ opened_by (Some negotiated.now) (mta_at self.old (only nexts.Offer))) }
+            ≡ opened_by (Some negotiated.now) (mta_at self.old (only parts.Offering))) }
         ensures refused { IfErr result (λ loss. loss ≡ Loss.Memory) }
         ensures lost { OnErr result
-            (unconnected self.new [] ≡ lost Loss.Memory (mta_at self.old (only nexts.Offer))) }
+            (unconnected self.new [] ≡ lost Loss.Memory (mta_at self.old (only parts.Offering))) }
         ensures consistent { IsConsistentAfter self.new filter_connection.new result }
     {
         let Ok((negotiated, macros)) = self.chosen(negotiated) else {
@@ -132,26 +132,26 @@ impl SessionState {
         stage: Stage,
         answer: Answer,
     ) -> Result<(), Loss>
-        requires consistent { IsConsistent self.old (Some (only filter_connection.old.next)) }
+        requires consistent { IsConsistent self.old (Some (only filter_connection.old.position)) }
         requires no_abort { filter_connection.old.aborts ≡ false }
-        requires command { IsCommand self.old.client_info stage filter_connection.old.next }
+        requires command { IsCommand self.old.client_info stage filter_connection.old.position }
         requires given { given_at answer.verdict stage ≡ true }
         requires fit { All (λ edit. Fits (reply_of edit)) answer.edits }
         ensures ruled { OnOk result (mta_at self.new filter_connection.new
-            ≡ ruled_in (position_of self.old.client_info [] filter_connection.old.next) answer.verdict answer.edits
-            (mta_at self.old (only filter_connection.old.next))) }
+            ≡ ruled_in (position_of self.old.client_info [] filter_connection.old.position) answer.verdict answer.edits
+            (mta_at self.old (only filter_connection.old.position))) }
         ensures refused { IfErr result (λ loss. loss ≡ Loss.Memory) }
         ensures lost { OnErr result
-            (unconnected self.new [] ≡ lost Loss.Memory (mta_at self.old (only filter_connection.old.next))) }
+            (unconnected self.new [] ≡ lost Loss.Memory (mta_at self.old (only filter_connection.old.position))) }
         ensures consistent { IsConsistentAfter self.new filter_connection.new result }
     {
-        let Next::Command(transaction) = &mut filter_connection.next else {
+        let Position::Sending(transaction) = &mut filter_connection.position else {
             return Ok(());
         };
         match act_on(transaction, self.alloc, &self.client_info, stage, answer) {
             Ok(None) => Ok(()),
-            Ok(Some(answer)) => match filter_connection.take_next() {
-                Next::Command(transaction) => {
+            Ok(Some(answer)) => match filter_connection.take_position() {
+                Position::Sending(transaction) => {
                     self.finish(filter_connection, transaction, stage, answer)
                 }
                 _ => Ok(()),
@@ -172,14 +172,14 @@ impl SessionState {
         expected: ExpectedReply,
         event: FilterEvent,
     ) -> Result<(), Loss>
-        requires consistent { IsConsistent self.old (Some (only filter_connection.old.next)) }
+        requires consistent { IsConsistent self.old (Some (only filter_connection.old.position)) }
         requires no_abort { filter_connection.old.aborts ≡ false }
-        requires taken { IsTaken self.old.client_info filter_connection.old.next expected event channel.old }
+        requires taken { IsTaken self.old.client_info filter_connection.old.position expected event channel.old }
         ensures follows { OnOk result (Follows event self.old filter_connection.old channel.old
             self.new filter_connection.new channel.new) }
         ensures refused { IfErr result (λ loss. loss ≡ Loss.Memory) }
         ensures lost { OnErr result
-            (unconnected self.new [] ≡ lost Loss.Memory (mta_at self.old (only filter_connection.old.next))) }
+            (unconnected self.new [] ≡ lost Loss.Memory (mta_at self.old (only filter_connection.old.position))) }
         ensures consistent { IsConsistentAfter self.new filter_connection.new result }
         ensures offer { channel.new.offer ≡ channel.old.offer }
     {

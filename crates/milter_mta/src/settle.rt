@@ -9,11 +9,11 @@ ghost use Rattle.milter_wire.specs.declared.stage.Stage.{Stage as StageValue};
 ghost use Rattle.milter_wire.specs.Reply.{Fits};
 ghost use Rattle.milter_mta_transaction.specs.TransactionVerdicts.{on_connection, with_verdict};
 ghost use Rattle.milter_mail.specs.ChosenMacros.{chosen_macros};
-ghost use Rattle.milter_mta.specs.declared.state.Next.TheVariants as nexts;
+ghost use Rattle.milter_mta.specs.declared.state.Position.TheVariants as parts;
 ghost use Rattle.milter_mta.specs.CoreParts.{IsConsistent, IsConsistentAfter, begun_position, messages_at, mta_at, only, position_of, session_of, unconnected, with_all_reports, with_state_report};
 ghost use Rattle.milter_mta.specs.Dispositions.{after_message, default_report, report, settled, settled_all, settled_first};
 
-use crate::state::{FilterConnection, Next, SessionState};
+use crate::state::{FilterConnection, Position, SessionState};
 use milter_mail::{Macros, Message};
 use milter_mta_outcome::{
     ActedVerdicts, By, Loss, Report, fall_back, finish, finish_at_connection, kept_message,
@@ -39,11 +39,11 @@ impl SessionState {
         stage: Stage,
         answer: Answer,
     ) -> Result<(), Loss>
-        requires consistent { IsConsistent self.old (Some (only (nexts.Command transaction))) }
+        requires consistent { IsConsistent self.old (Some (only (parts.Sending transaction))) }
         requires fit { All (λ edit. Fits (reply_of edit)) answer.edits }
         ensures settled { OnOk result (mta_at self.new filter_connection.new
             ≡ settled transaction.negotiated stage answer.edits answer.verdict transaction.acted
-            (mta_at self.old (only (nexts.Command transaction)))) }
+            (mta_at self.old (only (parts.Sending transaction)))) }
         ensures refused { IfErr result (λ loss. loss ≡ Loss.Memory) }
         ensures lost { IfErr result (λ loss. (before : List ActedValue) →
             transaction.acted ≡ with_verdict stage answer.verdict before →
@@ -131,11 +131,11 @@ impl SessionState {
         stage: Stage,
         answer: Answer,
     ) -> Result<(), Loss>
-        requires consistent { IsConsistent self.old (Some (only (nexts.Command transaction))) }
+        requires consistent { IsConsistent self.old (Some (only (parts.Sending transaction))) }
         requires fit { All (λ edit. Fits (reply_of edit)) answer.edits }
         ensures settled { OnOk result (mta_at self.new filter_connection.new
             ≡ settled_first transaction.negotiated stage answer.edits answer.verdict transaction.acted
-            (mta_at self.old (only (nexts.Command transaction)))) }
+            (mta_at self.old (only (parts.Sending transaction)))) }
         ensures refused { IfErr result (λ loss. loss ≡ Loss.Memory) }
         ensures lost { IfErr result (λ loss. (before : List ActedValue) →
             transaction.acted ≡ with_verdict stage answer.verdict before →
@@ -247,9 +247,9 @@ impl SessionState {
         transaction: Transaction,
         verdict: Verdict,
     ) -> Result<(), Loss>
-        requires { IsConsistent self.old (Some (only (nexts.Command transaction))) }
+        requires { IsConsistent self.old (Some (only (parts.Sending transaction))) }
         ensures settled { OnOk result (mta_at self.new filter_connection.new
-            ≡ settled_all verdict transaction.acted (mta_at self.old (only (nexts.Command transaction)))) }
+            ≡ settled_all verdict transaction.acted (mta_at self.old (only (parts.Sending transaction)))) }
         ensures refused { IfErr result (λ loss. loss ≡ Loss.Memory) }
         ensures lost { IfErr result (λ loss. (before : List ActedValue) (last : ActedValue) →
             transaction.acted ≡ before ++ last ∷ [] →
@@ -264,7 +264,7 @@ impl SessionState {
         self.report_at_connection(message, acted, &verdict);
         self.report_all(copies, &verdict);
         self.connection = Some(verdict);
-        *filter_connection = FilterConnection::at(Next::Quit);
+        *filter_connection = FilterConnection::at(Position::Quitting);
         Ok(())
     }
 
@@ -276,7 +276,7 @@ impl SessionState {
         macros: Macros,
         acted: ActedVerdicts,
         stage: Stage,
-    ) -> Next
+    ) -> Position
         requires consistent { IsConsistent self.old None }
         requires chosen { macros ≡ chosen_macros negotiated.lists self.old.client_info.macros }
         requires stage { (stage ≡ StageValue.Connect) ⊎ (stage ≡ StageValue.Mail) }
@@ -289,9 +289,9 @@ impl SessionState {
     {
         match self.queue.next_message() {
             Some(message) => {
-                Next::Command(Transaction::new(negotiated, macros, message, acted, stage))
+                Position::Sending(Transaction::new(negotiated, macros, message, acted, stage))
             }
-            None => Next::Quit,
+            None => Position::Quitting,
         }
     }
 
@@ -313,7 +313,7 @@ impl SessionState {
     {
         FilterConnection {
             aborts: !is_end(stage),
-            next: self.begin(negotiated, macros, opened, Stage::Mail),
+            position: self.begin(negotiated, macros, opened, Stage::Mail),
         }
     }
 }

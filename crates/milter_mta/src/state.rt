@@ -4,7 +4,7 @@ ghost use Rattle.std.specs.Prelude.{◌≡◌, ◌<◌, [], List, None, Some, dr
 ghost use Rattle.milter_wire.specs.BorrowedCommand.{command_of};
 ghost use Rattle.milter_message.specs.declared.edit.Edit.{Edit as EditValue};
 ghost use Rattle.milter_mta_transaction.specs.Transactions.{left_of, stage_first};
-ghost use Rattle.milter_mta.specs.declared.state.Next.TheVariants as nexts;
+ghost use Rattle.milter_mta.specs.declared.state.Position.TheVariants as parts;
 ghost use Rattle.milter_mta.specs.CoreParts.{CanSend, IsConsistent, IsSamePlace, IsUnderWay, messages_at, mta_at, only, position_of, unconnected, with_state_report};
 ghost use Rattle.milter_mta.specs.Dispositions.{default_report, lost};
 ghost use Rattle.milter_mta.specs.Driven.{expected_after, expected_first};
@@ -23,15 +23,15 @@ use std::mem::replace;
 
 /// What is sent next to a filter.
 #[derive(Debug, Drop)]
-pub(crate) enum Next {
+pub(crate) enum Position {
     /// The offer.
-    Offer,
+    Offering,
     /// The next command of a message.
-    Command(Transaction),
+    Sending(Transaction),
     /// The end of the connection.
-    Quit,
+    Quitting,
     /// Nothing: the end was sent.
-    Nothing,
+    Ended,
 }
 
 /// A connection to a filter.
@@ -40,27 +40,27 @@ pub(crate) struct FilterConnection {
     /// Whether an abort must still be sent.
     pub(crate) aborts: bool,
     /// What is sent after that.
-    pub(crate) next: Next,
+    pub(crate) position: Position,
 }
 
 impl FilterConnection {
     /// A connection on which this is sent next.
-    pub(crate) fn at(next: Next) -> Self
-        ensures { result ≡ only next }
+    pub(crate) fn at(position: Position) -> Self
+        ensures { result ≡ only position }
     {
         FilterConnection {
             aborts: false,
-            next,
+            position,
         }
     }
 
     /// What is waited for, where a reply is owed or none is.
     pub(crate) fn want(&self, client_info: &ClientInfo, is_owed: bool) -> Want
         ensures { (edits : List EditValue) →
-            result ≡ want_at self.now.aborts (position_of client_info.now edits self.now.next) is_owed }
+            result ≡ want_at self.now.aborts (position_of client_info.now edits self.now.position) is_owed }
     {
-        match (self.aborts, &self.next, is_owed) {
-            (false, Next::Nothing, _) => Want::Done,
+        match (self.aborts, &self.position, is_owed) {
+            (false, Position::Ended, _) => Want::Done,
             (_, _, true) => Want::Receive,
             (_, _, false) => Want::Send,
         }
@@ -73,63 +73,63 @@ impl FilterConnection {
         client_info: &'a ClientInfo,
     ) -> Option<CommandRef<'a>>
         ensures { (edits : List EditValue) → option_map command_of result
-            ≡ command_at offer self.now.aborts (position_of client_info.now edits self.now.next) }
+            ≡ command_at offer self.now.aborts (position_of client_info.now edits self.now.position) }
     {
         if self.aborts {
             return Some(CommandRef::Abort);
         }
-        match &self.next {
-            Next::Offer => Some(CommandRef::Options(offer)),
-            Next::Command(transaction) => transaction.command(client_info),
-            Next::Quit => Some(CommandRef::Quit),
-            Next::Nothing => None,
+        match &self.position {
+            Position::Offering => Some(CommandRef::Options(offer)),
+            Position::Sending(transaction) => transaction.command(client_info),
+            Position::Quitting => Some(CommandRef::Quit),
+            Position::Ended => None,
         }
     }
 
     /// The reply that the next packet gets. Doesn't allocate.
     pub(crate) fn expected(&mut self, client_info: &ClientInfo) -> ExpectedReply
-        requires { CanSend client_info.now self.old.next }
+        requires { CanSend client_info.now self.old.position }
         ensures expected { (edits : List EditValue) →
-            result ≡ expected_after self.old.aborts (position_of client_info.now edits self.old.next) }
+            result ≡ expected_after self.old.aborts (position_of client_info.now edits self.old.position) }
         ensures same { IsSamePlace client_info.now self.old self.new }
     {
         if self.aborts {
             return ExpectedReply::Nothing;
         }
-        match &mut self.next {
-            Next::Offer => ExpectedReply::Options,
-            Next::Command(transaction) => expected_verdict(transaction, client_info),
-            Next::Quit | Next::Nothing => ExpectedReply::Nothing,
+        match &mut self.position {
+            Position::Offering => ExpectedReply::Options,
+            Position::Sending(transaction) => expected_verdict(transaction, client_info),
+            Position::Quitting | Position::Ended => ExpectedReply::Nothing,
         }
     }
 
     /// Goes on after a packet that has no reply. Doesn't allocate.
     pub(crate) fn advance(&mut self, client_info: &ClientInfo)
-        requires { CanSend client_info.now self.old.next }
-        ensures aborted { self.old.aborts ≡ true → self.new ≡ only self.old.next }
+        requires { CanSend client_info.now self.old.position }
+        ensures aborted { self.old.aborts ≡ true → self.new ≡ only self.old.position }
         ensures after { self.old.aborts ≡ false → (edits : List EditValue) →
-            position_of client_info.now edits self.new.next ≡ after_packet (position_of client_info.now edits self.old.next) }
+            position_of client_info.now edits self.new.position ≡ after_packet (position_of client_info.now edits self.old.position) }
         ensures aborts { self.new.aborts ≡ false }
-        ensures can_send { CanSend client_info.now self.new.next }
-        ensures messages { messages_at self.new.next ≡ messages_at self.old.next }
+        ensures can_send { CanSend client_info.now self.new.position }
+        ensures messages { messages_at self.new.position ≡ messages_at self.old.position }
     {
         if self.aborts {
             self.aborts = false;
             return;
         }
-        self.next.advance(client_info);
+        self.position.advance(client_info);
     }
 
     /// What was sent next, which is taken out; nothing is sent next then. Doesn't allocate.
-    pub(crate) fn take_next(&mut self) -> Next
-        ensures next { result ≡ self.old.next }
-        ensures left { self.new ≡ record self.old { next = nexts.Nothing } }
+    pub(crate) fn take_position(&mut self) -> Position
+        ensures position { result ≡ self.old.position }
+        ensures left { self.new ≡ record self.old { position = parts.Ended } }
     {
-        replace(&mut self.next, Next::Nothing)
+        replace(&mut self.position, Position::Ended)
     }
 }
 
-impl Next {
+impl Position {
     /// Goes on after a packet that has no reply. Doesn't allocate.
     fn advance(&mut self, client_info: &ClientInfo)
         requires { CanSend client_info.now self.old }
@@ -139,9 +139,9 @@ impl Next {
         ensures messages { messages_at self.new ≡ messages_at self.old }
     {
         match self {
-            Next::Command(transaction) => advance_command(transaction, client_info),
-            Next::Quit => *self = Next::Nothing,
-            Next::Offer | Next::Nothing => {}
+            Position::Sending(transaction) => advance_command(transaction, client_info),
+            Position::Quitting => *self = Position::Ended,
+            Position::Offering | Position::Ended => {}
         }
     }
 }
@@ -199,8 +199,8 @@ impl SessionState {
 
     /// The filter is lost with a message under way. Doesn't allocate.
     fn lose_transaction(&mut self, transaction: Transaction, loss: Loss)
-        requires { IsConsistent self.old (Some (only (nexts.Command transaction))) }
-        ensures lost { unconnected self.new [] ≡ lost loss (mta_at self.old (only (nexts.Command transaction))) }
+        requires { IsConsistent self.old (Some (only (parts.Sending transaction))) }
+        ensures lost { unconnected self.new [] ≡ lost loss (mta_at self.old (only (parts.Sending transaction))) }
         ensures consistent { IsConsistent self.new None }
     {
         let Transaction { message, acted, .. } = transaction;
@@ -221,13 +221,13 @@ impl SessionState {
 
     /// The filter of a connection is lost. Doesn't allocate.
     pub(crate) fn lose(&mut self, filter_connection: &mut FilterConnection, loss: Loss)
-        requires { IsConsistent self.old (Some (only filter_connection.old.next)) }
-        ensures lost { unconnected self.new [] ≡ lost loss (mta_at self.old (only filter_connection.old.next)) }
+        requires { IsConsistent self.old (Some (only filter_connection.old.position)) }
+        ensures lost { unconnected self.new [] ≡ lost loss (mta_at self.old (only filter_connection.old.position)) }
         ensures consistent { IsConsistent self.new None }
     {
-        match filter_connection.take_next() {
-            Next::Command(transaction) => self.lose_transaction(transaction, loss),
-            Next::Offer | Next::Quit | Next::Nothing => self.lose_waiting(loss),
+        match filter_connection.take_position() {
+            Position::Sending(transaction) => self.lose_transaction(transaction, loss),
+            Position::Offering | Position::Quitting | Position::Ended => self.lose_waiting(loss),
         }
     }
 }

@@ -1,5 +1,6 @@
 -- What a connection leaves of the messages: it stays, and none is added, or it is given up.
 use Rattle.std.specs.Prelude.{if◌then◌else◌}
+use Rattle.std.specs.List.{fold}
 use Rattle.std.proofs.Common.{◌≡◌, ◌≢◌, ◌<◌, ◌≤◌, ◌⊎◌, inl, inr, arith, ℕ, Bool, true, false, List, [], ◌∷◌, ◌++◌, length, take, length-drop, Option, None, Some, Result, Ok, Err, refl, ap, subst}
 use Rattle.milter_wire_stream.specs.declared.fault.WireFault.{WireFault}
 use Rattle.milter_wire_stream.specs.Stream.{Frame, first_frame, length_fault}
@@ -27,7 +28,7 @@ use Rattle.milter_mta.specs.declared.want.Want.TheVariants as wants
 use Rattle.milter_mta.specs.Cores.{ReceivesBytes}
 use Rattle.milter_mta.specs.Mta.{FilterConnection, Mta, Position, at_packet}
 use Rattle.milter_mta.specs.Mta.Position.{Ended, Offering, Quitting, Sending}
-use Rattle.milter_mta.specs.Replies.{After, negotiated_on, at, byte_at, fails, framed, goes_on, received, received_at, received_on, replied, replied_at, ruled_on, unread_is}
+use Rattle.milter_mta.specs.Replies.{After, negotiated_on, at, byte_at, fails, framed, goes_on, received, received_at, received_byte, replied, replied_at, ruled_on, unread_is}
 use Rattle.milter_mta.specs.Output.{advanced, advanced_in, sent, sent_in, want, want_unconnected}
 use Rattle.milter_mta.specs.Dispositions.{acted_in, defaulted, lost, settled, settled_all, settled_first, settled_in}
 use Rattle.milter_mta_client.specs.ConnectionRuns.{IsBetween, IsGivenUp, IsConnected, IsConnectedBy, StaysConnected, dials_left, dials_left_with}
@@ -143,7 +144,7 @@ leads-on start m new None stays leads = connected-on start m new stays leads
 leads-on start m new (Some loss) stays leads =
     record { before = leads.before; stays = connected-on start m leads.before stays leads.stays; loss = leads.loss; lost_is = leads.lost_is }
 
-received-on-leads : (bytes : List ℕ) (start m : Mta) (loss : Option Loss) → LeadsBy start m loss → Leads start (received_on (record { mta = m; loss = loss }) bytes)
+received-on-leads : (bytes : List ℕ) (start m : Mta) (loss : Option Loss) → LeadsBy start m loss → Leads start (fold received_byte (record { mta = m; loss = loss }) bytes)
 received-on-leads [] start m loss leads = leads
 received-on-leads (byte ∷ bytes) start m (Some loss) leads = received-on-leads bytes start m (Some loss) leads
 received-on-leads (byte ∷ bytes) start m None leads =

@@ -1,7 +1,7 @@
 -- The answer of a lawful filter, as it is permitted, is received whole: each edit, and then the verdict.
 use Rattle.std.specs.Prelude.{if◌then◌else◌}
 use Rattle.std.proofs.Common.{◌≡◌, ◌≢◌, ◌≤◌, ◌+◌, ℕ, Bool, true, false, cond, not, ◌&&◌, List, [], ◌∷◌, ◌++◌, All, map, drop, Option, None, Some, Result, Ok, Err, refl, sym, ap, ◌∙◌, subst, arith, append-nil, append_assoc}
-use Rattle.std.specs.List.{filter, flat_map}
+use Rattle.std.specs.List.{fold, filter, flat_map}
 use Rattle.std.proofs.lemmas.Bool.{le-ltb, true≢false}
 use Rattle.std.proofs.lemmas.Option.{same_Some}
 use Rattle.std.proofs.lemmas.List.Elements.{All-cons, All-filter, All-head, All-nil, All-tail}
@@ -41,7 +41,7 @@ use Rattle.milter_mta_transaction.specs.Transactions.{stage_first}
 use Rattle.milter_mta_transaction.specs.TransactionVerdicts.{ends_dialogue, is_of_connection, left_after, with_verdict}
 use Rattle.milter_mta.specs.Mta.{FilterConnection, Mta, Position, at_packet}
 use Rattle.milter_mta.specs.Mta.Position.{Sending}
-use Rattle.milter_mta.specs.Replies.{After, at, goes_on, received, received_at, received_byte, received_on, replied, replied_at, ruled_on}
+use Rattle.milter_mta.specs.Replies.{After, at, goes_on, received, received_at, received_byte, replied, replied_at, ruled_on}
 use Rattle.milter_mta.specs.Dispositions.{settled_all, settled_in}
 use Rattle.milter_mta_laws.specs.Order.{MayAnswer}
 
@@ -251,7 +251,7 @@ module _ (receives_bytes : ReceivesReplies) (negotiated : Negotiated) (stage : S
       let single = sum_by-cons weight_of edit [] in
       let at_end = is_end_here (is_end stage) refl end in
       fold-append received_byte (goes_on (owed_at (position so_far) m)) (encoding (edits.reply_of edit)) rest
-      ∙ ap (λ (a : After). received_on a rest)
+      ∙ ap (λ (a : After). fold received_byte a rest)
       (one so_far (edits.reply_of edit) (received_as.Edit edit) (All-head (λ e. Fits (edits.reply_of e)) edit more fit)
       (receives_edit negotiated stage (weight_of_all so_far) edit at_end (All-head (λ e. is_permitted negotiated e ≡ true) edit more may) (omega (arith, sum, light))))
       ∙ replies-received more (so_far ++ edit ∷ []) verdict (λ other. absurd (true≢false (sym at_end ∙ other)))

@@ -1,5 +1,6 @@
 -- Whatever a filter sends, a mail server's end stays on a dialogue, and settles messages by it.
 use Rattle.std.specs.Prelude.{if◌then◌else◌}
+use Rattle.std.specs.List.{fold}
 use Rattle.std.proofs.Common.{◌≡◌, ◌≢◌, ℕ, Bool, true, false, List, [], ◌∷◌, ◌++◌, drop, Option, None, Some, Result, Ok, Err, refl, sym, ap, ◌∙◌, subst, append-nil, ◌≤◌, ◌+◌, ◌||◌, arith}
 use Rattle.std.proofs.lemmas.Bool.{true≢false}
 use Rattle.std.proofs.lemmas.List.Elements.{All-append, All-cons, All-nil}
@@ -47,7 +48,7 @@ use Rattle.milter_mta.specs.declared.want.Want.{Want}
 use Rattle.milter_mta.specs.declared.want.Want.TheVariants as wants
 use Rattle.milter_mta.specs.Mta.{FilterConnection, Mta, Position, at_packet}
 use Rattle.milter_mta.specs.Mta.Position.{Ended, Offering, Quitting, Sending}
-use Rattle.milter_mta.specs.Replies.{negotiated_on, at, byte_at, fails, framed, received, received_at, received_on, opening_position, replied, replied_at, ruled_on, unread_is}
+use Rattle.milter_mta.specs.Replies.{negotiated_on, at, byte_at, fails, framed, received, received_at, received_byte, opening_position, replied, replied_at, ruled_on, unread_is}
 use Rattle.milter_mta.specs.Output.{advanced, advanced_in, after_packet, asks_at, dialled, dialled_if, finished, made, sent, sent_from, sent_in, sent_of, want, want_at, want_if_owed, want_in, want_unconnected}
 use Rattle.milter_mta_laws.specs.AnyFilter.{without_messages, GoesOnDialogues, IsAfterDialogue, IsConnectionOnDialogue, IsOnDialogue, IsOptionOnDialogue, IsPositionOnDialogue, is_end_next}
 use Rattle.milter_mta_laws.specs.Order.{AreInOrder, AreProper, MayAnswer, MayEdit}
@@ -384,13 +385,13 @@ module _ (facts : ReceivedFacts) (m : Mta) (on : IsOnDialogue m) where
       by_filter_connection (Some filter_connection) is = by_owed filter_connection is filter_connection.owed refl
 
 -- a piece, after a loss or without one
-received-on-goes : ReceivedFacts → (bytes : List ℕ) (m : Mta) (loss : Option Loss) → IsOnDialogue m → GoesOnDialogues m (received_on (record { mta = m; loss = loss }) bytes).mta
+received-on-goes : ReceivedFacts → (bytes : List ℕ) (m : Mta) (loss : Option Loss) → IsOnDialogue m → GoesOnDialogues m (fold received_byte (record { mta = m; loss = loss }) bytes).mta
 received-on-goes facts [] m loss on = record { on_dialogue = on; settles = nothing-settled m m refl refl refl refl }
 received-on-goes facts (byte ∷ bytes) m (Some loss) on = received-on-goes facts bytes m (Some loss) on
 received-on-goes facts (byte ∷ bytes) m None on =
     let after = byte_at m.filter_connection byte m in
     let first = byte-goes facts m on byte in
-    goes-on m after.mta (received_on after bytes).mta first (received-on-goes facts bytes after.mta after.loss first.on_dialogue)
+    goes-on m after.mta (fold received_byte after bytes).mta first (received-on-goes facts bytes after.mta after.loss first.on_dialogue)
 
 pub received-goes : ReceivedFacts → (m : Mta) (bytes : List ℕ) → IsOnDialogue m → GoesOnDialogues m (received m bytes).mta
 received-goes facts m bytes on = received-on-goes facts bytes m None on

@@ -1,5 +1,6 @@
 -- The verdict on the connection is the last one of the messages that it settled.
 use Rattle.std.specs.Prelude.{if◌then◌else◌, option_map}
+use Rattle.std.specs.List.{fold}
 use Rattle.std.proofs.Common.{◌≡◌, ◌≢◌, ℕ, Bool, true, false, List, [], ◌∷◌, ◌++◌, drop, map, Option, None, Some, Result, Ok, Err, refl, sym, ap, ◌∙◌, subst, append-nil}
 use Rattle.std.proofs.lemmas.List.Elements.{filter-append}
 use Rattle.std.proofs.lemmas.Option.{same_Some}
@@ -31,7 +32,7 @@ use Rattle.milter_mta.specs.declared.want.Want.{Want}
 use Rattle.milter_mta.specs.declared.want.Want.TheVariants as wants
 use Rattle.milter_mta.specs.Mta.{FilterConnection, Mta, Position, at_packet}
 use Rattle.milter_mta.specs.Mta.Position.{Ended, Offering, Quitting, Sending}
-use Rattle.milter_mta.specs.Replies.{negotiated_on, at, byte_at, fails, framed, received, received_at, received_on, replied, replied_at, ruled_on, unread_is}
+use Rattle.milter_mta.specs.Replies.{negotiated_on, at, byte_at, fails, framed, received, received_at, received_byte, replied, replied_at, ruled_on, unread_is}
 use Rattle.milter_mta.specs.Output.{advanced, advanced_in, dialled, dialled_if, sent, sent_in, want}
 use Rattle.milter_mta.specs.Dispositions.{acted_in, defaulted, lost, report, settled_all, settled_first, settled_in}
 use Rattle.milter_mta_laws.specs.AnyFilter.{ConnectionIsReported, HaveLastVerdict, IsConnectionOnDialogue, IsOnDialogue, IsOptionOnDialogue, IsPositionOnDialogue, client_reports, is_by_client, without_messages}
@@ -215,7 +216,7 @@ module _ (m : Mta) (is : ConnectionIsReported m) where
       by_filter_connection (Some filter_connection) is = by_owed filter_connection is filter_connection.owed
 
 received-on-keeps : ReceivedFacts → (bytes : List ℕ) (m : Mta) (loss : Option Loss) → IsOnDialogue m → ConnectionIsReported m
-    → ConnectionIsReported (received_on (record { mta = m; loss = loss }) bytes).mta
+    → ConnectionIsReported (fold received_byte (record { mta = m; loss = loss }) bytes).mta
 received-on-keeps facts [] m loss on is = is
 received-on-keeps facts (byte ∷ bytes) m (Some loss) on is = received-on-keeps facts bytes m (Some loss) on is
 received-on-keeps facts (byte ∷ bytes) m None on is =

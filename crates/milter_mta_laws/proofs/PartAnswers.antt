@@ -1,6 +1,6 @@
 -- A part of an answer is received: some of its edits, and bytes of the next reply.
 use Rattle.std.proofs.Common.{◌≡◌, ◌≢◌, ◌≤◌, ◌+◌, ℕ, Bool, true, false, List, [], ◌∷◌, ◌++◌, All, map, Some, refl, sym, ap, ◌∙◌, subst, arith, append-nil, append_assoc}
-use Rattle.std.specs.List.{flat_map}
+use Rattle.std.specs.List.{fold, flat_map}
 use Rattle.std.proofs.lemmas.Bool.{true≢false}
 use Rattle.std.proofs.lemmas.List.Elements.{All-head, All-tail}
 use Rattle.std.proofs.lemmas.List.Sums.{fold-append, sum_by-append, sum_by-cons}
@@ -24,7 +24,7 @@ use Rattle.milter_mta_outcome.specs.EditWeights.{weight_of_all}
 use Rattle.milter_mta_transaction.specs.Transactions.{stage_first}
 use Rattle.milter_mta.specs.Mta.{FilterConnection, Mta, at_packet}
 use Rattle.milter_mta.specs.Mta.Position.{Sending}
-use Rattle.milter_mta.specs.Replies.{After, at, goes_on, received, received_byte, received_on}
+use Rattle.milter_mta.specs.Replies.{After, at, goes_on, received, received_byte}
 use Rattle.milter_mta_laws.specs.PartAnswers.{IsPartReceived}
 use Rattle.milter_mta_laws.proofs.Answers.{ReceivesReplies, receives_edit, one, owed_at}
 
@@ -129,6 +129,6 @@ module _ (receives_bytes : ReceivesReplies) (keeps : KeepsPrefixes) (negotiated 
           let goes : received (owed_at (Sending negotiated acted so_far left) m) bytes ≡ received (owed_at (Sending negotiated acted (so_far ++ edit ∷ []) left) m) tail =
           ap (received (owed_at (Sending negotiated acted so_far left) m)) is
           ∙ fold-append received_byte (goes_on (owed_at (Sending negotiated acted so_far left) m)) (encoding (edits.reply_of edit)) tail
-          ∙ ap (λ (a : After). received_on a tail) receives_it in
+          ∙ ap (λ (a : After). fold received_byte a tail) receives_it in
           subst (IsPartReceived negotiated acted left m so_far (edit ∷ more) bytes) (sym goes)
           (with_edit so_far more edit bytes tail (received (owed_at (Sending negotiated acted (so_far ++ edit ∷ []) left) m) tail) is (rest_received tail rest remains others))

@@ -1,6 +1,6 @@
 -- A piece of the bytes on their way moves between both ends.
 use Rattle.std.proofs.Common.{◌≡◌, ◌≢◌, inl, inr, ℕ, zero, suc, ◌+◌, ◌-◌, ◌≤◌, ◌<◌, List, [], ◌∷◌, ◌++◌, refl, sym, ◌∙◌, ap, subst, arith, length, take, drop, append_assoc, length-append, length-drop, length-take-le, take-take, take-append-drop, take_all}
-use Rattle.std.specs.List.{flat_map}
+use Rattle.std.specs.List.{fold, flat_map}
 use Rattle.std.proofs.lemmas.List.{append_cancel_left}
 use Rattle.std.proofs.Math.Seq.{take-add, take-append_seam}
 use Rattle.milter_wire.specs.Reply.{encoding}
@@ -10,7 +10,7 @@ use Rattle.milter_protocol.specs.declared.filter_fault.FilterFault.{FilterFault 
 use Rattle.milter_protocol.specs.declared.filter_state.FilterState.TheVariants.{Failed, Serving}
 use Rattle.milter_protocol.specs.OrderStates.{OrderState, fresh_in, order_state_after, order_state_replies}
 use Rattle.milter_mta.specs.Mta.{Mta}
-use Rattle.milter_mta.specs.Replies.{After, goes_on, received, received_on}
+use Rattle.milter_mta.specs.Replies.{After, goes_on, received, received_byte}
 use Rattle.milter_mta.specs.Output.{advanced, pending, sent}
 use Rattle.milter_mta_laws.specs.Lines.{Line}
 use Rattle.milter_filter_core.specs.Cores.{Core, GivesUp, GoesOn, Takes, fresh_core_in, given_up}
@@ -293,8 +293,8 @@ module _ (opened : Mta) (lines : List Line) (follows : SendsLines opened lines) 
         by_place (inl e) bytes k same =
             let all : received m piece ≡ after_at opened lines c.sent (c.received + length piece) =
             ap (λ (x : Mta). received x piece) e
-            ∙ sym (ap (λ (a : After). received_on a piece) here-after)
-            ∙ ap (received_on (after_at opened lines c.sent c.received)) received-cut.is
+            ∙ sym (ap (λ (a : After). fold received_byte a piece) here-after)
+            ∙ ap (fold received_byte (after_at opened lines c.sent c.received)) received-cut.is
             ∙ receives_bytes lines opened c.sent c.received (length piece) follows counts.sent (let o = owed_le in let w = received-cut.within in omega arith) in
             record {
               goes_on = goes-on (received m piece) (ap (λ (a : After). a.loss) all ∙ not_lost lines opened c.sent (c.received + length piece) follows);

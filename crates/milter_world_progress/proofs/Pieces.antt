@@ -1,5 +1,6 @@
 -- A mail server's end that follows a connection's lines, where bytes come and go in any pieces.
 use Rattle.std.proofs.Common.{◌≡◌, ◌≢◌, ℕ, zero, suc, ◌+◌, ◌-◌, ◌≤◌, ◌<◌, List, [], ◌∷◌, ◌++◌, Option, None, refl, sym, ◌∙◌, ap, arith, length, take, drop, length-drop, length-append, take_all, take-append-drop}
+use Rattle.std.specs.List.{fold}
 use Rattle.std.proofs.lemmas.Bool.{le-ltb}
 use Rattle.std.proofs.lemmas.List.{drop-append-le, take-append-le}
 use Rattle.std.proofs.lemmas.List.Concat.{flat_map-cons}
@@ -8,7 +9,7 @@ use Rattle.std.proofs.Math.Seq.{take-add, drop-append-add}
 use Rattle.milter_mta_outcome.specs.declared.loss.Loss.{Loss}
 use Rattle.milter_mta.specs.declared.want.Want.TheVariants as wants
 use Rattle.milter_mta.specs.Mta.{Mta}
-use Rattle.milter_mta.specs.Replies.{After, goes_on, received, received_byte, received_on}
+use Rattle.milter_mta.specs.Replies.{After, goes_on, received, received_byte}
 use Rattle.milter_mta.specs.Output.{advanced, pending, sent, want}
 use Rattle.milter_mta_laws.specs.Lines.{Line, after_line, next_packet, sent_whole}
 use Rattle.milter_world_transcript.specs.ByteCounts.{due, owed, packet_end, to_filter, to_mta}
@@ -19,7 +20,7 @@ use Rattle.milter_world_progress.proofs.Steps.{advanced-full, pending-sent, sent
 pub goes-on : (after : After) → after.loss ≡ None → after ≡ goes_on after.mta
 goes-on after e = ap (λ (l : Option Loss). record { mta = after.mta; loss = l }) e
 
-pub received-more : (m : Mta) (first second : List ℕ) → received_on (received m first) second ≡ received m (first ++ second)
+pub received-more : (m : Mta) (first second : List ℕ) → fold received_byte (received m first) second ≡ received m (first ++ second)
 received-more m first second = sym (fold-append received_byte (goes_on m) first second)
 
 abbrev pub AddsUp : Type 0
@@ -73,10 +74,10 @@ not_lost (line ∷ lines) m s h f =
 -- the answer's bytes that come next, where so many of it were received
 abbrev pub ReceivesBytes : List Line → Type 0
 ReceivesBytes lines = (m : Mta) (s h k : ℕ) → SendsLines m lines → s ≤ due lines h → h + k ≤ owed lines s
-    → received_on (after_at m lines s h) (take k (drop h (to_mta lines))) ≡ after_at m lines s (h + k)
+    → fold received_byte (after_at m lines s h) (take k (drop h (to_mta lines))) ≡ after_at m lines s (h + k)
 
 receives_bytes-nothing : (m : Mta) (lines : List Line) (s h k : ℕ) → k ≡ 0
-    → received_on (after_at m lines s h) (take k (drop h (to_mta lines))) ≡ after_at m lines s (h + k)
+    → fold received_byte (after_at m lines s h) (take k (drop h (to_mta lines))) ≡ after_at m lines s (h + k)
 receives_bytes-nothing m lines s h k none = rw none (ap (after_at m lines s) (let e : h ≡ h + 0 = omega arith in e))
 
 module _ (line : Line) (lines : List Line) (rest : ReceivesBytes lines) (m : Mta) (s h k : ℕ) (f : SendsLines m (line ∷ lines))
@@ -93,7 +94,7 @@ module _ (line : Line) (lines : List Line) (rest : ReceivesBytes lines) (m : Mta
       rw (bytes-are, d) t
 
   receives_bytes-part : h < length line.back → h + k < length line.back
-      → received_on (after_at m (line ∷ lines) s h) (take k (drop h (to_mta (line ∷ lines)))) ≡ after_at m (line ∷ lines) s (h + k)
+      → fold received_byte (after_at m (line ∷ lines) s h) (take k (drop h (to_mta (line ∷ lines)))) ≡ after_at m (line ∷ lines) s (h + k)
   receives_bytes-part less still =
       rw (at-wait m line lines s h whole less, piece-is less 0 (omega arith))
       (received-more (sent_whole m) (take h line.back) (take k (drop h line.back))
@@ -101,7 +102,7 @@ module _ (line : Line) (lines : List Line) (rest : ReceivesBytes lines) (m : Mta
       ∙ sym (at-wait m line lines s (h + k) whole still))
 
   receives_bytes-last : h < length line.back → length line.back ≤ h + k
-      → received_on (after_at m (line ∷ lines) s h) (take k (drop h (to_mta (line ∷ lines)))) ≡ after_at m (line ∷ lines) s (h + k)
+      → fold received_byte (after_at m (line ∷ lines) s h) (take k (drop h (to_mta (line ∷ lines)))) ≡ after_at m (line ∷ lines) s (h + k)
   receives_bytes-last less last =
       let w = due-wait line lines h less in
       let o = owed-whole line lines s whole in
@@ -121,7 +122,7 @@ module _ (line : Line) (lines : List Line) (rest : ReceivesBytes lines) (m : Mta
       ∙ sym (at-past m line lines s (h + k) whole last))
 
   receives_bytes-later : length line.back ≤ h
-      → received_on (after_at m (line ∷ lines) s h) (take k (drop h (to_mta (line ∷ lines)))) ≡ after_at m (line ∷ lines) s (h + k)
+      → fold received_byte (after_at m (line ∷ lines) s h) (take k (drop h (to_mta (line ∷ lines)))) ≡ after_at m (line ∷ lines) s (h + k)
   receives_bytes-later past =
       let w = due-past line lines h past in
       let o = owed-whole line lines s whole in

@@ -1,6 +1,7 @@
 //! Laws of a mail server's end that follows a list of entries, each the contract of a function that does nothing.
 
 ghost use Rattle.std.specs.Prelude.{◌≡◌, ◌≤◌, ◌<◌, ◌+◌, ◌-◌, ◌++◌, ◌∷◌, List, None, drop, length, take, ℕ};
+ghost use Rattle.std.specs.List.{fold};
 ghost use Rattle.milter_wire.specs.declared.negotiation.Negotiated.{Negotiated};
 ghost use Rattle.milter_wire.specs.declared.command.Command.{Command};
 ghost use Rattle.milter_message.specs.MailObject.{MailObject};
@@ -13,7 +14,7 @@ ghost use Rattle.milter_mta_outcome.specs.declared.fallback.OnLoss.{OnLoss};
 ghost use Rattle.milter_mta_outcome.specs.declared.loss.Loss.{Loss};
 ghost use Rattle.milter_mta.specs.declared.want.Want.TheVariants as wants;
 ghost use Rattle.milter_mta.specs.Mta.{Configuration, Mta};
-ghost use Rattle.milter_mta.specs.Replies.{goes_on, received_on};
+ghost use Rattle.milter_mta.specs.Replies.{goes_on, received_byte};
 ghost use Rattle.milter_mta.specs.Output.{advanced, dialled, pending, sent, want};
 ghost use Rattle.milter_mta.specs.Dispositions.{lost};
 ghost use Rattle.milter_mta_laws.specs.Lines.{Line};
@@ -42,7 +43,7 @@ pub fn ends_in_steps()
 pub fn pieces_are_followed()
     ensures receives_bytes { (lines : List Line) (m : Mta) (s h k : ℕ) → SendsLines m lines → s ≤ due lines h →
         h + k ≤ owed lines s →
-        received_on (after_at m lines s h) (take k (drop h (to_mta lines))) ≡ after_at m lines s (h + k) }
+        fold received_byte (after_at m lines s h) (take k (drop h (to_mta lines))) ≡ after_at m lines s (h + k) }
     ensures sends { (lines : List Line) (m : Mta) (s h k : ℕ) → SendsLines m lines → s < due lines h →
         h ≤ owed lines s → 0 < k → s + k ≤ packet_end lines s →
         goes_on (sent k (advanced (after_at m lines s h).mta)) ≡ after_at m lines (s + k) h }

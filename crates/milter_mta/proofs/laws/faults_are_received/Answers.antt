@@ -1,4 +1,5 @@
 use Rattle.std.proofs.Common.{◌≡◌, Bool, true, false, ℕ, List, [], ◌∷◌, Option, None, Some, Result, Err, ap, arith, refl, sym, ◌∙◌}
+use Rattle.std.specs.List.{fold}
 use Rattle.std.proofs.lemmas.List.Sums.{fold-append}
 use Rattle.milter_wire_stream.specs.declared.fault.WireFault.{WireFault}
 use Rattle.milter_wire_stream.specs.declared.fault.WireFault.TheVariants.{Malformed, UnknownCode}
@@ -7,7 +8,7 @@ use Rattle.milter_wire.specs.Frames.{value_or_fault}
 use Rattle.milter_wire.specs.Reply.{is_code, reply_in}
 use Rattle.milter_mta_outcome.specs.declared.loss.Loss.{Loss}
 use Rattle.milter_mta_outcome.specs.declared.loss.MtaFault.TheVariants.{Wire}
-use Rattle.milter_mta.specs.Replies.{After, at, framed, goes_on, received, received_byte, received_on}
+use Rattle.milter_mta.specs.Replies.{After, at, framed, goes_on, received, received_byte}
 use Rattle.milter_mta.proofs.UnreadReplies.{early, early-at_none, fails-over}
 use Rattle.milter_mta.proofs.ReceivedFrames.{received-fault, received-packet, lost-stays, with_unread}
 use Rattle.milter_mta.proofs.laws.faults_are_received.Goals as goal
@@ -49,10 +50,10 @@ pub returns-clause-unconnected : goal.returns-clause-unconnected
 returns-clause-unconnected c m [] unconnected some = absurd (some refl)
 returns-clause-unconnected c m (x ∷ bytes) unconnected some = early-at_none m x bytes unconnected
 
-stays : (after : After) (loss : Loss) (bytes : List ℕ) → after.loss ≡ Some loss → received_on after bytes ≡ after
+stays : (after : After) (loss : Loss) (bytes : List ℕ) → after.loss ≡ Some loss → fold received_byte after bytes ≡ after
 stays after loss bytes is =
     let same : after ≡ record { mta = after.mta; loss = Some loss } = ap (λ (l : Option Loss). record { mta = after.mta; loss = l }) is in
-    ap (λ (a : After). received_on a bytes) same ∙ lost-stays after.mta loss bytes ∙ sym same
+    ap (λ (a : After). fold received_byte a bytes) same ∙ lost-stays after.mta loss bytes ∙ sym same
 
 pub returns-clause-lost : goal.returns-clause-lost
 returns-clause-lost c m first second loss is =

@@ -35,5 +35,5 @@ returns-clause-ok c =
     let k = c.self.inside.channel in
     let is : mta_of state (Some f) k ≡ c.args.self.now = ap (λ (o : Option Connected). mta_of state o k) (sym c.in-Some.is) ∙ c.self.view_is in
     let none : k.pending ≡ [] = sym c.pending.ensures ∙ no_bytes c.pending.result.now c.is_empty.result c.is_empty.ensures c.if-not-is_empty.false in
-    let wanted = ap (λ (o : _). want_at f.aborts (position_of state.client_info k.edits f.next) o) (sym c.is_owed-is_owed.ensures) ∙ sym (c.want.ensures k.edits) ∙ is_send c.want.result c.if-ne.ensures in
+    let wanted = ap (λ (o : _). want_at f.aborts (position_of state.client_info k.edits f.position) o) (sym c.is_owed-is_owed.ensures) ∙ sym (c.want.ensures k.edits) ∙ is_send c.want.result c.if-ne.ensures in
     on_ok c.queue_next.result _ _ (λ after. advanced-is state f c.queue_next.new.filter_connection k c.queue_next.ensures.same c.queue_next.new.channel c.self.invariant.offer none wanted (after k.edits) ∙ ap advanced is) c.queue_next.ensures.ok

@@ -10,7 +10,7 @@ use Rattle.milter_mta.proofs.state.SessionState.receive.Goals as goal
 
 pub on_event-requires-clause-taken : goal.on_event-requires-clause-taken
 on_event-requires-clause-taken c =
-    subst (λ (e : ExpectedReply). IsTaken c.args.self.now.client_info c.args.filter_connection.now.next e c.feed-event.result.event c.feed-event.new.self) (sym c.expected-expected.ensures)
+    subst (λ (e : ExpectedReply). IsTaken c.args.self.now.client_info c.args.filter_connection.now.position e c.feed-event.result.event c.feed-event.new.self) (sym c.expected-expected.ensures)
     (taken-is c.args.self.now c.args.filter_connection.now c.args.channel.now c.requires.core c.requires.owed
     c.verdicts_follow_commands.ensures.answered c.verdicts_follow_commands.ensures.once c.events_leave_channels.ensures.left c.events_leave_channels.ensures.lost
     c.args.piece.now c.feed-event.result.loss c.feed-event.new.self c.feed-event.result.event c.feed-event.ensures)
