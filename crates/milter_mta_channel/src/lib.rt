@@ -1,7 +1,7 @@
 //! A channel from a mail server to one filter: the commands that are sent on it, and the replies that come.
 //!
-//! A [`MtaChannel`] encodes commands and decodes replies, and knows nothing of the order of commands. A mail server that
-//! learns its messages as its client speaks uses it by way of `MtaConnection`, in `milter_mta_connection`.
+//! A [`MtaChannel`] encodes commands and decodes replies, and knows nothing of the order of commands. A mail server
+//! that learns its messages as its client speaks uses it by way of `MtaConnection`, in `milter_mta_connection`.
 //!
 //! Nothing here reads, writes or waits: write what is [`MtaChannel::pending`], note with [`MtaChannel::sent`] how much
 //! was written, and hand what was read to [`MtaChannel::feed`].

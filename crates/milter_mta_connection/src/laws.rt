@@ -43,8 +43,8 @@ pub fn commands_come_in_order()
         rank_from (is_end_by stage verdict) rank ≤ (after_verdict stage verdict c).last_rank }
 {}
 
-/// Whatever is called, sent and received, given up and lost, in whatever order, and whatever calls are refused: all that
-/// is sent on a connection comes in the order in which a filter's end takes commands.
+/// Whatever is called, sent and received, given up and lost, in whatever order, and whatever calls are refused: all
+/// that is sent on a connection comes in the order in which a filter's end takes commands.
 pub fn connections_keep_order()
     ensures { (offer : Options) (calls : List Call) → AllComeInOrder (fresh offer) 0 calls }
 {}

@@ -31,12 +31,13 @@ use std::alloc::Global;
 use std::marker::Model;
 
 /// A mail server's connection to a filter. The mail server calls it with what its client does, stage by stage, and has
-/// the filter's verdicts from [`MtaConnection::feed`]. It neither reads nor writes: [`MtaConnection::want`] says what is
-/// to be done next.
+/// the filter's verdicts from [`MtaConnection::feed`]. It neither reads nor writes: [`MtaConnection::want`] says what
+/// is to be done next.
 ///
-/// Each call for a command gives the macros that the mail server has for it. Those that the filter asked for by a symbol
-/// list are sent before the command, or all of them where it has no list of the stage. A refused call changes nothing.
-/// A message may have any size; its edits have at most 16,777,216 bytes. Source: the libmilter callback documentation.
+/// Each call for a command gives the macros that the mail server has for it. Those that the filter asked for by a
+/// symbol list are sent before the command, or all of them where it has no list of the stage. A refused call changes
+/// nothing. A message may have any size; its edits have at most 16,777,216 bytes. Source: the libmilter callback
+/// documentation.
 #[derive(Debug, Drop)]
 pub struct MtaConnection {
     alloc: Global,
@@ -112,8 +113,8 @@ impl MtaConnection {
         self.channel.sent(count);
     }
 
-    /// Takes a piece of what the filter sent, all of it. A verdict comes only after all that is pending was sent. With a
-    /// loss the connection is closed; the event came before it.
+    /// Takes a piece of what the filter sent, all of it. A verdict comes only after all that is pending was sent. With
+    /// a loss the connection is closed; the event came before it.
     pub fn feed(&mut self, piece: &[u8]) -> Fed
         ensures receives { Receives self.old.channel piece.now self.new.channel result }
         ensures goes_on { self.new ≡ after_fed result self.new.channel self.old }
