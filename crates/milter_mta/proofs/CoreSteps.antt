@@ -14,7 +14,7 @@ use Rattle.milter_message.specs.declared.edit.Edit.{Edit}
 use Rattle.milter_message.specs.MailObject.{MailObject}
 use Rattle.milter_mta_channel.specs.declared.expected_reply.ExpectedReply.{ExpectedReply}
 use Rattle.milter_mta_channel.specs.declared.expected_reply.ExpectedReply.TheVariants as expects
-use Rattle.milter_mta_channel.specs.Channel.{Channel, is_expecting, is_owed, is_owed_by, queue_expecting, sent}
+use Rattle.milter_mta_channel.specs.Channel.{Channel, is_expecting, is_owed, is_owed_by, sent}
 use Rattle.milter_mta_transaction.specs.Transactions.{asks_first, stage_first}
 use denote.Enum.Bare.{sameb}
 use Rattle.milter_mta.specs.declared.want.Want.{Want}
@@ -122,6 +122,7 @@ module _ (state : SessionState) (f new : Connected) (k : Channel) (same : IsSame
       by_abort : (a : Bool) → a ≡ true → expected_after a p ≡ expects.Nothing
       by_abort true e = refl
       by_abort false e = absurd cc
+
       by_none : (a : Bool) → a ≡ false → ExpectsAt p (encoding command) (expected_after a p)
       by_none true e = absurd cc
       by_none false e = refl

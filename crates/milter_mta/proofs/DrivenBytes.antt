@@ -1,5 +1,5 @@
 -- What a mail server's end receives is what the plan makes of the events of its channel.
-use Rattle.std.proofs.Common.{◌≡◌, ◌≢◌, ℕ, Bool, true, false, List, [], ◌∷◌, ◌++◌, Option, None, Some, Result, Ok, Err, drop, length, ◌<◌, refl, sym, ◌∙◌, ap, arith, take, subst}
+use Rattle.std.proofs.Common.{◌≡◌, ◌≢◌, ℕ, Bool, true, false, List, [], ◌∷◌, ◌++◌, Option, None, Some, Result, Ok, Err, drop, refl, sym, ◌∙◌, ap, arith, take, subst}
 use Rattle.std.specs.Prelude.{if◌then◌else◌}
 use Rattle.std.specs.List.{fold}
 use Rattle.milter_wire_stream.specs.declared.fault.WireFault.{WireFault}
@@ -36,7 +36,7 @@ use Rattle.milter_mta_channel.specs.ReplyRules.{IsWaiting}
 use Rattle.milter_mta_channel.proofs.ReceivedFrames.{lost-stays}
 use Rattle.milter_mta.specs.Cores.{IsLostAfter, ReceivesBytes, is_owed_in}
 use Rattle.milter_mta.specs.Driven.{IsWithMessage, driven, driven_by, expected_by, expected_first, lost_by, opened_by, owed_channel, owing, result_of, ruled_at, with_edits}
-use Rattle.milter_mta.specs.Dispositions.{acted_at, defaulted, lost, settled_all, settled_in}
+use Rattle.milter_mta.specs.Dispositions.{acted_at, lost, settled_all, settled_in}
 use Rattle.milter_mta.specs.Mta.{FilterConnection, Mta, Position, at_packet}
 use Rattle.milter_mta.specs.Mta.Position.{Offering, Sending, Quitting, Ended}
 use Rattle.milter_mta.specs.Replies as mta

@@ -1,5 +1,5 @@
 -- What comes while no reply is owed.
-use Rattle.std.proofs.Common.{◌≡◌, ◌<◌, ◌+◌, false, List, [], ◌∷◌, ℕ, Option, None, Some, length, refl, sym, ap, ◌∙◌, arith}
+use Rattle.std.proofs.Common.{◌≡◌, false, List, [], ◌∷◌, ℕ, None, Some, refl, sym, ap, ◌∙◌, arith}
 use Rattle.milter_message.specs.declared.edit.Edit.{Edit}
 use Rattle.milter_mta_channel.specs.Channel.{Channel, is_owed}
 use Rattle.milter_mta_outcome.specs.declared.loss.Loss.TheVariants.{Fault}

@@ -1,5 +1,5 @@
 -- What a mail server's end makes of what comes on its channel, while a reply is owed.
-use Rattle.std.proofs.Common.{◌≡◌, ◌≢◌, ◌⊎◌, inl, inr, ℕ, Bool, true, false, ◌&&◌, List, [], ◌∷◌, ◌++◌, Option, None, Some, Result, Ok, Err, length, take, drop, ◌<◌, refl, sym, ap, subst, ◌∙◌}
+use Rattle.std.proofs.Common.{◌≡◌, ◌≢◌, inl, inr, ℕ, Bool, true, false, ◌&&◌, List, [], ◌∷◌, Option, None, Some, Ok, Err, length, take, drop, ◌<◌, refl, sym, ap, subst, ◌∙◌}
 use Rattle.std.specs.Prelude.{if◌then◌else◌}
 use Rattle.std.proofs.lemmas.Option.{same_Some}
 use Rattle.milter_wire_options.specs.declared.options.Options.{Options}
@@ -24,8 +24,6 @@ use Rattle.milter_mta_channel.specs.ReplyRules.{IsAnswered, IsLeftBy, IsWaiting}
 use Rattle.milter_mta_outcome.specs.declared.acted.Acted.{Acted}
 use Rattle.milter_mta_outcome.specs.declared.loss.Loss.{Loss}
 use Rattle.milter_mta_outcome.specs.declared.loss.Loss.TheVariants.{Fault, Memory, Reset, Timeout}
-use Rattle.milter_mta_outcome.specs.ReceivedReplies.{is_given}
-use Rattle.milter_mta_transaction.specs.declared.transaction.Transaction.{Transaction}
 use Rattle.milter_mta_transaction.specs.Transactions.{left_of, stage_first}
 use Rattle.milter_mta_transaction.specs.TransactionVerdicts.{ends_dialogue, is_of_connection, left_after, on_connection, with_verdict}
 use Rattle.milter_mta.specs.declared.state.Position.{Position as PositionParts}
@@ -34,7 +32,7 @@ use Rattle.milter_mta.specs.declared.state.FilterConnection.{FilterConnection as
 use Rattle.milter_mta.specs.declared.state.SessionState.{SessionState}
 use Rattle.milter_mta.specs.CoreParts.{Follows, IsCommand, IsConsistent, IsTaken, messages_at, mta_at, mta_of, only, position_of, unconnected}
 use Rattle.milter_mta.specs.Cores.{IsCore, IsLostAfter, ReceivesBytes}
-use Rattle.milter_mta.specs.Dispositions.{acted_at, acted_in, defaulted, lost, next_message, settled_all, settled_in}
+use Rattle.milter_mta.specs.Dispositions.{acted_at, defaulted, lost, next_message, settled_all, settled_in}
 use Rattle.milter_mta.specs.Driven.{ExpectsAt, HasEditsAt, IsInStep, IsNegotiatedAt, IsWithMessage, driven, driven_by, edits_by, expected_by, expected_first, negotiated_by, opened_by, owed_channel, owing, result_of, ruled_at, ruled_in, with_edits}
 use Rattle.milter_mta.specs.Mta.{Configuration, FilterConnection, Mta, Position, at_packet}
 use Rattle.milter_mta.specs.Mta.Position.{Offering, Sending, Quitting, Ended}
@@ -236,7 +234,6 @@ module _ (state : SessionState) (f : Connected) (k : Channel) (core : IsCore sta
       (lost_left : (c : Channel) (bytes : List ℕ) (loss : Loss) → (received_on_channel c bytes).loss ≡ Some loss
       → (before : Channel) × IsLeftBy (received_on_channel c bytes).event c before × ((received_on_channel c bytes).channel ≡ ended (received_on_channel c bytes).event before))
       (piece : List ℕ) where
-
     -- the channel before a loss
     pub record IsLeft (h : FilterEvent) (new : Channel) : Type 0 where
       pub before : Channel

@@ -1,13 +1,8 @@
 -- What becomes of a mail server's end by a piece of what a filter sends.
-use Rattle.std.proofs.Common.{◌≡◌, ◌≢◌, ℕ, true, false, List, [], ◌∷◌, ◌++◌, Option, None, Some, Result, Ok, Err, refl, sym, ◌∙◌, ap, subst, take, drop, length, ◌+◌, ◌<◌, arith, take-add, take-append-drop, length-drop}
+use Rattle.std.proofs.Common.{◌≡◌, ◌≢◌, ℕ, false, List, [], ◌∷◌, Option, None, Some, Result, Ok, Err, refl, ◌∙◌, ap, length, ◌<◌, arith}
 use Rattle.std.specs.List.{fold}
 use Rattle.std.specs.Prelude.{if◌then◌else◌}
-use Rattle.std.proofs.lemmas.List.Sums.{fold-append}
 use Rattle.milter_wire_stream.specs.declared.fault.WireFault.{WireFault}
-use Rattle.milter_wire_stream.specs.declared.fault.WireFault.TheVariants.{NoMemory}
-use Rattle.milter_wire_stream.specs.Stream.{Frame, IsFrame, IsUnfinished, frame_bytes, length_fault}
-use Rattle.milter_wire_stream.proofs.StreamLaws.{length_fault-fed}
-use Rattle.milter_wire.specs.Frames.{frame_reply}
 use Rattle.milter_wire.specs.declared.negotiation.Negotiated.{Negotiated}
 use Rattle.milter_wire.specs.declared.reply.Reply.{Reply}
 use Rattle.milter_wire.specs.declared.stage.Stage.{Stage}
@@ -19,23 +14,18 @@ use Rattle.milter_protocol.specs.declared.action.Action.{Action}
 use Rattle.milter_protocol.specs.declared.action.Action.TheVariants as received_reply
 use Rattle.milter_mta_outcome.specs.declared.acted.Acted.{Acted}
 use Rattle.milter_mta_outcome.specs.declared.loss.Loss.{Loss}
-use Rattle.milter_mta_outcome.specs.declared.loss.Loss.TheVariants.{Fault, Memory, Reset, Timeout}
+use Rattle.milter_mta_outcome.specs.declared.loss.Loss.TheVariants.{Fault}
 use Rattle.milter_mta_outcome.specs.declared.loss.MtaFault.{MtaFault}
 use Rattle.milter_mta_outcome.specs.declared.loss.MtaFault.TheVariants.{Early, NotAtThisStage, Wire}
 use Rattle.milter_mta_outcome.specs.ReceivedReplies.{options_received, reply_received}
 use Rattle.milter_mta_outcome.specs.EditWeights.{weight_of_all}
 use Rattle.milter_mta_transaction.specs.Transactions.{stage_first}
 use Rattle.milter_mta_transaction.specs.TransactionVerdicts.{ends_dialogue, is_of_connection, left_after, with_verdict}
-use Rattle.milter_mta_transaction.specs.declared.cursor.ClientInfo.{ClientInfo}
-use Rattle.milter_mta.specs.declared.state.Position.{Position as PositionParts}
-use Rattle.milter_mta.specs.declared.state.Position.TheVariants as parts
-use Rattle.milter_mta.specs.declared.state.FilterConnection.{FilterConnection as Connected}
-use Rattle.milter_mta.specs.declared.state.SessionState.{SessionState}
 use Rattle.milter_mta.specs.Mta.{FilterConnection, Mta, Position, at_packet}
 use Rattle.milter_mta.specs.Mta.Position.{Offering, Sending, Quitting, Ended}
-use Rattle.milter_mta.specs.Replies.{After, negotiated_on, at, byte_at, fails, framed, goes_on, received, received_at, received_byte, replied, replied_at, ruled_on, wire_loss}
+use Rattle.milter_mta.specs.Replies.{After, negotiated_on, at, byte_at, fails, framed, goes_on, received, received_at, received_byte, replied, replied_at, ruled_on}
 use Rattle.milter_mta.specs.Dispositions.{acted_at, defaulted, lost, settled_all, settled_in}
-use Rattle.milter_mta.proofs.ReceivedFrames.{received-fault, received-packet, received-unfinished, lost-stays, with_unread}
+use Rattle.milter_mta.proofs.ReceivedFrames.{lost-stays}
 
 -- a message is under way where a command was sent
 abbrev HasMessage : List MailObject → Position → Type 0

@@ -1,9 +1,8 @@
-use Rattle.std.proofs.Common.{◌≡◌, [], List, ℕ, Option, Some, Result, Ok, Err, OnErr, OnOk, ap, subst, sym, ◌∙◌}
+use Rattle.std.proofs.Common.{◌≡◌, [], Option, Some, Result, Ok, Err, OnErr, OnOk, ap, subst, sym, ◌∙◌}
 use Rattle.milter_wire_stream.specs.declared.fault.NoMemory.{NoMemory}
 use Rattle.milter_mta.specs.declared.state.FilterConnection.{FilterConnection as Connected}
 use Rattle.milter_mta.specs.CoreParts.{mta_of, position_of}
 use Rattle.milter_mta.specs.Cores.{IsCore}
-use Rattle.milter_mta.specs.Mta.{Mta}
 use Rattle.milter_mta.specs.Output.{advanced, want_at}
 use Rattle.milter_mta.proofs.CoreSteps.{advanced-is, is_send, no_bytes, queued-core, same-core}
 use Rattle.milter_mta.proofs.mta_core.MtaCore.advance.Goals as goal

@@ -1,9 +1,8 @@
-use Rattle.std.proofs.Common.{◌≡◌, [], ℕ, List, drop, Option, Some, ap, subst, sym, ◌∙◌}
-use Rattle.milter_mta_channel.specs.Channel.{Channel, is_owed, sent as sent_on}
+use Rattle.std.proofs.Common.{◌≡◌, [], drop, Option, Some, ap, subst, sym, ◌∙◌}
+use Rattle.milter_mta_channel.specs.Channel.{Channel, is_owed}
 use Rattle.milter_mta.specs.declared.state.FilterConnection.{FilterConnection as Connected}
 use Rattle.milter_mta.specs.CoreParts.{mta_of}
 use Rattle.milter_mta.specs.Cores.{IsCore}
-use Rattle.milter_mta.specs.Mta.{Mta}
 use Rattle.milter_mta.specs.Output.{sent}
 use Rattle.milter_mta.proofs.CoreSteps.{HasBytes, left-is, next-is, no_bytes, owed-is, some_bytes}
 use Rattle.milter_mta.proofs.mta_core.MtaCore.sent.Goals as goal

@@ -1,4 +1,4 @@
-use Rattle.std.proofs.Common.{Some, [], ap, subst, sym, ◌∙◌}
+use Rattle.std.proofs.Common.{Some, ap, subst, sym, ◌∙◌}
 use Rattle.milter_mta.specs.declared.state.FilterConnection.{FilterConnection as Connected}
 use Rattle.milter_mta.specs.declared.state.SessionState.{SessionState}
 use Rattle.milter_mta.specs.CoreParts.{IsConsistent, mta_at, with_state_report}

@@ -1,4 +1,4 @@
-use Rattle.std.proofs.Common.{◌-◌, ◌∷◌, ◌++◌, [], Bool, List, None, Some, not, ap, ◌∙◌}
+use Rattle.std.proofs.Common.{◌-◌, ◌∷◌, ◌++◌, [], Bool, List, Some, not, ap, ◌∙◌}
 use Rattle.milter_message.specs.MailObject.{MailObject}
 use Rattle.milter_mail.specs.MailSession.{MailSession}
 use Rattle.milter_wire.specs.Negotiation.{has_leading_space}

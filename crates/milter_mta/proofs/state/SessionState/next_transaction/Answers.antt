@@ -1,4 +1,4 @@
-use Rattle.std.proofs.Common.{Bool, [], None, Some, not, ap, ◌∙◌}
+use Rattle.std.proofs.Common.{Bool, [], Some, not, ap, ◌∙◌}
 use Rattle.milter_mail.specs.MailSession.{MailSession}
 use Rattle.milter_mta.specs.CoreParts.{session_of, unconnected}
 use Rattle.milter_mta.specs.Mta.{connection_at}

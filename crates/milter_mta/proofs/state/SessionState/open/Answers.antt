@@ -1,4 +1,4 @@
-use Rattle.std.proofs.Common.{List, [], None, Some, false, ap, sym, ◌∙◌, ◌≡◌, arith}
+use Rattle.std.proofs.Common.{List, [], Some, false, ap, ◌∙◌, ◌≡◌, arith}
 use Rattle.std.proofs.lemmas.Grind.{common_steps}
 use Rattle.milter_wire.specs.declared.stage.Stage.TheVariants.{Connect}
 use Rattle.milter_wire.specs.declared.negotiation.Negotiated.{Negotiated}
