@@ -13,7 +13,8 @@ pub record HasActed (stage : Stage) (answer : Answer) (old new : Transaction) : 
   pub acted : new.acted ≡ with_verdict stage answer.verdict old.acted
   pub same : new ≡ record old { acted = new.acted; cursor = new.cursor }
 
--- nothing where the dialogue goes on, and the answer where it ends by it; where memory was refused no verdict is acted on
+-- nothing where the dialogue goes on, and the answer where it ends by it; where memory was refused no verdict is acted
+-- on
 abbrev pub ActsOn : ClientInfo → Stage → Answer → Transaction → Transaction → Result (Option Answer) NoMemory → Type 0
 ActsOn client_info stage answer old new (Ok None) =
     HasActed stage answer old new

@@ -151,7 +151,8 @@ IsCommand client_info stage other = ⊥
 -- the same packet is the next one, though its place in the plan may have been looked up
 pub record IsSamePlace (client_info : ClientInfo) (old new : Connected) : Type 0 where
   pub aborts : new.aborts ≡ old.aborts
-  pub position : (edits : List Edit) → position_of client_info edits new.position ≡ position_of client_info edits old.position
+  pub position : (edits : List Edit) →
+      position_of client_info edits new.position ≡ position_of client_info edits old.position
   pub can_send : CanSend client_info new.position
   pub messages : messages_at new.position ≡ messages_at old.position
 
@@ -170,10 +171,12 @@ IsTaken client_info next expected waiting channel = Unit {0}
 abbrev pub Follows : FilterEvent → SessionState → Connected → Channel → SessionState → Connected → Channel → Type 0
 Follows (events.Verdict verdict) old_state old old_channel state new channel =
     (mta_at state new
-    ≡ ruled_in (position_of old_state.client_info [] old.position) verdict old_channel.edits (mta_at old_state (only old.position)))
+    ≡ ruled_in (position_of old_state.client_info [] old.position) verdict old_channel.edits
+    (mta_at old_state (only old.position)))
     × (channel ≡ without_edits old_channel)
 Follows events.Negotiated old_state old old_channel state new channel =
-    (mta_at state new ≡ opened_by old_channel.negotiated (mta_at old_state (only old.position))) × (channel ≡ old_channel)
+    (mta_at state new ≡ opened_by old_channel.negotiated (mta_at old_state (only old.position)))
+    × (channel ≡ old_channel)
 Follows waiting old_state old old_channel state new channel =
     (state ≡ old_state) × (new ≡ old) × (channel ≡ old_channel)
 

@@ -19,7 +19,8 @@ use milter_wire::reply_frames;
 
 /// What is received of a piece and then of another is what is received of both in one.
 pub fn pieces_go_on()
-    ensures { (m : Mta) (first second : List ℕ) → received m (first ++ second) ≡ fold received_byte (received m first) second }
+    ensures { (m : Mta) (first second : List ℕ) →
+        received m (first ++ second) ≡ fold received_byte (received m first) second }
 {}
 
 /// The bytes of a reply that is owed are received as that reply, while a message isn't settled.

@@ -30,8 +30,8 @@ fn is_end(stage: Stage) -> bool
 }
 
 impl SessionState {
-    /// Settles a message under way, or each that is left, by the answer to its last command, which is of this stage; the
-    /// verdict is the last that was acted on. Where memory is refused the filter is lost before that verdict.
+    /// Settles a message under way, or each that is left, by the answer to its last command, which is of this stage.
+    /// The verdict is the last that was acted on. Where memory is refused the filter is lost before that verdict.
     pub(crate) fn finish(
         &mut self,
         filter_connection: &mut FilterConnection,

@@ -108,7 +108,8 @@ impl FilterConnection {
         requires { CanSend client_info.now self.old.position }
         ensures aborted { self.old.aborts ≡ true → self.new ≡ only self.old.position }
         ensures after { self.old.aborts ≡ false → (edits : List EditValue) →
-            position_of client_info.now edits self.new.position ≡ after_packet (position_of client_info.now edits self.old.position) }
+            position_of client_info.now edits self.new.position
+            ≡ after_packet (position_of client_info.now edits self.old.position) }
         ensures aborts { self.new.aborts ≡ false }
         ensures can_send { CanSend client_info.now self.new.position }
         ensures messages { messages_at self.new.position ≡ messages_at self.old.position }
