@@ -1,0 +1,71 @@
+//! What is printed of edits.
+
+use crate::answers::print_hex;
+use anyhow::{Context, bail};
+use milter_mail::{Edit, Held, Message, write_message};
+use milter_mta_connection::MtaConnection;
+use milter_wire::{Header, Params, Path, Text};
+use std::alloc::Global;
+use std::io;
+
+/// Prints the packet that asks for an edit.
+fn print_edit<R: Print + AllocGlobal>(rt: &R, edit: &Edit) -> anyhow::Result<()> {
+    let reply = edit.copy(rt.alloc())?.into_reply();
+    if !reply.fits() {
+        bail!("an edit fits no packet");
+    }
+    let mut packet = Vec::new(rt.alloc());
+    reply.encode(rt.alloc(), &mut packet)?;
+    print_hex(rt, &packet)
+}
+
+/// Prints how many edits there are, and the packet of each.
+pub fn print_edits<R: Print + AllocGlobal>(rt: &R, edits: &[Edit]) -> anyhow::Result<()> {
+    println!(rt; "edits {}", edits.len())?;
+    for edit in edits {
+        print_edit(rt, edit)?;
+    }
+    Ok(())
+}
+
+/// A sender or a recipient without parameters.
+fn path_of(alloc: Global, address: &Text) -> anyhow::Result<Path> {
+    Ok(Path {
+        address: Text::copy_of(alloc, address.as_slice())?,
+        params: Params::new(Vec::new(alloc)),
+    })
+}
+
+/// A header field.
+fn header_of(alloc: Global, name: &Text, value: &Text) -> anyhow::Result<Header> {
+    Ok(Header {
+        name: Text::copy_of(alloc, name.as_slice())?,
+        value: Text::copy_of(alloc, value.as_slice())?,
+    })
+}
+
+/// A message with one recipient and one header field.
+fn message_in(alloc: Global, texts: &[Text]) -> anyhow::Result<Message> {
+    let [sender, recipient, name, value, body] = texts else {
+        bail!("edited SENDER RECIPIENT NAME VALUE BODY");
+    };
+    let sender = path_of(alloc, sender)?;
+    let mut recipients = Vec::new(alloc);
+    recipients.push(path_of(alloc, recipient)?)?;
+    let mut headers = Vec::new(alloc);
+    headers.push(header_of(alloc, name, value)?)?;
+    let body = body.as_slice().to_vec(alloc)?;
+    Message::new(sender, recipients, headers, body).context("no message")
+}
+
+/// Prints the message of these parts after the edits that came.
+pub fn print_edited<R: Print + AllocGlobal>(
+    rt: &R,
+    connection: &MtaConnection,
+    texts: &[Text],
+) -> anyhow::Result<()> {
+    let message = message_in(rt.alloc(), texts)?;
+    let held: Held = connection.edited(&message)?;
+    write_message(rt.alloc(), &mut io::writer(rt), &held)?;
+    Ok(())
+}
