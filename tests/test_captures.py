@@ -1,5 +1,6 @@
 #!/usr/bin/env python3
-"""Plays the captured conversations cases/captures/* on both ends, as both compilers built them.
+"""Plays the captured conversations cases/captures/* on the filter's end and on both mail server's ends, as both compilers
+built them.
 
 The mail server's half is fed to `milter_tool answer`. What is replied is written out here from the protocol: the
 options with what both ends have, which is nothing but the version, and `Continue` to each command that has a reply.
@@ -20,6 +21,18 @@ are played to their end. A mail server's end differs from those that were captur
 - It aborts no message that came to its end; Postfix does, and once more before it quits.
 - It quits where the script of `raw_quitnc` begins another connection on the same stream. What comes after that
   is played as a connection of its own, which begins with the same options.
+
+The filter's half is also fed to the mail server's end that is called stage by stage, by the program of the tables
+`connection_*`. Its script has a call for each captured command, with the macros that went before it, and feeds each
+reply after its command, again packet by packet and byte by byte. Compared are the packets that each call sends, what
+comes of each reply, and the edits. The offer is the captured one, and so are the macros of each call; so it differs from
+the captured mail servers in less:
+
+- It has no macros for header fields and the body, and sends no packet without any; Postfix sends both. It sends none
+  before a command that is left out; Postfix does, in `pf_opendkim`.
+- It sends the macros that the filter asked for by a symbol list, and no others; miltertest sends all.
+- An abort after a message that came to its end is left out; Postfix sends it, and once more before it quits.
+- `raw_quitnc` is two connections, as above.
 """
 import os
 import sys
@@ -77,21 +90,59 @@ def by_bytes(replies):
     return ['feed_bytes ' + b''.join(replies).hex()]
 
 
+def fault_of_script(program, build, script, printed):
+    """What is wrong of what a program prints of a script, or None."""
+    status, out, errors = programs.ended(programs.command_of(program, build), '\n'.join(script + ['']).encode())
+    lines = out.decode().splitlines()
+    if status or errors:
+        return f'status {status}, errors {errors!r}'
+    for number, (line, wanted) in enumerate(zip(lines + [''] * len(printed), printed), 1):
+        if line != wanted:
+            return f'line {number} of what is printed is {line}, and not {wanted}'
+    if len(lines) > len(printed):
+        return f'more is printed: {lines[len(printed)]}'
+    return None
+
+
 def fault_of_commands(path, build):
     """What is wrong of the commands to a capture's filter and of the reports, or None."""
     for conversation in captures.conversations(path):
         for feeds in by_packets, by_bytes:
-            script, printed = script_of(conversation, feeds)
-            command = programs.command_of('mail server', build)
-            status, out, errors = programs.ended(command, '\n'.join(script + ['']).encode())
-            lines = out.decode().splitlines()
-            if status or errors:
-                return f'status {status}, errors {errors!r}'
-            for number, (line, wanted) in enumerate(zip(lines + [''] * len(printed), printed), 1):
-                if line != wanted:
-                    return f'line {number} of what is printed is {line}, and not {wanted}'
-            if len(lines) > len(printed):
-                return f'more is printed: {lines[len(printed)]}'
+            fault = fault_of_script('mail server', build, *script_of(conversation, feeds))
+            if fault is not None:
+                return fault
+    return None
+
+
+def printed_of(reply):
+    """What is printed of a captured reply: of an edit that the filter is at work."""
+    what = chr(reply[4])
+    if what == 'O':
+        return 'negotiated %x %x %x' % tuple(int.from_bytes(reply[at:at + 4], 'big') for at in (5, 9, 13))
+    return 'verdict ' + captures.VERDICTS[what] if what in captures.VERDICTS else 'in progress'
+
+
+def script_of_calls(connection, feeds):
+    """The script that makes the calls of a connection, and what it prints; `feeds` has the commands that feed replies."""
+    lines, printed = ['offer ' + connection.offer], []
+    for call, answer, packets, replies in connection.calls:
+        lines += call + ['send', 'want'] + (feeds(replies) if replies else [])
+        printed += answer + [packet.hex() for packet in packets]
+        printed += ['receive' if replies else 'nothing' if packets and packets[-1][4:] == b'Q' else 'command']
+        printed += [printed_of(reply) for reply in replies]
+        if call[-1:] == ['end']:
+            lines += ['edits']
+            printed += ['edits %d' % (len(replies) - 1)] + [reply.hex() for reply in replies[:-1]]
+    return lines, printed
+
+
+def fault_of_calls(path, build):
+    """What is wrong of the calls for a capture's mail server, or None."""
+    for connection in captures.calls(path):
+        for feeds in by_packets, by_bytes:
+            fault = fault_of_script('connection', build, *script_of_calls(connection, feeds))
+            if fault is not None:
+                return fault
     return None
 
 
@@ -106,7 +157,7 @@ def play_of(path, build, fault_of):
 
 
 if __name__ == '__main__':
-    programs.need('tool', 'mail server')
+    programs.need('tool', 'mail server', 'connection')
     sys.exit(runner.run_all(
         play_of(path, build, fault_of) for path in captures.paths() for build in programs.BUILDS
-        for fault_of in (fault_of_answers, fault_of_commands)))
+        for fault_of in (fault_of_answers, fault_of_commands, fault_of_calls)))

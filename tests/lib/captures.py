@@ -1,5 +1,6 @@
-"""Captured conversations (cases/captures/*/stdin) as a mail server's end plays them: the session file, the packets to
-the filter, and the reports. All of it is worked out here from the packets and the protocol.
+"""Captured conversations (cases/captures/*/stdin) as the two mail server's ends play them: of the one the session file,
+the packets to the filter and the reports, of the other, which is fed stage by stage, the calls and the packets. All of
+it is worked out here from the packets and the protocol.
 """
 import glob
 import os
@@ -11,6 +12,8 @@ from lib.packets import code_of, number_of, packet_of, packets_of, texts_of
 STAGES = {'C': 'connect', 'H': 'helo', 'M': 'mail', 'R': 'rcpt', 'T': 'data', 'N': 'eoh', 'E': 'eom'}
 ACTED = STAGES | {'L': 'header', 'B': 'body', 'E': 'eob'}
 VERDICTS = {'a': 'accept', 'c': 'continue'}
+# The calls of a mail server's end that is fed stage by stage, by the codes of their commands.
+CALLS = {'H': 'helo', 'M': 'mail', 'R': 'rcpt', 'T': 'data', 'N': 'eoh', 'B': 'body', 'E': 'end', 'A': 'abort', 'Q': 'quit'}
 # The stages of macros, by their numbers in a symbol list.
 LISTED = 'CHMRTEN'
 ESCAPES = {0x09: '\\t', 0x0a: '\\n', 0x0d: '\\r', 0x22: '\\"', 0x5c: '\\\\'}
@@ -46,6 +49,30 @@ def quoted(text):
 def line(word, *words):
     """A line of a session file or of a released message."""
     return ' '.join([word] + [quoted(text) for text in words])
+
+
+def client_parts(payload):
+    """The family, host, port and address of a client that has an address."""
+    host, rest = payload.split(b'\0', 1)
+    return chr(rest[0]), host, int.from_bytes(rest[1:3], 'big'), texts_of(rest[3:])[0]
+
+
+def asked_for(what, macros, answer):
+    """The names and values of those of a stage's macros that are sent: where the options with which the filter answered
+    list names for the stage, these alone, in this order."""
+    pairs, lists = dict(zip(macros[::2], macros[1::2])), answer[17:]
+    while lists:
+        stage, names = number_of(lists), lists[4:].split(b'\0')[0]
+        lists = lists[4 + len(names) + 1:]
+        if LISTED[stage] == what:
+            return [text for name in names.split() if name in pairs for text in (name, pairs[name])]
+    return macros
+
+
+def macro_packets(what, macros, answer):
+    """The packet of macros that goes before a command with this code, if there is one."""
+    texts = asked_for(what, macros, answer)
+    return [packet_of(b'D' + what.encode() + b''.join(text + b'\0' for text in texts))] if texts else []
 
 
 class Message:
@@ -167,26 +194,12 @@ class Conversation:
     def with_macros(self, command, replies):
         """A command and its replies, after the macros that go before it."""
         what = code_of(command)
-        chosen = self.chosen(what)
-        if chosen:
-            yield packet_of(b'D' + what.encode() + b''.join(text + b'\0' for text in chosen)), []
+        yield from ((packet, []) for packet in macro_packets(what, self.macros.get(what, []), self.answer))
         yield command, replies
-
-    def chosen(self, what):
-        """The names and values of the macros of a stage: where the filter listed names, these alone, in this order."""
-        macros, lists = self.macros.get(what, []), self.answer[17:]
-        pairs = dict(zip(macros[::2], macros[1::2]))
-        while lists:
-            stage, names = number_of(lists), lists[4:].split(b'\0')[0]
-            lists = lists[4 + len(names) + 1:]
-            if LISTED[stage] == what:
-                return [text for name in names.split() if name in pairs for text in (name, pairs[name])]
-        return macros
 
     def session_lines(self):
         """The lines of the session file."""
-        host, rest = self.client.split(b'\0', 1)
-        family, port, address = chr(rest[0]), int.from_bytes(rest[1:3], 'big'), texts_of(rest[3:])[0]
+        family, host, port, address = client_parts(self.client)
         lines = ['client %s %s %d %s' % (family, quoted(host), port, quoted(address)), line('helo', self.greeting)]
         for what, pairs in self.macros.items():
             lines += [line('macro ' + STAGES[what], *pair) for pair in zip(pairs[::2], pairs[1::2])]
@@ -208,8 +221,50 @@ class Conversation:
         return lines
 
 
-def conversations(path):
-    """The connections of a capture. Where one goes on as another after `K`, both begin with the same options."""
+class Calls:
+    """The calls of a mail server's end that is fed stage by stage, for a captured connection, whose packets and replies
+    these are: of each the lines of the script that make it, what it answers, the packets that it sends, and the replies
+    to them."""
+
+    def __init__(self, talk):
+        options, (self.answer,) = talk[0]
+        self.offer = ' '.join('%x' % number_of(options[5 + at:]) for at in (0, 4, 8))
+        self.blank = b'' if number_of(self.answer[13:]) & LEADING_SPACE else b' '
+        self.calls, self.is_in_message = [([], [], [options], talk[0][1])], False
+        macros = {}
+        for command, replies in talk[1:]:
+            what = code_of(command)
+            if what == 'D':
+                macros = {chr(command[5]): texts_of(command[6:])}
+            else:
+                self.calls.append(self.call(what, command, macros.get(what, []) if what in STAGES else [], replies))
+                macros = {}
+
+    def call(self, what, command, macros, replies):
+        """The call for a command with these macros. An abort is left out where no message is under way."""
+        lines = [line('macro', *pair) for pair in zip(macros[::2], macros[1::2])] + [self.call_line(what, command[5:])]
+        is_sent = what != 'A' or self.is_in_message
+        self.is_in_message = self.is_in_message and what not in 'EA' or what == 'M'
+        if not is_sent:
+            return lines, ['left out'], [], []
+        answer = 'verdict due' if replies else 'no reply'
+        return lines, [answer], macro_packets(what, macros, self.answer) + [command], replies
+
+    def call_line(self, what, payload):
+        """The line that makes the call for a command."""
+        if what == 'C':
+            family, host, port, address = client_parts(payload)
+            return 'connect %s %s %d %s' % (quoted(host), family, port, quoted(address))
+        if what == 'L':
+            name, value = texts_of(payload)
+            return line('header', name, self.blank + value)
+        texts = [payload] if what == 'B' else texts_of(payload)
+        return line(CALLS[what], *texts)
+
+
+def by_connections(path):
+    """The packets of each connection of a capture, with their replies. Where one goes on as another after `K`, it ends,
+    and both begin with the same options."""
     talk, parts = halves(path), [[]]
     for command, replies in talk:
         if code_of(command) == 'K':
@@ -217,4 +272,14 @@ def conversations(path):
             parts.append(talk[:1])
         else:
             parts[-1].append((command, replies))
-    return [Conversation(part) for part in parts]
+    return parts
+
+
+def conversations(path):
+    """The connections of a capture as a mail server's end plays them whose messages are known beforehand."""
+    return [Conversation(part) for part in by_connections(path)]
+
+
+def calls(path):
+    """The connections of a capture as a mail server's end plays them that is fed stage by stage."""
+    return [Calls(part) for part in by_connections(path)]

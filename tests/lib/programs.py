@@ -19,6 +19,7 @@ PROGRAMS = {
     'payloads': ('milter_tests_driver', ['packets']),
     'mail server': ('milter_tests_driver', ['mta']),
     'links': ('milter_tests_driver', ['links']),
+    'connection': ('milter_tests_connection', []),
 }
 
 

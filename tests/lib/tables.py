@@ -24,10 +24,13 @@ PLAYERS = {
     'packets': ('payloads', []),
     'mta': ('mail server', []),
     'links': ('links', []),
+    'connection': ('connection', []),
     'play': ('tool', ['play', FILE]),
 }
 # The kinds whose programs write packets: a filter's.
 FILTERS = ['answer', 'guard']
+# The kinds whose programs print packets, and are fed them by a line: a mail server's end.
+MAIL_SERVERS = ['mta', 'connection']
 # The marks of lines of further files, and of each what it has: an option of this name names it.
 FILES = {b'@': 'rules', b'~': 'events'}
 MARKS = b'|^<>&=!*#$%@~'
@@ -120,7 +123,7 @@ def part_of(kind, mark, text, code):
         digits = packet.hex().encode()
         if kind == 'trace':
             return 'given', b'%s %s\n' % (mark, digits)
-        if kind == 'mta':
+        if kind in MAIL_SERVERS:
             return ('given', b'feed %s\n' % digits) if mark == b'<' else ('out', digits + b'\n')
         return ('out' if kind in FILTERS and mark == b'<' else 'given'), packet
     if mark in FILES:
