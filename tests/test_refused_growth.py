@@ -12,8 +12,9 @@ error, and status 1. The programs that play a mail server's end (the tables `mta
 report one of the messages as settled by default, out of memory, after some of the message's verdicts, from the first
 one on; the others are as ever. Of the mail server's end the last verdict on the last message is always acted on where
 it takes no memory. The links may also report so of all messages, none of which was begun; so may `milter_tool mta` in
-the cases without a filter, where it would report a loss of the connection. The last run of each, in which nothing was
-refused, is as ever.
+the cases without a filter, where it would report a loss of the connection. The program of the tables `connection_*`
+makes a call again for which memory was refused, and ends then as with ample memory: the first call changed nothing. The
+last run of each, in which nothing was refused, is as ever.
 
 The test fails too where no run of the tests or of a program came to a refused allocation.
 """
