@@ -36,12 +36,25 @@ fn path_of(alloc: Global, address: &Text) -> anyhow::Result<Path> {
     })
 }
 
+/// One recipient.
+fn recipients_of(alloc: Global, address: &Text) -> anyhow::Result<Vec<Path>> {
+    let mut recipients = Vec::new(alloc);
+    recipients.push(path_of(alloc, address)?)?;
+    Ok(recipients)
+}
+
 /// A header field.
 fn header_of(alloc: Global, name: &Text, value: &Text) -> anyhow::Result<Header> {
-    Ok(Header {
-        name: Text::copy_of(alloc, name.as_slice())?,
-        value: Text::copy_of(alloc, value.as_slice())?,
-    })
+    let name = Text::copy_of(alloc, name.as_slice())?;
+    let value = Text::copy_of(alloc, value.as_slice())?;
+    Ok(Header { name, value })
+}
+
+/// One header field.
+fn headers_of(alloc: Global, name: &Text, value: &Text) -> anyhow::Result<Vec<Header>> {
+    let mut headers = Vec::new(alloc);
+    headers.push(header_of(alloc, name, value)?)?;
+    Ok(headers)
 }
 
 /// A message with one recipient and one header field.
@@ -49,12 +62,10 @@ fn message_in(alloc: Global, texts: &[Text]) -> anyhow::Result<Message> {
     let [sender, recipient, name, value, body] = texts else {
         bail!("edited SENDER RECIPIENT NAME VALUE BODY");
     };
-    let sender = path_of(alloc, sender)?;
-    let mut recipients = Vec::new(alloc);
-    recipients.push(path_of(alloc, recipient)?)?;
-    let mut headers = Vec::new(alloc);
-    headers.push(header_of(alloc, name, value)?)?;
     let body = body.as_slice().to_vec(alloc)?;
+    let headers = headers_of(alloc, name, value)?;
+    let recipients = recipients_of(alloc, recipient)?;
+    let sender = path_of(alloc, sender)?;
     Message::new(sender, recipients, headers, body).context("no message")
 }
 

@@ -42,9 +42,20 @@ impl Player {
         print_fed(rt, &self.connection, &fed)
     }
 
-    /// Feeds each byte as a piece.
-    fn feed_bytes<R: Print>(&mut self, rt: &R, bytes: &[u8]) -> anyhow::Result<()> {
-        for byte in bytes {
+    /// Feeds the piece that these hexadecimal digits are.
+    fn feed_digits<R: Print + AllocGlobal>(&mut self, rt: &R, digits: &[u8]) -> anyhow::Result<()> {
+        let piece = hex::decode(rt.alloc(), digits)?;
+        self.feed(rt, &piece)
+    }
+
+    /// Feeds each of the bytes that these hexadecimal digits are as a piece.
+    fn feed_digits_bytewise<R: Print + AllocGlobal>(
+        &mut self,
+        rt: &R,
+        digits: &[u8],
+    ) -> anyhow::Result<()> {
+        let bytes = hex::decode(rt.alloc(), digits)?;
+        for byte in &bytes {
             self.feed_byte(rt, *byte)?;
         }
         Ok(())
@@ -89,22 +100,49 @@ impl Player {
         Ok(())
     }
 
+    /// Adds a macro of the next call.
+    fn add_macro<R: AllocGlobal>(&mut self, rt: &R, texts: &[Text]) -> anyhow::Result<()> {
+        self.macros.push(pair_in(rt.alloc(), texts)?)?;
+        Ok(())
+    }
+
+    /// Prints the packets that are pending, and notes that they were sent.
+    fn send<R: Print + AllocGlobal>(&mut self, rt: &R) -> anyhow::Result<()> {
+        print_packets(rt, self.connection.pending())?;
+        self.sent(usize::MAX);
+        Ok(())
+    }
+
+    /// Does what this word asks for with these texts, and prints what comes of it.
+    fn obey_word<R: Print + AllocGlobal>(
+        &mut self,
+        rt: &R,
+        word: &str,
+        texts: &[Text],
+    ) -> anyhow::Result<()> {
+        match word {
+            "macro" => self.add_macro(rt, texts),
+            "send" => self.send(rt),
+            "sent" => {
+                self.sent(number_in(texts)?);
+                Ok(())
+            }
+            "lost" => {
+                self.connection.lost();
+                Ok(())
+            }
+            "feed" => self.feed_digits(rt, one_of(texts)?),
+            "feed_bytes" => self.feed_digits_bytewise(rt, one_of(texts)?),
+            _ => self.print_or_call(rt, word, texts),
+        }
+    }
+
     /// Does what a line asks for, and prints what comes of it.
     fn obey<R: Print + AllocGlobal>(&mut self, rt: &R, line: &[Text]) -> anyhow::Result<()> {
-        let (name, texts) = line.split_first().context("a line is to have a word")?;
-        match str_of(name)? {
-            "macro" => self.macros.push(pair_in(rt.alloc(), texts)?)?,
-            "send" => {
-                print_packets(rt, self.connection.pending())?;
-                self.sent(usize::MAX);
-            }
-            "sent" => self.sent(number_in(texts)?),
-            "feed" => self.feed(rt, &hex::decode(rt.alloc(), one_of(texts)?)?)?,
-            "feed_bytes" => self.feed_bytes(rt, &hex::decode(rt.alloc(), one_of(texts)?)?)?,
-            "lost" => self.connection.lost(),
-            name => self.print_or_call(rt, name, texts)?,
-        }
-        Ok(())
+        let [word, texts @ ..] = line else {
+            bail!("a line is to have a word");
+        };
+        self.obey_word(rt, str_of(word)?, texts)
     }
 
     /// Does what each line asks for.
