@@ -1,0 +1,3 @@
+pub mod Conversations
+pub mod Calls
+pub mod Losses
