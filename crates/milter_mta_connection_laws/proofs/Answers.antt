@@ -176,7 +176,7 @@ reply-received reads c h reply owed unread fits =
     ∙ ap (λ (r : Result Reply WireFault). framed r h (record c { unread = [] })) (reads reply fits)
     ∙ ap (λ (k : Channel). replied k.expected reply h k) (sym same)
 
-module _ (reads : ReadsBack) (offer : Options) (negotiated : Negotiated) where
+module _ (offer : Options) (negotiated : Negotiated) where
   -- nothing is pending or unread, and no reply is owed
   abbrev pub idle : List Edit → Channel
   idle so_far =
@@ -186,7 +186,7 @@ module _ (reads : ReadsBack) (offer : Options) (negotiated : Negotiated) where
   abbrev pub waiting : Stage → List Edit → Channel
   waiting stage so_far = record (idle so_far) { expected = expects.Verdict stage }
 
-  module _ (stage : Stage) where
+  module _ (reads : ReadsBack) (stage : Stage) where
     one : (h : FilterEvent) (so_far : List Edit) (reply : Reply) (is : Action) → Fits reply → reply_received negotiated stage (weight_of_all so_far) reply ≡ Ok is
         → fold received_byte (goes_on h (waiting stage so_far)) (encoding reply) ≡ channels.received_as (Ok is) h (waiting stage so_far)
     one h so_far reply is fits found =

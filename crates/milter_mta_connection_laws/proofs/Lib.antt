@@ -1,2 +1,5 @@
 mod Answers
 mod LostConnections
+mod OneCall
+mod CallOrder
+mod CalledDialogues

@@ -14,7 +14,7 @@ use Rattle.milter_mta_connection_laws.proofs.answer_laws.answers_are_received.Go
 pub returns : goal.returns
 returns c k negotiated stage answer negotiated_is expected_is none_yet sent_whole none_unread fits =
     let reads : ReadsBack = λ r fits. c.reply_frames.ensures.frame r fits in
-    let same : k ≡ waiting reads k.offer negotiated stage [] =
+    let same : k ≡ waiting k.offer negotiated stage [] =
     ap (λ (n : Option Negotiated). record k { negotiated = n }) negotiated_is
     ∙ ap (λ (x : ExpectedReply). record k { negotiated = Some negotiated; expected = x }) expected_is
     ∙ ap (λ (es : List Edit). record k { negotiated = Some negotiated; expected = expects.Verdict stage; edits = es }) none_yet
@@ -23,4 +23,4 @@ returns c k negotiated stage answer negotiated_is expected_is none_yet sent_whol
     subst (λ (k : Channel). received k (answer_bytes (Some (permitted negotiated answer)))
     ≡ goes_on (events.Verdict (permitted negotiated answer).verdict) (record k { expected = expects.Nothing; edits = (permitted negotiated answer).edits }))
     (sym same)
-    (answer-received reads k.offer negotiated stage (permitted negotiated answer) (permitted-received negotiated stage answer fits))
+    (answer-received k.offer negotiated reads stage (permitted negotiated answer) (permitted-received negotiated stage answer fits))
