@@ -57,7 +57,7 @@ Ordered phase last (command ∷ left) =
     × Ordered (phase_after phase stage) (rank_of stage) left
 
 -- not before the last one
-rank-follows : (stage : Stage) (last : ℕ) → may_follow last stage ≡ true → last ≤ rank_of stage
+pub rank-follows : (stage : Stage) (last : ℕ) → may_follow last stage ≡ true → last ≤ rank_of stage
 rank-follows stages.Connect last e = grind (arith, nat_tests)
 rank-follows stages.Helo last e = grind (arith, nat_tests)
 rank-follows stages.Mail last e = grind (arith, nat_tests)
