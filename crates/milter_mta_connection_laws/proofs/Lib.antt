@@ -3,3 +3,5 @@ mod LostConnections
 mod OneCall
 mod CallOrder
 mod CalledDialogues
+mod NegotiatedOptions
+mod CalledMessages

@@ -54,6 +54,9 @@ packet-some reply others more none =
     let no = ap (λ (l : List ℕ). length l) none in
     absurd (omega (arith, is, first, all, no))
 
+pub reply-some : (reply : Reply) → encoding reply ≢ []
+reply-some reply none = packet-some reply [] [] (append-nil (encoding reply ++ []) ∙ append-nil (encoding reply) ∙ none)
+
 replies-some : (es : List Edit) (verdict : Verdict) (more : List ℕ) → flat_map encoding (map edits.reply_of es ++ verdicts.reply_of verdict ∷ []) ++ more ≢ []
 replies-some [] verdict more = packet-some (verdicts.reply_of verdict) [] more
 replies-some (edit ∷ es) verdict more = packet-some (edits.reply_of edit) (flat_map encoding (map edits.reply_of es ++ verdicts.reply_of verdict ∷ [])) more
@@ -62,7 +65,7 @@ replies-some (edit ∷ es) verdict more = packet-some (edits.reply_of edit) (fla
 abbrev pub fed_with : List ℕ → Conversation → Conversation
 fed_with bytes t = record t { connection = after (Feed bytes) t.connection; fed = t.fed ++ fed_of (received t.connection.channel bytes) ∷ [] }
 
-with-some : (bytes : List ℕ) (t : Conversation) → bytes ≢ [] → with_bytes bytes t ≡ fed_with bytes t
+pub with-some : (bytes : List ℕ) (t : Conversation) → bytes ≢ [] → with_bytes bytes t ≡ fed_with bytes t
 with-some [] t some = absurd (some refl)
 with-some (byte ∷ bytes) t some = refl
 

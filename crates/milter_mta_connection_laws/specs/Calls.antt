@@ -21,7 +21,7 @@ use Rattle.milter_protocol.specs.Dialogue.{dialogue_with}
 use Rattle.milter_protocol.specs.Exchanges.{Exchange, onto}
 use Rattle.milter_mta_channel.specs.declared.filter_event.Fed.{Fed}
 use Rattle.milter_mta_channel.specs.declared.filter_event.FilterEvent.TheVariants as events
-use Rattle.milter_mta_channel.specs.Channel.{is_idle, without_edits}
+use Rattle.milter_mta_channel.specs.Channel.{Channel, is_idle, without_edits}
 use Rattle.milter_mta_connection.specs.declared.phase.Phase.TheVariants.{NoMessage}
 use Rattle.milter_mta_connection.specs.Connection.{Connection, after_verdict, phase_after, rank_after}
 use Rattle.milter_mta_connection_laws.specs.Conversations.{Conversation, with_calls}
@@ -42,11 +42,15 @@ message_calls leading_space message =
 
 -- ---- where a message may begin
 
--- the options came, nothing is pending or owed, and no message is under way
+-- the options came, nothing is pending, and no reply is owed
+pub record IsQuiet (negotiated : Negotiated) (c : Channel) : Type 0 where
+  pub negotiated_is : c.negotiated ≡ Some negotiated
+  pub idle : is_idle c ≡ true
+  pub none_unread : c.unread ≡ []
+
+-- so is it, and no message is under way
 pub record IsReady (negotiated : Negotiated) (c : Connection) : Type 0 where
-  pub negotiated_is : c.channel.negotiated ≡ Some negotiated
-  pub idle : is_idle c.channel ≡ true
-  pub none_unread : c.channel.unread ≡ []
+  pub quiet : IsQuiet negotiated c.channel
   pub phase_is : c.phase ≡ NoMessage
   pub rank : c.last_rank ≤ 2
 

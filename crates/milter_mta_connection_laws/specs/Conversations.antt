@@ -5,7 +5,6 @@ use Rattle.std.specs.Option.{option_to_list}
 use Rattle.milter_wire.specs.declared.command.Command.{Command}
 use Rattle.milter_wire.specs.declared.negotiation.Negotiated.{Negotiated}
 use Rattle.milter_wire.specs.declared.stage.Stage.{Stage}
-use Rattle.milter_wire.specs.Negotiation.{negotiate}
 use Rattle.milter_wire.specs.Reply.{encoding}
 use Rattle.milter_wire.specs.Stages.{stage_of}
 use Rattle.milter_wire_fields.specs.declared.pair.Pair.{Pair}
@@ -119,12 +118,8 @@ with_calls b negotiated macros (command ∷ left) t =
 
 -- ---- the start of a connection
 
--- the filter's reply to the offer came
+-- the offer was sent, and the filter's reply to it came
 abbrev pub opened : Options → Negotiated → Conversation
 opened offer negotiated =
-    record {
-      connection = after (Feed (encoding (options_reply negotiated))) (all_sent (fresh offer));
-      transcript = [];
-      fed = [];
-      faults = [];
-    }
+    with_bytes (encoding (options_reply negotiated))
+    (record { connection = all_sent (fresh offer); transcript = []; fed = []; faults = [] })

@@ -5,7 +5,9 @@
 #![tactic(auto)]
 
 mod answer_laws;
+mod dialogue_laws;
 mod loss_laws;
 
 pub use answer_laws::{answers_are_received, replies_are_received};
+pub use dialogue_laws::{aborts_end_messages, messages_are_dialogues, sessions_are_dialogues};
 pub use loss_laws::losses_end_connections;
