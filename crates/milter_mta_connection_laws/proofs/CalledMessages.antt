@@ -8,7 +8,10 @@ use Rattle.milter_wire_options.specs.declared.options.Options.{Options}
 use Rattle.milter_wire.specs.declared.command.Command.{Command}
 use Rattle.milter_wire.specs.declared.command.Command.TheVariants as commands
 use Rattle.milter_wire.specs.declared.negotiation.Negotiated.{Negotiated}
+use Rattle.milter_wire.specs.declared.stage.Stage.{Stage}
 use Rattle.milter_wire.specs.declared.stage.Stage.TheVariants as stages
+use Rattle.milter_wire.specs.Stages.{stage_of}
+use Rattle.milter_wire_fields.specs.declared.pair.Pair.{Pair}
 use Rattle.milter_wire.specs.Command as sent_to
 use Rattle.milter_wire.specs.Negotiation.{has_leading_space}
 use Rattle.milter_wire.specs.Reply.{Fits, encoding}
@@ -38,15 +41,16 @@ use Rattle.milter_mta_channel.specs.Received.{After, goes_on, negotiated_on}
 use Rattle.milter_mta_connection.specs.declared.call_outcome.CallFault.{CallFault}
 use Rattle.milter_mta_connection.specs.declared.phase.Phase.{Phase}
 use Rattle.milter_mta_connection.specs.declared.phase.Phase.TheVariants.{NoMessage}
-use Rattle.milter_mta_connection.specs.Calls.{fed_by}
-use Rattle.milter_mta_connection.specs.Connection.{Connection}
-use Rattle.milter_mta_connection.proofs.QueuedCommands.{idle-same}
-use Rattle.milter_mta_connection_laws.specs.Calls.{IsGiven, IsQuiet, IsReady, client_calls, dialogue_about, message_calls, with_message, with_session}
-use Rattle.milter_mta_connection_laws.specs.Conversations.{Conversation, fed_of, opened, with_bytes}
+use Rattle.milter_mta_connection.specs.Calls.{after, called_at, fed_by, queued_at, queued_by, queued_unless, unless}
+use Rattle.milter_mta_connection.specs.Calls.Call.{StageCommand}
+use Rattle.milter_mta_connection.specs.Connection.{Connection, abort_before, after_command, fault_at, is_left_out, packets_for, pairs_for}
+use Rattle.milter_mta_connection.proofs.QueuedCommands.{idle-same, queue_all-pending, with_command-all}
+use Rattle.milter_mta_connection_laws.specs.Calls.{IsGiven, IsQuiet, IsReady, client_calls, dialogue_about, message_calls, taken, with_exchange, with_message, with_session}
+use Rattle.milter_mta_connection_laws.specs.Conversations.{Conversation, fed_of, opened, with_bytes, with_call}
 use Rattle.milter_mta_connection_laws.proofs.Answers.{ReadsBack, idle, reply-received}
 use Rattle.milter_mta_connection_laws.proofs.CallOrder.{message-order, session-order}
 use Rattle.milter_mta_connection_laws.proofs.CalledDialogues.{Start, Told, steps, steps_for, told}
-use Rattle.milter_mta_connection_laws.proofs.OneCall.{at, fed_with, reply-some, with-some}
+use Rattle.milter_mta_connection_laws.proofs.OneCall.{at, left-out-call, reply-some, sent-call, with-some}
 
 -- ---- plans
 
@@ -142,6 +146,30 @@ ready-is negotiated t is =
     ap (λ (k : Channel). record t { connection = record t.connection { channel = k } }) (quiet-is negotiated t.connection.channel is.quiet)
     ∙ ap (λ (p : Phase). record t { connection = record t.connection { channel = idle t.connection.channel.offer negotiated t.connection.channel.edits; phase = p } }) is.phase_is
 
+-- of a connection in any phase
+quiet-at : (negotiated : Negotiated) (t : Conversation) → IsQuiet negotiated t.connection.channel
+    → t ≡ at t.connection.channel.offer negotiated t.connection.phase t.connection.last_rank t.connection.channel.edits t.transcript t.fed t.faults
+quiet-at negotiated t is =
+    ap (λ (k : Channel). record t { connection = record t.connection { channel = k } }) (quiet-is negotiated t.connection.channel is)
+
+-- the packets of a call are what is pending
+packets-if : (fault : Option CallFault) (stage : Stage) (command : Command) (pairs : List Pair) (c : Connection) → c.channel.pending ≡ []
+    → (unless fault (after_command stage command pairs c) c).channel.pending ≡ flat_map sent_to.encoding (queued_unless fault (packets_for stage command pairs c))
+packets-if (Some fault) stage command pairs c none = none
+packets-if None stage command pairs c none =
+    ap (λ (k : Channel). k.pending) (with_command-all stage command pairs c)
+    ∙ queue_all-pending c.channel (packets_for stage command pairs c)
+    ∙ ap (λ (bytes : List ℕ). bytes ++ flat_map sent_to.encoding (packets_for stage command pairs c)) none
+
+packets-at : (stage : Option Stage) (command : Command) (pairs : List Pair) (c : Connection) → c.channel.pending ≡ []
+    → (called_at stage command pairs c).channel.pending ≡ flat_map sent_to.encoding (queued_at stage command pairs c)
+packets-at None command pairs c none = none
+packets-at (Some stage) command pairs c none = packets-if (fault_at stage c) stage command (pairs_for c stage pairs) c none
+
+pub packets-pending : (command : Command) (pairs : List Pair) (c : Connection) → c.channel.pending ≡ []
+    → (after (StageCommand command pairs) c).channel.pending ≡ flat_map sent_to.encoding (queued_by (StageCommand command pairs) c)
+packets-pending command pairs c none = packets-at (stage_of command) command pairs c none
+
 -- what was given, and where another message may begin
 pub record IsGivenQuietly (negotiated : Negotiated) (exchanges : List Exchange) (before after : Conversation) : Type 0 where
   pub given : IsGiven exchanges before after
@@ -163,6 +191,25 @@ given-by offer negotiated exchanges before after is =
     }
 
 module _ (reads : ReadsBack) (b : Behavior) (lawful : IsLawful b) (negotiated : Negotiated) where
+  module _ (stage : Stage) (command : Command) (pairs : List Pair) (t : Conversation) (at_stage : stage_of command ≡ Some stage) (quiet : IsQuiet negotiated t.connection.channel)
+      (taken_at : fault_at stage t.connection ≡ None) (no_abort : abort_before t.connection.phase stage ≡ []) where
+    abbrev same : t ≡ at t.connection.channel.offer negotiated t.connection.phase t.connection.last_rank t.connection.channel.edits t.transcript t.fed t.faults
+    same = quiet-at negotiated t quiet
+
+    pub call-left-out : is_left_out (Some negotiated) t.connection.phase stage ≡ true
+        → with_call b negotiated command pairs t ≡ record t { connection = taken stage t.connection }
+    call-left-out left_out =
+        subst (λ (u : Conversation). with_call b negotiated command pairs u ≡ record u { connection = taken stage u.connection }) (sym same)
+        (left-out-call t.connection.channel.offer negotiated reads b lawful command stage pairs t.connection.phase t.connection.last_rank t.connection.channel.edits t.transcript t.fed t.faults at_stage
+        (subst (λ (u : Conversation). fault_at stage u.connection ≡ None) same taken_at) no_abort left_out)
+
+    pub call-sent : is_left_out (Some negotiated) t.connection.phase stage ≡ false
+        → with_call b negotiated command pairs t ≡ with_exchange b negotiated stage command pairs t
+    call-sent left_out =
+        subst (λ (u : Conversation). with_call b negotiated command pairs u ≡ with_exchange b negotiated stage command pairs u) (sym same)
+        (sent-call t.connection.channel.offer negotiated reads b lawful command stage pairs t.connection.phase t.connection.last_rank t.connection.channel.edits t.transcript t.fed t.faults at_stage
+        (subst (λ (u : Conversation). fault_at stage u.connection ≡ None) same taken_at) no_abort left_out)
+
   pub message-given : (macros : Macros) (message : MailObject) (t : Conversation) → IsReady negotiated t.connection → list_any is_skipping t.transcript ≡ false
       → IsGivenQuietly negotiated (dialogue_about b negotiated macros message t.transcript) t (with_message b negotiated macros message t)
   message-given macros message t ready none_skipped =

@@ -6,6 +6,8 @@ use Rattle.milter_wire.specs.declared.command.Command.TheVariants as commands
 use Rattle.milter_wire.specs.declared.negotiation.Negotiated.{Negotiated}
 use Rattle.milter_wire.specs.declared.stage.Stage.{Stage}
 use Rattle.milter_wire.specs.Negotiation.{has_leading_space}
+use Rattle.milter_wire.specs.Stages.{macro_command_of}
+use Rattle.milter_wire_fields.specs.declared.pair.Pair.{Pair}
 use Rattle.milter_wire_fields.specs.declared.client.Client.{Client}
 use Rattle.milter_message.specs.declared.edit.Edit.{Edit}
 use Rattle.milter_message.specs.Chunks.{chunks_of}
@@ -14,17 +16,17 @@ use Rattle.milter_message.specs.MailObject.{MailObject}
 use Rattle.milter_mail.specs.ChosenMacros.{chosen_macros}
 use Rattle.milter_mail.specs.Macros.{Macros}
 use Rattle.milter_mail.specs.MailSession.{MailSession}
-use Rattle.milter_mail.specs.Steps.{message_steps}
+use Rattle.milter_mail.specs.Steps.{macro_step, message_steps}
 use Rattle.milter_protocol.specs.declared.answer.Answer.{Answer}
-use Rattle.milter_protocol.specs.Behavior.{Behavior}
+use Rattle.milter_protocol.specs.Behavior.{Behavior, exchange_of}
 use Rattle.milter_protocol.specs.Dialogue.{dialogue_with}
-use Rattle.milter_protocol.specs.Exchanges.{Exchange, onto}
+use Rattle.milter_protocol.specs.Exchanges.{Exchange, commands_of, onto}
 use Rattle.milter_mta_channel.specs.declared.filter_event.Fed.{Fed}
 use Rattle.milter_mta_channel.specs.declared.filter_event.FilterEvent.TheVariants as events
 use Rattle.milter_mta_channel.specs.Channel.{Channel, is_idle, without_edits}
 use Rattle.milter_mta_connection.specs.declared.phase.Phase.TheVariants.{NoMessage}
-use Rattle.milter_mta_connection.specs.Connection.{Connection, after_verdict, phase_after, rank_after}
-use Rattle.milter_mta_connection_laws.specs.Conversations.{Conversation, with_calls}
+use Rattle.milter_mta_connection.specs.Connection.{Connection, after_verdict, pairs_for, phase_after, rank_after}
+use Rattle.milter_mta_connection_laws.specs.Conversations.{Conversation, exchanges_about, with_calls}
 
 -- ---- the commands that are called for
 
@@ -95,6 +97,21 @@ answered stage (Some answer) t =
           (record t.connection { channel = record t.connection.channel { edits = answer.edits } });
       fed = t.fed ++ fed_by_answer answer ∷ [];
     }
+
+-- the exchanges before a command of this stage, that about its macros the latest
+abbrev pub with_macros : Behavior → Negotiated → Stage → List Pair → Conversation → List Exchange
+with_macros b negotiated stage pairs t =
+    onto
+    (exchanges_about b negotiated t.transcript (macro_step (macro_command_of stage) (pairs_for t.connection stage pairs)))
+    t.transcript
+
+-- a command of this stage was called for and sent, and its answer was given
+abbrev pub with_exchange : Behavior → Negotiated → Stage → Command → List Pair → Conversation → Conversation
+with_exchange b negotiated stage command pairs t =
+    let before = with_macros b negotiated stage pairs t in
+    let exchange = exchange_of b negotiated (commands_of before) command in
+    answered stage exchange.answer
+    (record t { connection = taken stage t.connection; transcript = exchange ∷ before })
 
 -- ---- messages
 

@@ -9,5 +9,5 @@ mod dialogue_laws;
 mod loss_laws;
 
 pub use answer_laws::{answers_are_received, replies_are_received};
-pub use dialogue_laws::{aborts_end_messages, messages_are_dialogues, sessions_are_dialogues};
+pub use dialogue_laws::{aborts_end_messages, calls_are_exchanges, messages_are_dialogues, sessions_are_dialogues};
 pub use loss_laws::losses_end_connections;
