@@ -5,3 +5,4 @@ mod CallOrder
 mod CalledDialogues
 mod NegotiatedOptions
 mod CalledMessages
+mod FedPieces

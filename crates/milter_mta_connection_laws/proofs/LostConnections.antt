@@ -111,14 +111,14 @@ all_stay (call ∷ calls) c is = let s = stays call c is in (s, all_stay calls (
 -- ---- a loss
 
 -- where the filter is lost nothing is pending and no reply is expected
-abbrev IsKept : After → Type 0
-IsKept a = (loss : Loss) → a.loss ≡ Some loss → (a.channel.expected ≡ expects.Nothing) × (a.channel.pending ≡ [])
+abbrev pub IsKept : After → Type 0
+IsKept a = (loss : Loss) → a.loss ≡ Some loss → (a.channel.expected ≡ expects.Nothing) × (a.channel.pending ≡ []) × (a.channel.unread ≡ [])
 
-kept_on : (h : FilterEvent) (c : Channel) → IsKept (goes_on h c)
+pub kept_on : (h : FilterEvent) (c : Channel) → IsKept (goes_on h c)
 kept_on h c loss is = absurd cc
 
 kept_lost : (fault : MtaFault) (h : FilterEvent) (c : Channel) → IsKept (fails fault h c)
-kept_lost fault h c loss is = (refl, refl)
+kept_lost fault h c loss is = (refl, refl, refl)
 
 module _ (h : FilterEvent) (c : Channel) where
   kept_as : (received : Result Action MtaFault) → IsKept (received_as received h c)
@@ -159,12 +159,12 @@ kept_step : (h : FilterEvent) (c : Channel) (loss : Option Loss) (byte : ℕ) �
 kept_step h c None byte is = kept_byte h c (is_owed c) (c.unread ++ byte ∷ [])
 kept_step h c (Some loss) byte is = is
 
-kept_all : (bytes : List ℕ) (a : After) → IsKept a → IsKept (fold received_byte a bytes)
+pub kept_all : (bytes : List ℕ) (a : After) → IsKept a → IsKept (fold received_byte a bytes)
 kept_all [] a is = is
 kept_all (byte ∷ bytes) a is = kept_all bytes (received_byte a byte) (kept_step a.event a.channel a.loss byte is)
 
 -- an event changes nothing of the channel
-event_channel : (expected : ExpectedReply) (event : FilterEvent) (c : Connection) → (after_event expected event c).channel ≡ c.channel
+pub event_channel : (expected : ExpectedReply) (event : FilterEvent) (c : Connection) → (after_event expected event c).channel ≡ c.channel
 event_channel (expects.Verdict stage) (events.Verdict verdict) c = refl
 event_channel (expects.Verdict stage) events.Nothing c = refl
 event_channel (expects.Verdict stage) events.InProgress c = refl

@@ -7,7 +7,11 @@
 mod answer_laws;
 mod dialogue_laws;
 mod loss_laws;
+mod piece_laws;
 
 pub use answer_laws::{answers_are_received, replies_are_received};
-pub use dialogue_laws::{aborts_end_messages, calls_are_exchanges, messages_are_dialogues, sessions_are_dialogues};
+pub use dialogue_laws::{
+    aborts_end_messages, calls_are_exchanges, messages_are_dialogues, sessions_are_dialogues,
+};
 pub use loss_laws::losses_end_connections;
+pub use piece_laws::pieces_are_fed;

@@ -1,0 +1,14 @@
+use Rattle.milter_mta_connection_laws.proofs.FedPieces.{pieces, verdict-last}
+use Rattle.milter_mta_connection_laws.proofs.piece_laws.pieces_are_fed.Goals as goal
+
+pub returns-clause-connection : goal.returns-clause-connection
+returns-clause-connection c connection first second = pieces connection first second
+
+pub returns-clause-waits : goal.returns-clause-waits
+returns-clause-waits c channel first second verdict new some is = (verdict-last channel first second verdict new some is).waits
+
+pub returns-clause-goes_on : goal.returns-clause-goes_on
+returns-clause-goes_on c channel first second verdict new some is = (verdict-last channel first second verdict new some is).no_loss
+
+pub returns-clause-verdict : goal.returns-clause-verdict
+returns-clause-verdict c channel first second verdict new some is = (verdict-last channel first second verdict new some is).last_is
