@@ -1,5 +1,5 @@
 -- Commands that are called for in the order of their stages.
-use Rattle.std.proofs.Common.{◌≡◌, ◌≢◌, ◌≤◌, ◌<◌, ℕ, min, Bool, true, false, ◌&&◌, List, [], ◌∷◌, ◌++◌, map, Option, None, Some, refl, sym, ap, ◌∙◌, arith, if◌then◌else◌}
+use Rattle.std.proofs.Common.{◌≡◌, ◌≢◌, ◌≤◌, ◌<◌, ℕ, Bool, true, false, List, [], ◌∷◌, ◌++◌, map, None, Some, refl, sym, ap, ◌∙◌, arith}
 use Rattle.std.proofs.lemmas.Bool.Decides.{nat_tests}
 use Rattle.std.proofs.lemmas.Bool.{true≢false}
 use Rattle.milter_wire_options.specs.declared.options.Options.{Options}
@@ -8,8 +8,7 @@ use Rattle.milter_wire.specs.declared.command.Command.TheVariants as commands
 use Rattle.milter_wire.specs.declared.negotiation.Negotiated.{Negotiated}
 use Rattle.milter_wire.specs.declared.stage.Stage.{Stage}
 use Rattle.milter_wire.specs.declared.stage.Stage.TheVariants as stages
-use Rattle.milter_wire.specs.declared.verdict.Verdict.{Verdict}
-use Rattle.milter_wire.specs.Stages.{macro_command_of, stage_of}
+use Rattle.milter_wire.specs.Stages.{stage_of}
 use Rattle.milter_message.specs.declared.edit.Edit.{Edit}
 use Rattle.milter_message.specs.LeadingSpace.{sent_header}
 use Rattle.milter_message.specs.MailObject.{MailObject}
@@ -18,10 +17,9 @@ use Rattle.milter_wire_fields.specs.declared.client.Client.{Client}
 use Rattle.milter_wire_fields.specs.declared.header.Header.{Header}
 use Rattle.milter_wire_fields.specs.declared.path.Path.{Path}
 use Rattle.milter_protocol.specs.StageOrder.{may_follow, rank_of}
-use Rattle.milter_mta_connection.specs.declared.call_outcome.CallFault.{CallFault}
 use Rattle.milter_mta_connection.specs.declared.phase.Phase.{Phase}
 use Rattle.milter_mta_connection.specs.declared.phase.Phase.TheVariants.{NoMessage, InMessage, Skipping, MessageOver, ClientOver, Closed}
-use Rattle.milter_mta_connection.specs.Connection.{abort_before, fault_at, is_in_order, is_of_client, is_over, or_out_of_order, phase_after, phase_over, rank_after}
+use Rattle.milter_mta_connection.specs.Connection.{abort_before, fault_at, is_in_order, or_out_of_order, phase_after, rank_after}
 use Rattle.milter_mta_connection_laws.specs.Calls.{client_calls, message_calls}
 use Rattle.milter_mta_connection_laws.proofs.Answers.{idle}
 

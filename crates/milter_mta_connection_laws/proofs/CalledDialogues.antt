@@ -11,10 +11,9 @@ use Rattle.milter_wire.specs.declared.negotiation.Negotiated.{Negotiated}
 use Rattle.milter_wire.specs.declared.stage.Stage.{Stage}
 use Rattle.milter_wire.specs.declared.stage.Stage.TheVariants as stages
 use Rattle.milter_wire.specs.declared.verdict.Verdict.{Verdict}
-use Rattle.milter_wire.specs.declared.verdict.Verdict.TheVariants.{Continue, Accept, Reject, Tempfail, Discard, Skip, Code}
+use Rattle.milter_wire.specs.declared.verdict.Verdict.TheVariants.{Skip}
 use Rattle.milter_wire.specs.Negotiation.{is_answered, is_sent}
 use Rattle.milter_wire.specs.Stages.{macro_command_of, macro_stage_of, stage_of}
-use Rattle.milter_wire.specs.Verdicts.{given_at}
 use Rattle.milter_wire_fields.specs.declared.pair.Pair.{Pair}
 use Rattle.milter_message.specs.declared.edit.Edit.{Edit}
 use Rattle.milter_mail.specs.ChosenMacros.{chosen_macros}
@@ -22,7 +21,6 @@ use Rattle.milter_mail.specs.Macros.{Macros}
 use Rattle.milter_mail.specs.Steps.{macro_step, macros_at, step}
 use Rattle.milter_protocol.specs.declared.answer.Answer.{Answer}
 use Rattle.milter_protocol.specs.Behavior.{Behavior, answer_to, exchange_of}
-use Rattle.milter_protocol.specs.Commands.{is_end_by}
 use Rattle.milter_protocol.specs.Dialogue.{are_all_refused, dialogue_with, is_body, is_closed, is_final, is_final_answer, is_kept_rcpt, is_left_out, is_rcpt, is_skipping}
 use Rattle.milter_protocol.specs.Exchanges.{Exchange, commands_of, onto}
 use Rattle.milter_protocol.specs.Lawful.{IsLawful}
@@ -37,7 +35,7 @@ use Rattle.milter_mta_connection.specs.declared.phase.Phase.{Phase}
 use Rattle.milter_mta_connection.specs.declared.phase.Phase.TheVariants.{NoMessage, InMessage, Skipping, MessageOver, ClientOver, Closed}
 use Rattle.milter_mta_connection.specs.Connection.{abort_before, asked_pairs, is_in_order, is_left_out as leaves_out, is_over, phase_after, phase_after_verdict, phase_over, rank_after, rank_after_verdict}
 use Rattle.milter_mta_connection_laws.specs.Calls.{answered, answers_in, edits_in, fed_by_answer}
-use Rattle.milter_mta_connection_laws.specs.Conversations.{Conversation, are_refused_with, exchanges_about, packets_of, pairs_at, with_call, with_calls}
+use Rattle.milter_mta_connection_laws.specs.Conversations.{Conversation, are_refused_with, exchanges_about, pairs_at, with_call, with_calls}
 use Rattle.milter_mta_connection_laws.proofs.Answers.{ReadsBack, IsReceived, idle}
 use Rattle.milter_mta_connection_laws.proofs.CallOrder.{GoesTo, Ordered, RankIn, base, base-order, going-open, goes-to, in-message, is_going, is_late, late, none-after-end, rank-follows, skips, taken}
 use Rattle.milter_mta_connection_laws.proofs.OneCall as one_call

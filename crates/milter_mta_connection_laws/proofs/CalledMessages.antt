@@ -1,5 +1,5 @@
 -- What is called for of a message, and of a session, is what its plan has; and where the calls begin.
-use Rattle.std.proofs.Common.{◌≡◌, ◌≤◌, ℕ, Bool, true, false, List, [], ◌∷◌, ◌++◌, length, map, Option, None, Some, Result, Ok, refl, sym, ap, ◌∙◌, subst, arith, append-nil, append_assoc}
+use Rattle.std.proofs.Common.{◌≡◌, ◌≤◌, ℕ, true, false, List, [], ◌∷◌, ◌++◌, length, map, Option, None, Some, Result, Ok, refl, sym, ap, ◌∙◌, subst, arith, append-nil, append_assoc}
 use Rattle.std.proofs.Common.{drop_of_length-le}
 use Rattle.std.specs.List.{flat_map, list_any}
 use Rattle.std.proofs.lemmas.List.Concat.{flat_map-append}
@@ -36,8 +36,8 @@ use Rattle.milter_mta_outcome.specs.ReceivedReplies.{options_received}
 use Rattle.milter_mta_channel.specs.declared.expected_reply.ExpectedReply.TheVariants as expects
 use Rattle.milter_mta_channel.specs.declared.filter_event.Fed.{Fed}
 use Rattle.milter_mta_channel.specs.declared.filter_event.FilterEvent.TheVariants as events
-use Rattle.milter_mta_channel.specs.Channel.{Channel, is_idle}
-use Rattle.milter_mta_channel.specs.Received.{After, goes_on, negotiated_on}
+use Rattle.milter_mta_channel.specs.Channel.{Channel}
+use Rattle.milter_mta_channel.specs.Received.{After, negotiated_on}
 use Rattle.milter_mta_connection.specs.declared.call_outcome.CallFault.{CallFault}
 use Rattle.milter_mta_connection.specs.declared.phase.Phase.{Phase}
 use Rattle.milter_mta_connection.specs.declared.phase.Phase.TheVariants.{NoMessage}

@@ -1,5 +1,5 @@
 -- What comes in two pieces leaves the same as in one.
-use Rattle.std.proofs.Common.{◌≡◌, ◌≢◌, ℕ, Bool, true, false, List, [], ◌∷◌, ◌++◌, length, Option, None, Some, Result, Ok, Err, if◌then◌else◌, refl, sym, ap, ◌∙◌, subst, arith}
+use Rattle.std.proofs.Common.{◌≡◌, ◌≢◌, ℕ, Bool, true, false, List, [], ◌∷◌, ◌++◌, Option, None, Some, Result, Ok, Err, if◌then◌else◌, refl, sym, ap, ◌∙◌, subst, arith}
 use Rattle.std.specs.List.{fold}
 use Rattle.std.proofs.lemmas.Bool.{true≢false}
 use Rattle.std.proofs.lemmas.List.Sums.{fold-append}
@@ -16,14 +16,14 @@ use Rattle.milter_protocol.specs.declared.action.Action.TheVariants as actions
 use Rattle.milter_mta_outcome.specs.declared.loss.Loss.{Loss}
 use Rattle.milter_mta_outcome.specs.declared.loss.Loss.TheVariants.{Fault}
 use Rattle.milter_mta_outcome.specs.declared.loss.MtaFault.{MtaFault}
-use Rattle.milter_mta_outcome.specs.declared.loss.MtaFault.TheVariants.{Early, NotAtThisStage, Wire}
+use Rattle.milter_mta_outcome.specs.declared.loss.MtaFault.TheVariants.{Early}
 use Rattle.milter_mta_outcome.specs.ReceivedReplies.{options_received, reply_received}
 use Rattle.milter_mta_outcome.specs.EditWeights.{weight_of_all}
 use Rattle.milter_mta_channel.specs.declared.expected_reply.ExpectedReply.{ExpectedReply}
 use Rattle.milter_mta_channel.specs.declared.expected_reply.ExpectedReply.TheVariants as expects
 use Rattle.milter_mta_channel.specs.declared.filter_event.FilterEvent.{FilterEvent}
 use Rattle.milter_mta_channel.specs.declared.filter_event.FilterEvent.TheVariants as events
-use Rattle.milter_mta_channel.specs.Channel.{Channel, cleared, is_expecting, is_owed, is_owed_by}
+use Rattle.milter_mta_channel.specs.Channel.{Channel, is_expecting, is_owed, is_owed_by}
 use Rattle.milter_mta_channel.specs.Received.{After, fails, framed, goes_on, negotiated_on, received, received_as, received_byte, replied, replied_at, unread_is}
 use Rattle.milter_mta_channel.specs.ReplyRules.{IsWaiting}
 use Rattle.milter_mta_channel.proofs.ReceivedFrames.{early, lost-stays}

@@ -15,7 +15,6 @@ use Rattle.milter_protocol.specs.declared.action.Action.{Action}
 use Rattle.milter_protocol.specs.declared.action.Action.TheVariants as actions
 use Rattle.milter_wire_fields.specs.declared.pair.Pair.{Pair}
 use Rattle.milter_mta_outcome.specs.declared.loss.Loss.{Loss}
-use Rattle.milter_mta_outcome.specs.declared.loss.Loss.TheVariants.{Fault}
 use Rattle.milter_mta_outcome.specs.declared.loss.MtaFault.{MtaFault}
 use Rattle.milter_mta_outcome.specs.declared.loss.MtaFault.TheVariants.{Early, NotAtThisStage, Wire}
 use Rattle.milter_mta_outcome.specs.ReceivedReplies.{options_received, reply_received}
@@ -24,14 +23,12 @@ use Rattle.milter_mta_channel.specs.declared.expected_reply.ExpectedReply.{Expec
 use Rattle.milter_mta_channel.specs.declared.expected_reply.ExpectedReply.TheVariants as expects
 use Rattle.milter_mta_channel.specs.declared.filter_event.FilterEvent.{FilterEvent}
 use Rattle.milter_mta_channel.specs.declared.filter_event.FilterEvent.TheVariants as events
-use Rattle.milter_mta_channel.specs.Channel.{Channel, cleared, is_owed}
+use Rattle.milter_mta_channel.specs.Channel.{Channel, is_owed}
 use Rattle.milter_mta_channel.specs.Received.{After, fails, framed, goes_on, negotiated_on, received, received_as, received_byte, replied, replied_at, unread_is}
 use Rattle.milter_mta_channel.proofs.ReceivedFrames.{early}
-use Rattle.milter_mta_connection.specs.declared.call_outcome.CallFault.{CallFault}
-use Rattle.milter_mta_connection.specs.declared.call_outcome.CallFault.TheVariants as call_faults
 use Rattle.milter_mta_connection.specs.declared.phase.Phase.{Phase}
 use Rattle.milter_mta_connection.specs.declared.phase.Phase.TheVariants.{Closed}
-use Rattle.milter_mta_connection.specs.Calls.{Call, after, called_at, queued_at, queued_by, fed_by, queued_unless, unless}
+use Rattle.milter_mta_connection.specs.Calls.{Call, after, called_at, queued_at, fed_by}
 use Rattle.milter_mta_connection.specs.Calls.Call.{StageCommand, UnknownCommand, Sent, Feed, Abort, Quit, Lost}
 use Rattle.milter_mta_connection.specs.Connection.{Connection, after_event, closed_by}
 use Rattle.milter_mta_connection_laws.specs.Losses.{AllStayLost, IsLost, StaysLost}

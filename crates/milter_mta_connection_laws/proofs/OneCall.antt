@@ -1,6 +1,6 @@
 -- One call: what is queued is sent, and what the filter answers is given.
 use Rattle.std.specs.Prelude.{if◌then◌else◌}
-use Rattle.std.proofs.Common.{◌≡◌, ◌≢◌, ◌≤◌, ◌+◌, ℕ, Bool, true, false, not, ◌&&◌, List, map, [], ◌∷◌, ◌++◌, length, drop, Option, None, Some, refl, sym, ap, ◌∙◌, subst, arith, append-nil, length-append}
+use Rattle.std.proofs.Common.{◌≡◌, ◌≢◌, ◌+◌, ℕ, Bool, true, false, List, map, [], ◌∷◌, ◌++◌, length, Option, None, Some, refl, sym, ap, ◌∙◌, arith, append-nil, length-append}
 use Rattle.std.proofs.Common.{drop_of_length-le}
 use Rattle.std.specs.List.{flat_map}
 use Rattle.std.specs.Option.{option_to_list}
@@ -11,9 +11,8 @@ use Rattle.milter_wire.specs.declared.command.Command.TheVariants as commands
 use Rattle.milter_wire.specs.declared.negotiation.Negotiated.{Negotiated}
 use Rattle.milter_wire.specs.declared.reply.Reply.{Reply}
 use Rattle.milter_wire.specs.declared.stage.Stage.{Stage}
-use Rattle.milter_wire.specs.declared.stage.Stage.TheVariants as stages
 use Rattle.milter_wire.specs.declared.verdict.Verdict.{Verdict}
-use Rattle.milter_wire.specs.Negotiation.{has_leading_space, is_answered, is_asked, is_asked_at}
+use Rattle.milter_wire.specs.Negotiation.{has_leading_space, is_answered, is_asked_at}
 use Rattle.milter_wire.specs.Command as sent_to
 use Rattle.milter_wire.specs.Reply.{code_of, encoding, payload_of}
 use Rattle.milter_wire.specs.Stages.{macro_command_of, stage_of}
@@ -27,7 +26,6 @@ use Rattle.milter_protocol.specs.Behavior.{Behavior, answer_to, exchange_of}
 use Rattle.milter_protocol.specs.Exchanges.{Exchange, commands_of, onto}
 use Rattle.milter_protocol.specs.Lawful.{IsLawful}
 use Rattle.milter_protocol.specs.Permitted.{permitted}
-use Rattle.milter_protocol.specs.Replies.{replies_of_answer}
 use Rattle.milter_protocol.specs.Seen.{Seen, seen}
 use Rattle.milter_mta_channel.specs.declared.expected_reply.ExpectedReply.{ExpectedReply}
 use Rattle.milter_mta_channel.specs.declared.expected_reply.ExpectedReply.TheVariants as expects
@@ -40,8 +38,8 @@ use Rattle.milter_mta_connection.specs.Calls.{after, called_at, fed_by, queued_a
 use Rattle.milter_mta_connection.specs.Calls.Call.{Feed}
 use Rattle.milter_mta_connection.specs.Connection.{Connection, abort_before, after_command, fault_at, is_left_out, packets_for, pairs_for, phase_after, rank_after}
 use Rattle.milter_mta_connection.specs.Connection as connections
-use Rattle.milter_mta_connection_laws.specs.Calls.{answered, fed_by_answer, taken}
-use Rattle.milter_mta_connection_laws.specs.Conversations.{Conversation, answer_bytes, called, exchanges_about, faults_at, fed_of, packets_of, with_bytes, with_call, with_packets}
+use Rattle.milter_mta_connection_laws.specs.Calls.{answered, taken}
+use Rattle.milter_mta_connection_laws.specs.Conversations.{Conversation, answer_bytes, exchanges_about, faults_at, fed_of, packets_of, with_bytes, with_call, with_packets}
 use Rattle.milter_mta_connection_laws.proofs.Answers.{ReadsBack, IsReceived, answer-received, idle, permitted-received, waiting}
 
 -- ---- bytes
