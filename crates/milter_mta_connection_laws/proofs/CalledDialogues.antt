@@ -33,7 +33,7 @@ use Rattle.milter_mta_channel.specs.declared.filter_event.Fed.{Fed}
 use Rattle.milter_mta_connection.specs.declared.call_outcome.CallFault.{CallFault}
 use Rattle.milter_mta_connection.specs.declared.phase.Phase.{Phase}
 use Rattle.milter_mta_connection.specs.declared.phase.Phase.TheVariants.{NoMessage, InMessage, Skipping, MessageOver, ClientOver, Closed}
-use Rattle.milter_mta_connection.specs.Connection.{abort_before, asked_pairs, is_in_order, is_left_out as leaves_out, is_over, phase_after, phase_after_verdict, phase_over, rank_after, rank_after_verdict}
+use Rattle.milter_mta_connection.specs.Connection.{abort_before, asked_pairs, is_in_order, is_left_out as leaves_out, is_of_client, is_over, phase_after, phase_after_verdict, phase_over, rank_after, rank_after_verdict}
 use Rattle.milter_mta_connection_laws.specs.Calls.{answered, answers_in, edits_in, fed_by_answer}
 use Rattle.milter_mta_connection_laws.specs.Conversations.{Conversation, are_refused_with, exchanges_about, pairs_at, with_call, with_calls}
 use Rattle.milter_mta_connection_laws.proofs.Answers.{ReadsBack, IsReceived, idle}
@@ -261,35 +261,90 @@ mail-in Closed e = absurd (true≢false (sym e))
 
 -- ---- what a caller has
 
+abbrev pub is_client_stage : Option Stage → Bool
+is_client_stage None = false
+is_client_stage (Some stage) = is_of_client stage
+
+-- an exchange about the client or its greeting
+abbrev pub about-client : Exchange → Bool
+about-client e = is_client_stage (stage_of e.command)
+
+or-true : (a : Bool) → (a || true) ≡ true
+or-true true = refl
+or-true false = refl
+
+-- where a connection is after this exchange, if that is the last one
+record EndsIn (e : Exchange) (phase : Phase) (last : ℕ) : Type 0 where
+  rank : phase ≡ NoMessage → last ≤ 2
+  no_loss : phase ≢ Closed
+  by_client : phase ≡ ClientOver → about-client e ≡ true
+
+ends-going : (e : Exchange) (phase : Phase) (last : ℕ) → is_going phase ≡ true → RankIn phase last → EndsIn e phase last
+ends-going e phase last going rank =
+    record {
+      rank = rank-in phase last rank;
+      no_loss = going-open phase going;
+      by_client = λ is. absurd (true≢false (sym going ∙ ap is_going is));
+    }
+
+ends-over : (e : Exchange) (stage : Stage) (last : ℕ) → stage_of e.command ≡ Some stage → (phase_over stage ≡ NoMessage → last ≤ 2) → EndsIn e (phase_over stage) last
+ends-over e stage last at_stage rank =
+    record { rank = rank; no_loss = open-over stage; by_client = λ is. ap is_client_stage at_stage ∙ client-over stage is }
+  where
+    open-over : (stage : Stage) → phase_over stage ≢ Closed
+    open-over stages.Connect e = absurd cc
+    open-over stages.Helo e = absurd cc
+    open-over stages.Eob e = absurd cc
+    open-over stage e = absurd cc
+
+    client-over : (stage : Stage) → phase_over stage ≡ ClientOver → is_of_client stage ≡ true
+    client-over stages.Connect e = refl
+    client-over stages.Helo e = refl
+    client-over stages.Eob e = absurd cc
+    client-over stage e = absurd cc
+
 module _ (offer : Options) (negotiated : Negotiated) where
-  -- these exchanges were given, and where no message is under way a next one may begin
+  -- these exchanges were given, without a loss; where no message is under way a next one may begin, and where the client
+  -- ended all, the filter was asked about it
   pub record Told (more before : List Exchange) (fed : List Fed) (faults : List CallFault) (t : Conversation) : Type 0 where
     pub transcript_is : t.transcript ≡ onto more before
     pub fed_is : t.fed ≡ fed ++ map fed_by_answer (answers_in more)
     pub channel_is : t.connection.channel ≡ idle offer negotiated (edits_in more)
     pub faults_is : t.faults ≡ faults
     pub rank : t.connection.phase ≡ NoMessage → t.connection.last_rank ≤ 2
+    pub no_loss : t.connection.phase ≢ Closed
+    pub by_client : t.connection.phase ≡ ClientOver → list_any about-client more ≡ true
 
   module _ (e : Exchange) (before : List Exchange) (fed : List Fed) (faults : List CallFault) where
     abbrev with_answer : Option Answer → Exchange
     with_answer answer = record { command = e.command; answer = answer }
 
-    told-none : e.answer ≡ None → (phase : Phase) (last : ℕ) → (phase ≡ NoMessage → last ≤ 2)
+    told-none : e.answer ≡ None → (phase : Phase) (last : ℕ) → EndsIn e phase last
         → Told (e ∷ []) before fed faults (at offer negotiated phase last [] (e ∷ before) fed faults)
-    told-none none phase last rank =
+    told-none none phase last ends =
         subst (λ (a : Option Answer). Told (with_answer a ∷ []) before fed faults (at offer negotiated phase last [] (with_answer a ∷ before) fed faults)) (sym none)
-        (record { transcript_is = refl; fed_is = sym (append-nil fed); channel_is = refl; faults_is = refl; rank = rank })
+        (record {
+          transcript_is = refl;
+          fed_is = sym (append-nil fed);
+          channel_is = refl;
+          faults_is = refl;
+          rank = ends.rank;
+          no_loss = ends.no_loss;
+          by_client = λ is. ap (λ (k : Bool). k || false) (ends.by_client is);
+        })
 
-    told-some : (answer : Answer) → e.answer ≡ Some answer → (phase : Phase) (last : ℕ) → (phase ≡ NoMessage → last ≤ 2)
+    told-some : (answer : Answer) → e.answer ≡ Some answer → (phase : Phase) (last : ℕ) → EndsIn e phase last
         → Told (e ∷ []) before fed faults (at offer negotiated phase last answer.edits (e ∷ before) (fed ++ fed_by_answer answer ∷ []) faults)
-    told-some answer some phase last rank =
+    told-some answer some phase last ends =
         subst (λ (a : Option Answer). Told (with_answer a ∷ []) before fed faults (at offer negotiated phase last answer.edits (with_answer a ∷ before) (fed ++ fed_by_answer answer ∷ []) faults)) (sym some)
         (record {
           transcript_is = refl;
           fed_is = refl;
           channel_is = ap (idle offer negotiated) (sym (append-nil answer.edits));
           faults_is = refl;
-          rank = rank;
+          rank = ends.rank;
+          no_loss = ends.no_loss;
+          by_client = λ is. ap (λ (k : Bool). k || false) (ends.by_client is);
         })
 
     goes-none : e.answer ≡ None → (more : List Exchange) (t : Conversation) → Told more (e ∷ before) fed faults t → Told (e ∷ more) before fed faults t
@@ -301,6 +356,8 @@ module _ (offer : Options) (negotiated : Negotiated) where
           channel_is = is.channel_is ∙ ap (λ (l : List Answer). idle offer negotiated (flat_map (λ (answer : Answer). answer.edits) l)) (sym same);
           faults_is = is.faults_is;
           rank = is.rank;
+          no_loss = is.no_loss;
+          by_client = λ over. ap (λ (k : Bool). about-client e || k) (is.by_client over) ∙ or-true (about-client e);
         }
 
     goes-some : (answer : Answer) → e.answer ≡ Some answer → answer.edits ≡ [] → (more : List Exchange) (t : Conversation)
@@ -319,6 +376,8 @@ module _ (offer : Options) (negotiated : Negotiated) where
               ∙ ap (λ (l : List Answer). idle offer negotiated (flat_map (λ (answer : Answer). answer.edits) l)) (sym same);
           faults_is = is.faults_is;
           rank = is.rank;
+          no_loss = is.no_loss;
+          by_client = λ over. ap (λ (k : Bool). about-client e || k) (is.by_client over) ∙ or-true (about-client e);
         }
 
 -- ---- one command after the other
@@ -474,7 +533,7 @@ module _ (offer : Options) (negotiated : Negotiated) (reads : ReadsBack) (b : Be
         t = here (phase_after phase stage) (rank_of stage) [] (e ∷ so_far) fed faults
 
         by_refused : (refused : Bool) → Told offer negotiated (e ∷ (if refused then [] else more)) so_far fed faults (if refused then t else with_calls b negotiated macros left t)
-        by_refused true = told-none offer negotiated e so_far fed faults none (phase_after phase stage) (rank_of stage) (rank-in (phase_after phase stage) (rank_of stage) to.rank)
+        by_refused true = told-none offer negotiated e so_far fed faults none (phase_after phase stage) (rank_of stage) (ends-going e (phase_after phase stage) (rank_of stage) to.going to.rank)
         by_refused false =
             goes-none offer negotiated e so_far fed faults none more (with_calls b negotiated macros left t)
             (further (phase_after phase stage) (rank_of stage) [] (e ∷ so_far) fed faults (start-next (ap (has_verdict is_skip) none)))
@@ -495,7 +554,7 @@ module _ (offer : Options) (negotiated : Negotiated) (reads : ReadsBack) (b : Be
           subst (λ (c : Bool). Told offer negotiated (e ∷ (if c then [] else more)) so_far fed faults (goes left (then_in (phase_after_verdict stage answer.verdict (phase_after phase stage)) rank answer.edits)))
           (sym (closed-is true (final-is (Some answer) some ∙ final)))
           (subst (Told offer negotiated (e ∷ []) so_far fed faults) (sym (by_refused (are_all_refused (e ∷ so_far) left)))
-          (told-some offer negotiated e so_far fed faults answer some (phase_over stage) rank (over-rank stage answer.verdict final)))
+          (told-some offer negotiated e so_far fed faults answer some (phase_over stage) rank (ends-over e stage rank at_stage (over-rank stage answer.verdict final))))
         where
           rank : ℕ
           rank = rank_after_verdict stage answer.verdict (rank_of stage)
@@ -536,9 +595,10 @@ module _ (offer : Options) (negotiated : Negotiated) (reads : ReadsBack) (b : Be
 
           by_skip : (skip : Bool) → is_skip answer.verdict ≡ skip → (refused : Bool)
               → Told offer negotiated (e ∷ (if refused then [] else more)) so_far fed faults (if refused then t skip else with_calls b negotiated macros left (t skip))
-          by_skip true skips true = told-some offer negotiated e so_far fed faults answer some Skipping (rank_of stage) (λ none. absurd cc)
+          by_skip true skips true = told-some offer negotiated e so_far fed faults answer some Skipping (rank_of stage)
+              (record { rank = λ is. absurd cc; no_loss = λ is. absurd cc; by_client = λ is. absurd cc })
           by_skip false skips true =
-              told-some offer negotiated e so_far fed faults answer some (phase_after phase stage) (rank_of stage) (rank-in (phase_after phase stage) (rank_of stage) to.rank)
+              told-some offer negotiated e so_far fed faults answer some (phase_after phase stage) (rank_of stage) (ends-going e (phase_after phase stage) (rank_of stage) to.going to.rank)
           by_skip true skips false =
               goes-some offer negotiated e so_far fed faults answer some no_edits more (with_calls b negotiated macros left (t true))
               (subst (λ (es : List Edit). Told offer negotiated more (e ∷ so_far) fed_then faults (with_calls b negotiated macros left (then_in Skipping (rank_of stage) es))) (sym no_edits)
@@ -736,6 +796,8 @@ module _ (offer : Options) (negotiated : Negotiated) (reads : ReadsBack) (b : Be
         channel_is = ap (idle offer negotiated) (start.no_edits refl);
         faults_is = refl;
         rank = rank-in phase last start.rank;
+        no_loss = going-open phase start.going;
+        by_client = λ is. absurd (true≢false (sym start.going ∙ ap is_going is));
       }
 
   pub told : (left : List Command) → Tells left
