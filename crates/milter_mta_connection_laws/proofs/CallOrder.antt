@@ -219,6 +219,15 @@ rcpt-order : (last : ℕ) (leading_space : Bool) (recipients : List Path) (heade
 rcpt-order last leading_space [] headers chunks less = (stages.DataCmd, refl, grind (arith, nat_tests), header-order 5 leading_space headers chunks (omega arith))
 rcpt-order last leading_space (recipient ∷ recipients) headers chunks less = (stages.Rcpt, refl, grind (arith, nat_tests), rcpt-order 4 leading_space recipients headers chunks (omega arith))
 
+-- all after the sender
+abbrev pub parts-after : Bool → MailObject → List Command
+parts-after leading_space message =
+    map (λ recipient. commands.Rcpt recipient) message.recipients ++ (commands.DataCmd
+    ∷ (map (λ header. commands.Header (sent_header leading_space header)) message.headers ++ (commands.Eoh ∷ (map (λ chunk. commands.Body chunk) (chunks_of message.body) ++ (commands.Eob [] ∷ [])))))
+
+pub parts-order : (leading_space : Bool) (message : MailObject) → Ordered InMessage 3 (parts-after leading_space message)
+parts-order leading_space message = rcpt-order 3 leading_space message.recipients message.headers (chunks_of message.body) (omega arith)
+
 pub message-order : (last : ℕ) (leading_space : Bool) (message : MailObject) → last ≤ 2 → Ordered NoMessage last (message_calls leading_space message)
 message-order last leading_space message less =
     (stages.Mail, refl, grind (arith, nat_tests), rcpt-order 3 leading_space message.recipients message.headers (chunks_of message.body) (omega arith))

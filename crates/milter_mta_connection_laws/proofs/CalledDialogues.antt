@@ -203,7 +203,7 @@ late-ignored negotiated last stages.Helo e = absurd (true≢false (sym e))
 late-ignored negotiated last stages.Mail e = absurd (true≢false (sym e))
 
 -- a body alone is skipped
-skip-body : (negotiated : Negotiated) (stage : Stage) (verdict : Verdict) → is_given negotiated stage verdict ≡ true → is_skip verdict ≡ true → stage ≡ stages.Body
+pub skip-body : (negotiated : Negotiated) (stage : Stage) (verdict : Verdict) → is_given negotiated stage verdict ≡ true → is_skip verdict ≡ true → stage ≡ stages.Body
 skip-body negotiated stages.Body verdict given e = refl
 skip-body negotiated stages.Connect Skip given e = absurd (true≢false (sym given))
 skip-body negotiated stages.Helo Skip given e = absurd (true≢false (sym given))
@@ -437,6 +437,14 @@ module _ (offer : Options) (negotiated : Negotiated) (reads : ReadsBack) (b : Be
   client-over [] phase rank last before fed faults o = refl
   client-over (command ∷ left) phase rank last before fed faults o =
       ignored-call command o.0 left ClientOver last [] before fed faults o.1 not_gone refl refl refl
+      ∙ client-over left (phase_after phase o.0) (rank_of o.0) last before fed faults o.3
+
+  -- the edits of the last message are dropped by the first call
+  pub client-over-first : (command : Command) (left : List Command) (phase : Phase) (rank last : ℕ) (es : List Edit) (before : List Exchange) (fed : List Fed) (faults : List CallFault)
+      → Ordered phase rank (command ∷ left)
+      → with_calls b negotiated macros (command ∷ left) (here ClientOver last es before fed faults) ≡ here ClientOver last [] before fed faults
+  client-over-first command left phase rank last es before fed faults o =
+      ignored-call command o.0 left ClientOver last es before fed faults o.1 not_gone refl refl refl
       ∙ client-over left (phase_after phase o.0) (rank_of o.0) last before fed faults o.3
 
   message-over : (left : List Command) (rank last : ℕ) (before : List Exchange) (fed : List Fed) (faults : List CallFault) → 3 ≤ rank → Ordered InMessage rank left

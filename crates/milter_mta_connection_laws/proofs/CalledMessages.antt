@@ -1,5 +1,5 @@
 -- What is called for of a message, and of a session, is what its plan has; and where the calls begin.
-use Rattle.std.proofs.Common.{◌≡◌, ◌≤◌, ℕ, true, false, List, [], ◌∷◌, ◌++◌, length, map, Option, None, Some, Result, Ok, refl, sym, ap, ◌∙◌, subst, arith, append-nil, append_assoc}
+use Rattle.std.proofs.Common.{◌≡◌, ◌≢◌, ◌≤◌, ℕ, true, false, List, [], ◌∷◌, ◌++◌, length, map, Option, None, Some, Result, Ok, refl, sym, ap, ◌∙◌, subst, arith, append-nil, append_assoc}
 use Rattle.std.proofs.Common.{drop_of_length-le}
 use Rattle.std.specs.List.{flat_map, list_any}
 use Rattle.std.proofs.lemmas.List.Concat.{flat_map-append}
@@ -40,7 +40,7 @@ use Rattle.milter_mta_channel.specs.Channel.{Channel}
 use Rattle.milter_mta_channel.specs.Received.{After, negotiated_on}
 use Rattle.milter_mta_connection.specs.declared.call_outcome.CallFault.{CallFault}
 use Rattle.milter_mta_connection.specs.declared.phase.Phase.{Phase}
-use Rattle.milter_mta_connection.specs.declared.phase.Phase.TheVariants.{NoMessage}
+use Rattle.milter_mta_connection.specs.declared.phase.Phase.TheVariants.{ClientOver, Closed, NoMessage}
 use Rattle.milter_mta_connection.specs.Calls.{after, called_at, fed_by, queued_at, queued_by, queued_unless, unless}
 use Rattle.milter_mta_connection.specs.Calls.Call.{StageCommand}
 use Rattle.milter_mta_connection.specs.Connection.{Connection, abort_before, after_command, fault_at, is_left_out, packets_for, pairs_for}
@@ -49,7 +49,7 @@ use Rattle.milter_mta_connection_laws.specs.Calls.{IsGiven, IsQuiet, IsReady, cl
 use Rattle.milter_mta_connection_laws.specs.Conversations.{Conversation, fed_of, opened, with_bytes, with_call}
 use Rattle.milter_mta_connection_laws.proofs.Answers.{ReadsBack, idle, reply-received}
 use Rattle.milter_mta_connection_laws.proofs.CallOrder.{message-order, session-order}
-use Rattle.milter_mta_connection_laws.proofs.CalledDialogues.{Start, Told, steps, steps_for, told}
+use Rattle.milter_mta_connection_laws.proofs.CalledDialogues.{Start, Told, about-client, steps, steps_for, told}
 use Rattle.milter_mta_connection_laws.proofs.OneCall.{at, left-out-call, reply-some, sent-call, with-some}
 
 -- ---- plans
@@ -131,7 +131,7 @@ session-plan negotiated session message =
 
 -- ---- where the calls begin
 
-quiet-is : (negotiated : Negotiated) (c : Channel) → IsQuiet negotiated c → c ≡ idle c.offer negotiated c.edits
+pub quiet-is : (negotiated : Negotiated) (c : Channel) → IsQuiet negotiated c → c ≡ idle c.offer negotiated c.edits
 quiet-is negotiated c is =
     sym (idle-same c is.idle)
     ∙ ap (λ (n : Option Negotiated). record c { negotiated = n; expected = expects.Nothing; pending = [] }) is.negotiated_is
@@ -147,7 +147,7 @@ ready-is negotiated t is =
     ∙ ap (λ (p : Phase). record t { connection = record t.connection { channel = idle t.connection.channel.offer negotiated t.connection.channel.edits; phase = p } }) is.phase_is
 
 -- of a connection in any phase
-quiet-at : (negotiated : Negotiated) (t : Conversation) → IsQuiet negotiated t.connection.channel
+pub quiet-at : (negotiated : Negotiated) (t : Conversation) → IsQuiet negotiated t.connection.channel
     → t ≡ at t.connection.channel.offer negotiated t.connection.phase t.connection.last_rank t.connection.channel.edits t.transcript t.fed t.faults
 quiet-at negotiated t is =
     ap (λ (k : Channel). record t { connection = record t.connection { channel = k } }) (quiet-is negotiated t.connection.channel is)
@@ -175,6 +175,8 @@ pub record IsGivenQuietly (negotiated : Negotiated) (exchanges : List Exchange) 
   pub given : IsGiven exchanges before after
   pub quiet : IsQuiet negotiated after.connection.channel
   pub rank : after.connection.phase ≡ NoMessage → after.connection.last_rank ≤ 2
+  pub no_loss : after.connection.phase ≢ Closed
+  pub by_client : after.connection.phase ≡ ClientOver → list_any about-client exchanges ≡ true
 
 given-by : (offer : Options) (negotiated : Negotiated) (exchanges : List Exchange) (before after : Conversation)
     → Told offer negotiated exchanges before.transcript before.fed before.faults after → IsGivenQuietly negotiated exchanges before after
@@ -188,6 +190,8 @@ given-by offer negotiated exchanges before after is =
       };
       quiet = subst (IsQuiet negotiated) (sym is.channel_is) (idle-quiet offer negotiated _);
       rank = is.rank;
+      no_loss = is.no_loss;
+      by_client = is.by_client;
     }
 
 module _ (reads : ReadsBack) (b : Behavior) (lawful : IsLawful b) (negotiated : Negotiated) where

@@ -6,3 +6,4 @@ mod CalledDialogues
 mod NegotiatedOptions
 mod CalledMessages
 mod FedPieces
+mod FollowingMessages

@@ -1,3 +1,4 @@
 pub mod Conversations
 pub mod Calls
+pub mod Messages
 pub mod Losses
