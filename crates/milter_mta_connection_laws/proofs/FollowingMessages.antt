@@ -235,6 +235,13 @@ module _ (reads : ReadsBack) (b : Behavior) (lawful : IsLawful b) (negotiated : 
       none-about b negotiated (λ (command : Command). is_client_stage (stage_of command)) (message_steps negotiated chosen message) before
       (none-of-message (λ (command : Command). is_client_stage (stage_of command)) client-command client-macros negotiated chosen message)
 
+  pub message-ready : (message : MailObject) (t : Conversation) → IsReady negotiated t.connection → list_any is_skipping t.transcript ≡ false
+      → IsReady negotiated (given_up (with_message b negotiated macros message t).connection)
+  message-ready message t ready none_skipped =
+      let is = message-given reads b lawful negotiated macros message t ready none_skipped in
+      then-ready negotiated (about message t.transcript) t (with_message b negotiated macros message t) is
+      (λ over. true≢false (sym (is.by_client over) ∙ no-client message t.transcript))
+
   pub all-given : (messages : List MailObject) (t : Conversation) (opening : List Exchange) → opening_of t.transcript ≡ opening → list_any is_skipping opening ≡ false
       → IsReady negotiated (given_up t.connection) → AreGiven b negotiated macros opening messages t
   all-given [] t opening same none_skipped ready = tt
@@ -242,12 +249,11 @@ module _ (reads : ReadsBack) (b : Behavior) (lawful : IsLawful b) (negotiated : 
       let is = message-given reads b lawful negotiated macros message (between t) ready (ap (list_any is_skipping) same ∙ none_skipped) in
       let new : Conversation = with_next b negotiated macros message t in
       let kept : opening_of new.transcript ≡ opening =
-      ap opening_of is.given.transcript ∙ same-opening message (opening_of t.transcript) ∙ opening-again t.transcript ∙ same in
-      (
+      ap opening_of is.given.transcript ∙ same-opening message (opening_of t.transcript) ∙ opening-again t.transcript ∙ same in (
         subst (λ (before : List Exchange). IsGiven (about message before) (between t) new) same is.given,
         all-given messages new opening kept none_skipped
-        (then-ready negotiated (about message (opening_of t.transcript)) (between t) new is
-        (λ over. true≢false (sym (is.by_client over) ∙ no-client message (opening_of t.transcript)))),
+            (then-ready negotiated (about message (opening_of t.transcript)) (between t) new is
+            (λ over. true≢false (sym (is.by_client over) ∙ no-client message (opening_of t.transcript)))),
       )
 
   -- where the client ended all
@@ -270,8 +276,7 @@ module _ (reads : ReadsBack) (b : Behavior) (lawful : IsLawful b) (negotiated : 
       let quiet_on : IsQuiet negotiated (between t).connection.channel = subst (λ (c : Connection). IsQuiet negotiated c.channel) (sym stays) quiet in
       let over_on : (between t).connection.phase ≡ ClientOver = ap (λ (c : Connection). c.phase) stays ∙ over in
       let is = ignored-at message (between t) quiet_on over_on in
-      let new : Conversation = with_next b negotiated macros message t in
-      (
+      let new : Conversation = with_next b negotiated macros message t in (
         record {
           transcript = ap (λ (u : Conversation). u.transcript) is;
           verdicts = ap (λ (u : Conversation). u.fed) is ∙ sym (append-nil t.fed);
@@ -279,7 +284,7 @@ module _ (reads : ReadsBack) (b : Behavior) (lawful : IsLawful b) (negotiated : 
           no_faults = ap (λ (u : Conversation). u.faults) is;
         },
         all-ignored messages new (subst (λ (u : Conversation). IsQuiet negotiated u.connection.channel) (sym is) (idle-quiet _ negotiated []))
-        (ap (λ (u : Conversation). u.connection.phase) is),
+            (ap (λ (u : Conversation). u.connection.phase) is),
       )
 
   -- ---- after the first one

@@ -101,9 +101,8 @@ answered stage (Some answer) t =
 -- the exchanges before a command of this stage, that about its macros the latest
 abbrev pub with_macros : Behavior → Negotiated → Stage → List Pair → Conversation → List Exchange
 with_macros b negotiated stage pairs t =
-    onto
-    (exchanges_about b negotiated t.transcript (macro_step (macro_command_of stage) (pairs_for t.connection stage pairs)))
-    t.transcript
+    let macros = macro_step (macro_command_of stage) (pairs_for t.connection stage pairs) in
+    onto (exchanges_about b negotiated t.transcript macros) t.transcript
 
 -- a command of this stage was called for and sent, and its answer was given
 abbrev pub with_exchange : Behavior → Negotiated → Stage → Command → List Pair → Conversation → Conversation

@@ -23,8 +23,8 @@ use Rattle.milter_mta_connection.specs.Calls.{after, queued_by}
 use Rattle.milter_mta_connection.specs.Calls.Call.{Feed, Sent, StageCommand}
 use Rattle.milter_mta_connection.specs.Connection.{Connection, fault_at, fresh}
 
--- A connection, what was sent on it with the filter's answers, the latest first, what the filter's bytes came to, piece
--- by piece, and why calls were refused.
+-- A connection; what was sent of the message, after what was sent about its client, with the filter's answers, the
+-- latest first; what the filter's bytes came to, piece by piece; and why calls were refused.
 pub record Conversation : Type 0 where
   pub connection : Connection
   pub transcript : List Exchange

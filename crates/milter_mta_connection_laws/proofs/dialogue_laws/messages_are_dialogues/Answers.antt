@@ -1,5 +1,8 @@
+use Rattle.std.proofs.Common.{refl}
+use Rattle.milter_mta_connection_laws.specs.Messages.{opening_of}
 use Rattle.milter_mta_connection_laws.proofs.Answers.{ReadsBack}
 use Rattle.milter_mta_connection_laws.proofs.CalledMessages.{message-given}
+use Rattle.milter_mta_connection_laws.proofs.FollowingMessages.{all-given, all-ignored, message-ready}
 use Rattle.milter_mta_connection_laws.proofs.dialogue_laws.messages_are_dialogues.Goals as goal
 
 pub returns-clause-given : goal.returns-clause-given
@@ -13,7 +16,16 @@ returns-clause-quiet c b negotiated macros message t lawful ready none_skipped =
     (message-given reads b lawful negotiated macros message t ready none_skipped).quiet
 
 pub returns-clause-next : goal.returns-clause-next
-returns-clause-next c b negotiated macros message t lawful ready none_skipped over =
+returns-clause-next c b negotiated macros message t lawful ready none_skipped =
     let reads : ReadsBack = λ r fits. c.reply_frames.ensures.frame r fits in
-    let is = message-given reads b lawful negotiated macros message t ready none_skipped in
-    record { quiet = is.quiet; phase_is = over; rank = is.rank over }
+    message-ready reads b lawful negotiated macros message t ready none_skipped
+
+pub returns-clause-others : goal.returns-clause-others
+returns-clause-others c b negotiated macros messages t lawful ready none_skipped =
+    let reads : ReadsBack = λ r fits. c.reply_frames.ensures.frame r fits in
+    all-given reads b lawful negotiated macros messages t (opening_of t.transcript) refl none_skipped ready
+
+pub returns-clause-refused : goal.returns-clause-refused
+returns-clause-refused c b negotiated macros messages t lawful quiet over =
+    let reads : ReadsBack = λ r fits. c.reply_frames.ensures.frame r fits in
+    all-ignored reads b lawful negotiated macros messages t quiet over

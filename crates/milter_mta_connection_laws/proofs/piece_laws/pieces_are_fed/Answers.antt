@@ -1,8 +1,14 @@
+use Rattle.std.proofs.Common.{List, ℕ, ap, sym}
+use Rattle.std.proofs.lemmas.List.{drop-drop}
 use Rattle.milter_mta_connection_laws.proofs.FedPieces.{pieces, verdict-last}
 use Rattle.milter_mta_connection_laws.proofs.piece_laws.pieces_are_fed.Goals as goal
 
 pub returns-clause-connection : goal.returns-clause-connection
 returns-clause-connection c connection first second = pieces connection first second
+
+pub returns-clause-sent : goal.returns-clause-sent
+returns-clause-sent c connection first second =
+    ap (λ (bytes : List ℕ). record connection { channel = record connection.channel { pending = bytes } }) (sym (drop-drop second first connection.channel.pending))
 
 pub returns-clause-waits : goal.returns-clause-waits
 returns-clause-waits c channel first second verdict new some is = (verdict-last channel first second verdict new some is).waits
