@@ -1,7 +1,7 @@
 -- The messages after the first one on a connection.
-use Rattle.std.proofs.Common.{◌≡◌, ◌≢◌, ◌≤◌, ℕ, Bool, true, false, cond, not, ◌&&◌, ◌||◌, List, [], ◌∷◌, ◌++◌, drop, length, Option, None, Some, if◌then◌else◌, refl, sym, ap, ◌∙◌, subst, arith, append-nil, min}
+use Rattle.std.proofs.Common.{◌≡◌, ◌≢◌, ◌≤◌, ℕ, Bool, true, false, cond, ◌||◌, List, [], ◌∷◌, ◌++◌, drop, length, Option, Some, if◌then◌else◌, refl, sym, ap, ◌∙◌, subst, arith, append-nil}
 use Rattle.std.proofs.Common.{drop_of_length-le}
-use Rattle.std.specs.List.{filter, list_any}
+use Rattle.std.specs.List.{list_any}
 use Rattle.std.proofs.lemmas.Bool.{true≢false}
 use Rattle.std.proofs.lemmas.Option.{same_Some}
 use Rattle.std.proofs.lemmas.List.Folds.{list_any-append}
@@ -36,7 +36,7 @@ use Rattle.milter_mta_connection.specs.declared.phase.Phase.TheVariants.{NoMessa
 use Rattle.milter_mta_connection.specs.Calls.{after}
 use Rattle.milter_mta_connection.specs.Calls.Call.{Abort}
 use Rattle.milter_mta_connection.specs.Connection.{Connection, is_due_abort, is_of_client}
-use Rattle.milter_mta_connection_laws.specs.Calls.{IsGiven, IsQuiet, IsReady, dialogue_about, message_calls, with_message}
+use Rattle.milter_mta_connection_laws.specs.Calls.{IsGiven, IsQuiet, IsReady, dialogue_about, with_message}
 use Rattle.milter_mta_connection_laws.specs.Conversations.{Conversation, all_sent}
 use Rattle.milter_mta_connection_laws.specs.Messages.{AreGiven, AreIgnored, between, given_up, opening_of, with_next}
 use Rattle.milter_mta_connection_laws.proofs.Answers.{ReadsBack, idle, permitted-received}

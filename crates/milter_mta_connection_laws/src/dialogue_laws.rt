@@ -84,9 +84,9 @@ pub fn messages_are_dialogues()
     reply_frames();
 }
 
-/// From the start of a connection to a lawful filter on, whose offer has a known version, the options are negotiated; of
-/// the client and a first message a caller has the dialogue through the plan of that message, and of each other message
-/// its dialogue after the exchanges about the client.
+/// From the start of a connection to a lawful filter on, whose offer has a known version, the options are negotiated;
+/// of the client and a first message a caller has the dialogue through the plan of that message, and of each other
+/// message its dialogue after the exchanges about the client.
 pub fn sessions_are_dialogues()
     ensures negotiated { (b : Behavior) (offer : Options) →
         IsLawful b → VERSION_MIN ≤ offer.version → offer.version ≤ VERSION_MAX →

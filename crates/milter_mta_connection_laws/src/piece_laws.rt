@@ -10,8 +10,8 @@ ghost use Rattle.milter_mta_connection.specs.Calls.{after};
 ghost use Rattle.milter_mta_connection.specs.Calls.Call.{Feed, Sent};
 ghost use Rattle.milter_mta_connection.specs.Connection.{Connection};
 
-/// Whatever a filter sends, two pieces leave a connection as both in one do, and so does what is sent. Where both in one
-/// give a verdict, without a loss, the first one gives neither an answer nor a loss, and the second one gives the
+/// Whatever a filter sends, two pieces leave a connection as both in one do, and so does what is sent. Where both in
+/// one give a verdict, without a loss, the first one gives neither an answer nor a loss, and the second one gives the
 /// verdict.
 pub fn pieces_are_fed()
     ensures connection { (c : Connection) (first second : List ℕ) →
