@@ -49,7 +49,9 @@ use Rattle.milter_mta_connection_laws.specs.Calls.{IsGiven, IsQuiet, IsReady, cl
 use Rattle.milter_mta_connection_laws.specs.Conversations.{Conversation, fed_of, opened, with_bytes, with_call}
 use Rattle.milter_mta_connection_laws.proofs.Answers.{ReadsBack, idle, reply-received}
 use Rattle.milter_mta_connection_laws.proofs.CallOrder.{message-order, session-order}
-use Rattle.milter_mta_connection_laws.proofs.CalledDialogues.{Start, Told, about-client, steps, steps_for, told}
+use Rattle.milter_mta_connection_laws.proofs.CalledDialogues.{Start, told}
+use Rattle.milter_mta_connection_laws.proofs.CalledStages.{steps, steps_for}
+use Rattle.milter_mta_connection_laws.proofs.GivenExchanges.{Told, about-client}
 use Rattle.milter_mta_connection_laws.proofs.OneCall.{at, left-out-call, reply-some, sent-call, with-some}
 
 -- ---- plans

@@ -41,7 +41,9 @@ use Rattle.milter_mta_connection_laws.specs.Conversations.{Conversation, all_sen
 use Rattle.milter_mta_connection_laws.specs.Messages.{AreGiven, AreIgnored, between, given_up, opening_of, with_next}
 use Rattle.milter_mta_connection_laws.proofs.Answers.{ReadsBack, idle, permitted-received}
 use Rattle.milter_mta_connection_laws.proofs.CallOrder.{Ordered, is_late, in-message, late, message-order, parts-after, parts-order, rank-follows}
-use Rattle.milter_mta_connection_laws.proofs.CalledDialogues.{about-client, client-over-first, is_client_stage, skip-body, steps, steps_at, steps_for}
+use Rattle.milter_mta_connection_laws.proofs.CalledDialogues.{client-over-first}
+use Rattle.milter_mta_connection_laws.proofs.CalledStages.{skip-body, steps, steps_at, steps_for}
+use Rattle.milter_mta_connection_laws.proofs.GivenExchanges.{about-client, is_client_stage}
 use Rattle.milter_mta_connection_laws.proofs.CalledMessages.{IsGivenQuietly, idle-quiet, message-given, message-plan, quiet-at, quiet-is}
 use Rattle.milter_mta_connection_laws.proofs.OneCall.{at}
 

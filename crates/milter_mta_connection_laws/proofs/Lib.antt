@@ -2,6 +2,8 @@ mod Answers
 mod LostConnections
 mod OneCall
 mod CallOrder
+mod CalledStages
+mod GivenExchanges
 mod CalledDialogues
 mod NegotiatedOptions
 mod CalledMessages
