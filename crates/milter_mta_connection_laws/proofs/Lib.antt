@@ -1,5 +1,6 @@
 mod Answers
 mod LostConnections
+mod Methods
 mod OneCall
 mod CallOrder
 mod CalledStages

@@ -7,6 +7,7 @@
 mod answer_laws;
 mod dialogue_laws;
 mod loss_laws;
+mod method_laws;
 mod piece_laws;
 
 pub use answer_laws::{answers_are_received, replies_are_received};
@@ -14,4 +15,5 @@ pub use dialogue_laws::{
     aborts_end_messages, calls_are_exchanges, messages_are_dialogues, sessions_are_dialogues,
 };
 pub use loss_laws::losses_end_connections;
+pub use method_laws::methods_are_calls;
 pub use piece_laws::pieces_are_fed;
