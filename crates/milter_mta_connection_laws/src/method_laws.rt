@@ -1,5 +1,5 @@
-//! Laws that join the contracts of `MtaConnection` to what these laws speak of, each the contract of a function that does
-//! nothing.
+//! Laws that join the contracts of `MtaConnection` to what these laws speak of, each the contract of a function that
+//! does nothing.
 
 ghost use Rattle.std.specs.Prelude.{◌≡◌, ◌≢◌, List, Ok, Some, ℕ};
 ghost use Rattle.milter_wire.specs.declared.command.Command.{Command};
