@@ -1,5 +1,5 @@
 -- A mail server's connection to a filter: which calls are taken, what is sent of them, and what a verdict leaves.
-use Rattle.std.specs.Prelude.{◌≡◌, ℕ, nat_lt, min, Bool, true, false, not, ◌&&◌, ◌||◌, List, [], ◌∷◌, ◌++◌, All, Option, None, Some, Result, Ok, Err, if◌then◌else◌}
+use Rattle.std.specs.Prelude.{◌≡◌, ◌⊎◌, ℕ, nat_lt, min, Bool, true, false, not, ◌&&◌, ◌||◌, List, [], ◌∷◌, ◌++◌, All, Option, None, Some, Result, Ok, Err, if◌then◌else◌}
 use Rattle.milter_wire.specs.declared.codes.TheConstants.{SMFIC_UNKNOWN}
 use Rattle.milter_wire.specs.declared.command.Command.{Command}
 use Rattle.milter_wire.specs.declared.command.Command.TheVariants as commands
@@ -99,10 +99,12 @@ outcome_by (byte ∷ bytes) expected = VerdictDue
 abbrev pub outcome_of : Channel → CallOutcome
 outcome_of c = outcome_by c.pending c.expected
 
--- a call leaves this where no fault speaks against it and its packets fit; else nothing has changed
+-- a call leaves this where no fault speaks against it and its packets fit; else nothing has changed, and where its
+-- packets don't fit it says so
 abbrev pub CallLeaves : Option CallFault → Type 0 → Connection → Connection → Connection → Result CallOutcome CallFault
     → Type 0
-CallLeaves fault fits after old new (Ok outcome) = (fault ≡ None) × (new ≡ after) × (outcome ≡ outcome_of new.channel)
+CallLeaves fault fits after old new (Ok outcome) =
+    (fault ≡ None) × (new ≡ after) × (outcome ≡ outcome_of new.channel) × fits
 CallLeaves fault fits after old new (Err call_faults.NoMemory) = new ≡ old
 CallLeaves fault fits after old new (Err call_faults.DoesNotFit) = (fault ≡ None) × (new ≡ old) × ¬ fits
 CallLeaves fault fits after old new (Err other) = (fault ≡ Some other) × (new ≡ old)
@@ -200,11 +202,16 @@ pub record FitPackets (code : Option ℕ) (command : Command) (pairs : List Pair
   pub command_fits : Fits command
   pub macros_fit : All Fits (macro_step code pairs)
 
+-- nothing is sent of it, or its packets fit
+abbrev pub CanBeQueued : Bool → Option ℕ → Command → List Pair → Type 0
+CanBeQueued left_out code command pairs = (left_out ≡ true) ⊎ FitPackets code command pairs
+
 -- what a call of this stage leaves
 abbrev pub CommandLeaves : Stage → Command → List Pair → Connection → Connection → Result CallOutcome CallFault → Type 0
 CommandLeaves stage command pairs old new result =
     let asked = pairs_for old stage pairs in
-    CallLeaves (fault_at stage old) (FitPackets (macro_command_of stage) command asked)
+    CallLeaves (fault_at stage old)
+    (CanBeQueued (is_left_out old.channel.negotiated old.phase stage) (macro_command_of stage) command asked)
     (after_command stage command asked old) old new result
 
 -- a header field, as it is sent
@@ -248,7 +255,8 @@ after_unknown text pairs c = record c { channel = without_edits (with_unknown te
 
 abbrev pub UnknownLeaves : List ℕ → List Pair → Connection → Connection → Result CallOutcome CallFault → Type 0
 UnknownLeaves text pairs old new result =
-    CallLeaves (any_fault old) (FitPackets (Some SMFIC_UNKNOWN) (commands.Unknown text) pairs)
+    CallLeaves (any_fault old)
+    (CanBeQueued (is_unknown_left_out old.channel.negotiated old.phase) (Some SMFIC_UNKNOWN) (commands.Unknown text) pairs)
     (after_unknown text pairs old) old new result
 
 -- ---- the end of a message and of the connection

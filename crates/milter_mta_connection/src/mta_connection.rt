@@ -1,8 +1,7 @@
 //! A mail server's connection to a filter, fed stage by stage.
 
-ghost use Rattle.std.specs.Prelude.{◌≡◌, ◌≤◌, [], All, IfErr, IfOk, None, OnErr, OnOk, Some, length, unwrap_or};
+ghost use Rattle.std.specs.Prelude.{◌≡◌, ◌≤◌, [], All, IfErr, IfOk, None, OnErr, OnOk, Some, false, length, unwrap_or};
 ghost use Rattle.std.specs.Option.{option_copied};
-ghost use Rattle.milter_wire.specs.declared.codes.TheConstants.{SMFIC_UNKNOWN};
 ghost use Rattle.milter_wire.specs.declared.command.Command.TheVariants as commands;
 ghost use Rattle.milter_wire.specs.BorrowedCommand.{command_of};
 ghost use Rattle.milter_wire.specs.Reply.{Fits as ReplyFits};
@@ -12,7 +11,7 @@ ghost use Rattle.milter_message.specs.EditReplies.{reply_of};
 ghost use Rattle.milter_message.specs.EditedMessage.{edited_message};
 ghost use Rattle.milter_mta_channel.specs.Channel.{queue, queue_all, sent, without_edits};
 ghost use Rattle.milter_mta_channel.specs.ChannelParts.{Receives};
-ghost use Rattle.milter_mta_connection.specs.Connection.{CallLeaves, CommandLeaves, FitPackets, QueuesSome, UnknownLeaves, abort_before, aborts, after_abort, after_command, after_event, after_fed, after_quit, after_verdict, any_fault, closed_by, fault_at, fresh, has_leading_space_in, header_command, is_under_way, is_unknown_left_out, lost, outcome_of, pairs_for, want, with_command, with_packets};
+ghost use Rattle.milter_mta_connection.specs.Connection.{CallLeaves, CanBeQueued, CommandLeaves, FitPackets, QueuesSome, UnknownLeaves, abort_before, aborts, after_abort, after_command, after_event, after_fed, after_quit, after_verdict, any_fault, closed_by, fault_at, fresh, has_leading_space_in, header_command, is_left_out, is_under_way, lost, outcome_of, pairs_for, want, with_command};
 
 use crate::call_outcome::{CallFault, CallOutcome};
 use crate::packets::{packets_fit, queue_packets};
@@ -279,11 +278,15 @@ impl MtaConnection {
         ensures { UnknownLeaves command.now macros.now self.old self.new result }
     {
         self.check()?;
+        if self.phase.leaves_unknown_out(self.channel.negotiated()) {
+            self.channel.clear_edits();
+            return Ok(CallOutcome::LeftOut);
+        }
         let command = CommandRef::Unknown(command);
         if !packets_fit(Some(SMFIC_UNKNOWN), &command, macros) {
             return Err(CallFault::DoesNotFit);
         }
-        if self.queue_unknown(&command, macros).is_err() {
+        if queue_packets(&mut self.channel, Some(SMFIC_UNKNOWN), &command, macros).is_err() {
             self.channel.discard_pending();
             return Err(CallFault::NoMemory);
         }
@@ -408,13 +411,18 @@ impl MtaConnection {
     ) -> Result<CallOutcome, CallFault>
         requires { fault_at stage self.old ≡ None }
         ensures { CallLeaves (fault_at stage self.old)
-            (FitPackets (macro_command_of stage) (command_of command.now) macros.now)
+            (CanBeQueued (is_left_out self.old.channel.negotiated self.old.phase stage)
+            (macro_command_of stage) (command_of command.now) macros.now)
             (after_command stage (command_of command.now) macros.now self.old) self.old self.new result }
     {
-        if !packets_fit(stage.macro_command(), command, macros) {
+        let left_out = self.phase.leaves_out(self.channel.negotiated(), stage);
+        if !left_out && !packets_fit(stage.macro_command(), command, macros) {
             return Err(CallFault::DoesNotFit);
         }
-        if self.queue_command(stage, command, macros).is_err() {
+        if self
+            .queue_command(left_out, stage, command, macros)
+            .is_err()
+        {
             self.channel.discard_pending();
             return Err(CallFault::NoMemory);
         }
@@ -424,22 +432,24 @@ impl MtaConnection {
         Ok(self.outcome())
     }
 
-    /// Queues the packets of a command of the stage. After `NoMemory` some of them may be pending.
+    /// Queues the packets of a command of the stage, or what comes before one that is left out. After `NoMemory` some
+    /// of them may be pending.
     fn queue_command(
         &mut self,
+        left_out: bool,
         stage: Stage,
         command: &CommandRef<'_>,
         macros: &[Pair],
     ) -> Result<(), NoMemory>
-        requires { FitPackets (macro_command_of stage) (command_of command.now) macros.now }
+        requires left_out { left_out ≡ is_left_out self.old.channel.negotiated self.old.phase stage }
+        requires fit { left_out ≡ false → FitPackets (macro_command_of stage) (command_of command.now) macros.now }
         ensures ok { OnOk result (self.new ≡ record self.old {
           channel = with_command stage (command_of command.now) macros.now self.old.phase self.old.channel;
         }) }
         ensures err { OnErr result (QueuesSome self.old self.new) }
     {
-        let is_left_out = self.phase.leaves_out(self.channel.negotiated(), stage);
         self.queue_abort_before(stage)?;
-        if is_left_out {
+        if left_out {
             return Ok(());
         }
         queue_packets(&mut self.channel, stage.macro_command(), command, macros)
@@ -456,21 +466,6 @@ impl MtaConnection {
             return self.channel.queue(&CommandRef::Abort);
         }
         Ok(())
-    }
-
-    /// Queues a command that the mail server doesn't know. After `NoMemory` some of its packets may be pending.
-    fn queue_unknown(&mut self, command: &CommandRef<'_>, macros: &[Pair]) -> Result<(), NoMemory>
-        requires { FitPackets (Some SMFIC_UNKNOWN) (command_of command.now) macros.now }
-        ensures ok { OnOk result (self.new ≡ record self.old {
-          channel = with_packets (is_unknown_left_out self.old.channel.negotiated self.old.phase)
-              (Some SMFIC_UNKNOWN) (command_of command.now) macros.now self.old.channel;
-        }) }
-        ensures err { OnErr result (QueuesSome self.old self.new) }
-    {
-        if self.phase.leaves_unknown_out(self.channel.negotiated()) {
-            return Ok(());
-        }
-        queue_packets(&mut self.channel, Some(SMFIC_UNKNOWN), command, macros)
     }
 
     /// Queues the abort of a message that was sent in part.
