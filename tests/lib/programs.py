@@ -14,6 +14,7 @@ BUILDS = ['', '.by-rattle']
 PROGRAMS = {
     'tool': ('milter_tool', []),
     'loop guard': ('example_loop_guard', []),
+    'smtp server': ('example_smtp_server', []),
     'edits': ('milter_tests_driver', ['edits', 'text']),
     'filter faults': ('milter_tests_driver', ['faults']),
     'payloads': ('milter_tests_driver', ['packets']),
