@@ -38,6 +38,7 @@ REFUSES_ONE = 'at rcpt when rcpt is "<carol@example.net>" do code "550 5.1.1 Mov
 DEFAULTS = {'accept': None, 'tempfail': (451, b'4.3.2 Please try again later'), 'reject': (550, b'5.7.1 Command rejected')}
 CLIENT = {'TCPREMOTEIP': '192.0.2.7', 'TCPREMOTEPORT': '2525', 'TCPREMOTEHOST': 'client.example.org',
           'TCPLOCALHOST': 'mx.example.org'}
+NOT_STORED = (451, b"4.3.0 The message can't be stored")
 TOO_MANY = 101
 
 
@@ -450,17 +451,16 @@ def verdict_and_end(program, _tool, folder):
     edit = packet_of(b'hX-Added\0yes\0')
     added = filed(TEXT.replace(b'\r\n\r\n', b'\r\nX-Added: yes\r\n\r\n'))
 
-    def run(last):
+    def run(last, second):
         packets = Packets(folder, lambda code, _: options if code == b'O' else last if code == b'E' else goes_on(code))
         with Server(program, folder, packets.words) as server, server.client() as client:
             client.ehlo()
-            for expected in [OK_MAIL, DEFAULTS['tempfail'] if len(last) > 30 else OK_MAIL]:
-                expect('sender', client.mail(SENDER), expected)
-                if expected == OK_MAIL:
-                    for name in RECIPIENTS:
-                        client.rcpt(name)
-                    expect_taken(client.data(TEXT))
-            server.expect_files([added] * (1 if len(last) > 30 else 1))
+            expect('the first sender', client.mail(SENDER), OK_MAIL)
+            for name in RECIPIENTS:
+                client.rcpt(name)
+            expect_taken(client.data(TEXT))
+            expect('the second sender', client.mail(SENDER), second)
+            server.expect_files([added])
 
     def progress():
         def play(connection):
@@ -478,43 +478,38 @@ def verdict_and_end(program, _tool, folder):
             expect_taken(sent(server)[1])
             server.expect_files([filed()])
 
-    yield checked('a verdict', run, edit + CONTINUE)
-    yield checked('a verdict, and a packet after it', run, edit + CONTINUE + CONTINUE)
+    yield checked('a verdict', run, edit + CONTINUE, OK_MAIL)
+    yield checked('a verdict, and a packet after it', run, edit + CONTINUE + CONTINUE, DEFAULTS['tempfail'])
     yield checked('progress', progress)
 
 
 def maildirs(program, tool, folder):
     """Maildirs that aren't there, whose parts aren't there or are files, and a disk that is full."""
 
-    def run(change, end, words=()):
+    def run(change, words=()):
         with Server(program, folder, words) as server:
             change(server.maildir)
-            replies, found = sent(server)
-            expect('replies', (replies, found), ([OK_MAIL] + [OK_RCPT] * 3, (451, b'4.3.0 The message can\'t be stored')))
-            left = [name for at, _, names in os.walk(server.maildir) for name in names if not at.endswith(end)]
-            expect('what is left', left, [])
+            before = list(os.walk(server.maildir))
+            expect('replies', sent(server), ([OK_MAIL] + [OK_RCPT] * 3, NOT_STORED))
+            expect('what is left', list(os.walk(server.maildir)), before)
+
+    def without(name):
+        return lambda maildir: shutil.rmtree(os.path.join(maildir, name))
 
     def replaced(name):
         def change(maildir):
-            shutil.rmtree(os.path.join(maildir, name))
-            programs.written(os.path.join(maildir, name), 'a file')
+            path = os.path.normpath(os.path.join(maildir, name))
+            shutil.rmtree(path)
+            programs.written(path, 'a file')
         return change
 
-    yield checked('no Maildir', run, shutil.rmtree, '-')
-    yield checked('no tmp', run, lambda maildir: os.rmdir(os.path.join(maildir, 'tmp')), '-')
-    yield checked('no new', run, lambda maildir: os.rmdir(os.path.join(maildir, 'new')), '-')
-
-    def is_file():
-        path = test_mail_server.written(folder, 'a file')
-        with Server(program, folder, maildir=path) as server:
-            expect('the end', sent(server)[1], (451, b'4.3.0 The message can\'t be stored'))
-
-    yield checked('a file', is_file)
-    yield checked('new is a file', run, replaced('new'), os.path.basename(folder) if False else '')
+    for name in ['', 'tmp', 'new']:
+        yield checked('without ' + name, run, without(name))
+        yield checked('a file in place of ' + name, run, replaced(name))
 
     def no_quarantine():
         with filtering(tool, folder, HELD) as (_, words):
-            run(lambda maildir: shutil.rmtree(os.path.join(maildir, '.Quarantine')), '-', words)
+            run(without('.Quarantine'), words)
 
     yield checked('no quarantine', no_quarantine)
     yield checked('a small limit of files', full, program, folder)
@@ -526,8 +521,8 @@ def full(program, folder):
     programs.written(limited, '#!/bin/bash\ntrap "" XFSZ\nulimit -f 1\nexec "%s" "$@"\n' % program)
     os.chmod(limited, 0o755)
     with Server(limited, folder) as server:
-        expect('the end', sent(server, TEXT + b'x' * 990 + b'\r\n')[1][0], 250)
-        expect('the end', sent(server, TEXT + (b'x' * 990 + b'\r\n') * 10)[1], (451, b'4.3.0 The message can\'t be stored'))
+        expect('the end', sent(server, TEXT + b'x' * 500 + b'\r\n')[1][0], 250)
+        expect('the end', sent(server, TEXT + (b'x' * 990 + b'\r\n') * 10)[1], NOT_STORED)
         expect('files', (len(server.files()), server.files('tmp')), (1, []))
 
 

@@ -27,8 +27,8 @@ enum Piece {
     Closed,
 }
 
-/// Reads a line of at most so many bytes with its end, and leaves it in `line` without its end. What follows it stays in
-/// the reader, as the next command of a client that doesn't wait for replies does.
+/// Reads a line of at most so many bytes with its end, and leaves it in `line` without its end. What follows it stays
+/// in the reader, as the next command of a client that doesn't wait for replies does.
 pub(crate) fn read_line<R: BufRead>(
     reader: &mut R,
     line: &mut Vec<u8>,

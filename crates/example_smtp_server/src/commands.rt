@@ -67,8 +67,8 @@ fn verb_named(word: &[u8]) -> Verb {
     Verb::Unknown
 }
 
-/// The sender or recipient in an argument: this word, the address in angle brackets, and then the parameters. None where
-/// the argument has another form.
+/// The sender or recipient in an argument: this word, the address in angle brackets, and then the parameters. None
+/// where the argument has another form.
 pub(crate) fn path_in(
     alloc: Global,
     word: &[u8],

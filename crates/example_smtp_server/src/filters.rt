@@ -45,8 +45,8 @@ impl Filters {
         })
     }
 
-    /// Shows each filter something, up to the first one that refuses it, and answers the refusal. Where one discards the
-    /// message, the others give it up.
+    /// Shows each filter something, up to the first one that refuses it, and answers the refusal. Where one discards
+    /// the message, the others give it up.
     pub(crate) fn ask(&mut self, shown: &Shown<'_>, macros: &[Pair]) -> Option<Refusal> {
         if self.is_discarded {
             return None;

@@ -5,7 +5,8 @@ use milter_message::{Held, Message};
 use milter_wire::{Header, NoMemory, Path, Text};
 use std::alloc::Global;
 
-/// The message of this envelope and this text, whose lines end with CR LF; none where a part of it doesn't fit a packet.
+/// The message of this envelope and this text, whose lines end with CR LF; none where a part of it doesn't fit a
+/// packet.
 pub(crate) fn message_of(
     alloc: Global,
     sender: Path,

@@ -2,8 +2,8 @@
 //! mail server's end.
 //!
 //! It serves one client on standard input and output, as a super-server such as inetd, tcpserver or systemd starts it.
-//! It ends with status 0, with 1 and a line on standard error after a fault, and with 2 after a wrong use of the command
-//! line.
+//! It ends with status 0, with 1 and a line on standard error after a fault, and with 2 after a wrong use of the
+//! command line.
 #![tactic(auto)]
 
 mod answers;

@@ -75,25 +75,20 @@ fn command<'x>(alloc: Global) -> Result<Command<'x>, AllocError> {
 pub(crate) fn read_settings<'x>(alloc: Global, words: &'x [String]) -> Result<Settings<'x>, Error> {
     let mut command = command(alloc)?;
     let matches = command.try_get_matches_from_mut(words)?;
-    match addresses_in(alloc, matches.get_strs("filter").unwrap_or(&[]))? {
-        Some(filters) => Ok(settings_of(filters, &matches)),
-        None => Err(command.error(ErrorKind::ValueValidation, "bad address of a filter")?),
+    let mut filters = Vec::new(alloc);
+    for text in matches.get_strs("filter").unwrap_or(&[]) {
+        match address_in(text) {
+            Some(address) => filters.push(address)?,
+            None => return Err(bad_address(alloc, &mut command, text)?),
+        }
     }
+    Ok(settings_of(filters, &matches))
 }
 
-/// The addresses that these texts name; none where one names none.
-fn addresses_in<'x>(
-    alloc: Global,
-    texts: &[&'x str],
-) -> Result<Option<Vec<Address<'x>>>, AllocError> {
-    let mut addresses = Vec::new(alloc);
-    for text in texts {
-        let Some(address) = address_in(text) else {
-            return Ok(None);
-        };
-        addresses.push(address)?;
-    }
-    Ok(Some(addresses))
+/// The error of a text that names no address.
+fn bad_address(alloc: Global, command: &mut Command<'_>, text: &str) -> Result<Error, AllocError> {
+    let message = format!(in alloc; "'{text}' is no address of a filter")?;
+    command.error(ErrorKind::ValueValidation, message.as_str())
 }
 
 /// The settings with these filters.
