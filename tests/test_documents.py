@@ -1,6 +1,6 @@
 #!/usr/bin/env python3
 """Checks the documents against the repository: each block of code in docs/LIBRARY.md, docs/FILTERS.md and
-docs/MAIL_SERVERS.md is lines of its example's program, each link between documents leads to a file, and each clause of
+docs/MAIL_SERVERS.md is lines of its examples' programs, each link between documents leads to a file, and each clause of
 docs/PROOFS.md and each definition of docs/DEFINITIONS.md is in the crate under which it is listed. README.md and
 docs/PROOFS.md count the crates of the toolchain that are trusted, README.md and docs/HEADLINE.md the lines of definitions
 under the headline, and no proof speaks of the code of another crate but by what it promises. And no line of the code or of
@@ -15,9 +15,10 @@ from lib import definitions as specs
 from lib import runner
 from lib.programs import TOP
 
-# The documents with code of a crate.
+# The documents with code, and the crates whose it is.
 EXAMPLES = {
-    'docs/LIBRARY.md': 'example_mail', 'docs/FILTERS.md': 'example_loop_guard', 'docs/MAIL_SERVERS.md': 'milter_tests_pair'}
+    'docs/LIBRARY.md': ['example_mail'], 'docs/FILTERS.md': ['example_loop_guard'],
+    'docs/MAIL_SERVERS.md': ['example_smtp_server', 'milter_tests_pair']}
 COLUMNS = 120
 NUMBERS = ['ten', 'eleven', 'twelve', 'thirteen', 'fourteen', 'fifteen', 'sixteen']
 # The call whose contract is the headline, the clauses that are its words, and what its types promise of their values.
@@ -42,9 +43,9 @@ def files_of(crate):
 
 
 def blocks():
-    """Whether each block of code of a document is in a file of its example."""
-    for document, crate in EXAMPLES.items():
-        texts = [text_of(path) for path in files_of(crate)]
+    """Whether each block of code of a document is in a file of its examples."""
+    for document, crates in EXAMPLES.items():
+        texts = [text_of(path) for crate in crates for path in files_of(crate)]
         for block in re.findall(r'```(?:rust|antt)\n(.*?)```', text_of(document), re.DOTALL):
             yield '%s: %s' % (document, block.strip().splitlines()[0]), any(block in text for text in texts)
 

@@ -10,211 +10,22 @@ Where the machine has them, mail is also sent by swaks, signed by OpenDKIM, and 
 
 Counted are the sessions.
 """
-import base64
-import contextlib
-import hashlib
 import os
 import re
 import shutil
 import signal
-import smtplib
 import socket
-import subprocess
 import sys
 import tempfile
 import threading
 
-import test_mail_server
-from lib import checks, programs, serving
+from lib import checks, programs, serving, smtp_peers
 from lib.checks import checked, expect
 from lib.packets import packet_of
-from test_mail_server import AGREED, CONTINUE, take
-
-SENDER, RECIPIENTS = 'ada@example.org', ['brook@example.net', 'carol@example.net', 'dora@example.net']
-TEXT = b'Subject: Lunch\r\nX-Note: one\r\n\ttwo\r\n\r\nLunch at one?\r\n'
-# What the first filter says of each of the three recipients where it refuses one.
-REFUSES_ONE = 'at rcpt when rcpt is "<carol@example.net>" do code "550 5.1.1 Moved"\n'
-# What a lost filter's default says to the client.
-DEFAULTS = {'accept': None, 'tempfail': (451, b'4.3.2 Please try again later'), 'reject': (550, b'5.7.1 Command rejected')}
-CLIENT = {'TCPREMOTEIP': '192.0.2.7', 'TCPREMOTEPORT': '2525', 'TCPREMOTEHOST': 'client.example.org',
-          'TCPLOCALHOST': 'mx.example.org'}
-NOT_STORED = (451, b"4.3.0 The message can't be stored")
-TOO_MANY = 101
-
-
-class Server:
-    """A listener on TCP that runs the program for each connection, as a super-server does, and its Maildir."""
-
-    def __init__(self, program, folder, words=(), maildir=None):
-        self.maildir = maildir or made_maildir(folder)
-        self.words = [program, '--maildir', self.maildir, *words]
-        self.errors = tempfile.TemporaryFile(dir=folder)
-        self.listener = socket.create_server(('127.0.0.1', 0))
-        self.place = self.listener.getsockname()
-        self.started = []
-        threading.Thread(target=self.serve, daemon=True).start()
-
-    def serve(self):
-        """Takes the connections."""
-        with contextlib.suppress(OSError):
-            while True:
-                connection, _ = self.listener.accept()
-                with connection:
-                    self.started.append(subprocess.Popen(
-                        self.words, stdin=connection, stdout=connection, stderr=self.errors, env={**os.environ, **CLIENT}))
-
-    def __enter__(self):
-        return self
-
-    def __exit__(self, kind, *_):
-        self.listener.close()
-        for process in self.started:
-            if kind:
-                process.kill()
-            process.wait(serving.SECONDS)
-        self.errors.seek(0)
-        errors, statuses = self.errors.read(), [process.returncode for process in self.started]
-        self.errors.close()
-        if not kind:
-            expect('the end', (statuses, errors), ([0] * len(statuses), b''))
-
-    def client(self):
-        """A client of smtplib that has connected."""
-        return smtplib.SMTP(*self.place, local_hostname='client.example.org', timeout=serving.SECONDS)
-
-    def files(self, folder='new'):
-        """The texts of the files of a folder of the Maildir, without their names."""
-        found = []
-        for name in sorted(os.listdir(os.path.join(self.maildir, folder))):
-            with open(os.path.join(self.maildir, folder, name), 'rb') as file:
-                found.append(file.read())
-        return found
-
-    def expect_files(self, new, quarantine=()):
-        """Compares the files of the Maildir."""
-        found = self.files(), self.files('.Quarantine/new'), self.files('tmp')
-        expect('the Maildir', found, (list(new), list(quarantine), []))
-
-
-def made_maildir(folder):
-    """A new Maildir."""
-    maildir = tempfile.mkdtemp(dir=folder)
-    for name in ['tmp', 'new', 'cur', '.Quarantine/tmp', '.Quarantine/new', '.Quarantine/cur']:
-        os.makedirs(os.path.join(maildir, name))
-    return maildir
-
-
-def filed(text=TEXT, recipients=RECIPIENTS, sender=SENDER, quarantine=''):
-    """The file of a message."""
-    lines = ['Return-Path: <%s>\n' % sender] + ['Delivered-To: %s\n' % name for name in recipients]
-    lines += ['X-Quarantine: %s\n' % quarantine] if quarantine else []
-    return ''.join(lines).encode() + text.replace(b'\r\n', b'\n')
-
-
-@contextlib.contextmanager
-def filtering(program, folder, *rules):
-    """Runs of `milter_tool serve`, each with these rules; and the words by which the server asks them."""
-    with contextlib.ExitStack() as stack:
-        runs = []
-        for number, text in enumerate(rules):
-            words = ['--rules', test_mail_server.written(folder, text)]
-            runs.append(stack.enter_context(serving.Service(
-                programs.tool(program), serving.KINDS[number % 2], folder, words)))
-            serving.listening(runs[-1])
-        yield runs, [word for run in runs for word in ('--filter', run.address)]
-
-
-class Packets:
-    """A filter that answers each packet as this function of its code and payload says, and keeps all of them."""
-
-    def __init__(self, folder, reply_of, count=1):
-        self.seen = []
-        self.reply_of = reply_of
-        self.stub = test_mail_server.Stub('inet', folder, [self.play] * count)
-        self.words = ['--filter', self.stub.address]
-
-    def play(self, connection):
-        """Answers a connection."""
-        while True:
-            size = int.from_bytes(take(connection, 4), 'big')
-            packet = take(connection, size)
-            self.seen.append(packet)
-            reply = self.reply_of(packet[:1], packet[1:])
-            if reply is None:
-                return
-            connection.sendall(reply)
-
-    def codes(self):
-        """The codes of the packets, without those of macros."""
-        return b''.join(packet[:1] for packet in self.seen if packet[:1] != b'D')
-
-
-def goes_on(code, _payload=b''):
-    """The reply of a filter that lets all go on."""
-    return AGREED if code == b'O' else b'' if code in (b'D', b'A', b'Q') else CONTINUE
-
-
-def sent(server, text=TEXT, recipients=RECIPIENTS, greeting='ehlo'):
-    """Sends a mail in one session, and answers the replies to the recipients and at the end."""
-    with server.client() as client:
-        getattr(client, greeting)()
-        replies = [client.mail(SENDER)] + [client.rcpt(name) for name in recipients]
-        return replies, client.data(text)
-
-
-OK_MAIL, OK_RCPT = (250, b'2.1.0 Sender ok'), (250, b'2.1.5 Recipient ok')
-
-
-def expect_taken(reply):
-    """A reply says that a message was taken."""
-    expect('reply', (reply[0], reply[1][:24]), (250, b'2.0.0 Ok: queued as ' + reply[1][20:24]))
-
-
-def says(server, given, expected):
-    """Writes all lines at once, and compares the replies, of each line the first word, up to the connection's end."""
-    with socket.create_connection(server.place, serving.SECONDS) as connection:
-        connection.sendall(given)
-        connection.shutdown(socket.SHUT_WR)
-        replies = b''.join(iter(lambda: connection.recv(1 << 16), b''))
-    words = [line.split(b' ')[0] for line in replies.split(b'\r\n')]
-    expect('replies', b' '.join(words[:-1]).decode() + ('' if words[-1] == b'' else '?'), expected)
-    return replies
-
-
-EHLO = '250-mx.example.org 250-PIPELINING 250-SIZE 250'
-BEGUN = b'MAIL FROM:<ada@example.org>\r\nRCPT TO:<brook@example.net>\r\n'
-# Lines that are written at once, the first words of the replies to them after the greetings, and the texts of the mails.
-DIALOGUES = [
-    ('a mail, and what follows it', BEGUN + b'DATA\r\n' + TEXT + b'.\r\nNOOP\r\nQUIT\r\n', '250 250 354 250 250 221', [TEXT]),
-    ('two mails', (BEGUN + b'DATA\r\n' + TEXT + b'.\r\n') * 2, '250 250 354 250 250 250 354 250', [TEXT] * 2),
-    ('dot stuffing', BEGUN + b'DATA\r\nA: b\r\n\r\n..\r\n...x\r\n.y\r\n.\r\n', '250 250 354 250', [b'A: b\r\n\r\n.\r\n..x\r\ny\r\n']),
-    ('no header', BEGUN + b'DATA\r\nno field\r\nA: b\r\n.\r\n', '250 250 354 250', [b'\r\nno field\r\nA: b\r\n']),
-    ('no text', BEGUN + b'DATA\r\n.\r\n', '250 250 354 250', [b'\r\n']),
-    ('a header alone', BEGUN + b'DATA\r\nA:b\r\n.\r\n', '250 250 354 250', [b'A:b\r\n\r\n']),
-    ('letters of either case, and blanks', b'mail from: <ada@example.org> size=9\r\nrcpt to: <brook@example.net>\r\n'
-     b'data\r\n' + TEXT + b'.\r\n', '250 250 354 250', [TEXT]),
-    ('lines that end with LF', BEGUN.replace(b'\r', b'') + b'DATA\n' + TEXT + b'.\r\n', '250 250 354 250', [TEXT]),
-    ('RSET', BEGUN + b'RSET\r\nDATA\r\n' + BEGUN + b'DATA\r\n' + TEXT + b'.\r\n', '250 250 250 503 250 250 354 250', [TEXT]),
-    ('a greeting within a message', BEGUN + b'HELO again\r\nDATA\r\n' + BEGUN + b'DATA\r\n' + TEXT + b'.\r\n',
-     '250 250 250 503 250 250 354 250', [TEXT]),
-    ('a wrong order', b'DATA\r\nRCPT TO:<b@c>\r\nMAIL FROM:<a@b>\r\nMAIL FROM:<a@b>\r\nDATA\r\nDATA now\r\n',
-     '503 503 250 503 503 503', []),
-    ('wrong forms', b'MAIL\r\nMAIL FROM:a@b\r\nMAIL FROM:<a@b>x\r\nMAIL FROM:<a@b\r\nEHLO\r\nMAIL FROM:<>\r\nRCPT TO:<>\r\n'
-     b'RCPT <b@c>\r\n\r\nFROB\r\nVRFY ada\r\nNOOP\0\r\n', '501 501 501 501 501 250 501 501 500 500 502 500', []),
-    ('a command that is too long', b'NOOP ' + b'x' * 70000 + b'\r\nNOOP ' + b'x' * 2041 + b'\r\nNOOP ' + b'x' * 2042 + b'\r\n',
-     '500 250 500', []),
-    ('a line of text that is too long', BEGUN + b'DATA\r\n' + b'x' * 999 + b'\r\n.\r\nNOOP\r\n', '250 250 354 500 250', []),
-    ('a line of text that is long', BEGUN + b'DATA\r\n\r\n' + b'x' * 998 + b'\r\n.\r\n', '250 250 354 250',
-     [b'\r\n' + b'x' * 998 + b'\r\n']),
-    ('an end with LF alone', BEGUN + b'DATA\r\n' + TEXT + b'.\n\r\n.\r\nNOOP\r\n', '250 250 354 500 250', []),
-    ('recipients that are too many', BEGUN + b'RCPT TO:<c@d>\r\n' * (TOO_MANY - 1), '250 ' * 101 + '452', []),
-    ('a size that is declared', b'MAIL FROM:<a@b> SIZE=10485761\r\nMAIL FROM:<a@b> BODY=8BITMIME SIZE=10485760\r\n',
-     '552 250', []),
-    ('a text that is too long', BEGUN + b'DATA\r\n' + (b'x' * 78 + b'\r\n') * 131073 + b'.\r\nNOOP\r\n', '250 250 354 552 250', []),
-    ('a header with a NUL', BEGUN + b'DATA\r\nA: \0\r\n.\r\nNOOP\r\n', '250 250 354 554 250', []),
-    ('an end within a text', BEGUN + b'DATA\r\n' + TEXT, '250 250 354 421', []),
-    ('an end within a command', b'NOOP\r\nNOO', '250', [])]
-
+from lib.smtp import (
+    CONTINUE, DEFAULTS, NOT_STORED, OK_MAIL, OK_RCPT, RECIPIENTS, SENDER, TEXT, Packets, Server, data, expect_taken,
+    filed, filtering, goes_on, options, says, send, sent)
+from lib.smtp_rows import ADDED, ADDS, BEGUN, DIALOGUES, EHLO, HELD, ROWS
 
 def dialogues(program, _tool, folder):
     """The dialogues, without a filter and with one that lets all go on, which is shown the mails."""
@@ -251,55 +62,23 @@ def greetings(program, _tool, folder):
     yield checked('smtplib', by_smtplib)
 
 
-# Rules, the replies to the recipients that aren't 250 and to the text, and the files of the Maildir and of quarantine.
-REJECTED, MOVED = (550, b'5.7.1 Command rejected'), (550, b'5.1.1 Moved')
-EDITS = '''at eob do add-header "X-Added" "yes"
-at eob do change-header 1 "Subject" "Dinner"
-at eob do replace-body "At eight\\r\\n"
-at eob do add-rcpt "<eve@example.net>"
-at eob do del-rcpt "<brook@example.net>"
-at eob do change-from "<changed@example.org>"
-'''
-EDITED = b'Subject: Dinner\r\nX-Note: one\r\n\ttwo\r\nX-Added: yes\r\n\r\nAt eight\r\n'
-CHANGED = RECIPIENTS[1:] + ['eve@example.net']
-HELD = 'at eob do quarantine "looked at by a person"\n'
-ROWS = [
-    ('one recipient of three', REFUSES_ONE, {1: MOVED}, None, [filed(recipients=RECIPIENTS[::2])], []),
-    ('a header field', 'at header when header "Subject" is "Lunch" do reject\n', {}, REJECTED, [], []),
-    ('the end', 'at eob do code "554 5.7.1 No\\r\\n"\n', {}, None, [], []),
-    ('an added field', 'at eob do add-header "X-Added" "yes"\n', {}, None,
-     [filed(TEXT.replace(b'\r\n\r\n', b'\r\nX-Added: yes\r\n\r\n'))], []),
-    ('another body', 'at eob do replace-body "new\\r\\n.\\r\\n"\n', {}, None,
-     [filed(TEXT.replace(b'Lunch at one?', b'new\r\n.'))], []),
-    ('all edits', EDITS, {}, None, [filed(EDITED, CHANGED, 'changed@example.org')], []),
-    ('no recipient left', ''.join('at eob do del-rcpt "<%s>"\n' % name for name in RECIPIENTS), {}, None, [], []),
-    ('quarantine', HELD, {}, None, [], [filed(quarantine='looked at by a person')]),
-    ('accept at the sender', 'at mail do accept\nat eob do reject\n', {}, None, [filed()], []),
-    ('accept of the client', 'at connect do accept\nat mail do reject\n', {}, None, [filed()], []),
-    ('skip', 'protocol SKIP\nat body do skip\n', {}, None, [filed()], []),
-    ('all recipients', 'at rcpt do tempfail\n', dict.fromkeys(range(3), DEFAULTS['tempfail']), (503, b'5.5.1 No valid recipients'),
-     [], []),
-    ('macros', 'at rcpt when macro "{rcpt_addr}" is "dora@example.net" and macro "j" is "mx.example.org" and macro '
-     '"{mail_addr}" is "ada@example.org" and host is "client.example.org" and address is "192.0.2.7" and helo is '
-     '"client.example.org" do code "550 5.1.1 Moved"\n', {2: MOVED}, None, [filed(recipients=RECIPIENTS[:2])], [])]
-ROWS += [('discard at ' + stage, 'at %s do discard\n' % stage, {}, None, [], [])
-         for stage in ['mail', 'rcpt', 'data', 'header', 'eoh', 'body', 'eob']]
-
-
 def rules(program, tool, folder):
-    """The rows, each as a session of two mails to a filter with its rules, and to that and one that lets all go on."""
+    """The rows, each as a session of two mails and one of a mail, to a filter with its rules, and to this between two
+    that let all go on."""
 
     def run(rows_rules, refused, end, new, held):
         with filtering(tool, folder, *rows_rules) as (_, words), Server(program, folder, words) as server:
-            for _ in range(2):
-                replies, found = sent(server)
-                expect('recipients', replies, [OK_MAIL] + [refused.get(nth, OK_RCPT) for nth in range(3)])
-                expect('the end', found, end) if end else expect_taken(found)
-            server.expect_files(new * 2, held * 2)
+            for mails in [2, 1]:
+                with server.client() as client:
+                    client.ehlo()
+                    for _ in range(mails):
+                        replies, found = send(client)
+                        expect('recipients', replies, [OK_MAIL] + [refused.get(nth, OK_RCPT) for nth in range(3)])
+                        expect('the end', found, end) if end else expect_taken(found)
+                        client.rset()
+            server.expect_files(new * 3, held * 3)
 
     for name, text, refused, end, new, held in ROWS:
-        if name == 'the end':
-            continue
         yield checked(name, run, [text], refused, end, new, held)
         yield checked(name + ', and another', run, ['', text, ''], refused, end, new, held)
 
@@ -340,8 +119,6 @@ def in_turn(program, tool, folder):
         with filtering(tool, folder, 'at %s do %s\n' % (at, verdict)) as (_, words):
             with Server(program, folder, others[0].words + words + others[1].words) as server:
                 sent(server, recipients=RECIPIENTS[:1])
-        for other in others:
-            other.stub.end()
         expect('what is shown', tuple(other.codes() for other in others), codes)
 
     yield checked('edits', edits)
@@ -365,7 +142,7 @@ def unknown(program, _tool, folder):
                          '220 250 502 250 250 550 354 250 500')
             expect('the text', b'550 5.7.1 Not here\r\n' in found, True)
             server.expect_files([filed(recipients=RECIPIENTS[:1])])
-        packets.stub.end()
+        packets.thread.join(serving.SECONDS)
         expect('what is shown', [packet for packet in packets.seen if packet[:1] == b'U'],
                [b'UVRFY ada\0', b'UFROB x\0', b'UETRN b\0'])
 
@@ -375,14 +152,14 @@ def unknown(program, _tool, folder):
 def losses(program, tool, folder):
     """A filter that is killed within a message, one that closes after each packet, one that isn't there, one that is
     silent and one that sends what is no reply; beside one that adds a field, which goes on."""
-    adds = 'at eob do add-header "X-Added" "yes"\n'
-    added = filed(TEXT.replace(b'\r\n\r\n', b'\r\nX-Added: yes\r\n\r\n'))
-
     def expect_default(on_loss, reply):
-        expect('the reply', reply, DEFAULTS[on_loss]) if DEFAULTS[on_loss] else expect('the code', reply[0] in (250, 354), True)
+        if DEFAULTS[on_loss]:
+            expect('the reply', reply, DEFAULTS[on_loss])
+        else:
+            expect('the code', reply[0], 250)
 
     def killed(on_loss):
-        with filtering(tool, folder, HELD, adds) as (runs, words):
+        with filtering(tool, folder, HELD, ADDS) as (runs, words):
             with Server(program, folder, words + ['--on-loss', on_loss]) as server, server.client() as client:
                 client.ehlo()
                 client.mail(SENDER)
@@ -392,21 +169,20 @@ def losses(program, tool, folder):
                 expect_default(on_loss, client.rcpt(RECIPIENTS[1]))
                 if on_loss == 'accept':
                     expect('the third', client.rcpt(RECIPIENTS[2]), OK_RCPT)
-                    expect_taken(client.data(TEXT))
+                    expect_taken(data(client))
                 client.rset()
                 expect_default(on_loss, client.mail(SENDER))
-                server.expect_files([added] if on_loss == 'accept' else [])
+                server.expect_files([filed(ADDED)] if on_loss == 'accept' else [])
 
     def closed(on_loss, at):
         packets = Packets(folder, lambda code, _: None if code == at else goes_on(code))
-        with filtering(tool, folder, adds) as (_, words):
+        with filtering(tool, folder, ADDS) as (_, words):
             with Server(program, folder, packets.words + words + ['--on-loss', on_loss]) as server:
                 replies, end = sent(server, recipients=RECIPIENTS[:1])
                 late = at in b'TLNBE'
                 expect('early replies', all(code == 250 for code, _ in replies), late or on_loss == 'accept')
                 expect_default(on_loss, end) if late else None
-                taken = TEXT.replace(b'\r\n\r\n', b'\r\nX-Added: yes\r\n\r\n')
-                server.expect_files([filed(taken, RECIPIENTS[:1])] if on_loss == 'accept' else [])
+                server.expect_files([filed(ADDED, RECIPIENTS[:1])] if on_loss == 'accept' else [])
 
     def absent(on_loss):
         _, address = serving.place_of('inet', folder)
@@ -417,10 +193,10 @@ def losses(program, tool, folder):
 
     def edits_lost(on_loss):
         """A filter that is lost after an edit: the edit doesn't count."""
-        options = test_mail_server.options(6, 0x1ff, 0)
 
         def reply_of(code, _):
-            return options if code == b'O' else packet_of(b'hX-Lost\0yes\0') + b'\0' if code == b'E' else goes_on(code)
+            edit = packet_of(b'hX-Lost\0yes\0') + b'\0'
+            return options(0x1ff) if code == b'O' else edit if code == b'E' else goes_on(code)
 
         packets = Packets(folder, reply_of)
         words = packets.words + ['--on-loss', on_loss, '--wait', '1']
@@ -447,34 +223,23 @@ def losses(program, tool, folder):
 def verdict_and_end(program, _tool, folder):
     """A verdict at the end with an edit, and then the end of the connection, or a packet that is no reply: the verdict
     counts. And progress, after which the time begins again."""
-    options = test_mail_server.options(6, 0x1ff, 0)
-    edit = packet_of(b'hX-Added\0yes\0')
-    added = filed(TEXT.replace(b'\r\n\r\n', b'\r\nX-Added: yes\r\n\r\n'))
+    edits, edit = options(0x1ff), packet_of(b'hX-Added\0yes\0')
 
     def run(last, second):
-        packets = Packets(folder, lambda code, _: options if code == b'O' else last if code == b'E' else goes_on(code))
+        packets = Packets(folder, lambda code, _: edits if code == b'O' else last if code == b'E' else goes_on(code))
         with Server(program, folder, packets.words) as server, server.client() as client:
             client.ehlo()
             expect('the first sender', client.mail(SENDER), OK_MAIL)
             for name in RECIPIENTS:
                 client.rcpt(name)
-            expect_taken(client.data(TEXT))
+            expect_taken(data(client))
             expect('the second sender', client.mail(SENDER), second)
-            server.expect_files([added])
+            server.expect_files([filed(ADDED)])
 
     def progress():
-        def play(connection):
-            while True:
-                size = int.from_bytes(take(connection, 4), 'big')
-                code = take(connection, size)[:1]
-                if code == b'E':
-                    for _ in range(4):
-                        threading.Event().wait(0.6)
-                        connection.sendall(packet_of(b'p'))
-                connection.sendall(goes_on(code))
-
-        stub = test_mail_server.Stub('inet', folder, [play])
-        with Server(program, folder, ['--filter', stub.address, '--wait', '1']) as server:
+        works = [packet_of(b'p')] * 4 + [CONTINUE]
+        packets = Packets(folder, lambda code, _: works if code == b'E' else goes_on(code))
+        with Server(program, folder, packets.words + ['--wait', '1']) as server:
             expect_taken(sent(server)[1])
             server.expect_files([filed()])
 
@@ -540,103 +305,46 @@ def usage(program, _tool, folder):
     yield checked('no time', run, ['--maildir', folder, '--wait', '0'], 2, b'0')
 
 
-SIGNING = '''Mode s
-Domain example.org
-Selector test
-KeyFile {folder}/key
-Socket local:{folder}/socket
-InternalHosts {folder}/hosts
-Background no
-RequireSafeKeys no
-UserID root
-Canonicalization relaxed/simple
-'''
+def documented(program, tool, folder):
+    """The dialogue of docs/MAIL_SERVERS.md, but for the name of the message."""
+    with open(os.path.join(programs.TOP, 'docs', 'MAIL_SERVERS.md'), encoding='utf-8') as file:
+        section = file.read().split('### A dialogue\n')[1].split('\n## ')[0]
+    blocks = [block for block in re.findall(r'(?:(?:^    .*)?\n)+', section, re.M) if '    ' in block]
+    first, second, dialogue, mail = [re.sub('(?m)^    ', '', block).strip('\n') + '\n' for block in blocks]
 
+    def without_name(text):
+        return re.sub(r'\d+\.M\d+P\d+Q\d+', 'NAME', text)
 
-def by_swaks(program, _tool, folder):
-    """A mail by swaks."""
-    with Server(program, folder) as server:
-        done = subprocess.run(
-            ['swaks', '--server', '%s:%d' % server.place, '--from', SENDER, '--to', ','.join(RECIPIENTS), '--helo', 'a',
-             '--data', '-', '--silent', '3'], input=TEXT, capture_output=True, timeout=serving.SECONDS, check=False)
-        expect('swaks', (done.returncode, done.stderr), (0, b''))
-        expect('files', [text.startswith(filed()) for text in server.files()], [True])
+    def run():
+        with filtering(tool, folder, first, second) as (_, words), Server(program, folder, words) as server:
+            with socket.create_connection(server.place, serving.SECONDS) as connection:
+                replies = connection.makefile('r', encoding='utf-8', newline='\r\n')
+                for line in dialogue.splitlines():
+                    if line.startswith('C:'):
+                        connection.sendall(line[3:].encode() + b'\r\n')
+                    else:
+                        expect('line', without_name('S: ' + replies.readline().rstrip('\r\n')), without_name(line))
+            server.expect_files([mail.encode()])
 
-
-def by_opendkim(program, _tool, folder):
-    """A mail that OpenDKIM signs: its field stands first, and its hash is that of the body."""
-    place = tempfile.mkdtemp(dir=folder)
-    subprocess.run(['openssl', 'genrsa', '-out', os.path.join(place, 'key'), '2048'], check=True, capture_output=True)
-    programs.written(os.path.join(place, 'hosts'), '192.0.2.7\n')
-    programs.written(os.path.join(place, 'conf'), SIGNING.format(folder=place))
-    address = os.path.join(place, 'socket')
-    with subprocess.Popen(['opendkim', '-f', '-x', os.path.join(place, 'conf')]) as signer:
-        try:
-            serving.connected(address, lambda: signer.poll() is not None).close()
-            with Server(program, folder, ['--filter', 'unix:' + address]) as server:
-                expect_taken(sent(server, b'From: ada@example.org\r\n' + TEXT)[1])
-                found, = server.files()
-        finally:
-            signer.terminate()
-    signed = re.search(rb'Delivered-To: dora@example.net\nDKIM-Signature: v=1;[^:]*d=example.org;(?s:.*?)bh=([^;]*);', found)
-    expect('a signature', bool(signed), True)
-    body = b'Lunch at one?\r\n'
-    expect('its hash', re.sub(rb'\s', b'', signed[1]), base64.b64encode(hashlib.sha256(body).digest()))
-
-
-REFUSING = '''#include <libmilter/mfapi.h>
-#include <stdlib.h>
-#include <string.h>
-static sfsistat on_rcpt(SMFICTX *context, char **words)
-{
-	if (strcmp(words[0], "<carol@example.net>"))
-		return SMFIS_CONTINUE;
-	if (smfi_setreply(context, "550", "5.1.1", "Moved") != MI_SUCCESS)
-		abort();
-	return SMFIS_REJECT;
-}
-int main(int count, char **words)
-{
-	struct smfiDesc filter = { .xxfi_name = "refusing", .xxfi_version = SMFI_VERSION, .xxfi_envrcpt = on_rcpt };
-
-	return count != 2 || smfi_register(filter) != MI_SUCCESS || smfi_setconn(words[1]) != MI_SUCCESS || smfi_main() != MI_SUCCESS;
-}
-'''
-
-
-def by_libmilter(program, _tool, folder):
-    """A mail to a filter on libmilter that refuses one recipient of three."""
-    place = tempfile.mkdtemp(dir=folder)
-    source = programs.written(os.path.join(place, 'refusing.c'), REFUSING)
-    subprocess.run(['gcc', '-o', os.path.join(place, 'refusing'), source, '-lmilter', '-lpthread'], check=True)
-    address = os.path.join(place, 'socket')
-    with subprocess.Popen([os.path.join(place, 'refusing'), 'unix:' + address]) as filter_run:
-        try:
-            serving.connected(address, lambda: filter_run.poll() is not None).close()
-            with Server(program, folder, ['--filter', 'unix:' + address]) as server:
-                replies, end = sent(server)
-                expect('replies', replies, [OK_MAIL, OK_RCPT, MOVED, OK_RCPT])
-                expect_taken(end)
-                server.expect_files([filed(recipients=RECIPIENTS[::2])])
-        finally:
-            filter_run.kill()
+    yield checked('the dialogue of the document', run)
 
 
 def others(program, tool, folder):
     """What other programs send, or answer as filters, where the machine has them."""
     if shutil.which('swaks'):
-        yield checked('swaks', by_swaks, program, tool, folder)
+        yield checked('swaks', smtp_peers.by_swaks, program, tool, folder)
     if shutil.which('opendkim') and shutil.which('openssl'):
-        yield checked('OpenDKIM', by_opendkim, program, tool, folder)
+        yield checked('OpenDKIM', smtp_peers.by_opendkim, program, tool, folder)
     if os.path.exists('/usr/include/libmilter/mfapi.h') and shutil.which('gcc'):
-        yield checked('libmilter', by_libmilter, program, tool, folder)
+        yield checked('libmilter', smtp_peers.by_libmilter, program, tool, folder)
 
 
 def groups(folder):
     """Groups of checks: of each its name, its function, and what that is called with."""
     for build in programs.BUILDS:
         program = programs.command_of('smtp server', build)[0]
-        for group in [dialogues, greetings, rules, refusals, in_turn, unknown, losses, verdict_and_end, maildirs, usage, others]:
+        for group in [dialogues, greetings, rules, refusals, in_turn, unknown, losses, verdict_and_end, maildirs, usage,
+                      documented, others]:
             yield os.path.basename(program), group, (program, build, tempfile.mkdtemp(dir=folder))
 
 

@@ -4,7 +4,7 @@ use memchr::memchr;
 use std::io::{self, BufRead, ErrorKind};
 
 /// How a line that was read ended.
-#[derive(Clone, Copy, Debug, PartialEq, Eq)]
+#[derive(Clone, Copy)]
 pub(crate) enum LineEnd {
     /// With CR LF.
     CrLf,
@@ -17,7 +17,7 @@ pub(crate) enum LineEnd {
 }
 
 /// What one read gave of a line.
-#[derive(Clone, Copy, Debug, PartialEq, Eq)]
+#[derive(Clone, Copy)]
 enum Piece {
     /// Its last bytes.
     Last,

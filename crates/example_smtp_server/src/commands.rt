@@ -6,7 +6,7 @@ use milter_wire::{NoMemory, Params, Path, Text};
 use std::alloc::Global;
 
 /// What a command asks for.
-#[derive(Clone, Copy, Debug, PartialEq, Eq)]
+#[derive(Clone, Copy)]
 pub(crate) enum Verb {
     /// A greeting.
     Helo,
@@ -123,15 +123,10 @@ pub(crate) fn declared_size(sender: &Path) -> u64 {
     0
 }
 
-/// The number in decimal digits, up to the greatest `u64`; what is no digit is passed over.
+/// The number in decimal digits: the greatest `u64` where it is greater, and where it is none.
 fn number_in(digits: &[u8]) -> u64 {
-    let mut number: u64 = 0;
-    for digit in digits {
-        if digit.is_ascii_digit() {
-            number = number
-                .saturating_mul(10)
-                .saturating_add(u64::from(*digit - b'0'));
-        }
+    match digits.to_str() {
+        Ok(digits) => digits.parse().unwrap_or(u64::MAX),
+        Err(_) => u64::MAX,
     }
-    number
 }

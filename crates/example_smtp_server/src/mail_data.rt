@@ -10,7 +10,7 @@ pub(crate) const TEXT_LINE_LEN_MAX: usize = 1_000;
 pub(crate) const MESSAGE_LEN_MAX: u64 = 10_485_760;
 
 /// Why the text of a message isn't taken.
-#[derive(Clone, Copy, Debug, PartialEq, Eq)]
+#[derive(Clone, Copy)]
 pub(crate) enum DataFault {
     /// A line is too long.
     LineTooLong,

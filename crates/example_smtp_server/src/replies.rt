@@ -16,7 +16,7 @@ pub(crate) enum Reply {
 }
 
 /// What the server does after a reply.
-#[derive(Clone, Copy, Debug, PartialEq, Eq)]
+#[derive(Clone, Copy)]
 pub(crate) enum Next {
     /// It reads the next command.
     Command,

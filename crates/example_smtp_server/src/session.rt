@@ -131,7 +131,7 @@ impl<'x, R: Files + Clock + AllocGlobal> Session<'x, R> {
 
 /// The reply to a greeting.
 fn greeting(alloc: Global, verb: Verb, host: &str) -> Result<String, AllocError> {
-    if verb == Verb::Helo {
+    if matches!(verb, Verb::Helo) {
         return format!(in alloc; "250 {host}");
     }
     format!(in alloc; "250-{host}\r\n250-PIPELINING\r\n250-SIZE {MESSAGE_LEN_MAX}\r\n250 8BITMIME")
