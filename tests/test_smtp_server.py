@@ -132,21 +132,26 @@ def in_turn(program, tool, folder):
 
 
 def unknown(program, _tool, folder):
-    """Commands that the server doesn't know, of which a filter refuses one."""
+    """Commands that the server doesn't know, of which a filter refuses, accepts or discards one."""
 
-    def run():
-        no = packet_of(b'y550 5.7.1 Not here\0')
-        packets = Packets(folder, lambda code, payload: no if code == b'U' and b'FROB' in payload else goes_on(code))
+    def run(reply, given, expected, new):
+        packets = Packets(folder, lambda code, payload: reply if b'FROB' in payload else goes_on(code))
         with Server(program, folder, packets.words) as server:
-            found = says(server, b'HELO a\r\nVRFY ada\r\n' + BEGUN + b'FROB x\r\nDATA\r\n' + TEXT + b'.\r\nETRN b\r\n',
-                         '220 250 502 250 250 550 354 250 500')
-            expect('the text', b'550 5.7.1 Not here\r\n' in found, True)
-            server.expect_files([filed(recipients=RECIPIENTS[:1])])
-        packets.thread.join(serving.SECONDS)
-        expect('what is shown', [packet for packet in packets.seen if packet[:1] == b'U'],
-               [b'UVRFY ada\0', b'UFROB x\0', b'UETRN b\0'])
+            found = says(server, b'HELO a\r\nVRFY ada\r\n' + given + b'ETRN b\r\n', '220 250 502 ' + expected + ' 500')
+            expect('the text', b'550 5.7.1 Not here\r\n' in found, reply[4:5] == b'y')
+            server.expect_files(new)
+        packets.codes()
+        shown = [packet for packet in packets.seen if packet[:1] == b'U']
+        expect('what is shown', shown[:2], [b'UVRFY ada\0', b'UFROB x\0'])
 
-    yield checked('commands', run)
+    frob, mail, file = b'FROB x\r\n', BEGUN + b'DATA\r\n' + TEXT + b'.\r\n', [filed(recipients=RECIPIENTS[:1])]
+    within = BEGUN + frob + b'DATA\r\n' + TEXT + b'.\r\n'
+    refuses = packet_of(b'y550 5.7.1 Not here\0')
+    for name, reply, code, new in [
+            ('refused', refuses, 550, file), ('accepted', packet_of(b'a'), 500, file),
+            ('discarded', packet_of(b'd'), 500, [])]:
+        yield checked(name + ' within a message', run, reply, within, '250 250 %d 354 250' % code, new)
+        yield checked(name + ' before a message', run, reply, frob + mail, '%d 250 250 354 250' % code, file)
 
 
 def losses(program, tool, folder):

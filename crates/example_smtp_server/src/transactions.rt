@@ -75,6 +75,8 @@ impl<'x, R: Files + Clock + AllocGlobal> Transactions<'x, R> {
         let alloc = self.rt.alloc();
         let mut macros = one_macro(alloc, b"i", id.as_bytes())?;
         add_macro(alloc, &mut macros, b"{mail_addr}", bare_address(&sender))?;
+        // A filter may have discarded an unknown command since the last message.
+        self.filters.end_message();
         if let Some(refusal) = self.filters.ask(&Shown::Mail(&sender), macros.as_slice()) {
             self.filters.end_message();
             return Ok(Reply::Refused(refusal));
