@@ -19,13 +19,13 @@ import sys
 import tempfile
 import threading
 
-from lib import checks, programs, serving, smtp_peers
+from lib import checks, preloaded, programs, serving, smtp_peers
 from lib.checks import checked, expect
 from lib.packets import packet_of
 from lib.smtp import (
     CONTINUE, DEFAULTS, NOT_STORED, OK_MAIL, OK_RCPT, RECIPIENTS, SENDER, TEXT, Packets, Server, data, expect_taken,
-    filed, filtering, goes_on, options, says, send, sent)
-from lib.smtp_rows import ADDED, ADDS, BEGUN, DIALOGUES, EHLO, HELD, ROWS
+    filed, files_in, filtering, goes_on, made_maildir, options, says, send, sent)
+from lib.smtp_rows import ADDED, ADDS, BEGUN, DIALOGUES, EHLO, HELD, MAIL, ROWS
 
 def dialogues(program, _tool, folder):
     """The dialogues, without a filter and with one that lets all go on, which is shown the mails."""
@@ -296,6 +296,24 @@ def full(program, folder):
         expect('files', (len(server.files()), server.files('tmp')), (1, []))
 
 
+def refused(program, tool, folder):
+    """Runs with an allocation refused, the first one, then the second one, until a run makes fewer allocations: a mail
+    is stored whole, with the edits, where the client is told that it is taken, and else not at all."""
+    refuser = preloaded.compiled('refuse.c', folder)
+
+    def run(words, text, number):
+        maildir = made_maildir(folder)
+        command, given = [program, '--maildir', maildir, *words], b'EHLO a\r\n' + MAIL + b'QUIT\r\n'
+        (status, out, _), was_refused = preloaded.refused(command, given, refuser, number)
+        new = [filed(text, RECIPIENTS[:1])] if b'queued as' in out else []
+        expect('the run', (status in (0, 1, 2), files_in(maildir), files_in(maildir, 'tmp')), (True, new, []))
+        return was_refused
+
+    yield from checks.with_each_refused(lambda number: run([], TEXT, number))
+    with filtering(tool, folder, ADDS) as (_, words):
+        yield from checks.with_each_refused(lambda number: run(words, ADDED, number))
+
+
 def usage(program, _tool, folder):
     """Command lines."""
 
@@ -348,8 +366,8 @@ def groups(folder):
     """Groups of checks: of each its name, its function, and what that is called with."""
     for build in programs.BUILDS:
         program = programs.command_of('smtp server', build)[0]
-        for group in [dialogues, greetings, rules, refusals, in_turn, unknown, losses, verdict_and_end, maildirs, usage,
-                      documented, others]:
+        for group in [dialogues, greetings, rules, refusals, in_turn, unknown, losses, verdict_and_end, maildirs,
+                      refused, usage, documented, others]:
             yield os.path.basename(program), group, (program, build, tempfile.mkdtemp(dir=folder))
 
 

@@ -74,12 +74,8 @@ class Server:
         return smtplib.SMTP(*self.place, local_hostname='client.example.org', timeout=serving.SECONDS)
 
     def files(self, folder='new'):
-        """The texts of the files of a folder of the Maildir, without their names."""
-        found = []
-        for name in sorted(os.listdir(os.path.join(self.maildir, folder))):
-            with open(os.path.join(self.maildir, folder, name), 'rb') as file:
-                found.append(file.read())
-        return found
+        """The texts of the files of a folder of the Maildir."""
+        return files_in(self.maildir, folder)
 
     def expect_files(self, new, quarantine=()):
         """Compares the files of the Maildir."""
@@ -93,6 +89,15 @@ def made_maildir(folder):
     for name in ['tmp', 'new', 'cur', '.Quarantine/tmp', '.Quarantine/new', '.Quarantine/cur']:
         os.makedirs(os.path.join(maildir, name))
     return maildir
+
+
+def files_in(maildir, folder='new'):
+    """The texts of the files of a folder of a Maildir, in the order of their names."""
+    found = []
+    for name in sorted(os.listdir(os.path.join(maildir, folder))):
+        with open(os.path.join(maildir, folder, name), 'rb') as file:
+            found.append(file.read())
+    return found
 
 
 def filed(text=TEXT, recipients=RECIPIENTS, sender=SENDER, quarantine=''):

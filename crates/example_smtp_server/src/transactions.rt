@@ -174,14 +174,15 @@ impl<'x, R: Files + Clock + AllocGlobal> Transactions<'x, R> {
             return Ok(Reply::Fixed("554 5.6.0 The header can't be shown to filters"));
         };
         let macros = one_macro(self.rt.alloc(), b"i", id.as_bytes())?;
-        match self.filters.show_text(message, macros.as_slice())? {
-            Outcome::Refused(refusal) => return Ok(Reply::Refused(refusal)),
+        // Made first, so that nothing fails once the message is stored.
+        let taken = format!(in self.rt.alloc(); "250 2.0.0 Ok: queued as {id}")?;
+        Ok(match self.filters.show_text(message, macros.as_slice())? {
+            Outcome::Refused(refusal) => Reply::Refused(refusal),
             Outcome::Taken(held) if !self.is_stored(id.as_str(), &held) => {
-                return Ok(Reply::Fixed("451 4.3.0 The message can't be stored"));
+                Reply::Fixed("451 4.3.0 The message can't be stored")
             }
-            Outcome::Taken(_) | Outcome::Discarded => {}
-        }
-        Ok(Reply::Made(format!(in self.rt.alloc(); "250 2.0.0 Ok: queued as {id}")?))
+            Outcome::Taken(_) | Outcome::Discarded => Reply::Made(taken),
+        })
     }
 
     /// Stores a message, and answers whether that was done. One that has no recipient left is thrown away.
