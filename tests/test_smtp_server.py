@@ -1,10 +1,10 @@
 #!/usr/bin/env python3
-"""Sends mail to example_smtp_server, as both compilers built it, by smtplib and by lines of this file's own: with no
-filter; to `milter_tool serve` with rules that refuse, edit, hold and throw away; to two of these, of which the second
+"""Sends mail to example_smtp_server, as both compilers built it, by smtplib and by lines that are written at once: with
+no filter; to `milter_tool serve` with rules that refuse, edit, hold and throw away; to two of these, of which the second
 is shown the edits of the first; to filters that are lost, that are silent, that report progress, and that aren't there;
-with commands that come at once, in a wrong order, too long or too many; and with a Maildir that can't be written.
-What is compared is each reply, and each file of the Maildir, byte for byte. What is run is what `rt ci` built; nothing
-is proved here.
+with commands in a wrong order, too long or too many; with a Maildir that can't be written; and with each allocation
+refused in turn. What is compared is each reply, and each file of the Maildir, byte for byte. What is run is what
+`rt ci` built; nothing is proved here.
 
 Where the machine has them, mail is also sent by swaks, signed by OpenDKIM, and shown to a filter on libmilter.
 
@@ -23,8 +23,8 @@ from lib import checks, preloaded, programs, serving, smtp_peers
 from lib.checks import checked, expect
 from lib.packets import packet_of
 from lib.smtp import (
-    CONTINUE, DEFAULTS, NOT_STORED, OK_MAIL, OK_RCPT, RECIPIENTS, SENDER, TEXT, Packets, Server, data, expect_taken,
-    filed, files_in, filtering, goes_on, made_maildir, options, says, send, sent)
+    CONTINUE, DEFAULTS, MOVED, NOT_STORED, OK_MAIL, OK_RCPT, RECIPIENTS, REFUSES_ONE, SENDER, TEXT, Packets, Server,
+    data, expect_taken, filed, files_in, filtering, goes_on, made_maildir, options, says, send, sent)
 from lib.smtp_rows import ADDED, ADDS, BEGUN, DIALOGUES, EHLO, HELD, MAIL, ROWS
 
 def dialogues(program, _tool, folder):
@@ -121,6 +121,13 @@ def in_turn(program, tool, folder):
                 sent(server, recipients=RECIPIENTS[:1])
         expect('what is shown', tuple(other.codes() for other in others), codes)
 
+    def accepted():
+        """The first filter accepts, and the second is asked all the same."""
+        with filtering(tool, folder, 'at mail do accept\n', REFUSES_ONE) as (_, words):
+            with Server(program, folder, words) as server:
+                expect('the replies', sent(server)[0], [OK_MAIL, OK_RCPT, MOVED, OK_RCPT])
+
+    yield checked('accept by the first', accepted)
     yield checked('edits', edits)
     yield checked('quarantine by the first', held)
     yield checked('shown, discard at rcpt', shown, 'discard', 'rcpt', (b'OCHMRAQ', b'OCHMAQ'))
