@@ -1,10 +1,10 @@
 #!/usr/bin/env python3
 """Sends mail to example_smtp_server, as both compilers built it, by smtplib and by lines that are written at once: with
-no filter; to `milter_tool serve` with rules that refuse, edit, hold and throw away; to two of these, of which the second
-is shown the edits of the first; to filters that are lost, that are silent, that report progress, and that aren't there;
-with commands in a wrong order, too long or too many; with a Maildir that can't be written; and with each allocation
-refused in turn. What is compared is each reply, and each file of the Maildir, byte for byte. What is run is what
-`rt ci` built; nothing is proved here.
+no filter; to `milter_tool serve` with rules that refuse, edit, hold and throw away; to two of these, of which the
+second is shown the edits of the first; to filters that are lost, that are silent, that report progress, and that aren't
+there; with commands in a wrong order, too long or too many; with a Maildir that can't be written; and with each
+allocation refused in turn. What is compared is each reply, and each file of the Maildir, byte for byte. What is run is
+what `rt ci` built; nothing is proved here.
 
 Where the machine has them, mail is also sent by swaks, signed by OpenDKIM, and shown to a filter on libmilter.
 
