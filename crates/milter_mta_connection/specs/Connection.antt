@@ -256,7 +256,8 @@ after_unknown text pairs c = record c { channel = without_edits (with_unknown te
 abbrev pub UnknownLeaves : List ℕ → List Pair → Connection → Connection → Result CallOutcome CallFault → Type 0
 UnknownLeaves text pairs old new result =
     CallLeaves (any_fault old)
-    (CanBeQueued (is_unknown_left_out old.channel.negotiated old.phase) (Some SMFIC_UNKNOWN) (commands.Unknown text) pairs)
+    (CanBeQueued (is_unknown_left_out old.channel.negotiated old.phase) (Some SMFIC_UNKNOWN) (commands.Unknown text)
+    pairs)
     (after_unknown text pairs old) old new result
 
 -- ---- the end of a message and of the connection
