@@ -74,8 +74,6 @@ impl Filter {
             Some(verdict) => refused_by(Refusal::from_verdict(verdict)),
             None => {
                 self.connection.lost();
-                // Edits count only with the verdict after them.
-                drop(self.connection.take_edits());
                 self.by_default(shown)
             }
         }
