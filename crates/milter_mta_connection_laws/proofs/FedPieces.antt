@@ -1,5 +1,5 @@
 -- What comes in two pieces leaves the same as in one.
-use Rattle.std.proofs.Common.{◌≡◌, ◌≢◌, ℕ, Bool, true, false, List, [], ◌∷◌, ◌++◌, Option, None, Some, Result, Ok, Err, if◌then◌else◌, refl, sym, ap, ◌∙◌, subst, arith}
+use Rattle.std.proofs.Common.{◌≡◌, ◌≢◌, ℕ, Bool, true, false, List, [], ◌∷◌, ◌++◌, Option, None, Some, Result, Ok, Err, if◌then◌else◌, is_some, refl, sym, ap, ◌∙◌, subst, arith}
 use Rattle.std.specs.List.{fold}
 use Rattle.std.proofs.lemmas.Bool.{true≢false}
 use Rattle.std.proofs.lemmas.List.Sums.{fold-append}
@@ -16,7 +16,7 @@ use Rattle.milter_protocol.specs.declared.action.Action.TheVariants as actions
 use Rattle.milter_mta_outcome.specs.declared.loss.Loss.{Loss}
 use Rattle.milter_mta_outcome.specs.declared.loss.Loss.TheVariants.{Fault}
 use Rattle.milter_mta_outcome.specs.declared.loss.MtaFault.{MtaFault}
-use Rattle.milter_mta_outcome.specs.declared.loss.MtaFault.TheVariants.{Early}
+use Rattle.milter_mta_outcome.specs.declared.loss.MtaFault.TheVariants.{Early, NotAtThisStage, Wire}
 use Rattle.milter_mta_outcome.specs.ReceivedReplies.{options_received, reply_received}
 use Rattle.milter_mta_outcome.specs.EditWeights.{weight_of_all}
 use Rattle.milter_mta_channel.specs.declared.expected_reply.ExpectedReply.{ExpectedReply}
@@ -24,15 +24,14 @@ use Rattle.milter_mta_channel.specs.declared.expected_reply.ExpectedReply.TheVar
 use Rattle.milter_mta_channel.specs.declared.filter_event.FilterEvent.{FilterEvent}
 use Rattle.milter_mta_channel.specs.declared.filter_event.FilterEvent.TheVariants as events
 use Rattle.milter_mta_channel.specs.Channel.{Channel, is_expecting, is_owed, is_owed_by}
-use Rattle.milter_mta_channel.specs.Received.{After, fails, framed, goes_on, negotiated_on, received, received_as, received_byte, replied, replied_at, unread_is}
+use Rattle.milter_mta_channel.specs.Received.{After, byte_at, fails, framed, goes_on, negotiated_on, received, received_as, received_byte, replied, replied_at, unread_is}
 use Rattle.milter_mta_channel.specs.ReplyRules.{IsWaiting}
 use Rattle.milter_mta_channel.proofs.ReceivedFrames.{early, lost-stays}
-use Rattle.milter_mta_connection.specs.declared.phase.Phase.{Phase}
-use Rattle.milter_mta_connection.specs.declared.phase.Phase.TheVariants.{Closed}
 use Rattle.milter_mta_connection.specs.Calls.{after, fed_by}
 use Rattle.milter_mta_connection.specs.Calls.Call.{Feed}
 use Rattle.milter_mta_connection.specs.Connection.{Connection, after_event, closed_by}
-use Rattle.milter_mta_connection_laws.proofs.LostConnections.{IsKept, event_channel, kept_all, kept_on}
+use Rattle.milter_mta_connection_laws.specs.Losses.{IsLost}
+use Rattle.milter_mta_connection_laws.proofs.LostConnections.{event_channel, fed_lost, stays}
 
 -- ---- the event before it
 
@@ -44,50 +43,74 @@ later before next = next
 abbrev pub with_event : FilterEvent → After → After
 with_event before a = record a { event = later before a.event }
 
-module _ (b h : FilterEvent) (c : Channel) where
-  later-as : (received : Result Action MtaFault) → received_as received (later b h) c ≡ with_event b (received_as received h c)
-  later-as (Err fault) = refl
-  later-as (Ok (actions.Edit edit)) = refl
-  later-as (Ok (actions.Verdict verdict)) = refl
+-- the loss is the same, and without one so is all but the event
+abbrev pub IsLater : FilterEvent → After → After → Type 0
+IsLater before a' a = (a'.loss ≡ a.loss) × (a.loss ≡ None → a' ≡ with_event before a)
 
-  later-at : (negotiated : Option Negotiated) (stage : Stage) (reply : Reply) → replied_at negotiated stage reply (later b h) c ≡ with_event b (replied_at negotiated stage reply h c)
-  later-at None stage reply = refl
+module _ (b h : FilterEvent) (c : Channel) where
+  later-fails : (fault : MtaFault) → IsLater b (fails fault (later b h) c) (fails fault h c)
+  later-fails fault = (refl, λ none. absurd cc)
+
+  later-as : (received : Result Action MtaFault) → IsLater b (received_as received (later b h) c) (received_as received h c)
+  later-as (Err fault) = later-fails fault
+  later-as (Ok (actions.Edit edit)) = (refl, λ none. refl)
+  later-as (Ok (actions.Verdict verdict)) = (refl, λ none. refl)
+
+  later-at : (negotiated : Option Negotiated) (stage : Stage) (reply : Reply) → IsLater b (replied_at negotiated stage reply (later b h) c) (replied_at negotiated stage reply h c)
+  later-at None stage reply = later-fails NotAtThisStage
   later-at (Some negotiated) stage reply = later-as (reply_received negotiated stage (weight_of_all c.edits) reply)
 
-  later-options : (negotiated : Result Negotiated MtaFault) → negotiated_on negotiated (later b h) c ≡ with_event b (negotiated_on negotiated h c)
-  later-options (Err fault) = refl
-  later-options (Ok negotiated) = refl
+  later-options : (negotiated : Result Negotiated MtaFault) → IsLater b (negotiated_on negotiated (later b h) c) (negotiated_on negotiated h c)
+  later-options (Err fault) = later-fails fault
+  later-options (Ok negotiated) = (refl, λ none. refl)
 
-  later-reply : (expected : ExpectedReply) (reply : Reply) → replied expected reply (later b h) c ≡ with_event b (replied expected reply h c)
-  later-reply expects.Nothing reply = refl
+  later-reply : (expected : ExpectedReply) (reply : Reply) → IsLater b (replied expected reply (later b h) c) (replied expected reply h c)
+  later-reply expects.Nothing reply = later-fails Early
   later-reply expects.Options reply = later-options (options_received c.offer reply)
   later-reply (expects.Verdict stage) reply = later-at c.negotiated stage reply
   later-reply expects.Unknown reply = later-at c.negotiated Rcpt reply
 
-  later-frame : (reply : Result Reply WireFault) → framed reply (later b h) c ≡ with_event b (framed reply h c)
-  later-frame (Err fault) = refl
+  later-frame : (reply : Result Reply WireFault) → IsLater b (framed reply (later b h) c) (framed reply h c)
+  later-frame (Err fault) = later-fails (Wire fault)
   later-frame (Ok reply) = later-reply c.expected reply
 
-  later-unread : (unread : List ℕ) (fault : Option WireFault) (first : Option (Frame × List ℕ)) → unread_is unread fault first (later b h) c ≡ with_event b (unread_is unread fault first h c)
-  later-unread unread (Some fault) first = refl
-  later-unread unread None None = refl
+  later-unread : (unread : List ℕ) (fault : Option WireFault) (first : Option (Frame × List ℕ)) → IsLater b (unread_is unread fault first (later b h) c) (unread_is unread fault first h c)
+  later-unread unread (Some fault) first = later-fails (Wire fault)
+  later-unread unread None None = (refl, λ none. refl)
   later-unread unread None (Some first) = later-frame (frame_reply first.0)
 
   later-byte : (owed : Bool) (unread : List ℕ)
-      → (if owed then unread_is unread (length_fault unread) (first_frame unread) (later b h) c else fails Early (later b h) c)
-      ≡ with_event b (if owed then unread_is unread (length_fault unread) (first_frame unread) h c else fails Early h c)
+      → IsLater b (if owed then unread_is unread (length_fault unread) (first_frame unread) (later b h) c else fails Early (later b h) c)
+      (if owed then unread_is unread (length_fault unread) (first_frame unread) h c else fails Early h c)
   later-byte true unread = later-unread unread (length_fault unread) (first_frame unread)
-  later-byte false unread = refl
+  later-byte false unread = later-fails Early
 
-  later-step : (loss : Option Loss) (byte : ℕ)
-      → received_byte (record { channel = c; event = later b h; loss = loss }) byte ≡ with_event b (received_byte (record { channel = c; event = h; loss = loss }) byte)
-  later-step None byte = later-byte (is_owed c) (c.unread ++ byte ∷ [])
-  later-step (Some loss) byte = refl
+lost-byte : (a : After) (byte : ℕ) (loss : Loss) (is : a.loss ≡ Some loss) → received_byte a byte ≡ a
+lost-byte a byte loss is = by a.loss is
+  where
+    by : (found : Option Loss) → found ≡ Some loss → (if is_some found then a else byte_at a.event a.channel byte) ≡ a
+    by None is = absurd cc
+    by (Some found) is = refl
 
-later-all : (b : FilterEvent) (bytes : List ℕ) (a : After) → fold received_byte (with_event b a) bytes ≡ with_event b (fold received_byte a bytes)
-later-all b [] a = refl
-later-all b (byte ∷ bytes) a =
-    ap (λ (n : After). fold received_byte n bytes) (later-step b a.event a.channel a.loss byte) ∙ later-all b bytes (received_byte a byte)
+later-step : (b : FilterEvent) (a' : After) (h : FilterEvent) (c : Channel) (loss : Option Loss) (byte : ℕ) → IsLater b a' (record { channel = c; event = h; loss = loss })
+    → IsLater b (received_byte a' byte) (received_byte (record { channel = c; event = h; loss = loss }) byte)
+later-step b a' h c None byte is =
+    subst (λ (n : After). IsLater b (received_byte n byte) (received_byte (goes_on h c) byte)) (sym (is.1 refl)) (later-byte b h c (is_owed c) (c.unread ++ byte ∷ []))
+later-step b a' h c (Some loss) byte is =
+    subst (λ (n : After). IsLater b n (record { channel = c; event = h; loss = Some loss })) (sym (lost-byte a' byte loss is.0)) is
+
+later-all : (b : FilterEvent) (bytes : List ℕ) (a' a : After) → IsLater b a' a → IsLater b (fold received_byte a' bytes) (fold received_byte a bytes)
+later-all b [] a' a is = is
+later-all b (byte ∷ bytes) a' a is =
+    later-all b bytes (received_byte a' byte) (received_byte a byte) (later-step b a' a.event a.channel a.loss byte is)
+
+-- what comes after an event
+later-from : (event : FilterEvent) (k : Channel) (bytes : List ℕ) → IsLater event (fold received_byte (goes_on event k) bytes) (received k bytes)
+later-from event k bytes = later-all event bytes (goes_on event k) (goes_on events.Nothing k) (refl, λ none. refl)
+
+whole-is : (event : FilterEvent) (k : Channel) (bytes : List ℕ) → (fold received_byte (goes_on event k) bytes).loss ≡ None
+    → fold received_byte (goes_on event k) bytes ≡ with_event event (received k bytes)
+whole-is event k bytes none = let is = later-from event k bytes in is.1 (sym is.0 ∙ none)
 
 -- ---- what is still expected
 
@@ -153,26 +176,6 @@ no-event : (c : Channel) (bytes : List ℕ) → c.expected ≡ expects.Nothing �
 no-event c [] none = refl
 no-event c (byte ∷ bytes) none = ap (λ (a : After). a.event) (early events.Nothing c (byte ∷ bytes) (ap (λ (x : ExpectedReply). is_owed_by x c.pending) none ∙ not-owed c.pending) (omega arith))
 
--- a channel on which nothing is pending, owed or unread
-abbrev bare : Channel → Channel
-bare k = record k { expected = expects.Nothing; pending = []; unread = [] }
-
-bare-stays : (bytes : List ℕ) (k : Channel) (c : Connection) → after (Feed bytes) (record c { channel = bare k; phase = Closed }) ≡ record c { channel = bare k; phase = Closed }
-bare-stays [] k c = refl
-bare-stays (byte ∷ bytes) k c =
-    ap (λ (a : After). fed_by a (record c { channel = bare k; phase = Closed })) (early events.Nothing (bare k) (byte ∷ bytes) refl (omega arith))
-
--- after a loss nothing changes
-closed-stays : (bytes : List ℕ) (c : Connection) → c.phase ≡ Closed → c.channel.expected ≡ expects.Nothing → c.channel.pending ≡ [] → c.channel.unread ≡ []
-    → after (Feed bytes) c ≡ c
-closed-stays bytes c closed none_expected none_pending none_unread =
-    let same : c ≡ record c { channel = bare c.channel; phase = Closed } =
-    ap (λ (p : Phase). record c { phase = p }) closed
-    ∙ ap (λ (x : ExpectedReply). record c { channel = record c.channel { expected = x }; phase = Closed }) none_expected
-    ∙ ap (λ (p : List ℕ). record c { channel = record c.channel { expected = expects.Nothing; pending = p }; phase = Closed }) none_pending
-    ∙ ap (λ (u : List ℕ). record c { channel = record c.channel { expected = expects.Nothing; pending = []; unread = u }; phase = Closed }) none_unread in
-    subst (λ (d : Connection). after (Feed bytes) d ≡ d) (sym same) (bare-stays bytes c.channel c)
-
 -- an event changes the phase and the rank alone
 event-over : (x : ExpectedReply) (event : FilterEvent) (c : Connection) (k : Channel) → record (after_event x event c) { channel = k } ≡ after_event x event (record c { channel = k })
 event-over (expects.Verdict stage) (events.Verdict verdict) c k = refl
@@ -231,34 +234,53 @@ module _ (c : Connection) (k : Channel) (event : FilterEvent) (same : IsSame c.c
       ap (λ (n : FilterEvent). after_event x (later event n) whole) no
       ∙ sym (ap (λ (y : ExpectedReply). after_event y r.event (after_event x event whole)) none)
 
-  then-on : fed_by (fold received_byte (goes_on event k) second) c ≡ after (Feed second) (after_event x event (record c { channel = k }))
-  then-on =
+  then-on : (fold received_byte (goes_on event k) second).loss ≡ None → fed_by (fold received_byte (goes_on event k) second) c ≡ after (Feed second) (after_event x event (record c { channel = k }))
+  then-on none =
       let first : Connection = after_event x event (record c { channel = k }) in
       let there : first.channel ≡ k = event_channel x event (record c { channel = k }) in
-      ap (λ (a : After). fed_by a c) (later-all event second (goes_on events.Nothing k))
+      ap (λ (a : After). fed_by a c) (whole-is event k second none)
       ∙ ap (closed_by r.loss) (by-expected (is_expecting k.expected) refl)
       ∙ ap (λ (d : Connection). closed_by r.loss (after_event k.expected r.event d)) (sym (event-over x event (record c { channel = k }) r.channel))
       ∙ sym (ap (λ (q : Channel). closed_by (received q second).loss (after_event q.expected (received q second).event (record first { channel = (received q second).channel }))) there)
 
 by-loss : (c : Connection) (k : Channel) (event : FilterEvent) (loss : Option Loss) (second : List ℕ)
-    → IsSame c.channel.expected (record { channel = k; event = event; loss = loss }) → IsKept (record { channel = k; event = event; loss = loss })
+    → IsSame c.channel.expected (record { channel = k; event = event; loss = loss }) → (fold received_byte (record { channel = k; event = event; loss = loss }) second).loss ≡ None
     → fed_by (fold received_byte (record { channel = k; event = event; loss = loss }) second) c ≡ after (Feed second) (fed_by (record { channel = k; event = event; loss = loss }) c)
-by-loss c k event None second same kept = then-on c k event same second
-by-loss c k event (Some loss) second same kept =
-    let here : Connection = after_event c.channel.expected event (record c { channel = k }) in
-    let there : here.channel ≡ k = event_channel c.channel.expected event (record c { channel = k }) in
-    let is = kept loss refl in
-    ap (λ (a : After). fed_by a c) (lost-stays event k loss second)
-    ∙ sym (closed-stays second (record here { phase = Closed }) refl
-    (ap (λ (q : Channel). q.expected) there ∙ is.0) (ap (λ (q : Channel). q.pending) there ∙ is.1) (ap (λ (q : Channel). q.unread) there ∙ is.2))
+by-loss c k event None second same none = then-on c k event same second none
+by-loss c k event (Some loss) second same none =
+    let no : Some loss ≡ None = ap (λ (a : After). a.loss) (sym (lost-stays event k loss second)) ∙ none in
+    absurd cc
 
-pub pieces : (c : Connection) (first second : List ℕ) → after (Feed (first ++ second)) c ≡ after (Feed second) (after (Feed first) c)
-pieces c first second =
+-- without a loss
+pub pieces : (c : Connection) (first second : List ℕ) → (received c.channel (first ++ second)).loss ≡ None
+    → after (Feed (first ++ second)) c ≡ after (Feed second) (after (Feed first) c)
+pieces c first second none =
     let a : After = received c.channel first in
-    ap (λ (b : After). fed_by b c) (fold-append received_byte (goes_on events.Nothing c.channel) first second)
+    let joined = fold-append received_byte (goes_on events.Nothing c.channel) first second in
+    ap (λ (b : After). fed_by b c) joined
     ∙ by-loss c a.channel a.event a.loss second
     (same-all c.channel.expected first (goes_on events.Nothing c.channel) (λ e. (refl, tt)))
-    (kept_all first (goes_on events.Nothing c.channel) (kept_on events.Nothing c.channel))
+    (ap (λ (b : After). b.loss) (sym joined) ∙ none)
+
+lost-by : (c : Connection) (k : Channel) (event : FilterEvent) (before : Option Loss) (second : List ℕ) (loss : Loss)
+    → ((found : Loss) → before ≡ Some found → IsLost (fed_by (record { channel = k; event = event; loss = before }) c))
+    → (fold received_byte (record { channel = k; event = event; loss = before }) second).loss ≡ Some loss
+    → IsLost (after (Feed second) (fed_by (record { channel = k; event = event; loss = before }) c))
+lost-by c k event (Some found) second loss first_lost is =
+    (stays (Feed second) (fed_by (record { channel = k; event = event; loss = Some found }) c) (first_lost found refl)).lost
+lost-by c k event None second loss first_lost is =
+    let here : Connection = after_event c.channel.expected event (record c { channel = k }) in
+    let there : here.channel ≡ k = event_channel c.channel.expected event (record c { channel = k }) in
+    fed_lost here second loss (ap (λ (q : Channel). (received q second).loss) there ∙ sym (later-from event k second).0 ∙ is)
+
+-- with a loss
+pub pieces-lost : (c : Connection) (first second : List ℕ) (loss : Loss) → (received c.channel (first ++ second)).loss ≡ Some loss
+    → IsLost (after (Feed second) (after (Feed first) c))
+pieces-lost c first second loss is =
+    let a : After = received c.channel first in
+    let joined = fold-append received_byte (goes_on events.Nothing c.channel) first second in
+    lost-by c a.channel a.event a.loss second loss (λ found found_is. fed_lost c first found found_is)
+    (ap (λ (b : After). b.loss) (sym joined) ∙ is)
 
 -- ---- a verdict comes with its last byte
 
@@ -285,7 +307,7 @@ comes-last x k event None second verdict new same some is = by-expected (is_expe
     r = received k second
 
     whole : with_event event r ≡ goes_on (events.Verdict verdict) new
-    whole = sym (later-all event second (goes_on events.Nothing k)) ∙ is
+    whole = sym (whole-is event k second (ap (λ (a : After). a.loss) is)) ∙ is
 
     lost-early : (bytes : List ℕ) → bytes ≢ [] → k.expected ≡ expects.Nothing → (received k bytes).loss ≡ Some (Fault Early)
     lost-early [] some none = absurd (some refl)

@@ -1,5 +1,5 @@
 -- After a loss nothing comes any more.
-use Rattle.std.proofs.Common.{◌≡◌, ℕ, Bool, true, false, List, [], ◌∷◌, ◌++◌, Option, None, Some, Result, Ok, Err, if◌then◌else◌, refl, sym, ap, ◌∙◌, subst, drop, arith}
+use Rattle.std.proofs.Common.{◌≡◌, ℕ, Bool, true, false, List, [], ◌∷◌, ◌++◌, Option, None, Some, Result, Ok, Err, if◌then◌else◌, refl, inl, inr, sym, ap, ◌∙◌, subst, drop, arith}
 use Rattle.std.proofs.Common.{drop_of_length-le}
 use Rattle.milter_wire.specs.declared.command.Command.{Command}
 use Rattle.milter_wire.specs.declared.stage.Stage.{Stage}
@@ -73,19 +73,19 @@ shut-stays (StageCommand command pairs) c =
       lost = subst IsLost (sym same) (shut-lost c);
       none_queued = stage_unqueued (stage_of command) command pairs c;
       no_event = refl;
-      same_edits = ap (λ (k : Connection). k.channel.edits) same;
+      no_new_edits = inl (ap (λ (k : Connection). k.channel.edits) same);
     }
-shut-stays (UnknownCommand text pairs) c = record { lost = shut-lost c; none_queued = refl; no_event = refl; same_edits = refl }
-shut-stays Abort c = record { lost = shut-lost c; none_queued = refl; no_event = refl; same_edits = refl }
-shut-stays Quit c = record { lost = shut-lost c; none_queued = refl; no_event = refl; same_edits = refl }
+shut-stays (UnknownCommand text pairs) c = record { lost = shut-lost c; none_queued = refl; no_event = refl; no_new_edits = inl refl }
+shut-stays Abort c = record { lost = shut-lost c; none_queued = refl; no_event = refl; no_new_edits = inl refl }
+shut-stays Quit c = record { lost = shut-lost c; none_queued = refl; no_event = refl; no_new_edits = inl refl }
 shut-stays (Sent n) c =
     record {
       lost = record { closed = refl; none_expected = refl; none_pending = dropped n [] refl };
       none_queued = refl;
       no_event = refl;
-      same_edits = refl;
+      no_new_edits = inl refl;
     }
-shut-stays (Feed []) c = record { lost = shut-lost c; none_queued = refl; no_event = refl; same_edits = refl }
+shut-stays (Feed []) c = record { lost = shut-lost c; none_queued = refl; no_event = refl; no_new_edits = inl refl }
 shut-stays (Feed (byte ∷ bytes)) c =
     let is = fed_quiet c.channel byte bytes in
     let same : after (Feed (byte ∷ bytes)) (shut c) ≡ fed_by (fails Early events.Nothing (quiet c.channel)) (shut c) =
@@ -94,9 +94,9 @@ shut-stays (Feed (byte ∷ bytes)) c =
       lost = subst IsLost (sym same) (record { closed = refl; none_expected = refl; none_pending = refl });
       none_queued = refl;
       no_event = ap (λ (a : After). a.event) is;
-      same_edits = ap (λ (k : Connection). k.channel.edits) same;
+      no_new_edits = inr (ap (λ (k : Connection). k.channel.edits) same);
     }
-shut-stays Lost c = record { lost = record { closed = refl; none_expected = refl; none_pending = refl }; none_queued = refl; no_event = refl; same_edits = refl }
+shut-stays Lost c = record { lost = record { closed = refl; none_expected = refl; none_pending = refl }; none_queued = refl; no_event = refl; no_new_edits = inr refl }
 
 pub stays : (call : Call) (c : Connection) → IsLost c → StaysLost call c
 stays call c is = subst (StaysLost call) (sym (same_shut c is)) (shut-stays call c)

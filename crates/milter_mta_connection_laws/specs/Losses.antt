@@ -1,5 +1,5 @@
 -- A connection whose filter was lost.
-use Rattle.std.specs.Prelude.{◌≡◌, List, [], ◌∷◌}
+use Rattle.std.specs.Prelude.{◌≡◌, ◌⊎◌, List, [], ◌∷◌}
 use Rattle.milter_mta_channel.specs.declared.expected_reply.ExpectedReply.TheVariants as expects
 use Rattle.milter_mta_channel.specs.declared.filter_event.FilterEvent.{FilterEvent}
 use Rattle.milter_mta_channel.specs.declared.filter_event.FilterEvent.TheVariants as events
@@ -19,12 +19,12 @@ abbrev pub event_of : Call → Connection → FilterEvent
 event_of (Feed bytes) c = (received c.channel bytes).event
 event_of call c = events.Nothing
 
--- whatever is called: it stays lost, nothing is queued, no event comes, and no edit
+-- whatever is called: it stays lost, nothing is queued, no event comes, and the edits stay or are dropped
 pub record StaysLost (call : Call) (c : Connection) : Type 0 where
   pub lost : IsLost (after call c)
   pub none_queued : queued_by call c ≡ []
   pub no_event : event_of call c ≡ events.Nothing
-  pub same_edits : (after call c).channel.edits ≡ c.channel.edits
+  pub no_new_edits : ((after call c).channel.edits ≡ c.channel.edits) ⊎ ((after call c).channel.edits ≡ [])
 
 -- so is each of these calls, one after the other
 abbrev pub AllStayLost : List Call → Connection → Type 0

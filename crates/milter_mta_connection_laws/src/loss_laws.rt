@@ -9,7 +9,7 @@ ghost use Rattle.milter_mta_connection.specs.Connection.{Connection};
 ghost use Rattle.milter_mta_connection_laws.specs.Losses.{AllStayLost, IsLost};
 
 /// After a loss nothing is pending and no reply is expected; and whatever is called then, in whatever order, nothing is
-/// queued, no event comes, and no edit.
+/// queued, no event comes, and no edit is added.
 pub fn losses_end_connections()
     ensures lost { (c : Connection) → IsLost (after Lost c) }
     ensures fed { (c : Connection) (bytes : List ℕ) (loss : Loss) → (received c.channel bytes).loss ≡ Some loss →

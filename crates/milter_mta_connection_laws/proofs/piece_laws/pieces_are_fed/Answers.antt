@@ -1,10 +1,13 @@
 use Rattle.std.proofs.Common.{List, ℕ, ap, sym}
 use Rattle.std.proofs.lemmas.List.{drop-drop}
-use Rattle.milter_mta_connection_laws.proofs.FedPieces.{pieces, verdict-last}
+use Rattle.milter_mta_connection_laws.proofs.FedPieces.{pieces, pieces-lost, verdict-last}
 use Rattle.milter_mta_connection_laws.proofs.piece_laws.pieces_are_fed.Goals as goal
 
 pub returns-clause-connection : goal.returns-clause-connection
-returns-clause-connection c connection first second = pieces connection first second
+returns-clause-connection c connection first second none = pieces connection first second none
+
+pub returns-clause-lost : goal.returns-clause-lost
+returns-clause-lost c connection first second loss is = pieces-lost connection first second loss is
 
 pub returns-clause-sent : goal.returns-clause-sent
 returns-clause-sent c connection first second =
