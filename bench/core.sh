@@ -2,13 +2,13 @@
 # Measures a mail server's end (`MtaCore`) in memory, alone and beside a filter's end that lets all mail go on
 # (`FilterCore` with `Pass`): crates/milter_tests_pair plays a session file to such a filter, and `milter_tests_driver
 # mta` answers each command by itself. crates/milter_tests_stages shows the same messages to such a filter stage by
-# stage (`MtaConnection`); that end alone, with the loop around it, is what is left without the filter's end. A message has ten header fields, and so sixteen commands where its body has 4
-# KiB, and 176 where it has 10 MiB. A line for each session has the user instructions of a message at both ends, and
-# those at the mail server's end alone. They are callgrind's, without those of a run that reads the session file and
-# sends none of its messages; callgrind counts a copy by `rep movsb` and a clearing by `rep stosb` a byte at a time, so
-# that both are turned off in the C library. Status 1 where a message of a session of 10,000 takes more than 1.1 times
-# what one of a session of 100 takes. It takes valgrind, Python and some minutes. The programs are built first where
-# they have to be.
+# stage (`MtaConnection`); that end alone, with the loop around it, is what is left without the filter's end. A message
+# has ten header fields, and so sixteen commands where its body has 4 KiB, and 176 where it has 10 MiB. A line for each
+# session has the user instructions of a message at both ends, and those at the mail server's end alone. They are
+# callgrind's, without those of a run that reads the session file and sends none of its messages; callgrind counts a
+# copy by `rep movsb` and a clearing by `rep stosb` a byte at a time, so that both are turned off in the C library.
+# Status 1 where a message of a session of 10,000 takes more than 1.1 times what one of a session of 100 takes. It takes
+# valgrind, Python and some minutes. The programs are built first where they have to be.
 #
 #     bash bench/core.sh
 set -eu

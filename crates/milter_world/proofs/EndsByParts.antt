@@ -1,5 +1,5 @@
 -- Both ends by their parts.
-use Rattle.std.proofs.Common.{◌≡◌, ℕ, List, Option}
+use Rattle.std.proofs.Common.{◌≡◌, ℕ, List, Option, refl}
 use Rattle.milter_protocol.specs.declared.command_order.CommandOrder.{CommandOrder}
 use Rattle.milter_mta.specs.Mta.{Mta}
 use Rattle.milter_filter_core.specs.Cores.{Core}
@@ -18,3 +18,8 @@ pub ends-as : {P : Type 0} (p : Scenario) (ends : Ends P) (policy : P) (order : 
     → policy ≡ ends.policy → order ≡ ends.order → mta ≡ ends.mta → filter ≡ ends.filter → to_filter ≡ ends.to_filter → to_mta ≡ ends.to_mta → state ≡ ends.state → AreEndsOf p ends
     → AreEndsOf p (record { policy = policy; order = order; mta = mta; filter = filter; to_filter = to_filter; to_mta = to_mta; state = state })
 ends-as p ends policy order mta filter to_filter to_mta state a b c d e f g are = rw (a, b, c, d, e, f, g) are
+
+pub same-ends : {P : Type 0} (ends : Ends P) (policy : P) (order : CommandOrder) (mta : Mta) (filter : Option (Core P)) (to_filter to_mta : List ℕ) (state : State)
+    → policy ≡ ends.policy → order ≡ ends.order → mta ≡ ends.mta → filter ≡ ends.filter → to_filter ≡ ends.to_filter → to_mta ≡ ends.to_mta → state ≡ ends.state
+    → record { policy = policy; order = order; mta = mta; filter = filter; to_filter = to_filter; to_mta = to_mta; state = state } ≡ ends
+same-ends ends policy order mta filter to_filter to_mta state a b c d e f g = rw (a, b, c, d, e, f, g) refl
