@@ -44,7 +44,9 @@ fn answer_line<'x, R: Files + Clock + AllocGlobal, W: Write>(
 ) -> anyhow::Result<Next> {
     let (reply, next) = match end {
         LineEnd::Closed => return Ok(Next::Close),
-        LineEnd::TooLong => (Reply::Fixed("500 5.5.2 Line too long"), Next::Command),
+        LineEnd::TooLong | LineEnd::TooLongLf => {
+            (Reply::Fixed("500 5.5.2 Line too long"), Next::Command)
+        }
         LineEnd::CrLf | LineEnd::Lf => session.on_line(line)?,
     };
     reply.write(output)?;

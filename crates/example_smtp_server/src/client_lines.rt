@@ -10,8 +10,10 @@ pub(crate) enum LineEnd {
     CrLf,
     /// With LF alone.
     Lf,
-    /// It is longer than the limit; its rest was skipped.
+    /// With CR LF, but it is longer than the limit; its rest was skipped.
     TooLong,
+    /// The same with LF alone.
+    TooLongLf,
     /// The client has ended the connection.
     Closed,
 }
@@ -37,7 +39,7 @@ pub(crate) fn read_line<R: BufRead>(
     line.clear();
     for _ in 0..u64::MAX {
         match read_piece(reader, line, limit)? {
-            Piece::Last => return Ok(cut_end(line)),
+            Piece::Last => return Ok(cut_end(line, limit)),
             Piece::Some => {}
             Piece::Closed => return Ok(LineEnd::Closed),
         }
@@ -59,21 +61,40 @@ fn read_piece<R: BufRead>(reader: &mut R, line: &mut Vec<u8>, limit: usize) -> i
         Some(end) => (end + 1, Piece::Last),
         None => (bytes.len(), Piece::Some),
     };
-    let kept = count.min(limit.saturating_sub(line.len()));
-    line.extend_from_slice(&bytes[..kept])?;
+    append_limited(line, &bytes[..count], limit)?;
     reader.consume(count);
     Ok(piece)
 }
 
+/// Appends bytes to a line up to the limit. Of those beyond it the last two are kept, which say how the line ends.
+fn append_limited(line: &mut Vec<u8>, bytes: &[u8], limit: usize) -> io::Result<()> {
+    let kept = bytes.len().min(limit.saturating_sub(line.len()));
+    line.extend_from_slice(&bytes[..kept])?;
+    let before = match &bytes[kept..] {
+        [] => return Ok(()),
+        [_] => line.last().copied(),
+        [.., before, _] => Some(*before),
+    };
+    line.truncate(limit);
+    line.extend_from_slice(&[
+        before.unwrap_or(b' '),
+        bytes.last().copied().unwrap_or(b' '),
+    ])?;
+    Ok(())
+}
+
 /// Cuts off the end of a whole line.
-fn cut_end(line: &mut Vec<u8>) -> LineEnd {
-    if line.last() != Some(&b'\n') {
-        return LineEnd::TooLong;
-    }
+fn cut_end(line: &mut Vec<u8>, limit: usize) -> LineEnd {
+    let is_too_long = line.len() > limit;
     line.pop();
-    if line.last() != Some(&b'\r') {
-        return LineEnd::Lf;
+    let is_crlf = line.last() == Some(&b'\r');
+    if is_crlf {
+        line.pop();
     }
-    line.pop();
-    LineEnd::CrLf
+    match (is_too_long, is_crlf) {
+        (false, true) => LineEnd::CrLf,
+        (false, false) => LineEnd::Lf,
+        (true, true) => LineEnd::TooLong,
+        (true, false) => LineEnd::TooLongLf,
+    }
 }

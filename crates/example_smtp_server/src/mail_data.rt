@@ -14,7 +14,7 @@ pub(crate) const MESSAGE_LEN_MAX: u64 = 10_485_760;
 pub(crate) enum DataFault {
     /// A line is too long.
     LineTooLong,
-    /// A line ends with LF alone, which other mail servers may take for the end of a message.
+    /// A line ends with LF alone, after which some mail servers let a period end the message, and others don't.
     BareLf,
     /// The text is too long.
     TooLarge,
@@ -31,7 +31,8 @@ pub(crate) enum Data {
     Closed,
 }
 
-/// Reads the text of a message to its end. The line buffer is used up.
+/// Reads the text of a message to its end: a line that is a period, after one that ends with CR LF. After LF alone a
+/// period is text, so that no command can be smuggled in as the text of a message. The line buffer is used up.
 pub(crate) fn read_data<R: BufRead>(
     alloc: Global,
     reader: &mut R,
@@ -39,15 +40,18 @@ pub(crate) fn read_data<R: BufRead>(
 ) -> io::Result<Data> {
     let mut text = Vec::new(alloc);
     let mut fault = None;
+    let mut is_after_crlf = true;
     for _ in 0..u64::MAX {
-        let found = match read_line(reader, line, TEXT_LINE_LEN_MAX)? {
+        let end = read_line(reader, line, TEXT_LINE_LEN_MAX)?;
+        let found = match end {
             LineEnd::Closed => return Ok(Data::Closed),
-            LineEnd::CrLf if matches!(line.as_slice(), b".") => break,
+            LineEnd::CrLf if is_after_crlf && matches!(line.as_slice(), b".") => break,
             LineEnd::CrLf if fault.is_none() => append_line(&mut text, line.as_slice())?,
             LineEnd::CrLf => None,
             LineEnd::Lf => Some(DataFault::BareLf),
-            LineEnd::TooLong => Some(DataFault::LineTooLong),
+            LineEnd::TooLong | LineEnd::TooLongLf => Some(DataFault::LineTooLong),
         };
+        is_after_crlf = matches!(end, LineEnd::CrLf | LineEnd::TooLong);
         fault = fault.or(found);
     }
     Ok(match fault {
