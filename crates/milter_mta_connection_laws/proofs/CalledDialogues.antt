@@ -38,7 +38,7 @@ use Rattle.milter_mta_connection_laws.proofs.CallOrder.{GoesTo, Ordered, RankIn,
 use Rattle.milter_mta_connection_laws.proofs.OneCall as one_call
 use Rattle.milter_mta_connection_laws.proofs.OneCall.{at}
 use Rattle.milter_mta_connection_laws.proofs.CalledStages.{body-by-stage, is_body_stage, is_rcpt_stage, late-ignored, mail-in, no-macros, not-end, over-is, over-rank, rank-in, rcpt-by-stage, same-macros, same-rank, same-refused, skip-body, steps, steps_at}
-use Rattle.milter_mta_connection_laws.proofs.GivenExchanges.{Told, ends-going, ends-over, goes-none, goes-some, told-none, told-some}
+use Rattle.milter_mta_connection_laws.proofs.GivenExchanges.{HasExchanged, ends-going, ends-over, goes-none, goes-some, exchanged-none, exchanged-some}
 
 -- ---- one command after the other
 
@@ -65,7 +65,7 @@ module _ (offer : Options) (negotiated : Negotiated) (reads : ReadsBack) (b : Be
 
   abbrev pub Tells : List Command → Type 0
   Tells left = (phase : Phase) (last : ℕ) (es : List Edit) (before : List Exchange) (fed : List Fed) (faults : List CallFault) → Start phase last es before left
-      → Told offer negotiated (dialogue_with b negotiated before (left_of left)) before fed faults (with_calls b negotiated macros left (here phase last es before fed faults))
+      → HasExchanged offer negotiated (dialogue_with b negotiated before (left_of left)) before fed faults (with_calls b negotiated macros left (here phase last es before fed faults))
 
   -- ---- once it is over
 
@@ -191,17 +191,17 @@ module _ (offer : Options) (negotiated : Negotiated) (reads : ReadsBack) (b : Be
         }
 
     -- it isn't answered
-    told-unanswered : e.answer ≡ None
-        → Told offer negotiated (e ∷ (if is_closed (e ∷ so_far) (left_of left) then [] else more)) so_far fed faults (goes left (here (phase_after phase stage) (rank_of stage) [] (e ∷ so_far) fed faults))
-    told-unanswered none =
-        subst (λ (c : Bool). Told offer negotiated (e ∷ (if c then [] else more)) so_far fed faults (goes left t)) (sym (closed-is false (final-is None none)))
+    exchanged-unanswered : e.answer ≡ None
+        → HasExchanged offer negotiated (e ∷ (if is_closed (e ∷ so_far) (left_of left) then [] else more)) so_far fed faults (goes left (here (phase_after phase stage) (rank_of stage) [] (e ∷ so_far) fed faults))
+    exchanged-unanswered none =
+        subst (λ (c : Bool). HasExchanged offer negotiated (e ∷ (if c then [] else more)) so_far fed faults (goes left t)) (sym (closed-is false (final-is None none)))
         (by_refused (are_all_refused (e ∷ so_far) left))
       where
         t : Conversation
         t = here (phase_after phase stage) (rank_of stage) [] (e ∷ so_far) fed faults
 
-        by_refused : (refused : Bool) → Told offer negotiated (e ∷ (if refused then [] else more)) so_far fed faults (if refused then t else with_calls b negotiated macros left t)
-        by_refused true = told-none offer negotiated e so_far fed faults none (phase_after phase stage) (rank_of stage) (ends-going e (phase_after phase stage) (rank_of stage) to.going to.rank)
+        by_refused : (refused : Bool) → HasExchanged offer negotiated (e ∷ (if refused then [] else more)) so_far fed faults (if refused then t else with_calls b negotiated macros left t)
+        by_refused true = exchanged-none offer negotiated e so_far fed faults none (phase_after phase stage) (rank_of stage) (ends-going e (phase_after phase stage) (rank_of stage) to.going to.rank)
         by_refused false =
             goes-none offer negotiated e so_far fed faults none more (with_calls b negotiated macros left t)
             (further (phase_after phase stage) (rank_of stage) [] (e ∷ so_far) fed faults (start-next (ap (has_verdict is_skip) none)))
@@ -215,14 +215,14 @@ module _ (offer : Options) (negotiated : Negotiated) (reads : ReadsBack) (b : Be
       then_in p rank es = here p rank es (e ∷ so_far) fed_then faults
 
       -- for good
-      told-final : is_final_at stage answer.verdict ≡ true
-          → Told offer negotiated (e ∷ (if is_closed (e ∷ so_far) (left_of left) then [] else more)) so_far fed faults
+      exchanged-final : is_final_at stage answer.verdict ≡ true
+          → HasExchanged offer negotiated (e ∷ (if is_closed (e ∷ so_far) (left_of left) then [] else more)) so_far fed faults
           (goes left (then_in (phase_after_verdict stage answer.verdict (phase_after phase stage)) (rank_after_verdict stage answer.verdict (rank_of stage)) answer.edits))
-      told-final final =
-          subst (λ (c : Bool). Told offer negotiated (e ∷ (if c then [] else more)) so_far fed faults (goes left (then_in (phase_after_verdict stage answer.verdict (phase_after phase stage)) rank answer.edits)))
+      exchanged-final final =
+          subst (λ (c : Bool). HasExchanged offer negotiated (e ∷ (if c then [] else more)) so_far fed faults (goes left (then_in (phase_after_verdict stage answer.verdict (phase_after phase stage)) rank answer.edits)))
           (sym (closed-is true (final-is (Some answer) some ∙ final)))
-          (subst (Told offer negotiated (e ∷ []) so_far fed faults) (sym (by_refused (are_all_refused (e ∷ so_far) left)))
-          (told-some offer negotiated e so_far fed faults answer some (phase_over stage) rank (ends-over e stage rank at_stage (over-rank stage answer.verdict final))))
+          (subst (HasExchanged offer negotiated (e ∷ []) so_far fed faults) (sym (by_refused (are_all_refused (e ∷ so_far) left)))
+          (exchanged-some offer negotiated e so_far fed faults answer some (phase_over stage) rank (ends-over e stage rank at_stage (over-rank stage answer.verdict final))))
         where
           rank : ℕ
           rank = rank_after_verdict stage answer.verdict (rank_of stage)
@@ -240,13 +240,13 @@ module _ (offer : Options) (negotiated : Negotiated) (reads : ReadsBack) (b : Be
               ∙ final-goes stage left phase last rank answer.edits (e ∷ so_far) fed_then faults going in_order ordered is.at_end
 
       -- and the dialogue goes on
-      told-open : is_final_at stage answer.verdict ≡ false
-          → Told offer negotiated (e ∷ (if is_closed (e ∷ so_far) (left_of left) then [] else more)) so_far fed faults
+      exchanged-open : is_final_at stage answer.verdict ≡ false
+          → HasExchanged offer negotiated (e ∷ (if is_closed (e ∷ so_far) (left_of left) then [] else more)) so_far fed faults
           (goes left (then_in (phase_after_verdict stage answer.verdict (phase_after phase stage)) (rank_after_verdict stage answer.verdict (rank_of stage)) answer.edits))
-      told-open final =
-          subst (λ (c : Bool). Told offer negotiated (e ∷ (if c then [] else more)) so_far fed faults (goes left (then_in (phase_after_verdict stage answer.verdict (phase_after phase stage)) (rank_after_verdict stage answer.verdict (rank_of stage)) answer.edits)))
+      exchanged-open final =
+          subst (λ (c : Bool). HasExchanged offer negotiated (e ∷ (if c then [] else more)) so_far fed faults (goes left (then_in (phase_after_verdict stage answer.verdict (phase_after phase stage)) (rank_after_verdict stage answer.verdict (rank_of stage)) answer.edits)))
           (sym (closed-is false (final-is (Some answer) some ∙ final)))
-          (subst (λ (t : Conversation). Told offer negotiated (e ∷ (if are_all_refused (e ∷ so_far) left then [] else more)) so_far fed faults (if are_all_refused (e ∷ so_far) left then t else with_calls b negotiated macros left t))
+          (subst (λ (t : Conversation). HasExchanged offer negotiated (e ∷ (if are_all_refused (e ∷ so_far) left then [] else more)) so_far fed faults (if are_all_refused (e ∷ so_far) left then t else with_calls b negotiated macros left t))
           (sym on-is)
           (by_skip (is_skip answer.verdict) refl (are_all_refused (e ∷ so_far) left)))
         where
@@ -262,46 +262,46 @@ module _ (offer : Options) (negotiated : Negotiated) (reads : ReadsBack) (b : Be
               ∙ ap (λ (n : ℕ). then_in (if is_skip answer.verdict then Skipping else phase_after phase stage) n answer.edits) (same-rank stage answer.verdict (rank_of stage) final)
 
           by_skip : (skip : Bool) → is_skip answer.verdict ≡ skip → (refused : Bool)
-              → Told offer negotiated (e ∷ (if refused then [] else more)) so_far fed faults (if refused then t skip else with_calls b negotiated macros left (t skip))
-          by_skip true skips true = told-some offer negotiated e so_far fed faults answer some Skipping (rank_of stage)
+              → HasExchanged offer negotiated (e ∷ (if refused then [] else more)) so_far fed faults (if refused then t skip else with_calls b negotiated macros left (t skip))
+          by_skip true skips true = exchanged-some offer negotiated e so_far fed faults answer some Skipping (rank_of stage)
               (record { rank = λ is. absurd cc; no_loss = λ is. absurd cc; by_client = λ is. absurd cc })
           by_skip false skips true =
-              told-some offer negotiated e so_far fed faults answer some (phase_after phase stage) (rank_of stage) (ends-going e (phase_after phase stage) (rank_of stage) to.going to.rank)
+              exchanged-some offer negotiated e so_far fed faults answer some (phase_after phase stage) (rank_of stage) (ends-going e (phase_after phase stage) (rank_of stage) to.going to.rank)
           by_skip true skips false =
               goes-some offer negotiated e so_far fed faults answer some no_edits more (with_calls b negotiated macros left (t true))
-              (subst (λ (es : List Edit). Told offer negotiated more (e ∷ so_far) fed_then faults (with_calls b negotiated macros left (then_in Skipping (rank_of stage) es))) (sym no_edits)
+              (subst (λ (es : List Edit). HasExchanged offer negotiated more (e ∷ so_far) fed_then faults (with_calls b negotiated macros left (then_in Skipping (rank_of stage) es))) (sym no_edits)
               (further Skipping (rank_of stage) [] (e ∷ so_far) fed_then faults
               (start-skipping (ap (has_verdict is_skip) some ∙ skips) (skip-body negotiated stage answer.verdict is.given skips))))
           by_skip false skips false =
               goes-some offer negotiated e so_far fed faults answer some no_edits more (with_calls b negotiated macros left (t false))
-              (subst (λ (es : List Edit). Told offer negotiated more (e ∷ so_far) fed_then faults (with_calls b negotiated macros left (then_in (phase_after phase stage) (rank_of stage) es))) (sym no_edits)
+              (subst (λ (es : List Edit). HasExchanged offer negotiated more (e ∷ so_far) fed_then faults (with_calls b negotiated macros left (then_in (phase_after phase stage) (rank_of stage) es))) (sym no_edits)
               (further (phase_after phase stage) (rank_of stage) [] (e ∷ so_far) fed_then faults (start-next (ap (has_verdict is_skip) some ∙ skips))))
 
-      pub told-some-answer : (final : Bool) → is_final_at stage answer.verdict ≡ final
-          → Told offer negotiated (e ∷ (if is_closed (e ∷ so_far) (left_of left) then [] else more)) so_far fed faults
+      pub exchanged-some-answer : (final : Bool) → is_final_at stage answer.verdict ≡ final
+          → HasExchanged offer negotiated (e ∷ (if is_closed (e ∷ so_far) (left_of left) then [] else more)) so_far fed faults
           (goes left (then_in (phase_after_verdict stage answer.verdict (phase_after phase stage)) (rank_after_verdict stage answer.verdict (rank_of stage)) answer.edits))
-      told-some-answer true final = told-final final
-      told-some-answer false final = told-open final
+      exchanged-some-answer true final = exchanged-final final
+      exchanged-some-answer false final = exchanged-open final
 
     -- the command was sent, and its answer came
-    pub told-exchange : Told offer negotiated (e ∷ (if is_closed (e ∷ so_far) (left_of left) then [] else more)) so_far fed faults
+    pub exchanged-one : HasExchanged offer negotiated (e ∷ (if is_closed (e ∷ so_far) (left_of left) then [] else more)) so_far fed faults
         (goes left (answered stage e.answer (here (phase_after phase stage) (rank_of stage) [] (e ∷ so_far) fed faults)))
-    told-exchange = by_asked (is_answered negotiated stage) (one_call.answer-at offer negotiated reads b lawful command stage so_far at_stage)
+    exchanged-one = by_asked (is_answered negotiated stage) (one_call.answer-at offer negotiated reads b lawful command stage so_far at_stage)
       where
         seen : Seen
         seen = one_call.shown offer negotiated reads b lawful so_far command
 
         goes_to : Option Answer → Type 0
         goes_to answer =
-            Told offer negotiated (e ∷ (if is_closed (e ∷ so_far) (left_of left) then [] else more)) so_far fed faults
+            HasExchanged offer negotiated (e ∷ (if is_closed (e ∷ so_far) (left_of left) then [] else more)) so_far fed faults
             (goes left (answered stage answer (here (phase_after phase stage) (rank_of stage) [] (e ∷ so_far) fed faults)))
 
         by_asked : (asked : Bool) → e.answer ≡ answer_to b negotiated (Some stage) asked seen → goes_to e.answer
-        by_asked false is = subst goes_to (sym is) (told-unanswered is)
+        by_asked false is = subst goes_to (sym is) (exchanged-unanswered is)
         by_asked true is =
             let answer : Answer = permitted negotiated (b.decide stage seen) in
             subst goes_to (sym is)
-            (told-some-answer answer is (one_call.decided offer negotiated reads b lawful stage seen) (is_final_at stage answer.verdict) refl)
+            (exchanged-some-answer answer is (one_call.decided offer negotiated reads b lawful stage seen) (is_final_at stage answer.verdict) refl)
 
   -- ---- what is sent before a command
 
@@ -322,8 +322,8 @@ module _ (offer : Options) (negotiated : Negotiated) (reads : ReadsBack) (b : Be
 
   lift-macros : (code : Option ℕ) (pairs : List Pair) (before : List Exchange) (command : Command) (rest : List Command) (fed : List Fed) (faults : List CallFault) (t : Conversation)
       → (let so_far = onto (exchanges_about b negotiated before (macro_step code pairs)) before in
-      Told offer negotiated (dialogue_with b negotiated so_far (command ∷ rest)) so_far fed faults t)
-      → Told offer negotiated (dialogue_with b negotiated before ((macro_step code pairs ++ command ∷ []) ++ rest)) before fed faults t
+      HasExchanged offer negotiated (dialogue_with b negotiated so_far (command ∷ rest)) so_far fed faults t)
+      → HasExchanged offer negotiated (dialogue_with b negotiated before ((macro_step code pairs ++ command ∷ []) ++ rest)) before fed faults t
   unfolding dialogue_with
   lift-macros None pairs before command rest fed faults t is = is
   lift-macros (Some code) [] before command rest fed faults t is = is
@@ -387,11 +387,11 @@ module _ (offer : Options) (negotiated : Negotiated) (reads : ReadsBack) (b : Be
         ∙ ap (λ (k : Bool). (if k then macro_step (macro_command_of stage) macros_then ++ command ∷ [] else []) ++ left_of left) is
 
     -- nothing is sent of it
-    told-unsent : leaves_out (Some negotiated) phase stage ≡ true → dialogue_with b negotiated before (left_of (command ∷ left)) ≡ dialogue_with b negotiated before (left_of left)
-        → Told offer negotiated (dialogue_with b negotiated before (left_of (command ∷ left))) before fed faults (with_calls b negotiated macros (command ∷ left) t)
-    told-unsent left_out same =
-        subst (λ (more : List Exchange). Told offer negotiated more before fed faults (with_calls b negotiated macros (command ∷ left) t)) (sym same)
-        (subst (Told offer negotiated (dialogue_with b negotiated before (left_of left)) before fed faults) (sym calls-are)
+    exchanged-unsent : leaves_out (Some negotiated) phase stage ≡ true → dialogue_with b negotiated before (left_of (command ∷ left)) ≡ dialogue_with b negotiated before (left_of left)
+        → HasExchanged offer negotiated (dialogue_with b negotiated before (left_of (command ∷ left))) before fed faults (with_calls b negotiated macros (command ∷ left) t)
+    exchanged-unsent left_out same =
+        subst (λ (more : List Exchange). HasExchanged offer negotiated more before fed faults (with_calls b negotiated macros (command ∷ left) t)) (sym same)
+        (subst (HasExchanged offer negotiated (dialogue_with b negotiated before (left_of left)) before fed faults) (sym calls-are)
         (further (phase_after phase stage) (rank_of stage) [] before fed faults (record {
           going = to.going;
           ordered = subst (λ (p : Phase). Ordered p (rank_of stage) left) (sym to.base_is) start.ordered.3;
@@ -427,37 +427,37 @@ module _ (offer : Options) (negotiated : Negotiated) (reads : ReadsBack) (b : Be
         (here (phase_after phase stage) (rank_after phase last stage) [] (next (with_macros before stage ps) command ∷ with_macros before stage ps) fed faults))) asked-is
         ∙ ap (λ (n : ℕ). goes left (answered stage (next so_far command).answer (here (phase_after phase stage) n [] (next so_far command ∷ so_far) fed faults))) to.rank_is
 
-    told-sent : is_over phase stage ≡ false → is_sent negotiated stage ≡ true → leaves_out (Some negotiated) phase stage ≡ false
-        → Told offer negotiated (dialogue_with b negotiated before (left_of (command ∷ left))) before fed faults (with_calls b negotiated macros (command ∷ left) t)
-    told-sent over sent left_out =
+    exchanged-sent : is_over phase stage ≡ false → is_sent negotiated stage ≡ true → leaves_out (Some negotiated) phase stage ≡ false
+        → HasExchanged offer negotiated (dialogue_with b negotiated before (left_of (command ∷ left))) before fed faults (with_calls b negotiated macros (command ∷ left) t)
+    exchanged-sent over sent left_out =
         let skipping : list_any is_skipping so_far ≡ skips phase = same-skipping (macro_command_of stage) macros_then before ∙ start.skipping in
-        subst (λ (l : List Command). Told offer negotiated (dialogue_with b negotiated before l) before fed faults (with_calls b negotiated macros (command ∷ left) t)) (sym (plan-is true sent))
+        subst (λ (l : List Command). HasExchanged offer negotiated (dialogue_with b negotiated before l) before fed faults (with_calls b negotiated macros (command ∷ left) t)) (sym (plan-is true sent))
         (lift-macros (macro_command_of stage) macros_then before command (left_of left) fed faults (with_calls b negotiated macros (command ∷ left) t)
-        (subst (λ (more : List Exchange). Told offer negotiated more so_far fed faults (with_calls b negotiated macros (command ∷ left) t))
+        (subst (λ (more : List Exchange). HasExchanged offer negotiated more so_far fed faults (with_calls b negotiated macros (command ∷ left) t))
         (sym (dialogue-next so_far command (left_of left) (out-is so_far skipping ∙ over)))
-        (subst (Told offer negotiated (next so_far command ∷ (if is_closed (next so_far command ∷ so_far) (left_of left) then [] else dialogue_with b negotiated (next so_far command ∷ so_far) (left_of left))) so_far fed faults)
+        (subst (HasExchanged offer negotiated (next so_far command ∷ (if is_closed (next so_far command ∷ so_far) (left_of left) then [] else dialogue_with b negotiated (next so_far command ∷ so_far) (left_of left))) so_far fed faults)
         (sym (sent-goes left_out))
-        (told-exchange command stage left phase last so_far fed faults at_stage start.going in_order to start.ordered.3 skipping sent further))))
+        (exchanged-one command stage left phase last so_far fed faults at_stage start.going in_order to start.ordered.3 skipping sent further))))
 
-    told-call : (over : Bool) → is_over phase stage ≡ over → (sent : Bool) → is_sent negotiated stage ≡ sent
-        → Told offer negotiated (dialogue_with b negotiated before (left_of (command ∷ left))) before fed faults (with_calls b negotiated macros (command ∷ left) t)
-    told-call true over true sent =
-        told-unsent (ap (λ (o : Bool). if o then true else not (is_sent negotiated stage)) over)
+    exchanged-call : (over : Bool) → is_over phase stage ≡ over → (sent : Bool) → is_sent negotiated stage ≡ sent
+        → HasExchanged offer negotiated (dialogue_with b negotiated before (left_of (command ∷ left))) before fed faults (with_calls b negotiated macros (command ∷ left) t)
+    exchanged-call true over true sent =
+        exchanged-unsent (ap (λ (o : Bool). if o then true else not (is_sent negotiated stage)) over)
         (ap (dialogue_with b negotiated before) (plan-is true sent)
         ∙ ap (λ (code : Option ℕ). dialogue_with b negotiated before ((macro_step code macros_then ++ command ∷ []) ++ left_of left)) (no-macros stage (skips phase) (over-is phase stage start.going ∙ over))
         ∙ dialogue-out before command (left_of left) (out-is before start.skipping ∙ over))
-    told-call true over false sent =
-        told-unsent (ap (λ (o : Bool). if o then true else not (is_sent negotiated stage)) over) (ap (dialogue_with b negotiated before) (plan-is false sent))
-    told-call false over false sent =
-        told-unsent (ap (λ (o : Bool). if o then true else not (is_sent negotiated stage)) over ∙ ap not sent) (ap (dialogue_with b negotiated before) (plan-is false sent))
-    told-call false over true sent =
-        told-sent over sent (ap (λ (o : Bool). if o then true else not (is_sent negotiated stage)) over ∙ ap not sent)
+    exchanged-call true over false sent =
+        exchanged-unsent (ap (λ (o : Bool). if o then true else not (is_sent negotiated stage)) over) (ap (dialogue_with b negotiated before) (plan-is false sent))
+    exchanged-call false over false sent =
+        exchanged-unsent (ap (λ (o : Bool). if o then true else not (is_sent negotiated stage)) over ∙ ap not sent) (ap (dialogue_with b negotiated before) (plan-is false sent))
+    exchanged-call false over true sent =
+        exchanged-sent over sent (ap (λ (o : Bool). if o then true else not (is_sent negotiated stage)) over ∙ ap not sent)
 
   -- ---- all calls
 
-  told-nothing : Tells []
+  exchanged-nothing : Tells []
   unfolding with_calls dialogue_with
-  told-nothing phase last es before fed faults start =
+  exchanged-nothing phase last es before fed faults start =
       record {
         transcript_is = refl;
         fed_is = sym (append-nil fed);
@@ -468,7 +468,7 @@ module _ (offer : Options) (negotiated : Negotiated) (reads : ReadsBack) (b : Be
         by_client = λ is. absurd (true≢false (sym start.going ∙ ap is_going is));
       }
 
-  pub told : (left : List Command) → Tells left
-  told [] = told-nothing
-  told (command ∷ left) = λ phase last es before fed faults start.
-      told-call command left (told left) phase last es before fed faults start (is_over phase start.ordered.0) refl (is_sent negotiated start.ordered.0) refl
+  pub exchanged : (left : List Command) → Tells left
+  exchanged [] = exchanged-nothing
+  exchanged (command ∷ left) = λ phase last es before fed faults start.
+      exchanged-call command left (exchanged left) phase last es before fed faults start (is_over phase start.ordered.0) refl (is_sent negotiated start.ordered.0) refl

@@ -49,9 +49,9 @@ use Rattle.milter_mta_connection_laws.specs.Calls.{IsGiven, IsQuiet, IsReady, cl
 use Rattle.milter_mta_connection_laws.specs.Conversations.{Conversation, fed_of, opened, with_bytes, with_call}
 use Rattle.milter_mta_connection_laws.proofs.Answers.{ReadsBack, idle, reply-received}
 use Rattle.milter_mta_connection_laws.proofs.CallOrder.{message-order, session-order}
-use Rattle.milter_mta_connection_laws.proofs.CalledDialogues.{Start, told}
+use Rattle.milter_mta_connection_laws.proofs.CalledDialogues.{Start, exchanged}
 use Rattle.milter_mta_connection_laws.proofs.CalledStages.{steps, steps_for}
-use Rattle.milter_mta_connection_laws.proofs.GivenExchanges.{Told, about-client}
+use Rattle.milter_mta_connection_laws.proofs.GivenExchanges.{HasExchanged, about-client}
 use Rattle.milter_mta_connection_laws.proofs.OneCall.{at, left-out-call, reply-some, sent-call, with-some}
 
 -- ---- plans
@@ -181,7 +181,7 @@ pub record IsGivenQuietly (negotiated : Negotiated) (exchanges : List Exchange) 
   pub by_client : after.connection.phase ≡ ClientOver → list_any about-client exchanges ≡ true
 
 given-by : (offer : Options) (negotiated : Negotiated) (exchanges : List Exchange) (before after : Conversation)
-    → Told offer negotiated exchanges before.transcript before.fed before.faults after → IsGivenQuietly negotiated exchanges before after
+    → HasExchanged offer negotiated exchanges before.transcript before.fed before.faults after → IsGivenQuietly negotiated exchanges before after
 given-by offer negotiated exchanges before after is =
     record {
       given = record {
@@ -231,10 +231,10 @@ module _ (reads : ReadsBack) (b : Behavior) (lawful : IsLawful b) (negotiated : 
         no_edits = λ none. absurd cc;
       } in
       given-by offer negotiated (dialogue_about b negotiated macros message t.transcript) t (with_message b negotiated macros message t)
-      (subst (λ (before : Conversation). Told offer negotiated (dialogue_about b negotiated macros message t.transcript) t.transcript t.fed t.faults (with_message b negotiated macros message before)) (sym (ready-is negotiated t ready))
-      (subst (λ (plan : List Command). Told offer negotiated (dialogue_with b negotiated t.transcript plan) t.transcript t.fed t.faults
+      (subst (λ (before : Conversation). HasExchanged offer negotiated (dialogue_about b negotiated macros message t.transcript) t.transcript t.fed t.faults (with_message b negotiated macros message before)) (sym (ready-is negotiated t ready))
+      (subst (λ (plan : List Command). HasExchanged offer negotiated (dialogue_with b negotiated t.transcript plan) t.transcript t.fed t.faults
       (with_message b negotiated macros message (at offer negotiated NoMessage last es t.transcript t.fed t.faults))) (sym (message-plan negotiated (chosen_macros negotiated.lists macros) message))
-      (told offer negotiated reads b lawful macros calls NoMessage last es t.transcript t.fed t.faults start)))
+      (exchanged offer negotiated reads b lawful macros calls NoMessage last es t.transcript t.fed t.faults start)))
 
   -- ---- the start of a connection
 
@@ -278,6 +278,6 @@ module _ (reads : ReadsBack) (b : Behavior) (lawful : IsLawful b) (negotiated : 
       let all : List Exchange = dialogue_with b negotiated [] (plan negotiated session message) in
       subst (λ (t : Conversation). IsGivenQuietly negotiated all t (with_session b negotiated session message t)) (sym (opened-is offer fits received))
       (given-by offer negotiated all begun (with_session b negotiated session message begun)
-      (subst (λ (steps : List Command). Told offer negotiated (dialogue_with b negotiated [] steps) [] start_fed [] (with_session b negotiated session message begun))
+      (subst (λ (steps : List Command). HasExchanged offer negotiated (dialogue_with b negotiated [] steps) [] start_fed [] (with_session b negotiated session message begun))
       (sym (session-plan negotiated session message))
-      (told offer negotiated reads b lawful session.macros calls NoMessage 0 [] [] start_fed [] start)))
+      (exchanged offer negotiated reads b lawful session.macros calls NoMessage 0 [] [] start_fed [] start)))

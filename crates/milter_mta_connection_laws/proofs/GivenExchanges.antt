@@ -69,7 +69,7 @@ ends-over e stage last at_stage rank =
 module _ (offer : Options) (negotiated : Negotiated) where
   -- these exchanges were given, without a loss; where no message is under way a next one may begin, and where the client
   -- ended all, the filter was asked about it
-  pub record Told (more before : List Exchange) (fed : List Fed) (faults : List CallFault) (t : Conversation) : Type 0 where
+  pub record HasExchanged (more before : List Exchange) (fed : List Fed) (faults : List CallFault) (t : Conversation) : Type 0 where
     pub transcript_is : t.transcript ≡ onto more before
     pub fed_is : t.fed ≡ fed ++ map fed_by_answer (answers_in more)
     pub channel_is : t.connection.channel ≡ idle offer negotiated (edits_in more)
@@ -82,10 +82,10 @@ module _ (offer : Options) (negotiated : Negotiated) where
     abbrev with_answer : Option Answer → Exchange
     with_answer answer = record { command = e.command; answer = answer }
 
-    pub told-none : e.answer ≡ None → (phase : Phase) (last : ℕ) → EndsIn e phase last
-        → Told (e ∷ []) before fed faults (at offer negotiated phase last [] (e ∷ before) fed faults)
-    told-none none phase last ends =
-        subst (λ (a : Option Answer). Told (with_answer a ∷ []) before fed faults (at offer negotiated phase last [] (with_answer a ∷ before) fed faults)) (sym none)
+    pub exchanged-none : e.answer ≡ None → (phase : Phase) (last : ℕ) → EndsIn e phase last
+        → HasExchanged (e ∷ []) before fed faults (at offer negotiated phase last [] (e ∷ before) fed faults)
+    exchanged-none none phase last ends =
+        subst (λ (a : Option Answer). HasExchanged (with_answer a ∷ []) before fed faults (at offer negotiated phase last [] (with_answer a ∷ before) fed faults)) (sym none)
         (record {
           transcript_is = refl;
           fed_is = sym (append-nil fed);
@@ -96,10 +96,10 @@ module _ (offer : Options) (negotiated : Negotiated) where
           by_client = λ is. ap (λ (k : Bool). k || false) (ends.by_client is);
         })
 
-    pub told-some : (answer : Answer) → e.answer ≡ Some answer → (phase : Phase) (last : ℕ) → EndsIn e phase last
-        → Told (e ∷ []) before fed faults (at offer negotiated phase last answer.edits (e ∷ before) (fed ++ fed_by_answer answer ∷ []) faults)
-    told-some answer some phase last ends =
-        subst (λ (a : Option Answer). Told (with_answer a ∷ []) before fed faults (at offer negotiated phase last answer.edits (with_answer a ∷ before) (fed ++ fed_by_answer answer ∷ []) faults)) (sym some)
+    pub exchanged-some : (answer : Answer) → e.answer ≡ Some answer → (phase : Phase) (last : ℕ) → EndsIn e phase last
+        → HasExchanged (e ∷ []) before fed faults (at offer negotiated phase last answer.edits (e ∷ before) (fed ++ fed_by_answer answer ∷ []) faults)
+    exchanged-some answer some phase last ends =
+        subst (λ (a : Option Answer). HasExchanged (with_answer a ∷ []) before fed faults (at offer negotiated phase last answer.edits (with_answer a ∷ before) (fed ++ fed_by_answer answer ∷ []) faults)) (sym some)
         (record {
           transcript_is = refl;
           fed_is = refl;
@@ -110,7 +110,7 @@ module _ (offer : Options) (negotiated : Negotiated) where
           by_client = λ is. ap (λ (k : Bool). k || false) (ends.by_client is);
         })
 
-    pub goes-none : e.answer ≡ None → (more : List Exchange) (t : Conversation) → Told more (e ∷ before) fed faults t → Told (e ∷ more) before fed faults t
+    pub goes-none : e.answer ≡ None → (more : List Exchange) (t : Conversation) → HasExchanged more (e ∷ before) fed faults t → HasExchanged (e ∷ more) before fed faults t
     goes-none none more t is =
         let same : answers_in (e ∷ more) ≡ answers_in more = ap (λ (a : Option Answer). answers_in (with_answer a ∷ more)) none in
         record {
@@ -124,7 +124,7 @@ module _ (offer : Options) (negotiated : Negotiated) where
         }
 
     pub goes-some : (answer : Answer) → e.answer ≡ Some answer → answer.edits ≡ [] → (more : List Exchange) (t : Conversation)
-        → Told more (e ∷ before) (fed ++ fed_by_answer answer ∷ []) faults t → Told (e ∷ more) before fed faults t
+        → HasExchanged more (e ∷ before) (fed ++ fed_by_answer answer ∷ []) faults t → HasExchanged (e ∷ more) before fed faults t
     goes-some answer some no_edits more t is =
         let same : answers_in (e ∷ more) ≡ answer ∷ answers_in more = ap (λ (a : Option Answer). answers_in (with_answer a ∷ more)) some in
         record {
