@@ -12,7 +12,7 @@ const PIECES: [&[u8]; 2] = [b"\0\0\0\x13M<ada@exam", b"ple.org>\0"];
 
 /// The sender in these pieces of a stream, where one came.
 fn sender_in(alloc: Global, pieces: &[&[u8]]) -> anyhow::Result<Option<Path>> {
-    let mut splitter = Splitter::new(alloc)?;
+    let mut splitter = Splitter::new(alloc);
     let mut sender = None;
     for piece in pieces {
         if let Some(found) = sender_of(alloc, &mut splitter, piece)? {

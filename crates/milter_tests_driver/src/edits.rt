@@ -32,7 +32,7 @@ fn edit_of(alloc: Global, packet: Packet<'_>) -> anyhow::Result<Edit>
 fn edits_in(alloc: Global, stream: &[u8]) -> anyhow::Result<Vec<Edit>>
     ensures { IfOk result (λ edits. All (λ edit. Fits (reply_of edit)) edits.items) }
 {
-    let mut splitter = Splitter::new(alloc)?;
+    let mut splitter = Splitter::new(alloc);
     let mut edits = Vec::new(alloc);
     let mut rest = stream;
     while !rest.is_empty() {

@@ -99,7 +99,7 @@ fn read_again<W: Work>(
     stream: &[u8],
     count: u64,
 ) -> anyhow::Result<u64> {
-    let mut splitter = Splitter::new(alloc)?;
+    let mut splitter = Splitter::new(alloc);
     let mut total: u64 = 0;
     for _ in 0..count {
         let read = read_stream(work, &mut splitter, stream)?;

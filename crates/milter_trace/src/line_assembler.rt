@@ -1,6 +1,6 @@
 //! The lines of a trace, from its bytes in any pieces.
 
-ghost use Rattle.std.specs.Prelude.{◌≡◌, ◌≤◌, ◌<◌, ◌+◌, ◌++◌, ◌^◌, ◌⊎◌, List, ℕ, [], true, Err, IfOk, OnOk, OnErr, length};
+ghost use Rattle.std.specs.Prelude.{◌≡◌, ◌≤◌, ◌<◌, ◌+◌, ◌++◌, ◌^◌, ◌⊎◌, List, ℕ, [], true, Err, OnOk, OnErr, length};
 ghost use Rattle.milter_text.specs.Lines.{lines_of};
 ghost use Rattle.milter_trace.specs.PrinterState.{HasUnfinishedStreams, printer_state};
 ghost use Rattle.milter_trace.specs.ParsedLine.{parsed_line};
@@ -9,7 +9,6 @@ ghost use Rattle.milter_trace.specs.TraceState.{ContinuesTrace, AppendsTrace, ne
 use crate::fault::TraceFault;
 use crate::trace_line::{LINE_MAX, line_end};
 use crate::trace_printer::TracePrinter;
-use milter_wire::NoMemory;
 use std::alloc::Global;
 
 /// Assembles the lines of a trace from pieces of its input: the line that has begun, and the printer of whole lines.
@@ -23,13 +22,13 @@ impl LineAssembler {
     ghost use Rattle.milter_trace.specs.AssemblerState.{IsInitial, IsBetweenPieces};
 
     /// Before the first byte.
-    pub(crate) fn new(alloc: Global) -> Result<LineAssembler, NoMemory>
-        ensures { IfOk result IsInitial }
+    pub(crate) fn new(alloc: Global) -> LineAssembler
+        ensures { IsInitial result }
     {
-        Ok(LineAssembler {
+        LineAssembler {
             begun: Vec::new(alloc),
-            printer: TracePrinter::new(alloc)?,
-        })
+            printer: TracePrinter::new(alloc),
+        }
     }
 
     /// Prints the lines that end in this piece. After a fault the text before it was appended.

@@ -53,7 +53,7 @@ pub fn trace_run<R: Read, W: Write>(
     ensures long_input { IsErrOf result TraceFault.TurnLimit → HasBytes read_max (R.remaining reader.old) }
 {
     let mut room = read_buffer(alloc)?;
-    let mut assembler = LineAssembler::new(alloc)?;
+    let mut assembler = LineAssembler::new(alloc);
     run(&mut assembler, &mut room, reader, writer)
 }
 

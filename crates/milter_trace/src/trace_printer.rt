@@ -1,6 +1,6 @@
 //! The text of a trace, line by line.
 
-ghost use Rattle.std.specs.Prelude.{◌≡◌, ◌<◌, ◌+◌, ◌++◌, ◌^◌, [], Ok, OnOk, length, IfOk};
+ghost use Rattle.std.specs.Prelude.{◌≡◌, ◌<◌, ◌+◌, ◌++◌, ◌^◌, [], Ok, OnOk, length};
 ghost use Rattle.milter_wire_stream.specs.Stream.{IsUnfinished, divide};
 ghost use Rattle.milter_trace.specs.ParsedLine.{parsed_line};
 ghost use Rattle.milter_trace.specs.Trace.{end_trace};
@@ -14,7 +14,7 @@ use crate::fault::TraceFault;
 use crate::packet_stream::print_packets;
 use crate::trace_line::{UndecodedLine, parse_line};
 use hex::FromHexError;
-use milter_wire::{NoMemory, Splitter};
+use milter_wire::Splitter;
 use std::alloc::Global;
 
 /// A trace between two lines: how many there were, the packets that aren't whole, and the text that isn't written yet.
@@ -31,16 +31,18 @@ impl TracePrinter {
     ghost use Rattle.milter_trace.specs.PrinterState.{HasUnfinishedStreams, printer_state};
 
     /// Before the first line.
-    pub(crate) fn new(alloc: Global) -> Result<TracePrinter, NoMemory>
-        ensures { IfOk result (λ p. HasUnfinishedStreams p × (printer_state p ≡ initial_state) × (p.text.items ≡ [])) }
+    pub(crate) fn new(alloc: Global) -> TracePrinter
+        ensures unfinished { HasUnfinishedStreams result }
+        ensures state { printer_state result ≡ initial_state }
+        ensures text { result.text.items ≡ [] }
     {
-        Ok(TracePrinter {
+        TracePrinter {
             alloc,
             lines: 0,
-            to_filter: Splitter::new(alloc)?,
-            to_mta: Splitter::new(alloc)?,
+            to_filter: Splitter::new(alloc),
+            to_mta: Splitter::new(alloc),
             text: Vec::new(alloc),
-        })
+        }
     }
 
     /// Appends what the next line prints. It has these bytes before its LF, or before the end of the input.

@@ -1,5 +1,5 @@
 -- What a splitter has in its buffer, and what it hands out.
-use Rattle.std.specs.Prelude.{◌≡◌, ℕ, ◌≤◌, List, [], length, take, Option, Some, None, Result, Ok, Err}
+use Rattle.std.specs.Prelude.{◌≡◌, ℕ, ◌≤◌, ◌<◌, List, [], length, take, Option, Some, None, Result, Ok, Err}
 use Rattle.milter_wire_stream.specs.declared.fault.WireFault.{WireFault}
 use Rattle.milter_wire_stream.specs.declared.number.TheConstants.{PACKET_MAX}
 use Rattle.milter_wire_stream.specs.declared.splitter.Packet.{Packet}
@@ -15,6 +15,13 @@ pub record IsBuffer (len : ℕ) (buffer : List ℕ) : Type 0 where
   pub room : length buffer ≡ PACKET_MAX
   pub within : len ≤ PACKET_MAX
   pub one_packet : IsAtMostOnePacket (take len buffer)
+
+-- A buffer with room for one packet begins with the unread bytes. While no byte is unread it may have no room.
+pub record HasRoom (len : ℕ) (buffer : List ℕ) : Type 0 where
+  pub within : len ≤ length buffer
+  pub most : len ≤ PACKET_MAX
+  pub one_packet : IsAtMostOnePacket (take len buffer)
+  pub room : 0 < len → length buffer ≡ PACKET_MAX
 
 -- a packet that is handed out isn't unread any more, and else all stays unread
 abbrev pub LeavesUnread : List ℕ → List ℕ → Result (Option Packet) WireFault → Type 0

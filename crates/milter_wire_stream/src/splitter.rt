@@ -1,7 +1,7 @@
 //! A stream of packets, in any pieces.
 
 ghost use Rattle.std.specs.Prelude.{◌≡◌, ◌≢◌, ◌<◌, ◌≤◌, ◌-◌, ◌+◌, ◌++◌, ◌↔◌, [], Ok, Err, None, Some, length, min, take, IsSome, IfOk, IfSome, OnOk, OnErr, IsErrOf};
-ghost use Rattle.milter_wire_stream.specs.declared.number.TheConstants.{HEAD_LEN};
+ghost use Rattle.milter_wire_stream.specs.declared.number.TheConstants.{HEAD_LEN, PACKET_MAX};
 ghost use Rattle.milter_wire_stream.specs.Stream.{Frame, IsFrame, IsRest, IsUnfinished, frame_bytes, length_fault};
 ghost use Rattle.milter_wire_stream.specs.FirstPacket.{IsAtMostOnePacket, end_result, fed_len, first_packet_end};
 ghost use Rattle.std.specs.Borrow.{sem};
@@ -44,67 +44,91 @@ impl<'a> Packet<'a> {
 }
 
 /// Takes a stream in pieces of any size and hands out its packets, one at a time. It keeps at most one packet: 65,540
-/// bytes. To take a whole piece, call `feed` with what is left of it and then `next`, until nothing is left.
+/// bytes, whose memory `feed` takes and `release` frees. To take a whole piece, call `feed` with what is left of it and
+/// then `next`, until nothing is left.
 #[derive(Debug, Drop)]
 pub struct Splitter {
+    alloc: Global,
     buffer: Vec<u8>,
     len: usize,
 }
 
 impl Model for Splitter {
     ghost use Rattle.std.specs.Prelude.{List, ℕ, take};
-    ghost use Rattle.milter_wire_stream.specs.Splitter.{IsBuffer};
+    ghost use Rattle.milter_wire_stream.specs.Splitter.{HasRoom};
 
     // The bytes that were taken and not handed out.
     ghost Value = { List ℕ };
 
     ghost view = { λ s. take s.len s.buffer.items };
 
-    ghost invariant = { λ s. IsBuffer s.len s.buffer.items };
+    ghost invariant = { λ s. HasRoom s.len s.buffer.items };
 }
 
 impl Splitter {
     ghost use Rattle.milter_wire_stream.specs.contracts.splitter.Splitter.{the_row};
 
-    /// A stream of which nothing has come. It takes room for one packet, 65,540 bytes.
-    pub fn new(alloc: Global) -> Result<Self, NoMemory>
-        ensures { IfOk result (λ s. s ≡ []) }
+    /// A stream of which nothing has come. Doesn't allocate.
+    pub fn new(alloc: Global) -> Self
+        ensures { result ≡ [] }
     {
-        let buffer = vec![in alloc; 0; PACKET_MAX]?;
-        Ok(Splitter { buffer, len: 0 })
+        Splitter {
+            alloc,
+            buffer: Vec::new(alloc),
+            len: 0,
+        }
     }
 
     /// Takes bytes from the start of a piece of the stream, and answers how many: none where a whole packet or a fault
     /// of length is unread, else those up to the end of the first whole packet or of the length field that is at fault,
-    /// else all of them. It always answers `Ok`, and doesn't allocate.
+    /// else all of them. The first call, and the first one after `release`, allocates 65,540 bytes, the room for one
+    /// packet; no other call allocates. After `NoMemory` nothing has changed.
     pub fn feed(&mut self, piece: &[u8]) -> Result<usize, NoMemory>
-        ensures count { result ≡ Ok (fed_len self.old piece.now) }
+        ensures count { IfOk result (λ n. n ≡ fed_len self.old piece.now) }
         ensures taken { IfOk result (λ n. self.new ≡ self.old ++ take n piece.now) }
         ensures within { IfOk result (λ n. n ≤ length piece.now) }
         // Feeding makes progress: with no whole packet and no fault unread, some of a piece is taken.
         ensures progress { IsUnfinished self.old → piece.now ≢ [] → IfOk result (λ n. 0 < n) }
+        ensures err { OnErr result (self.new ≡ self.old) }
     {
         if self.unread() == 0 {
-            return Ok(self.take_first(piece));
+            return self.take_first(piece);
         }
         let first = self.take_known(piece);
         let second = self.take_known(&piece[first..]);
         Ok(first + second)
     }
 
-    /// Takes the first packet of a piece, as far as it has come, where nothing is unread, and answers how many bytes.
-    fn take_first(&mut self, piece: &[u8]) -> usize
-        requires { self.old ≡ [] }
-        ensures count { result ≡ fed_len [] piece.now }
-        ensures taken { self.new ≡ take result piece.now }
+    /// Frees the memory for a packet where no byte is unread; else it does nothing. Doesn't allocate.
+    pub fn release(&mut self)
+        ensures { self.new ≡ self.old }
     {
-        let count = fill_first(self.buffer.as_mut_slice(), piece);
-        self.len = count;
-        count
+        let Splitter { alloc, buffer, len } = self;
+        if *len == 0 {
+            *buffer = Vec::new(*alloc);
+        }
+    }
+
+    /// Takes the first packet of a piece, as far as it has come, where nothing is unread, and answers how many bytes.
+    fn take_first(&mut self, piece: &[u8]) -> Result<usize, NoMemory>
+        requires { self.old ≡ [] }
+        ensures count { IfOk result (λ n. n ≡ fed_len [] piece.now) }
+        ensures taken { IfOk result (λ n. self.new ≡ take n piece.now) }
+        ensures err { OnErr result (self.new ≡ self.old) }
+    {
+        let Splitter { alloc, buffer, len } = self;
+        *len = 0;
+        if make_room(*alloc, buffer).is_err() {
+            return Err(NoMemory);
+        }
+        let count = fill_first(buffer.as_mut_slice(), piece);
+        *len = count;
+        Ok(count)
     }
 
     /// Takes bytes of a piece, up to the end of the first packet as far as it is known before, and answers how many.
     fn take_known(&mut self, piece: &[u8]) -> usize
+        requires { 0 < length self.old }
         ensures count { result ≡ min (first_packet_end self.old - length self.old) (length piece.now) }
         ensures taken { self.new ≡ self.old ++ take result piece.now }
         ensures one_packet { IsAtMostOnePacket self.old }
@@ -161,4 +185,17 @@ impl Splitter {
         let truncated = WireFault::Truncated(self.len);
         Err(length_fault(&self.buffer[..self.len]).unwrap_or(truncated))
     }
+}
+
+/// Allocates the room for one packet, where the buffer has none.
+fn make_room(alloc: Global, buffer: &mut Vec<u8>) -> Result<(), NoMemory>
+    ensures ok { OnOk result (length buffer.new.items ≡ PACKET_MAX) }
+    ensures err { OnErr result (buffer.new ≡ buffer.old) }
+{
+    if buffer.len() == PACKET_MAX {
+        return Ok(());
+    }
+    let room = vec![in alloc; 0; PACKET_MAX]?;
+    *buffer = room;
+    Ok(())
 }

@@ -57,7 +57,7 @@ fn is_fed_by_packets(splitter: &mut Splitter) -> bool {
 
 #[test]
 fn packets_come_once_they_are_whole(rt: HostRuntime) {
-    let mut splitter = Splitter::new(rt.alloc()).expect(&rt, "there is memory");
+    let mut splitter = Splitter::new(rt.alloc());
     assert!(rt; is_fed_by_bytes(&mut splitter));
     assert!(rt; is_fed_by_packets(&mut splitter));
 }
@@ -84,7 +84,7 @@ fn is_cleared(splitter: &mut Splitter) -> bool {
 
 #[test]
 fn a_length_at_fault_stays_until_it_is_cleared(rt: HostRuntime) {
-    let mut splitter = Splitter::new(rt.alloc()).expect(&rt, "there is memory");
+    let mut splitter = Splitter::new(rt.alloc());
     assert!(rt; is_stopped(&mut splitter));
     assert!(rt; is_cleared(&mut splitter));
 }
@@ -101,7 +101,7 @@ fn takes_the_longest(splitter: &mut Splitter, payload: &[u8]) -> bool {
 
 #[test]
 fn the_longest_packet_fills_the_buffer(rt: HostRuntime) {
-    let mut splitter = Splitter::new(rt.alloc()).expect(&rt, "there is memory");
+    let mut splitter = Splitter::new(rt.alloc());
     let payload = vec![in rt.alloc(); 0x78; 65_535].expect(&rt, "there is memory");
     assert!(rt; takes_the_longest(&mut splitter, &payload));
 }
