@@ -5,6 +5,8 @@ mod ReceivedFrames
 mod DrivenBytes
 mod CoreSteps
 mod TakenEvents
+mod LeftByEvents
+mod ReceivedPieces
 mod EarlyPieces
 mod KeptRecipients
 mod Reported

@@ -1,15 +1,14 @@
 -- The next packet fits.
-use Rattle.std.proofs.Common.{◌≡◌, Bool, true, false, List, [], ◌∷◌, ◌++◌, All, Some, arith, length-append, subst}
+use Rattle.std.proofs.Common.{◌≡◌, Bool, true, false, List, [], ◌∷◌, All, Some, arith, subst}
 use Rattle.std.proofs.lemmas.List.Elements.{All-head}
 use Rattle.std.proofs.lemmas.Option.{same_Some}
-use Rattle.milter_wire_stream.specs.Number.{number}
-use Rattle.milter_wire_stream.proofs.Numbers.{length-number}
 use Rattle.milter_wire_options.specs.declared.options.Options.{Options}
 use Rattle.milter_wire_options.specs.Payload.{OptionsFit}
 use Rattle.milter_wire.specs.declared.command.Command.{Command}
 use Rattle.milter_wire.specs.declared.command.Command.TheVariants as commands
 use Rattle.milter_wire.specs.Command.{Fits}
 use Rattle.milter_message.specs.declared.edit.Edit.{Edit}
+use Rattle.milter_mta_channel.proofs.Offered as offers
 use Rattle.milter_mta_transaction.specs.declared.cursor.ClientInfo.{ClientInfo}
 use Rattle.milter_mta_transaction.specs.Transactions.{first_of, left_of}
 use Rattle.milter_mta.specs.declared.state.Position.{Position as PositionParts}
@@ -23,13 +22,7 @@ first_fits (first ∷ left) command fit e = subst Fits (same_Some first command 
 
 -- options whose numbers fit four bytes
 pub options_fit : (o : Options) → OptionsFit o → Fits (commands.Options o)
-options_fit o fit =
-    let a = length-append (number o.version) (number o.actions.0) in
-    let b = length-append (number o.version ++ number o.actions.0) (number o.protocol.0) in
-    let v = length-number o.version in
-    let x = length-number o.actions.0 in
-    let p = length-number o.protocol.0 in
-    record { fields = fit; payload = omega (arith, a, b, v, x, p) }
+options_fit o fit = offers.options_fit o fit
 
 pub next_fits : (offer : Options) (client_info : ClientInfo) (aborts : Bool) (edits : List Edit) (next : PositionParts) (command : Command) → OptionsFit offer
     → CanSend client_info next → command_at offer aborts (position_of client_info edits next) ≡ Some command → Fits command

@@ -12,6 +12,7 @@ use Rattle.milter_mta_channel.specs.Channel.{Channel, is_owed, without_edits}
 use Rattle.milter_mta_outcome.specs.declared.acted.Acted.{Acted}
 use Rattle.milter_mta_outcome.specs.declared.loss.By.TheVariants.{Connection}
 use Rattle.milter_mta_outcome.specs.declared.loss.Loss.{Loss}
+use Rattle.milter_mta_outcome.specs.declared.loss.Loss.TheVariants.{Memory}
 use Rattle.milter_mta_transaction.specs.declared.cursor.ClientInfo.{ClientInfo}
 use Rattle.milter_mta_transaction.specs.declared.transaction.Transaction.{Transaction}
 use Rattle.milter_mta_outcome.specs.declared.report.Report.{Report}
@@ -21,6 +22,7 @@ use Rattle.milter_wire.specs.declared.verdict.Verdict.{Verdict}
 use Rattle.milter_wire.specs.Verdicts.{given_at}
 use Rattle.milter_mta_outcome.specs.Outcomes.{at_connection}
 use Rattle.milter_mta_transaction.specs.PlanCursor.{outgoing_of, steps_from}
+use Rattle.milter_mta_transaction.specs.TransactionVerdicts.{with_verdict}
 use Rattle.milter_mta_transaction.specs.Transactions.{Sends, left_of, stage_first}
 use Rattle.milter_mta.specs.declared.state.Position.{Position as PositionParts}
 use Rattle.milter_mta.specs.declared.state.Position.TheVariants as parts
@@ -28,7 +30,7 @@ use Rattle.milter_mta.specs.declared.state.FilterConnection.{FilterConnection as
 use Rattle.milter_mta.specs.declared.state.SessionState.{SessionState}
 use Rattle.milter_mta.specs.Mta.{FilterConnection, Mta, Position, connection_at}
 use Rattle.milter_mta.specs.Mta.Position.{Offering, Sending, Quitting, Ended}
-use Rattle.milter_mta.specs.Dispositions.{report}
+use Rattle.milter_mta.specs.Dispositions.{default_report, report}
 use Rattle.milter_mta.specs.Driven.{opened_by, ruled_in}
 
 -- ---- its value
@@ -190,3 +192,10 @@ mta_after state connection (Err loss) = unconnected state []
 abbrev pub IsConsistentAfter : {A : Type 0} → SessionState → Connected → Result A Loss → Type 0
 IsConsistentAfter state connection (Ok value) = IsConsistent state (Some connection)
 IsConsistentAfter state connection (Err loss) = IsConsistent state None
+
+-- the message of a transaction, whose last verdict is this one on a command of this stage, is settled by default before
+-- that verdict, as memory was refused
+abbrev pub IsLostBeforeLast : Stage → Verdict → Transaction → SessionState → SessionState → Type 0
+IsLostBeforeLast stage verdict transaction old new =
+    (before : List Acted) → transaction.acted ≡ with_verdict stage verdict before →
+    new ≡ with_state_report (default_report old.config.on_loss Memory transaction.message before) old

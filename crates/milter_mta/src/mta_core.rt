@@ -46,15 +46,13 @@ impl Model for MtaCore {
 }
 
 impl MtaCore {
-    /// A core that isn't connected yet. Allocates all reports up front, with room for two verdicts each, and the memory
-    /// for one packet, 65,540 bytes. Where memory is refused the session comes back.
+    /// A core that isn't connected yet. Allocates all reports up front, with room for two verdicts each. Where memory
+    /// is refused the session comes back.
     pub fn new(alloc: Global, config: Config, session: Session) -> Result<Self, Session>
         ensures ok { IfOk result (λ core. core ≡ fresh config session) }
         ensures err { IfErr result (λ back. back ≡ session) }
     {
-        let Ok(channel) = MtaChannel::new(alloc, config.offer()) else {
-            return Err(session);
-        };
+        let channel = MtaChannel::new(alloc, config.offer());
         let SessionParts {
             client,
             helo,
@@ -168,7 +166,8 @@ impl MtaCore {
 
     /// Takes a piece of what the filter sent, all of it. An empty piece changes nothing. After a loss it is as after
     /// [`MtaCore::lost`]: what came before is acted on. Where memory is refused a reply is still owed, so no verdict in
-    /// the piece is acted on. Source: the libmilter callback documentation.
+    /// the piece is acted on. The first packet that the end of a piece cuts allocates the room for one packet, 65,540
+    /// bytes, which is kept. Source: the libmilter callback documentation.
     pub fn feed(&mut self, piece: &[u8]) -> Result<(), Loss>
         ensures { ReceivesBytes self.old piece.now self.new result }
     {

@@ -7,10 +7,10 @@ ghost use Rattle.milter_mta_outcome.specs.ReceivedReplies.{is_end};
 ghost use Rattle.milter_message.specs.EditReplies.{reply_of};
 ghost use Rattle.milter_wire.specs.declared.stage.Stage.{Stage as StageValue};
 ghost use Rattle.milter_wire.specs.Reply.{Fits};
-ghost use Rattle.milter_mta_transaction.specs.TransactionVerdicts.{on_connection, with_verdict};
+ghost use Rattle.milter_mta_transaction.specs.TransactionVerdicts.{on_connection};
 ghost use Rattle.milter_mail.specs.ChosenMacros.{chosen_macros};
 ghost use Rattle.milter_mta.specs.declared.state.Position.TheVariants as parts;
-ghost use Rattle.milter_mta.specs.CoreParts.{IsConsistent, IsConsistentAfter, begun_position, messages_at, mta_at, only, position_of, session_of, unconnected, with_all_reports, with_state_report};
+ghost use Rattle.milter_mta.specs.CoreParts.{IsConsistent, IsConsistentAfter, IsLostBeforeLast, begun_position, messages_at, mta_at, only, position_of, session_of, unconnected, with_all_reports, with_state_report};
 ghost use Rattle.milter_mta.specs.Dispositions.{after_message, default_report, report, settled, settled_all, settled_first};
 
 use crate::state::{FilterConnection, Position, SessionState};
@@ -45,10 +45,7 @@ impl SessionState {
             ≡ settled transaction.negotiated stage answer.edits answer.verdict transaction.acted
             (mta_at self.old (only (parts.Sending transaction)))) }
         ensures refused { IfErr result (λ loss. loss ≡ Loss.Memory) }
-        ensures lost { IfErr result (λ loss. (before : List ActedValue) →
-            transaction.acted ≡ with_verdict stage answer.verdict before →
-            self.new ≡ with_state_report
-            (default_report self.old.config.on_loss Loss.Memory transaction.message before) self.old) }
+        ensures lost { IfErr result (λ loss. IsLostBeforeLast stage answer.verdict transaction self.old self.new) }
         ensures consistent { IsConsistentAfter self.new filter_connection.new result }
     {
         match stage {
@@ -137,10 +134,7 @@ impl SessionState {
             ≡ settled_first transaction.negotiated stage answer.edits answer.verdict transaction.acted
             (mta_at self.old (only (parts.Sending transaction)))) }
         ensures refused { IfErr result (λ loss. loss ≡ Loss.Memory) }
-        ensures lost { IfErr result (λ loss. (before : List ActedValue) →
-            transaction.acted ≡ with_verdict stage answer.verdict before →
-            self.new ≡ with_state_report
-            (default_report self.old.config.on_loss Loss.Memory transaction.message before) self.old) }
+        ensures lost { IfErr result (λ loss. IsLostBeforeLast stage answer.verdict transaction self.old self.new) }
         ensures consistent { IsConsistentAfter self.new filter_connection.new result }
     {
         let Transaction {

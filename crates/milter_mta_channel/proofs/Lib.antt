@@ -1,3 +1,4 @@
+pub mod UnfinishedBytes
 pub mod ReceivedFrames
 pub mod FedPieces
 pub mod Offered

@@ -1,11 +1,8 @@
--- What is event of the bytes of a piece, up to the end of one packet.
-use Rattle.std.proofs.Common.{◌≡◌, ℕ, ◌+◌, true, false, List, [], ◌∷◌, ◌++◌, length, Option, None, Some, Result, Ok, Err, refl, sym, ◌∙◌, ap, subst, append_assoc, append-nil, arith, length-append, ◌<◌}
+-- What is received of the bytes of a piece, up to the end of one packet.
+use Rattle.std.proofs.Common.{◌≡◌, ℕ, true, false, List, [], ◌∷◌, ◌++◌, length, Option, None, Some, Result, Ok, Err, refl, sym, ◌∙◌, ap, subst, append_assoc, append-nil, arith, ◌<◌}
 use Rattle.std.specs.List.{fold}
 use Rattle.milter_wire_stream.specs.declared.fault.WireFault.{WireFault}
-use Rattle.milter_wire_stream.specs.Stream.{Frame, IsFrame, IsRest, IsUnfinished, fault_of, first_frame, frame_bytes, length_fault}
-use Rattle.milter_wire_stream.proofs.Frames.{fault_of-valid, first_frame-packet, first_frame-rest}
-use Rattle.milter_wire_stream.proofs.Numbers.{four_bytes}
-use Rattle.milter_wire_stream.proofs.PacketLaws.{packet_cells}
+use Rattle.milter_wire_stream.specs.Stream.{Frame, IsFrame, IsUnfinished, first_frame, frame_bytes, length_fault}
 use Rattle.milter_wire_stream.proofs.StreamLaws.{length_fault-unfinished, prefix-unfinished}
 use Rattle.milter_wire.specs.declared.negotiation.Negotiated.{Negotiated}
 use Rattle.milter_wire.specs.declared.reply.Reply.{Reply}
@@ -24,43 +21,7 @@ use Rattle.milter_mta_channel.specs.declared.filter_event.FilterEvent.{FilterEve
 use Rattle.milter_mta_outcome.specs.EditWeights.{weight_of_all}
 use Rattle.milter_mta_channel.specs.Channel.{Channel, is_owed}
 use Rattle.milter_mta_channel.specs.Received.{After, ended, fails, framed, goes_on, negotiated_on, received_as, received_byte, replied, replied_at, unread_is}
-
--- ---- bytes that begin with no packet
-
-rest_of_unfinished : (bytes : List ℕ) → IsUnfinished bytes → IsRest bytes
-rest_of_unfinished (a ∷ b ∷ c ∷ d ∷ body) u = λ _. u.1
-rest_of_unfinished [] u = tt
-rest_of_unfinished (a ∷ []) u = tt
-rest_of_unfinished (a ∷ b ∷ []) u = tt
-rest_of_unfinished (a ∷ b ∷ c ∷ []) u = tt
-
-no_frame-unfinished : (bytes : List ℕ) → IsUnfinished bytes → first_frame bytes ≡ None
-no_frame-unfinished bytes u = first_frame-rest bytes (rest_of_unfinished bytes u)
-
--- nor do fewer of them
-unfinished-before : (bytes more : List ℕ) → IsUnfinished (bytes ++ more) → IsUnfinished bytes
-unfinished-before (a ∷ b ∷ c ∷ d ∷ body) more u =
-    let less = u.1 in
-    (u.0, omega (arith, less, length-append body more))
-unfinished-before [] more u = tt
-unfinished-before (a ∷ []) more u = tt
-unfinished-before (a ∷ b ∷ []) more u = tt
-unfinished-before (a ∷ b ∷ c ∷ []) more u = tt
-
-no_frame_there : (first : Frame × List ℕ) (found : Option (Frame × List ℕ)) → found ≡ Some first → found ≡ None → ⊥
-no_frame_there first found some none = cc
-
-first-packet : (bytes : List ℕ) (f : Frame) → IsFrame f → bytes ≡ frame_bytes f → first_frame bytes ≡ Some (f, [])
-first-packet bytes f fits is = ap first_frame (is ∙ sym (append-nil (frame_bytes f))) ∙ first_frame-packet f [] fits
-
--- a whole packet is no such bytes
-unfinished-no_packet : (bytes : List ℕ) (f : Frame) → IsFrame f → IsUnfinished bytes → bytes ≡ frame_bytes f → ⊥
-unfinished-no_packet bytes f fits u is = no_frame_there (f, []) (first_frame bytes) (first-packet bytes f fits is) (no_frame-unfinished bytes u)
-
-no_fault-packet : (bytes : List ℕ) (f : Frame) → IsFrame f → bytes ≡ frame_bytes f → length_fault bytes ≡ None
-no_fault-packet bytes f fits is =
-    let k = four_bytes (length f.payload + 1) (omega arith) in
-    ap length_fault (is ∙ packet_cells f k) ∙ ap fault_of k.value ∙ fault_of-valid (length f.payload + 1) (omega arith) (omega arith)
+use Rattle.milter_mta_channel.proofs.UnfinishedBytes.{first-packet, no_fault-packet, no_fault_there, no_frame-unfinished, unfinished-before, unfinished-no_packet}
 
 -- ---- what is unread doesn't matter for a reply
 
@@ -167,9 +128,6 @@ received-fault_here bytes unread x h c f owed is =
     one_byte h (with_unread c unread) x owed
     ∙ unread_fault h (with_unread c unread) (unread ++ x ∷ []) _ _ f is in
     ap (λ (after : After). fold received_byte after bytes) step ∙ lost-stays h (ended h c) _ bytes
-
-no_fault_there : (f : WireFault) (found : Option WireFault) → found ≡ Some f → found ≡ None → ⊥
-no_fault_there f found some none = cc
 
 pub received-fault : (bytes unread : List ℕ) (h : FilterEvent) (c : Channel) (f : WireFault) → is_owed c ≡ true → IsUnfinished unread → length_fault (unread ++ bytes) ≡ Some f
     → fold received_byte (goes_on h (with_unread c unread)) bytes ≡ fails (Wire f) h c

@@ -1,6 +1,6 @@
 //! A channel to a filter.
 
-ghost use Rattle.std.specs.Prelude.{All, ◌≡◌, ◌≤◌, [], IfOk, OnErr, OnOk, length};
+ghost use Rattle.std.specs.Prelude.{All, ◌≡◌, ◌≤◌, [], OnErr, OnOk, length};
 ghost use Rattle.std.specs.Option.{option_copied};
 ghost use Rattle.milter_message.specs.EditReplies.{reply_of};
 ghost use Rattle.milter_wire.specs.BorrowedCommand.{command_of};
@@ -43,11 +43,11 @@ impl Model for MtaChannel {
 }
 
 impl MtaChannel {
-    /// A channel on which nothing was sent. It takes the memory for one packet, 65,540 bytes.
-    pub fn new(alloc: Global, offer: Options) -> Result<Self, NoMemory>
-        ensures { IfOk result (λ c. c ≡ unopened offer) }
+    /// A channel on which nothing was sent. Doesn't allocate.
+    pub fn new(alloc: Global, offer: Options) -> Self
+        ensures { result ≡ unopened offer }
     {
-        Ok(MtaChannel {
+        MtaChannel {
             state: ChannelState {
                 alloc,
                 offer,
@@ -56,8 +56,8 @@ impl MtaChannel {
                 edits: ReceivedEdits::new(alloc),
             },
             pending: Pending::new(alloc),
-            splitter: Splitter::new(alloc)?,
-        })
+            splitter: Splitter::new(alloc),
+        }
     }
 
     /// Begins another connection, on which nothing was sent. The memory is kept. Doesn't allocate.
@@ -196,7 +196,9 @@ impl MtaChannel {
     }
 
     /// Takes a piece of what the filter sent, all of it. An empty piece changes nothing. After a loss no reply is
-    /// expected, nothing is pending, and the edits that are left are those of a verdict that came in this piece.
+    /// expected, nothing is pending, and the edits that are left are those of a verdict that came in this piece. A
+    /// packet that the end of the piece cuts is kept in the room for one packet, 65,540 bytes, which is allocated then,
+    /// where there is none. A verdict without a text allocates nothing where its packet is whole in the piece.
     pub fn feed(&mut self, piece: &[u8]) -> Fed
         ensures { Receives self.old piece.now self.new result }
     {
@@ -220,6 +222,14 @@ impl MtaChannel {
         self.state.end(&fed.event);
         self.splitter.clear();
         fed
+    }
+
+    /// Frees the room for one packet where no byte of a packet is unread, as on a connection that is idle; else it does
+    /// nothing. Doesn't allocate.
+    pub fn release(&mut self)
+        ensures { self.new ≡ self.old }
+    {
+        self.splitter.release();
     }
 
     /// Gives the connection up: no reply is expected, nothing is pending, and no edits are left. Doesn't allocate.

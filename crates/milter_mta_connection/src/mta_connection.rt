@@ -54,11 +54,11 @@ impl Model for MtaConnection {
 }
 
 impl MtaConnection {
-    /// A connection that was just made: the offer is pending. It takes the memory for one packet, 65,540 bytes.
+    /// A connection that was just made: the offer is pending. Allocates the few bytes of its packet.
     pub fn new(alloc: Global, offer: Options) -> Result<Self, NoMemory>
         ensures { IfOk result (λ c. c ≡ fresh offer) }
     {
-        let mut channel = MtaChannel::new(alloc, offer)?;
+        let mut channel = MtaChannel::new(alloc, offer);
         channel.queue_offer()?;
         Ok(MtaConnection {
             alloc,
@@ -113,7 +113,8 @@ impl MtaConnection {
     }
 
     /// Takes a piece of what the filter sent, all of it. A verdict comes only after all that is pending was sent. With
-    /// a loss the connection is closed; the event came before it.
+    /// a loss the connection is closed; the event came before it. A packet that the end of the piece cuts is kept in
+    /// the room for one packet, 65,540 bytes, which is allocated then, where there is none.
     pub fn feed(&mut self, piece: &[u8]) -> Fed
         ensures receives { Receives self.old.channel piece.now self.new.channel result }
         ensures goes_on { self.new ≡ after_fed result self.new.channel self.old }
@@ -177,6 +178,14 @@ impl MtaConnection {
             message.now self.now.channel.edits) }
     {
         apply(self.alloc, message, self.edits(), self.has_leading_space())
+    }
+
+    /// Frees the room for one packet where no byte of a packet is unread, as on a connection that is idle; else it does
+    /// nothing. Doesn't allocate.
+    pub fn release(&mut self)
+        ensures { self.new ≡ self.old }
+    {
+        self.channel.release();
     }
 
     /// The filter is lost: nothing is pending, and every call is refused. Doesn't allocate.

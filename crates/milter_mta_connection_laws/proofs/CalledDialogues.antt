@@ -33,7 +33,8 @@ use Rattle.milter_mta_connection.specs.declared.phase.Phase.TheVariants.{NoMessa
 use Rattle.milter_mta_connection.specs.Connection.{abort_before, asked_pairs, is_in_order, is_left_out as leaves_out, is_over, phase_after, phase_after_verdict, phase_over, rank_after, rank_after_verdict}
 use Rattle.milter_mta_connection_laws.specs.Calls.{answered, fed_by_answer}
 use Rattle.milter_mta_connection_laws.specs.Conversations.{Conversation, are_refused_with, exchanges_about, pairs_at, with_call, with_calls}
-use Rattle.milter_mta_connection_laws.proofs.Answers.{ReadsBack, IsReceived, idle}
+use Rattle.milter_mta_outcome.proofs.ReceivedAnswers.{IsReceived}
+use Rattle.milter_mta_connection_laws.proofs.Answers.{ReadsBack, idle}
 use Rattle.milter_mta_connection_laws.proofs.CallOrder.{GoesTo, Ordered, RankIn, base, base-order, going-open, goes-to, in-message, is_going, is_late, late, none-after-end, rank-follows, skips, taken}
 use Rattle.milter_mta_connection_laws.proofs.OneCall as one_call
 use Rattle.milter_mta_connection_laws.proofs.OneCall.{at}

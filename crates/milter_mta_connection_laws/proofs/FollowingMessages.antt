@@ -39,7 +39,8 @@ use Rattle.milter_mta_connection.specs.Connection.{Connection, is_due_abort, is_
 use Rattle.milter_mta_connection_laws.specs.Calls.{IsGiven, IsQuiet, IsReady, dialogue_about, with_message}
 use Rattle.milter_mta_connection_laws.specs.Conversations.{Conversation, all_sent}
 use Rattle.milter_mta_connection_laws.specs.Messages.{AreGiven, AreIgnored, between, given_up, opening_of, with_next}
-use Rattle.milter_mta_connection_laws.proofs.Answers.{ReadsBack, idle, permitted-received}
+use Rattle.milter_mta_outcome.proofs.ReceivedAnswers.{permitted-received}
+use Rattle.milter_mta_connection_laws.proofs.Answers.{ReadsBack, idle}
 use Rattle.milter_mta_connection_laws.proofs.CallOrder.{Ordered, is_late, in-message, late, message-order, parts-after, parts-order, rank-follows}
 use Rattle.milter_mta_connection_laws.proofs.CalledDialogues.{client-over-first}
 use Rattle.milter_mta_connection_laws.proofs.CalledStages.{skip-body, steps, steps_at, steps_for}

@@ -6,7 +6,6 @@ mod CallOrder
 mod CalledStages
 mod GivenExchanges
 mod CalledDialogues
-mod NegotiatedOptions
 mod CalledMessages
 mod FedPieces
 mod FollowingMessages

@@ -40,7 +40,8 @@ use Rattle.milter_mta_connection.specs.Connection.{Connection, abort_before, aft
 use Rattle.milter_mta_connection.specs.Connection as connections
 use Rattle.milter_mta_connection_laws.specs.Calls.{answered, taken}
 use Rattle.milter_mta_connection_laws.specs.Conversations.{Conversation, answer_bytes, exchanges_about, faults_at, fed_of, packets_of, with_bytes, with_call, with_packets}
-use Rattle.milter_mta_connection_laws.proofs.Answers.{ReadsBack, IsReceived, answer-received, idle, permitted-received, waiting}
+use Rattle.milter_mta_outcome.proofs.ReceivedAnswers.{IsReceived, permitted-received}
+use Rattle.milter_mta_connection_laws.proofs.Answers.{ReadsBack, answer-received, idle, waiting}
 
 -- ---- bytes
 

@@ -3,7 +3,8 @@ use Rattle.std.specs.Prelude.{if◌then◌else◌}
 use Rattle.std.proofs.Common.{◌≡◌, Bool, true, false, cond, not, ◌&&◌, ◌||◌, List, [], ◌∷◌, ◌++◌, refl, sym, ap, ◌∙◌, append-nil}
 use Rattle.std.specs.List.{list_any}
 use Rattle.std.proofs.lemmas.Bool.{true≢false}
-use Rattle.milter_mta_laws.proofs.TruthValues.{and-false, and-true, or-true}
+use Rattle.std.proofs.Math.Bool.{and-false, and-true}
+use Rattle.milter_mta_laws.proofs.TruthValues.{or-true}
 use Rattle.milter_wire.specs.declared.negotiation.Negotiated.{Negotiated}
 use Rattle.milter_wire.specs.declared.command.Command.{Command}
 use Rattle.milter_protocol.specs.Behavior.{Behavior, exchange_of}

@@ -1,7 +1,6 @@
 -- What is settled from one time to another, by a loss or by the last answer of a dialogue.
 use Rattle.std.specs.Prelude.{if◌then◌else◌}
 use Rattle.std.proofs.Common.{◌≡◌, ◌≢◌, inl, inr, Bool, true, false, List, [], ◌∷◌, ◌++◌, drop, map, is_some, Option, None, Some, refl, sym, ap, ◌∙◌, subst, arith, append-nil, append_assoc}
-use Rattle.std.specs.Int.Bits.{and_zero_r}
 use Rattle.std.specs.List.{AllZip}
 use Rattle.std.proofs.lemmas.List.Elements.{All-nil}
 use Rattle.std.proofs.lemmas.Bool.{true≢false}
@@ -99,25 +98,15 @@ goes-on a b c first next = record { on_dialogue = next.on_dialogue; settles = se
 -- ---- a loss
 
 module _ (m : Mta) (loss : Loss) where
-  -- the lowest version without a bit is within any offer
+  -- where nothing was negotiated, the lowest version without a bit stands for it
   abbrev any_negotiated : Negotiated
   any_negotiated = record { options = record { version = VERSION_MIN; actions = record { 0 = 0 }; protocol = record { 0 = 0 } }; lists = [] }
-
-  any-within : IsWithinOffer m.config.offer any_negotiated
-  any-within =
-      record {
-        version_from = omega arith;
-        version_to = omega arith;
-        actions = and_zero_r m.config.offer.actions.0;
-        protocol = and_zero_r m.config.offer.protocol.0;
-        lists = λ some. absurd (some refl);
-      }
 
   -- the verdicts that were acted on are a dialogue's
   record Verdicts (verdicts : List Acted) : Type 0 where
     negotiated : Negotiated
-    within : IsWithinOffer m.config.offer negotiated
     dialogue : List Exchange
+    within : dialogue ≢ [] → IsWithinOffer m.config.offer negotiated
     so_far_is : IsDialogueSoFar negotiated dialogue
     verdicts_are : verdicts ≡ acted dialogue
     of_plan : (message : MailObject) (others : List MailObject) → m.session.messages ≡ message ∷ others
@@ -128,8 +117,8 @@ module _ (m : Mta) (loss : Loss) where
   nothing_acted =
       record {
         negotiated = any_negotiated;
-        within = any-within;
         dialogue = [];
+        within = λ some. absurd (some refl);
         so_far_is = record { proper = tt; in_order = tt };
         verdicts_are = refl;
         of_plan = λ message others e. (plan any_negotiated (without_messages m.session) message, sent-start (plan any_negotiated (without_messages m.session) message), tt);
@@ -143,8 +132,8 @@ module _ (m : Mta) (loss : Loss) where
       let is = on.0 in
       record {
         negotiated = negotiated;
-        within = is.within;
         dialogue = is.dialogue;
+        within = λ some. is.within;
         so_far_is = record { proper = is.is_dialogue.proper; in_order = order-before left (commands_of is.dialogue) is.is_dialogue.in_order };
         verdicts_are = is.verdicts_are;
         of_plan = λ message others e. (left, is.of_plan message others e, is.is_open);
@@ -168,8 +157,8 @@ module _ (m : Mta) (loss : Loss) where
         by_dialogues = (
           inr (record {
             negotiated = is.negotiated;
-            within = is.within;
             dialogue = is.dialogue;
+            within = is.within;
             left = (is.of_plan message messages e).0;
             dialogue_so_far = is.so_far_is;
             is_open = (is.of_plan message messages e).2;

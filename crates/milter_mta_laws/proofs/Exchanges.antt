@@ -35,7 +35,8 @@ use Rattle.milter_mta.specs.Dispositions.{settled}
 use Rattle.milter_mta_laws.specs.Lines.{after_line, answer_bytes, next_packet, sent_whole}
 use Rattle.milter_mta_laws.specs.Order.{AreProper, AreInOrder, ComeBefore}
 use Rattle.milter_mta_laws.specs.Dialogues.{at_dialogue, settled_at, settled_by}
-use Rattle.milter_mta_laws.proofs.Answers.{ReceivesReplies, IsReceived, owed_at, replies-received}
+use Rattle.milter_mta_outcome.proofs.ReceivedAnswers.{IsReceived}
+use Rattle.milter_mta_laws.proofs.Answers.{ReceivesReplies, owed_at, replies-received}
 use Rattle.milter_mta_laws.proofs.Closed.{unanswered-open}
 use Rattle.milter_mta_laws.proofs.Numbers.{numbered}
 use Rattle.milter_mta_laws.proofs.Refusals.{is_rcpt_at, left-sendable, rcpt_by_stage, refused_as_dialogue, same-sendable}

@@ -12,7 +12,6 @@ mod Settled
 pub mod Losses
 mod PartAnswers
 mod ReceivedParts
-mod NegotiatedOptions
 mod Bare
 mod Begun
 mod Opened

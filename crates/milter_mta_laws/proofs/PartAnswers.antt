@@ -26,7 +26,8 @@ use Rattle.milter_mta.specs.Mta.{FilterConnection, Mta, at_packet}
 use Rattle.milter_mta.specs.Mta.Position.{Sending}
 use Rattle.milter_mta.specs.Replies.{After, at, goes_on, received, received_byte}
 use Rattle.milter_mta_laws.specs.PartAnswers.{IsPartReceived}
-use Rattle.milter_mta_laws.proofs.Answers.{ReceivesReplies, receives_edit, one, owed_at}
+use Rattle.milter_mta_outcome.proofs.ReceivedAnswers.{receives_edit}
+use Rattle.milter_mta_laws.proofs.Answers.{ReceivesReplies, one, owed_at}
 
 -- ---- bytes that begin others
 

@@ -32,7 +32,8 @@ use Rattle.milter_mta.specs.Replies.{After, at, goes_on}
 use Rattle.milter_mta_laws.specs.Lines.{Plays, after_line, line_of}
 use Rattle.milter_mta_laws.specs.Order.{AreInOrder, AreProper, IsProper, MayAnswer}
 use Rattle.milter_mta_laws.specs.Dialogues.{at_dialogue, settled_by}
-use Rattle.milter_mta_laws.proofs.Answers.{ReceivesReplies, IsReceived, may-answer, permitted-received}
+use Rattle.milter_mta_outcome.proofs.ReceivedAnswers.{IsReceived, permitted-received}
+use Rattle.milter_mta_laws.proofs.Answers.{ReceivesReplies, may-answer}
 use Rattle.milter_mta_laws.proofs.Closed.{closed-rules}
 use Rattle.milter_mta_laws.proofs.Exchanges.{answered-goes, packet-is, unanswered-goes, dialogue_so_far}
 use Rattle.milter_mta_laws.proofs.Ordered.{order-before, order-without}

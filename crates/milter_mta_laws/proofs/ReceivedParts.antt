@@ -28,7 +28,8 @@ use Rattle.milter_mta.specs.Dispositions.{lost}
 use Rattle.milter_mta_laws.specs.Lines.{after_line, answer_bytes, sent_whole}
 use Rattle.milter_mta_laws.specs.PartAnswers.{IsPartReceived}
 use Rattle.milter_mta_laws.specs.Dialogues.{at_dialogue}
-use Rattle.milter_mta_laws.proofs.Answers.{ReceivesReplies, IsReceived, owed_at, permitted-received}
+use Rattle.milter_mta_outcome.proofs.ReceivedAnswers.{IsReceived, permitted-received}
+use Rattle.milter_mta_laws.proofs.Answers.{ReceivesReplies, owed_at}
 use Rattle.milter_mta_laws.proofs.Exchanges.{sent-asked, start-is}
 use Rattle.milter_mta_laws.proofs.Losses.{lost-over}
 use Rattle.milter_mta_laws.proofs.PartAnswers.{KeepsPrefixes, part-received}

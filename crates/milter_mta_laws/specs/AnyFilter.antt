@@ -90,11 +90,11 @@ pub record IsRuledReport (offer : Options) (s : MailSession) (message : MailObje
   pub ruled_is : ruled (has_leading_space negotiated) message dialogue ≡ Some outcome
   pub report_is : r ≡ report (acted dialogue) outcome (settled_through dialogue)
 
--- or by default after a dialogue through its plan that was open
+-- or by default after a dialogue through its plan that was open; before its first exchange nothing may be negotiated
 pub record IsGivenUpReport (config : Configuration) (s : MailSession) (message : MailObject) (r : Report) : Type 0 where
   pub negotiated : Negotiated
-  pub within : IsWithinOffer config.offer negotiated
   pub dialogue : List Exchange
+  pub within : dialogue ≢ [] → IsWithinOffer config.offer negotiated
   pub left : List Command
   pub dialogue_so_far : IsDialogueSoFar negotiated dialogue
   pub is_open : IsOpen dialogue left

@@ -1,3 +1,5 @@
 mod KeptRecipients
 mod ReceivedReplies
 mod ReceivedOptions
+pub mod NegotiatedOptions
+pub mod ReceivedAnswers

@@ -2,7 +2,7 @@
 use Rattle.std.specs.Prelude.{nat_le, if◌then◌else◌}
 use Rattle.std.proofs.Common.{◌≡◌, ◌≢◌, Bool, true, false, not, ◌&&◌, List, [], ◌∷◌, Ok, Err, Result, refl, ap, subst}
 use Rattle.std.specs.Int.Bits.{bit_and}
-use Rattle.std.proofs.lemmas.Bool.{eq-eqb, eqb-true, le-leb, leb-true}
+use Rattle.std.proofs.lemmas.Bool.{and_from, and_parts, eq-eqb, eqb-true, le-leb, leb-true}
 use Rattle.milter_wire_options.specs.declared.options.Actions.{Actions}
 use Rattle.milter_wire_options.specs.declared.options.Options.{Options}
 use Rattle.milter_wire_options.specs.declared.options.TheConstants.Actions.{SETSYMLIST}
@@ -15,36 +15,26 @@ use Rattle.milter_protocol.specs.declared.limits.TheConstants.{VERSION_MAX, VERS
 use Rattle.milter_protocol.specs.Replies.{options_reply}
 use Rattle.milter_mta_outcome.specs.declared.loss.MtaFault.{MtaFault}
 use Rattle.milter_mta_outcome.specs.declared.loss.MtaFault.TheVariants.{Version, ActionsNotOffered, ProtocolNotOffered}
-use Rattle.milter_mta_outcome.specs.ReceivedReplies.{IsWithinOffer, negotiated_by, is_known, is_offered, may_have_lists, options_received}
-
-both : (a b : Bool) → (a && b) ≡ true → (a ≡ true) × (b ≡ true)
-both true true e = (refl, refl)
-both true false e = absurd cc
-both false b e = absurd cc
-
-together : (a b : Bool) → a ≡ true → b ≡ true → (a && b) ≡ true
-together true true e f = refl
-together true false e f = absurd cc
-together false b e f = absurd cc
+use Rattle.milter_mta_outcome.specs.ReceivedReplies.{IsWithinOffer, negotiated_by, is_known, is_offered, is_version_offered, may_have_lists, options_received}
 
 -- ---- the tests, one after the other
 
-record ArePassed (known actions protocol : Bool) (found negotiated : Negotiated) : Type 0 where
-  known_is : known ≡ true
+record ArePassed (version actions protocol : Bool) (found negotiated : Negotiated) : Type 0 where
+  version_is : version ≡ true
   actions_are : actions ≡ true
   protocol_is : protocol ≡ true
   same : found ≡ negotiated
 
-passed : (known actions protocol : Bool) (found negotiated : Negotiated)
-    → (if not known then Err Version else if not actions then Err ActionsNotOffered else if not protocol then Err ProtocolNotOffered else Ok found) ≡ Ok negotiated
-    → ArePassed known actions protocol found negotiated
+passed : (version actions protocol : Bool) (found negotiated : Negotiated)
+    → (if not version then Err Version else if not actions then Err ActionsNotOffered else if not protocol then Err ProtocolNotOffered else Ok found) ≡ Ok negotiated
+    → ArePassed version actions protocol found negotiated
 passed false actions protocol found negotiated e = absurd cc
 passed true false protocol found negotiated e = absurd cc
 passed true true false found negotiated e = absurd cc
-passed true true true found negotiated e = record { known_is = refl; actions_are = refl; protocol_is = refl; same = cc }
+passed true true true found negotiated e = record { version_is = refl; actions_are = refl; protocol_is = refl; same = cc }
 
-all_pass : (known actions protocol : Bool) (is : Result Negotiated MtaFault) → known ≡ true → actions ≡ true → protocol ≡ true
-    → (if not known then Err Version else if not actions then Err ActionsNotOffered else if not protocol then Err ProtocolNotOffered else is) ≡ is
+all_pass : (version actions protocol : Bool) (is : Result Negotiated MtaFault) → version ≡ true → actions ≡ true → protocol ≡ true
+    → (if not version then Err Version else if not actions then Err ActionsNotOffered else if not protocol then Err ProtocolNotOffered else is) ≡ is
 all_pass false actions protocol is a b c = absurd cc
 all_pass true false protocol is a b c = absurd cc
 all_pass true true false is a b c = absurd cc
@@ -68,13 +58,15 @@ negotiated-options : (offer options : Options) (lists : List SymList) (negotiate
     → IsNegotiated offer (replies.Options options lists) negotiated
 negotiated-options offer options lists negotiated e =
     let found : Negotiated = record { options = options; lists = lists } in
-    let is = passed (is_known options.version) (is_offered offer.actions.0 options.actions.0 && may_have_lists offer.actions lists)
+    let is = passed (is_version_offered offer.version options.version) (is_offered offer.actions.0 options.actions.0 && may_have_lists offer.actions lists)
     (is_offered offer.protocol.0 options.protocol.0) found negotiated e in
-    let known = both (nat_le VERSION_MIN options.version) (nat_le options.version VERSION_MAX) is.known_is in
-    let actions = both (is_offered offer.actions.0 options.actions.0) (may_have_lists offer.actions lists) is.actions_are in
+    let version = and_parts (is_known options.version) (nat_le options.version offer.version) is.version_is in
+    let known = and_parts (nat_le VERSION_MIN options.version) (nat_le options.version VERSION_MAX) version.0 in
+    let actions = and_parts (is_offered offer.actions.0 options.actions.0) (may_have_lists offer.actions lists) is.actions_are in
     let within : IsWithinOffer offer found = record {
       version_from = leb-true VERSION_MIN options.version known.0;
       version_to = leb-true options.version VERSION_MAX known.1;
+      version_offered = leb-true options.version offer.version version.1;
       actions = eqb-true (bit_and offer.actions.0 options.actions.0) options.actions.0 actions.0;
       protocol = eqb-true (bit_and offer.protocol.0 options.protocol.0) options.protocol.0 is.protocol_is;
       lists = lists-offered offer.actions lists actions.1;
@@ -91,7 +83,9 @@ negotiated-on offer other negotiated e = absurd cc
 pub within-received : (offer : Options) (negotiated : Negotiated) → IsWithinOffer offer negotiated → options_received offer (options_reply negotiated) ≡ Ok negotiated
 within-received offer negotiated is =
     let o = negotiated.options in
-    all_pass (is_known o.version) (is_offered offer.actions.0 o.actions.0 && may_have_lists offer.actions negotiated.lists) (is_offered offer.protocol.0 o.protocol.0) (Ok negotiated)
-    (together (nat_le VERSION_MIN o.version) (nat_le o.version VERSION_MAX) (le-leb VERSION_MIN o.version is.version_from) (le-leb o.version VERSION_MAX is.version_to))
-    (together (is_offered offer.actions.0 o.actions.0) (may_have_lists offer.actions negotiated.lists) (eq-eqb _ _ is.actions) (may-have offer.actions negotiated.lists is.lists))
+    all_pass (is_version_offered offer.version o.version) (is_offered offer.actions.0 o.actions.0 && may_have_lists offer.actions negotiated.lists) (is_offered offer.protocol.0 o.protocol.0) (Ok negotiated)
+    (and_from (is_known o.version) (nat_le o.version offer.version)
+    (and_from (nat_le VERSION_MIN o.version) (nat_le o.version VERSION_MAX) (le-leb VERSION_MIN o.version is.version_from) (le-leb o.version VERSION_MAX is.version_to))
+    (le-leb o.version offer.version is.version_offered))
+    (and_from (is_offered offer.actions.0 o.actions.0) (may_have_lists offer.actions negotiated.lists) (eq-eqb _ _ is.actions) (may-have offer.actions negotiated.lists is.lists))
     (eq-eqb _ _ is.protocol)

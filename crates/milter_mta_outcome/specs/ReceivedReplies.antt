@@ -30,6 +30,10 @@ use Rattle.milter_mta_outcome.specs.declared.loss.MtaFault.TheVariants.{Version,
 abbrev pub is_known : ℕ → Bool
 is_known version = nat_le VERSION_MIN version && nat_le version VERSION_MAX
 
+-- a version that is known, and not above the one that was offered
+abbrev pub is_version_offered : ℕ → ℕ → Bool
+is_version_offered offer version = is_known version && nat_le version offer
+
 -- each of these bits was offered
 abbrev pub is_offered : ℕ → ℕ → Bool
 is_offered offer bits = bit_and offer bits == bits
@@ -41,7 +45,7 @@ may_have_lists offer (list ∷ lists) = has_bit offer.0 SETSYMLIST.0
 
 abbrev pub negotiated_by : Options → Options → List SymList → Result Negotiated MtaFault
 negotiated_by offer options lists =
-    if not (is_known options.version) then Err Version
+    if not (is_version_offered offer.version options.version) then Err Version
     else if not (is_offered offer.actions.0 options.actions.0 && may_have_lists offer.actions lists)
     then Err ActionsNotOffered
     else if not (is_offered offer.protocol.0 options.protocol.0) then Err ProtocolNotOffered
@@ -51,10 +55,12 @@ abbrev pub options_received : Options → Reply → Result Negotiated MtaFault
 options_received offer (replies.Options options lists) = negotiated_by offer options lists
 options_received offer other = Err NotAtThisStage
 
--- what an offer lets be negotiated: a version that is known, and no action, protocol bit or list that was not offered
+-- what an offer lets be negotiated: a version that is known and not above the offered one, and no action, protocol bit
+-- or list that was not offered
 pub record IsWithinOffer (offer : Options) (negotiated : Negotiated) : Type 0 where
   pub version_from : VERSION_MIN ≤ negotiated.options.version
   pub version_to : negotiated.options.version ≤ VERSION_MAX
+  pub version_offered : negotiated.options.version ≤ offer.version
   pub actions : bit_and offer.actions.0 negotiated.options.actions.0 ≡ negotiated.options.actions.0
   pub protocol : bit_and offer.protocol.0 negotiated.options.protocol.0 ≡ negotiated.options.protocol.0
   pub lists : negotiated.lists ≢ [] → has_bit offer.actions.0 SETSYMLIST.0 ≡ true

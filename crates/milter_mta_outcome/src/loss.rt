@@ -12,7 +12,7 @@ pub enum MtaFault {
     /// A packet can't be read.
     #[error("{0}")]
     Wire(WireFault),
-    /// The filter answers with a version below 2 or above 6.
+    /// The filter answers with a version below 2, above 6 or above the offered one.
     #[error("version not supported")]
     Version,
     /// The filter wants actions, or symbol lists, that were not offered.

@@ -13,8 +13,8 @@ use milter_protocol::{Action, VERSION_MAX, VERSION_MIN, permits};
 use milter_wire::{Actions, Negotiated, Options, Protocol, Reply, Stage, SymLists, Verdict};
 
 /// What was negotiated by the reply to this offer. The faults are `NotAtThisStage` for a reply without options, and
-/// else, in this order, `Version` below 2 or above 6, `ActionsNotOffered` also for symbol lists where
-/// [`Actions::SETSYMLIST`] was not offered, and `ProtocolNotOffered`. Doesn't allocate. Source: the libmilter
+/// else, in this order, `Version` below 2, above 6 or above the offered one, `ActionsNotOffered` also for symbol lists
+/// where [`Actions::SETSYMLIST`] was not offered, and `ProtocolNotOffered`. Doesn't allocate. Source: the libmilter
 /// callback documentation (xxfi_negotiate).
 pub fn on_options(offer: Options, reply: Reply) -> Result<Negotiated, MtaFault>
     ensures { result ≡ received_reply.options_received offer reply }
@@ -22,7 +22,7 @@ pub fn on_options(offer: Options, reply: Reply) -> Result<Negotiated, MtaFault>
     let Reply::Options { options, lists } = reply else {
         return Err(MtaFault::NotAtThisStage);
     };
-    if options.version < VERSION_MIN || options.version > VERSION_MAX {
+    if !is_version_offered(offer.version, options.version) {
         return Err(MtaFault::Version);
     }
     if !is_offered(offer.actions.0, options.actions.0) || !may_have_lists(offer.actions, &lists) {
@@ -32,6 +32,13 @@ pub fn on_options(offer: Options, reply: Reply) -> Result<Negotiated, MtaFault>
         return Err(MtaFault::ProtocolNotOffered);
     }
     Ok(Negotiated { options, lists })
+}
+
+/// Whether the version is known, and not above the one that was offered.
+fn is_version_offered(offer: u32, version: u32) -> bool
+    ensures { result ≡ received_reply.is_version_offered offer version }
+{
+    VERSION_MIN <= version && version <= VERSION_MAX && version <= offer
 }
 
 /// Whether each of these bits was offered.

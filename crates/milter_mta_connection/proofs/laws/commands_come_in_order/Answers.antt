@@ -9,7 +9,7 @@ pub returns-clause-queued : goal.returns-clause-queued
 returns-clause-queued c stage command pairs connection = with_command-all stage command pairs connection
 
 pub returns-clause-called : goal.returns-clause-called
-returns-clause-called c stage command pairs connection rank is told less = called_in_order stage command pairs connection rank is told less
+returns-clause-called c stage command pairs connection rank is stated less = called_in_order stage command pairs connection rank is stated less
 
 pub returns-clause-aborted : goal.returns-clause-aborted
 returns-clause-aborted c connection rank less = aborted_in_order connection rank less

@@ -8,7 +8,8 @@ use Rattle.milter_mta_channel.specs.declared.filter_event.FilterEvent.TheVariant
 use Rattle.milter_mta_channel.specs.Channel.{Channel}
 use Rattle.milter_mta_channel.specs.Received.{goes_on, received}
 use Rattle.milter_mta_connection_laws.specs.Conversations.{answer_bytes}
-use Rattle.milter_mta_connection_laws.proofs.Answers.{ReadsBack, answer-received, permitted-received, waiting}
+use Rattle.milter_mta_outcome.proofs.ReceivedAnswers.{permitted-received}
+use Rattle.milter_mta_connection_laws.proofs.Answers.{ReadsBack, answer-received, waiting}
 use Rattle.milter_mta_connection_laws.proofs.answer_laws.answers_are_received.Goals as goal
 
 pub returns : goal.returns

@@ -15,7 +15,7 @@ use Rattle.milter_mta_connection_laws.specs.Messages.{opening_of, with_first}
 use Rattle.milter_mta_connection_laws.proofs.Answers.{ReadsBack}
 use Rattle.milter_mta_connection_laws.proofs.CalledMessages.{IsGivenQuietly, opened-is, session-given}
 use Rattle.milter_mta_connection_laws.proofs.FollowingMessages.{all-given, all-ignored, opening-skips, then-ready}
-use Rattle.milter_mta_connection_laws.proofs.NegotiatedOptions.{negotiated-fits, negotiated-received}
+use Rattle.milter_mta_outcome.proofs.NegotiatedOptions.{negotiated-fits, negotiated-received}
 use Rattle.milter_mta_connection_laws.proofs.dialogue_laws.sessions_are_dialogues.Goals as goal
 
 pub returns-clause-negotiated : goal.returns-clause-negotiated

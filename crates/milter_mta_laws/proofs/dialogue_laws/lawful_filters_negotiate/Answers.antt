@@ -1,4 +1,4 @@
-use Rattle.milter_mta_laws.proofs.NegotiatedOptions.{negotiated-fits, negotiated-received}
+use Rattle.milter_mta_outcome.proofs.NegotiatedOptions.{negotiated-fits, negotiated-received}
 use Rattle.milter_mta_laws.proofs.dialogue_laws.lawful_filters_negotiate.Goals as goal
 
 pub returns-clause-received : goal.returns-clause-received

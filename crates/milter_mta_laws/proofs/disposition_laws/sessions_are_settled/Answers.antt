@@ -9,7 +9,7 @@ use Rattle.milter_mta.specs.Replies.{at}
 use Rattle.milter_mta_laws.specs.Lines.{offer_line}
 use Rattle.milter_mta_laws.specs.Sessions.{connection_after, lines_from, reports_by}
 use Rattle.milter_mta_laws.specs.Dialogues.{at_dialogue}
-use Rattle.milter_mta_laws.proofs.NegotiatedOptions.{negotiated-fits, negotiated-received}
+use Rattle.milter_mta_outcome.proofs.NegotiatedOptions.{negotiated-fits, negotiated-received}
 use Rattle.milter_mta_laws.proofs.Answers.{ReceivesReplies}
 use Rattle.milter_mta_laws.proofs.Bare.{offered}
 use Rattle.milter_mta_laws.proofs.Ordered.{plan-ends, plan-ordered}

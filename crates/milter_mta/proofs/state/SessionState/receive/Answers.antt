@@ -5,7 +5,8 @@ use Rattle.milter_mta_outcome.specs.declared.loss.Loss.TheVariants.{Memory}
 use Rattle.milter_mta.specs.CoreParts.{IsTaken, mta_of, unconnected}
 use Rattle.milter_mta.specs.Cores.{IsCore, ReceivesBytes}
 use Rattle.milter_mta.specs.Mta.{Configuration, Mta}
-use Rattle.milter_mta.proofs.TakenEvents.{config-lost, lost-config-is, lost-receives, offer-is, received-core, received-is, refused-is, taken-is}
+use Rattle.milter_mta.proofs.ReceivedPieces.{config-lost, lost-config-is, lost-receives, offer-is, received-core, received-is}
+use Rattle.milter_mta.proofs.TakenEvents.{refused-is, taken-is}
 use Rattle.milter_mta.proofs.state.SessionState.receive.Goals as goal
 
 pub on_event-requires-clause-taken : goal.on_event-requires-clause-taken

@@ -1,9 +1,8 @@
 -- What a lawful filter answers to an offer is received as what both ends have.
-use Rattle.std.specs.Prelude.{if◌then◌else◌, nat_le}
-use Rattle.std.proofs.Common.{◌≡◌, ◌≤◌, ℕ, min, Bool, true, false, not, ◌&&◌, List, [], ◌∷◌, ◌++◌, length, Ok, Err, refl, sym, ap, ◌∙◌, arith, length-append}
+use Rattle.std.specs.Prelude.{if◌then◌else◌}
+use Rattle.std.proofs.Common.{◌≡◌, ◌≢◌, ◌≤◌, ℕ, Bool, true, false, [], ◌++◌, length, Ok, refl, sym, ap, ◌∙◌, arith, length-append}
 use Rattle.std.specs.Int.Bits.{bit_and}
 use Rattle.std.specs.List.{flat_map}
-use Rattle.std.proofs.lemmas.Bool.{eq-eqb, le-leb}
 use Rattle.std.proofs.lemmas.List.Elements.{All-nil}
 use Rattle.std.proofs.lemmas.Nat.{and_assoc}
 use lib.Bits.{and_le_r, and_self}
@@ -11,7 +10,6 @@ use Rattle.milter_wire_stream.specs.Number.{number}
 use Rattle.milter_wire_stream.proofs.Numbers.{length-number}
 use Rattle.milter_wire_options.specs.declared.options.Options.{Options}
 use Rattle.milter_wire_options.specs.declared.options.TheConstants.Actions.{SETSYMLIST}
-use Rattle.milter_wire_options.specs.declared.symbol_lists.SymList.{SymList}
 use Rattle.milter_wire_options.specs.Negotiation.{common}
 use Rattle.milter_wire_options.specs.Payload.{OptionsFit, SymListFits, options, sym_list}
 use Rattle.milter_wire.specs.declared.negotiation.Negotiated.{Negotiated}
@@ -22,53 +20,35 @@ use Rattle.milter_protocol.specs.Behavior.{Behavior}
 use Rattle.milter_protocol.specs.declared.limits.TheConstants.{VERSION_MAX, VERSION_MIN}
 use Rattle.milter_protocol.specs.Lawful.{WantsWithin}
 use Rattle.milter_protocol.specs.Replies.{options_reply}
-use Rattle.milter_mta_outcome.specs.declared.loss.MtaFault.TheVariants.{ActionsNotOffered, ProtocolNotOffered, Version}
-use Rattle.milter_mta_outcome.specs.ReceivedReplies.{is_known, is_offered, may_have_lists, options_received}
+use Rattle.milter_mta_outcome.specs.ReceivedReplies.{IsWithinOffer, options_received}
+use Rattle.milter_mta_outcome.proofs.ReceivedOptions.{within-received}
 
 -- bits that both have are among those of each
 and-part : (a b : ℕ) → bit_and a (bit_and a b) ≡ bit_and a b
 and-part a b = sym (and_assoc b a a) ∙ ap (λ (n : ℕ). bit_and n b) (and_self a)
 
-part-offered : (a b : ℕ) → is_offered a (bit_and a b) ≡ true
-part-offered a b = eq-eqb (bit_and a (bit_and a b)) (bit_and a b) (and-part a b)
-
-both-true : (a b : Bool) → a ≡ true → b ≡ true → (a && b) ≡ true
-both-true a b x y = ap (λ (k : Bool). k && b) x ∙ y
-
-received-if : (known actions protocol : Bool) (negotiated : Negotiated) → known ≡ true → actions ≡ true → protocol ≡ true
-    → (if not known then Err Version else if not actions then Err ActionsNotOffered else if not protocol then Err ProtocolNotOffered else Ok negotiated) ≡ Ok negotiated
-received-if known actions protocol negotiated x y z =
-    ap (λ (k : Bool). if not k then Err Version else if not actions then Err ActionsNotOffered else if not protocol then Err ProtocolNotOffered else Ok negotiated) x
-    ∙ ap (λ (k : Bool). if not k then Err ActionsNotOffered else if not protocol then Err ProtocolNotOffered else Ok negotiated) y
-    ∙ ap (λ (k : Bool). if not k then Err ProtocolNotOffered else Ok negotiated) z
-
 module _ (offer : Options) (b : Behavior) (wants : WantsWithin b) (from : VERSION_MIN ≤ offer.version) (to : offer.version ≤ VERSION_MAX) where
   abbrev negotiated : Negotiated
   negotiated = negotiate offer b.wants b.lists
 
-  known : is_known (min offer.version b.wants.version) ≡ true
-  known =
+  within : IsWithinOffer offer negotiated
+  within =
       let low = wants.version_from in
-      both-true (nat_le VERSION_MIN (min offer.version b.wants.version)) (nat_le (min offer.version b.wants.version) VERSION_MAX)
-      (le-leb VERSION_MIN (min offer.version b.wants.version) (omega (arith, from, low)))
-      (le-leb (min offer.version b.wants.version) VERSION_MAX (omega (arith, to)))
-
-  may_have : may_have_lists offer.actions negotiated.lists ≡ true
-  may_have = by_bit (has_bit offer.actions.0 SETSYMLIST.0) refl
+      record {
+        version_from = omega (arith, from, low);
+        version_to = omega (arith, to);
+        version_offered = omega arith;
+        actions = and-part offer.actions.0 b.wants.actions.0;
+        protocol = and-part offer.protocol.0 b.wants.protocol.0;
+        lists = by_bit (has_bit offer.actions.0 SETSYMLIST.0) refl;
+      }
     where
-      by_list : (lists : List SymList) → has_bit offer.actions.0 SETSYMLIST.0 ≡ true → may_have_lists offer.actions lists ≡ true
-      by_list [] e = refl
-      by_list (list ∷ lists) e = e
-
-      by_bit : (has : Bool) → has_bit offer.actions.0 SETSYMLIST.0 ≡ has → may_have_lists offer.actions (if has then b.lists else []) ≡ true
-      by_bit true e = by_list b.lists e
-      by_bit false e = refl
+      by_bit : (has : Bool) → has_bit offer.actions.0 SETSYMLIST.0 ≡ has → (if has then b.lists else []) ≢ [] → has_bit offer.actions.0 SETSYMLIST.0 ≡ true
+      by_bit true e some = e
+      by_bit false e some = absurd (some refl)
 
   pub negotiated-received : options_received offer (options_reply negotiated) ≡ Ok negotiated
-  negotiated-received =
-      received-if _ _ _ negotiated known
-      (both-true _ _ (part-offered offer.actions.0 b.wants.actions.0) may_have)
-      (part-offered offer.protocol.0 b.wants.protocol.0)
+  negotiated-received = within-received offer negotiated within
 
   options_fit : OptionsFit (common offer b.wants)
   options_fit =
