@@ -9,4 +9,9 @@ pub mod StepSequences
 pub mod TranscriptParts
 pub mod OrderStates
 pub mod Lenient
-pub mod CommandsInTurn
+pub mod TakenAlike
+pub mod EndedQuestions
+pub mod StageAnswers
+pub mod PolicyAnswers
+pub mod PolicyEvents
+pub mod GivenAnswers

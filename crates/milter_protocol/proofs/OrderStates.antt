@@ -70,7 +70,7 @@ shown-part ls e before = rw (shown-cons e before) (by_end (ends_message e))
 abbrev pub kept : {S T : Type 0} → (S → T) → Step S → Step T
 kept of x = record { after = of x.after; replies = x.replies }
 
-abbrev going_on : List Exchange → FilterEnd
+abbrev pub going_on : List Exchange → FilterEnd
 going_on transcript = record { transcript = transcript; state = Serving }
 
 module _ (b : Behavior) where
@@ -79,7 +79,7 @@ module _ (b : Behavior) where
   state-at transcript c true is = rw is refl
   state-at transcript c false is = rw is refl
 
-  with-exchange : (e : Exchange) (before : List Exchange)
+  pub with-exchange : (e : Exchange) (before : List Exchange)
       → order_state_of b (record { transcript = e ∷ before; state = state_after e.command })
       ≡ order_state_with b (order_state_of b (going_on before)) e.command e.answer
   with-exchange e before =
@@ -107,13 +107,13 @@ module _ (b : Behavior) where
         state = state_after e.command;
       })
 
-  answer-is : (negotiated : Option Negotiated) (before : List Command) (c : Command)
+  pub answer-is : (negotiated : Option Negotiated) (before : List Command) (c : Command)
       → answer_by b negotiated before c ≡ order_state_answer b negotiated (part_of (has_leading_space_in negotiated) before) c
   answer-is None before c = refl
   answer-is (Some negotiated) before c =
       ap (λ s. answer_to b negotiated (stage_of c) (is_asked negotiated c) s) (seen-with (has_leading_space_in (Some negotiated)) c before)
 
-  fault-is : (transcript : List Exchange) (received : Received) → fault_at b transcript received ≡ order_state_fault (order_state_of b (going_on transcript)) received
+  pub fault-is : (transcript : List Exchange) (received : Received) → fault_at b transcript received ≡ order_state_fault (order_state_of b (going_on transcript)) received
   fault-is transcript (Err fault) = refl
   fault-is transcript (Ok c) = ap (λ n. fault_of (negotiated_in b transcript) (last_rank transcript) n c) (bytes_of-cons c (shown transcript))
 

@@ -2,7 +2,7 @@
 use Rattle.std.proofs.Common.{◌≡◌, List, [], ◌∷◌, ◌++◌, refl, sym, ◌∙◌, ap, append_assoc}
 use Rattle.milter_protocol.specs.Steps.{Step, joined, steps}
 
-joined-assoc : {S : Type 0} (first second third : Step S) → joined (joined first second) third ≡ joined first (joined second third)
+pub joined-assoc : {S : Type 0} (first second third : Step S) → joined (joined first second) third ≡ joined first (joined second third)
 joined-assoc {S} first second third =
     let same = append_assoc first.replies second.replies third.replies in
     λ i. record { after = third.after; replies = same i }

@@ -8,7 +8,7 @@ use Rattle.milter_wire.specs.declared.stage.Stage.TheVariants.{Connect, Helo}
 use Rattle.milter_wire.specs.declared.verdict.Verdict.{Verdict}
 use Rattle.milter_wire.specs.Stages.{stage_of}
 use Rattle.milter_protocol.specs.declared.answer.Answer.{Answer}
-use Rattle.milter_protocol.specs.Verdicts.{has_verdict, is_final_at}
+use Rattle.milter_protocol.specs.Verdicts.{has_verdict, is_final_at, is_refusal}
 
 -- it is shown for the whole connection: the client, its greetings, and the macros of both
 abbrev pub is_of_connection : Command → Bool
@@ -48,3 +48,8 @@ is_end_at (Some stage) answer = has_verdict (is_end_by stage) answer
 -- a message ends with this command and its answer
 abbrev pub is_message_end : Command → Option Answer → Bool
 is_message_end command answer = is_abort command || is_quit_new command || is_end_at (stage_of command) answer
+
+-- DATA is refused
+abbrev pub is_refused_data : Command → Option Answer → Bool
+is_refused_data commands.DataCmd answer = has_verdict is_refusal answer
+is_refused_data other answer = false

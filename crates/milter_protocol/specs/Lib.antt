@@ -16,5 +16,7 @@ pub mod Steps
 pub mod FilterEnds
 pub mod Aborts
 pub mod OrderStates
+pub mod Questions
+pub mod GivenAnswers
 pub mod Pass
 pub mod Worked

@@ -12,7 +12,7 @@ use Rattle.milter_wire.specs.declared.command.Command.TheVariants.{Abort}
 use Rattle.milter_protocol.specs.declared.answer.Answer.{Answer}
 use Rattle.milter_protocol.specs.declared.command_order.CommandOrder.{CommandOrder}
 use Rattle.milter_protocol.specs.declared.command_order.CommandOrder.TheVariants.{Strict}
-use Rattle.milter_protocol.specs.Aborts.{needs_abort}
+use Rattle.milter_protocol.specs.Aborts.{is_undone, needs_abort}
 use Rattle.milter_protocol.specs.Behavior.{Behavior, answer_to}
 use Rattle.milter_protocol.specs.Exchanges.{Exchange}
 use Rattle.milter_protocol.specs.Seen.{Seen, seen, seen_with}
@@ -153,7 +153,7 @@ order_state_answer b None part command = None
 order_state_answer b (Some negotiated) part command =
     answer_to b negotiated (stage_of command) (is_asked negotiated command) (seen_with part.seen command)
 
--- with a command at no fault, and its answer
+-- with a command at no fault that isn't undone, and its answer
 abbrev pub order_state_with : Behavior → OrderState → Command → Option Answer → OrderState
 order_state_with b s command answer =
     let connection = connection_after (is_quit_new command) s.connection command in
@@ -180,13 +180,16 @@ order_step_by b s received (Some fault) = silent (nothing_kept (Failed fault))
 order_step_by b s (Err fault) None = silent (nothing_kept (Failed (Wire fault)))
 order_step_by b s (Ok command) None =
     let answer = order_state_answer b s.negotiated s.shown command in
-    record { after = order_state_with b s command answer; replies = replies_to b s.negotiated command answer }
+    record {
+      after = if is_undone s.order s.last_rank command answer then s else order_state_with b s command answer;
+      replies = replies_to b s.negotiated command answer;
+    }
 
 abbrev pub order_step_in : Behavior → OrderState → Received → FilterState → Step OrderState
 order_step_in b s received Serving = order_step_by b s received (order_state_fault s received)
 order_step_in b s received ended = silent s
 
--- before the command: with an abort where one is due
+-- ready for the command: after an abort, where one is due
 abbrev pub order_state_before : Behavior → OrderState → Received → OrderState
 order_state_before b s received =
     if needs_abort s.order s.negotiated s.last_rank received then (order_step_in b s (Ok Abort) s.state).after else s

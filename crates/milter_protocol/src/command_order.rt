@@ -1,11 +1,14 @@
-//! What a filter's end makes of a greeting or a sender that comes within a message.
+//! The order in which a filter's end takes commands.
 
-/// What a filter's end makes of a greeting or a sender that comes within a message: a mail server sends one where its
-/// client greets again, or is cut off, and the mail server doesn't send the abort that is due.
+/// The order in which a filter's end takes commands, where a mail server departs from that of the stages: its client
+/// greets again within a message, is cut off, or says DATA again.
 #[derive(Clone, Copy, Debug, PartialEq, Eq)]
 pub enum CommandOrder {
-    /// It is out of order, and the connection is given up for that.
+    /// A greeting or a sender within a message is out of order, and the connection is given up for that. A message ends
+    /// with the refusal of its DATA command.
     Strict,
-    /// It ends the message as an abort before it would, and is taken then. libmilter does so too.
+    /// A greeting or a sender within a message, or the macros of one, ends the message as an abort before it would, and
+    /// is taken then; libmilter does so too. A DATA command that is refused within a message is undone: what was shown
+    /// before it stays, since the client may name more recipients and say DATA again.
     Lenient,
 }

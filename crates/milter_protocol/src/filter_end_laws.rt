@@ -3,6 +3,7 @@
 ghost use Rattle.std.specs.Prelude.{◌≡◌, ◌++◌, ◌∷◌, [], List, Ok, Some, true, if◌then◌else◌};
 ghost use Rattle.std.specs.Option.{option_or};
 ghost use Rattle.milter_wire.specs.declared.command.Command.{Command};
+ghost use Rattle.milter_wire.specs.declared.stage.Stage.{Stage as At};
 ghost use Rattle.milter_wire.specs.Stages.{stage_of};
 ghost use Rattle.milter_protocol.specs.Behavior.{Behavior};
 ghost use Rattle.milter_protocol.specs.Exchanges.{Exchange};
@@ -11,7 +12,7 @@ ghost use Rattle.milter_protocol.specs.FilterEnds.{FilterEnd, Received, after, f
 ghost use Rattle.milter_protocol.specs.Transcripts.{negotiated_by, negotiated_in, begins_anew, ends_message, last_rank, of_connection, rank_from, shown};
 ghost use Rattle.milter_protocol.specs.declared.command_order.CommandOrder.{CommandOrder as Order};
 ghost use Rattle.milter_protocol.specs.declared.filter_fault.FilterFault.TheVariants.{OutOfOrder};
-ghost use Rattle.milter_protocol.specs.Aborts.{NoneWithinMessage, is_within_message, taken_by};
+ghost use Rattle.milter_protocol.specs.Aborts.{AreTakenAlike, is_within_message, replies_by, taken_by};
 ghost use Rattle.milter_protocol.specs.OrderStates.{OrderState, fresh, fresh_in, rank_by, order_state_after, order_state_of, order_state_replies};
 
 /// Going on by some commands and then by others is going on by all of them in a row.
@@ -60,30 +61,29 @@ pub fn order_states_go_on()
         ≡ order_state_replies b s first ++ order_state_replies b (order_state_after b s first) second }
 {}
 
-/// What is kept by an end that takes commands in either order, and its replies: those of a connection of the commands
-/// that it takes them for, which in the lenient order have an abort before each greeting and each sender that come
-/// within a message.
+/// What an end that takes commands in either order comes to is what the commands come to that it takes them for: in the
+/// lenient order an abort comes before each greeting and each sender within a message, and a DATA command that is
+/// refused within a message is left out. Each command is replied to at its place, that DATA command too.
 pub fn lenient_orders()
     ensures state { (b : Behavior) (order : Order) (received : List Received) →
         (order_state_after b (fresh_in order) received).state ≡ (after b start (taken_by order b received)).state }
     ensures replies { (b : Behavior) (order : Order) (received : List Received) →
-        order_state_replies b (fresh_in order) received ≡ replies b start (taken_by order b received) }
+        order_state_replies b (fresh_in order) received ≡ replies_by order b received }
 {}
 
-/// Where no greeting and no sender comes within a message, commands are taken for themselves in either order: what is
-/// kept has the same state, and the replies are the same. One that comes within a message is out of order for an end
-/// that takes commands in the strict order.
+/// Where no greeting and no sender comes within a message, and the message is left after a DATA command that was
+/// refused, an end comes to the same state in either order, with the same replies. A greeting or a sender within a
+/// message is out of order for an end that takes commands in the strict order; their macros, which are of no stage,
+/// never are.
 pub fn orders_reply_the_same()
-    ensures taken { (b : Behavior) (order : Order) (received : List Received) → NoneWithinMessage b start received →
-        taken_by order b received ≡ received }
-    ensures state { (b : Behavior) (order : Order) (received : List Received) → NoneWithinMessage b start received →
+    ensures state { (b : Behavior) (order : Order) (received : List Received) → AreTakenAlike b start received →
         (order_state_after b (fresh_in order) received).state ≡ (order_state_after b fresh received).state }
-    ensures replies { (b : Behavior) (order : Order) (received : List Received) →
-        NoneWithinMessage b start received →
+    ensures replies { (b : Behavior) (order : Order) (received : List Received) → AreTakenAlike b start received →
         order_state_replies b (fresh_in order) received ≡ order_state_replies b fresh received }
     ensures beginning { (b : Behavior) (c : FilterEnd) (first second : List Received) →
-        NoneWithinMessage b c (first ++ second) → NoneWithinMessage b c first }
-    ensures out_of_order { (b : Behavior) (transcript : List Exchange) (command : Command) →
+        AreTakenAlike b c (first ++ second) → AreTakenAlike b c first }
+    ensures out_of_order { (b : Behavior) (transcript : List Exchange) (command : Command) (stage : At) →
+        stage_of command ≡ Some stage →
         is_within_message (negotiated_in b transcript) (last_rank transcript) (Ok command) ≡ true →
         fault_at b transcript (Ok command) ≡ Some OutOfOrder }
 {}

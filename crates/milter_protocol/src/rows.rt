@@ -1,18 +1,20 @@
 //! Worked connections, as the definitions compute them.
 
-ghost use Rattle.std.specs.Prelude.{◌≡◌, [], ◌∷◌, ◌++◌, codes, map, Err, List, Ok, ℕ, None, Some, true};
+ghost use Rattle.std.specs.Prelude.{◌≡◌, [], ◌∷◌, ◌++◌, codes, map, Err, List, Ok, ℕ, None, Some};
 ghost use Rattle.milter_wire_stream.specs.declared.fault.WireFault.TheVariants as wire_faults;
 ghost use Rattle.milter_wire.specs.declared.command.Command.TheVariants as commands;
 ghost use Rattle.milter_wire.specs.declared.reply.Reply.TheVariants as replies_with;
-ghost use Rattle.milter_wire.specs.declared.verdict.Verdict.TheVariants.{Accept, Continue, Discard, Reject, Skip};
+ghost use Rattle.milter_wire.specs.declared.stage.Stage.TheVariants.{DataCmd};
+ghost use Rattle.milter_wire.specs.declared.verdict.Verdict.TheVariants.{Accept, Continue, Discard, Reject, Skip, Tempfail};
 ghost use Rattle.milter_message.specs.declared.edit.Edit.TheVariants.{AddHeader, DelRcpt, Progress};
-ghost use Rattle.milter_protocol.specs.declared.command_order.CommandOrder.TheVariants.{Lenient};
+ghost use Rattle.milter_protocol.specs.declared.command_order.CommandOrder.TheVariants.{Lenient, Strict};
 ghost use Rattle.milter_protocol.specs.declared.filter_fault.FilterFault.TheVariants.{NegotiatedTwice, NotNegotiated, OutOfOrder, Version, Wire};
 ghost use Rattle.milter_protocol.specs.declared.filter_state.FilterState.TheVariants.{Failed, Quit, Serving};
-ghost use Rattle.milter_protocol.specs.Aborts.{NoneWithinMessage, taken_by};
+ghost use Rattle.milter_protocol.specs.Aborts.{AreTakenAlike, taken_by};
 ghost use Rattle.milter_protocol.specs.FilterEnds.{after, start};
 ghost use Rattle.milter_protocol.specs.Pass.{pass};
-ghost use Rattle.milter_protocol.specs.Worked.{negotiated, always, at, client, count_fields, deciding, edits_at_end, field, helo, mail, offer, options, rcpt, replied, state};
+ghost use Rattle.milter_protocol.specs.Questions.{ProgressReported};
+ghost use Rattle.milter_protocol.specs.Worked.{negotiated, always, another_rcpt, at, at_data, came, client, count_fields, deciding, edits_at_end, field, given, given_after, given_replies, helo, kept_in, macros_of_mail, mail, name_queue_file, offer, options, rcpt, replied, replied_in, state};
 
 /// What a filter that passes all replies to the first commands.
 #[tactic(auto, unfolding(milter_wire_stream::specs::Number::number))]
@@ -97,7 +99,61 @@ pub(crate) fn lenient_aborts()
         ≡ map Ok (offer ∷ mail ∷ commands.Abort ∷ mail ∷ []) }
     ensures greets_again { taken_by Lenient pass (map Ok (offer ∷ helo ∷ mail ∷ rcpt ∷ helo ∷ []))
         ≡ map Ok (offer ∷ helo ∷ mail ∷ rcpt ∷ commands.Abort ∷ helo ∷ []) }
+    // The macros of a sender come with it, after the abort: a policy that is asked about it is shown them.
+    ensures macros { taken_by Lenient pass (map Ok (offer ∷ mail ∷ macros_of_mail ∷ mail ∷ []))
+        ≡ map Ok (offer ∷ mail ∷ commands.Abort ∷ macros_of_mail ∷ mail ∷ []) }
+    ensures macros_shown { replied_in Lenient (deciding 0 name_queue_file) (offer ∷ mail ∷ macros_of_mail ∷ mail ∷ [])
+        ≡ negotiated 6 511 0 ∷ replies_with.Continue ∷ replies_with.Code (codes "Q1") ∷ [] }
     // A client that greets twice before its first message, and messages one after the other, are in turn.
-    ensures in_turn { NoneWithinMessage pass start
+    ensures in_turn { AreTakenAlike pass start
         (map Ok (offer ∷ helo ∷ helo ∷ mail ∷ rcpt ∷ commands.Eob [] ∷ mail ∷ commands.Abort ∷ helo ∷ mail ∷ [])) }
+{}
+
+/// DATA that a policy refuses within a message.
+#[tactic(auto, unfolding(milter_wire_stream::specs::Number::number))]
+pub(crate) fn refused_data()
+    // It is undone in the lenient order, and may come again, with further recipients.
+    ensures undone { kept_in Lenient (deciding 0 (at_data Reject)) (offer ∷ mail ∷ rcpt ∷ commands.DataCmd ∷ [])
+        ≡ kept_in Lenient (deciding 0 (at_data Reject)) (offer ∷ mail ∷ rcpt ∷ []) }
+    ensures serving { (kept_in Lenient (deciding 0 (at_data Reject))
+        (offer ∷ mail ∷ rcpt ∷ commands.DataCmd ∷ [])).state ≡ Serving }
+    ensures again { replied_in Lenient (deciding 0 (at_data Reject))
+        (offer ∷ mail ∷ rcpt ∷ commands.DataCmd ∷ another_rcpt ∷ commands.DataCmd ∷ [])
+        ≡ negotiated 6 511 0 ∷ replies_with.Continue ∷ replies_with.Continue ∷ replies_with.Reject
+        ∷ replies_with.Continue ∷ replies_with.Reject ∷ [] }
+    ensures taken { taken_by Lenient (deciding 0 (at_data Tempfail))
+        (map Ok (offer ∷ mail ∷ rcpt ∷ commands.DataCmd ∷ another_rcpt ∷ commands.DataCmd ∷ commands.Abort ∷ []))
+        ≡ map Ok (offer ∷ mail ∷ rcpt ∷ another_rcpt ∷ commands.Abort ∷ []) }
+    ensures sender { (kept_in Lenient (deciding 0 (at_data Reject))
+        (offer ∷ mail ∷ rcpt ∷ commands.DataCmd ∷ [])).shown.seen.sender ≡ Some (at (codes "a@x")) }
+    ensures recipients { (kept_in Lenient (deciding 0 (at_data Reject))
+        (offer ∷ mail ∷ rcpt ∷ commands.DataCmd ∷ another_rcpt ∷ [])).shown.seen.recipients
+        ≡ at (codes "b@y") ∷ at (codes "c@z") ∷ [] }
+    // In the strict order the message ends with it.
+    ensures strict_sender { (kept_in Strict (deciding 0 (at_data Reject))
+        (offer ∷ mail ∷ rcpt ∷ commands.DataCmd ∷ [])).shown.seen.sender ≡ None }
+    // A message that is thrown away at DATA ends with it in either order.
+    ensures discarded { (kept_in Lenient (deciding 0 (at_data Discard))
+        (offer ∷ mail ∷ rcpt ∷ commands.DataCmd ∷ [])).shown.seen.sender ≡ None }
+    // Where the message is left after it, both orders come to the same.
+    ensures in_turn { AreTakenAlike (deciding 0 (at_data Reject)) start
+        (map Ok (offer ∷ mail ∷ rcpt ∷ commands.DataCmd ∷ macros_of_mail ∷ mail ∷ rcpt ∷ commands.DataCmd
+        ∷ commands.Abort ∷ [])) }
+{}
+
+/// An end in the lenient order whose caller answers.
+#[tactic(auto, unfolding(milter_wire_stream::specs::Number::number))]
+pub(crate) fn given_answers()
+    ensures progress { given_replies (came offer ∷ came (commands.Eob []) ∷ ProgressReported ∷ given Accept ∷ [])
+        ≡ negotiated 6 511 0 ∷ replies_with.Progress ∷ replies_with.Accept ∷ [] }
+    ensures asks { (given_after (came offer ∷ came rcpt ∷ given Continue ∷ came commands.DataCmd ∷ [])).asked
+        ≡ Some DataCmd }
+    // DATA that it refuses is undone, and it is asked about the next one again.
+    ensures undone { given_after
+        (came offer ∷ came rcpt ∷ given Continue ∷ came commands.DataCmd ∷ given Tempfail ∷ [])
+        ≡ given_after (came offer ∷ came rcpt ∷ given Continue ∷ []) }
+    ensures again { given_replies
+        (came offer ∷ came rcpt ∷ given Continue ∷ came commands.DataCmd ∷ given Tempfail ∷ came commands.DataCmd
+        ∷ given Reject ∷ [])
+        ≡ negotiated 6 511 0 ∷ replies_with.Continue ∷ replies_with.Tempfail ∷ replies_with.Reject ∷ [] }
 {}

@@ -1,8 +1,8 @@
 -- A filter answers over bytes as it does over commands.
-use Rattle.std.proofs.Common.{◌≡◌, ℕ, ◌+◌, ◌-◌, ◌≤◌, ◌<◌, List, [], ◌∷◌, ◌++◌, map, None, Some, Ok, true, false, refl, sym, ◌∙◌, ap, subst, arith, length, take, drop, append-nil, length-append, length-drop, take-append-drop, take_all, All, rules}
+use Rattle.std.proofs.Common.{◌≡◌, ℕ, ◌+◌, ◌-◌, ◌≤◌, ◌<◌, List, [], ◌∷◌, ◌++◌, map, Ok, refl, sym, ◌∙◌, ap, subst, arith, length, take, drop, append-nil, length-append, length-drop, take-append-drop, take_all, All, rules}
 use Rattle.std.proofs.lemmas.List.Elements.{All-nil}
 use Rattle.std.specs.List.{flat_map}
-use Rattle.std.proofs.lemmas.Bool.{false_from_ne_true, le-leb, lt-leb}
+use Rattle.std.proofs.lemmas.Bool.{le-leb, lt-leb}
 use Rattle.std.proofs.lemmas.List.{take-append-le}
 use Rattle.std.proofs.lemmas.List.Concat.{flat_map-cons, flat_map-append}
 use Rattle.std.proofs.Math.Seq.{take-append-add}
@@ -13,17 +13,14 @@ use Rattle.milter_wire.specs.Command.{Fits, encoding}
 use Rattle.milter_wire.specs.Frames.{command_frame, frame_command, frames_and}
 use Rattle.milter_wire.specs.Reply as replied
 use Rattle.milter_protocol.specs.declared.command_order.CommandOrder.{CommandOrder}
-use Rattle.milter_protocol.specs.Aborts.{NoneWithinMessage, is_within_message}
+use Rattle.milter_protocol.specs.Aborts.{AreTakenAlike}
 use Rattle.milter_protocol.specs.Behavior.{Behavior}
-use Rattle.milter_protocol.specs.Exchanges.{Exchange}
-use Rattle.milter_protocol.specs.Transcripts.{last_rank, negotiated_in}
-use Rattle.milter_protocol.specs.declared.filter_fault.FilterFault.TheVariants.{OutOfOrder}
-use Rattle.milter_protocol.specs.FilterEnds.{FilterEnd, Received, after, fault_at, next, replies, replies_at, start}
+use Rattle.milter_protocol.specs.FilterEnds.{FilterEnd, Received, after, next, replies, replies_at, start}
 use Rattle.milter_protocol.specs.declared.filter_state.FilterState.{FilterState}
 use Rattle.milter_protocol.specs.declared.filter_state.FilterState.TheVariants.{Failed, Quit, Serving}
 use Rattle.milter_protocol.specs.OrderStates.{OrderState, fresh, fresh_in, order_state_after, order_state_at, order_state_of, order_state_replies}
 use Rattle.milter_mta_laws.specs.Lines.{Line}
-use Rattle.milter_filter_core.specs.Streams.{fault_after, received_in}
+use Rattle.milter_filter_stream.specs.Streams.{fault_after, received_in}
 use Rattle.milter_world_transcript.specs.ByteCounts.{owed, to_filter, to_mta}
 use Rattle.milter_world_transcript.proofs.CountedBytes.{by_lt}
 use Rattle.milter_world_transcript.specs.Answered.{AnswersLines, Replies}
@@ -32,21 +29,6 @@ take-past : {A : Type 0} (xs ys : List A) (n : ℕ) → length xs ≤ n → take
 take-past xs ys n le =
     let i : n ≡ length xs + (n - length xs) = omega arith in
     ap (λ k. take k (xs ++ ys)) i ∙ take-append-add xs ys (n - length xs)
-
--- ---- what comes within a message
-
--- the law of a filter's end
-abbrev pub OutOfOrderWithin : Type 0
-OutOfOrderWithin = (b : Behavior) (transcript : List Exchange) (command : Command) → is_within_message (negotiated_in b transcript) (last_rank transcript) (Ok command) ≡ true
-    → fault_at b transcript (Ok command) ≡ Some OutOfOrder
-
-not-within : OutOfOrderWithin → (b : Behavior) (transcript : List Exchange) (command : Command) → fault_at b transcript (Ok command) ≡ None
-    → is_within_message (negotiated_in b transcript) (last_rank transcript) (Ok command) ≡ false
-not-within law b transcript command no_fault =
-    false_from_ne_true (is_within_message (negotiated_in b transcript) (last_rank transcript) (Ok command)) (λ is. absurd (faulty (sym no_fault ∙ law b transcript command is)))
-  where
-    faulty : None ≡ Some OutOfOrder → ⊥
-    faulty e = absurd cc
 
 -- ---- what is received
 
@@ -72,7 +54,7 @@ part-unfinished c fits n less = by_rest (drop n (encoding c)) refl
         prefix-unfinished (take n (encoding c)) (y ∷ more) (command_frame c) fits.payload (λ none. absurd cc)
         (ap (λ (l : List ℕ). take n (encoding c) ++ l) (sym e) ∙ take-append-drop n (encoding c))
 
-module _ (compute : FramesCompute) (read_back : FramesReadBack) (out_of_order : OutOfOrderWithin) where
+module _ (compute : FramesCompute) (read_back : FramesReadBack) where
   one-received : (c : Command) → Fits c → (more : List ℕ) → received_in (encoding c ++ more) ≡ Ok c ∷ received_in more
   one-received c fits more =
       let one : flat_map encoding (c ∷ []) ++ more ≡ encoding c ++ more =
@@ -102,7 +84,7 @@ module _ (compute : FramesCompute) (read_back : FramesReadBack) (out_of_order : 
     pub record AnswersAt (c : FilterEnd) (lines : List Line) (taken : ℕ) : Type 0 where
       pub replied : written c (take taken (to_filter lines)) ≡ take (owed lines taken) (to_mta lines)
       pub serves : taken < length (to_filter lines) → (after b c (received_in (take taken (to_filter lines)))).state ≡ Serving
-      pub none_within : NoneWithinMessage b c (received_in (take taken (to_filter lines)))
+      pub alike : AreTakenAlike b c (received_in (take taken (to_filter lines)))
 
     pub answers : (lines : List Line) (c new : FilterEnd) → Replies b c lines new → (taken : ℕ) → AnswersAt c lines taken
     answers [] c new r taken =
@@ -110,7 +92,7 @@ module _ (compute : FramesCompute) (read_back : FramesReadBack) (out_of_order : 
         record {
           replied = none-written c (take taken []) (ap received_in none ∙ nothing-received [] tt);
           serves = λ less. absurd (let h : taken < 0 = less in omega arith);
-          none_within = subst (NoneWithinMessage b c) (sym (ap received_in none ∙ nothing-received [] tt)) tt;
+          alike = subst (AreTakenAlike b c) (sym (ap received_in none ∙ nothing-received [] tt)) tt;
         }
     answers (line ∷ lines) c new r taken =
         let x = r.0 in
@@ -128,7 +110,7 @@ module _ (compute : FramesCompute) (read_back : FramesReadBack) (out_of_order : 
         record {
           replied = none-written c (take taken (to_filter (line ∷ lines))) none ∙ ap (λ (n : ℕ). take n (to_mta (line ∷ lines))) (sym owes);
           serves = λ some. ap (λ (r : List Received). (after b c r).state) none ∙ x.serving;
-          none_within = subst (NoneWithinMessage b c) (sym none) tt;
+          alike = subst (AreTakenAlike b c) (sym none) tt;
         })
         (λ whole.
         let more = take (taken - length line.out) (to_filter lines) in
@@ -150,8 +132,8 @@ module _ (compute : FramesCompute) (read_back : FramesReadBack) (out_of_order : 
               ap (λ (l : List ℕ). (after b c (received_in l)).state) part
               ∙ ap (λ (r : List Received). (after b c r).state) (one-received x.command x.fits more)
               ∙ rest.serves (let k = ap length out in let a = length-append line.out (to_filter lines) in omega arith);
-          none_within = subst (NoneWithinMessage b c) (sym (ap received_in part ∙ one-received x.command x.fits more))
-              (not-within out_of_order b c.transcript x.command x.no_fault, rest.none_within);
+          alike = subst (AreTakenAlike b c) (sym (ap received_in part ∙ one-received x.command x.fits more))
+              (x.alike, rest.alike);
         })
 
     -- ---- as a filter's core keeps it
@@ -172,21 +154,21 @@ module _ (compute : FramesCompute) (read_back : FramesReadBack) (out_of_order : 
 
     -- in both orders the same
     pub record AreTheSame : Type 0 where
-      pub state : (order : CommandOrder) (received : List Received) → NoneWithinMessage b start received
+      pub state : (order : CommandOrder) (received : List Received) → AreTakenAlike b start received
           → (order_state_after b (fresh_in order) received).state ≡ (order_state_after b fresh received).state
-      pub replies : (order : CommandOrder) (received : List Received) → NoneWithinMessage b start received → order_state_replies b (fresh_in order) received ≡ order_state_replies b fresh received
+      pub replies : (order : CommandOrder) (received : List Received) → AreTakenAlike b start received → order_state_replies b (fresh_in order) received ≡ order_state_replies b fresh received
 
     pub answers-lines : OrderStateIs → OrderStateReplies → order_state_of b start ≡ fresh → AreTheSame
         → (order : CommandOrder) (lines : List Line) (new : FilterEnd) → Replies b start lines new → AnswersLines order b lines
     answers-lines order_state_is replies_are begins same order lines new r =
         record {
           replied = λ taken.
-              ap (flat_map replied.encoding) (same.replies order (received_in (take taken (to_filter lines))) (answers lines start new r taken).none_within)
+              ap (flat_map replied.encoding) (same.replies order (received_in (take taken (to_filter lines))) (answers lines start new r taken).alike)
               ∙ ap (λ (s : OrderState). flat_map replied.encoding (order_state_replies b s (received_in (take taken (to_filter lines))))) (sym begins)
               ∙ ap (flat_map replied.encoding) (sym (replies_are b start (received_in (take taken (to_filter lines)))))
               ∙ (answers lines start new r taken).replied;
           serves = λ taken less.
-              same.state order (received_in (take taken (to_filter lines))) (answers lines start new r taken).none_within
+              same.state order (received_in (take taken (to_filter lines))) (answers lines start new r taken).alike
               ∙ ap (λ (s : OrderState). (order_state_after b s (received_in (take taken (to_filter lines)))).state) (sym begins)
               ∙ ap (λ (s : OrderState). s.state) (sym (order_state_is b start (received_in (take taken (to_filter lines)))))
               ∙ state-of (after b start (received_in (take taken (to_filter lines))))

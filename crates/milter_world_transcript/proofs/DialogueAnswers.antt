@@ -10,6 +10,8 @@ use Rattle.milter_wire.specs.declared.command.Command.{Command}
 use Rattle.milter_wire.specs.declared.command.Command.TheVariants as commands
 use Rattle.milter_wire.specs.declared.stage.Stage.{Stage}
 use Rattle.milter_wire.specs.declared.stage.Stage.TheVariants as stages
+use Rattle.milter_wire.specs.declared.verdict.Verdict.{Verdict}
+use Rattle.milter_wire.specs.declared.verdict.Verdict.TheVariants as verdicts
 use Rattle.milter_wire.specs.Command.{Fits, bytes_of, encoding}
 use Rattle.milter_wire.specs.Reply as replied
 use Rattle.milter_wire.specs.Stages.{stage_of}
@@ -20,7 +22,8 @@ use Rattle.milter_protocol.specs.declared.answer.Answer.{Answer}
 use Rattle.milter_protocol.specs.declared.filter_fault.FilterFault.TheVariants.{OutOfOrder, TooMuch}
 use Rattle.milter_protocol.specs.declared.filter_state.FilterState.TheVariants.{Quit, Serving}
 use Rattle.milter_protocol.specs.Behavior.{Behavior, exchange_of}
-use Rattle.milter_protocol.specs.Commands.{is_end_at, is_of_connection, is_quit, is_quit_new, is_shown}
+use Rattle.milter_protocol.specs.Aborts.{IsTakenAlike, is_within_message}
+use Rattle.milter_protocol.specs.Commands.{is_end_at, is_of_connection, is_quit, is_quit_new, is_refused_data, is_shown}
 use Rattle.milter_protocol.specs.FilterEnds.{FilterEnd, answer_by, exchange_at, fault_at, next, replies_at, state_after, step, step_by}
 use Rattle.milter_protocol.specs.Steps.{Step}
 use Rattle.milter_protocol.specs.Exchanges.{Exchange, commands_of, onto}
@@ -29,6 +32,7 @@ use Rattle.milter_protocol.specs.Transcripts.{negotiated_by, negotiated_in, ends
 use Rattle.milter_protocol.specs.Replies.{replies_of_answer, replies_to}
 use Rattle.milter_protocol.specs.OrderStates.{rank_by}
 use Rattle.milter_protocol.specs.Dialogue.{has_end, is_body, is_closed, is_end_command, is_final, is_final_answer, is_left_out, dialogue_with}
+use Rattle.milter_protocol.specs.Verdicts.{is_final_at, is_refusal}
 use Rattle.milter_protocol.proofs.Sendable.{end_left}
 use Rattle.milter_protocol.proofs.TranscriptParts.{negotiated_in-cons, connection-cons, last_rank-cons, shown-cons}
 use Rattle.milter_mta_laws.specs.Lines.{line_of}
@@ -36,8 +40,9 @@ use Rattle.milter_mta_laws.specs.Settled.{ends_with_message}
 use Rattle.milter_mta_laws.specs.Dialogues.{opening_of}
 use Rattle.milter_mta_transaction.specs.PlanOrder.{AreInTurn}
 use Rattle.milter_mta_transaction.proofs.PlanOrders.{turn-higher}
-use Rattle.milter_world_transcript.specs.FilterTranscript.{IsAt, IsOver}
+use Rattle.milter_world_transcript.specs.FilterTranscript.{IsAt, IsOver, NoneWithin}
 use Rattle.milter_world_transcript.specs.Answered.{IsReplied, Replies}
+use Rattle.milter_world_transcript.proofs.PlanAborts.{none-higher}
 
 -- ---- truth values
 
@@ -91,6 +96,17 @@ goes_on e is on = by_command e.command refl is
     by_command commands.Abort f is = absurd (true≢false (sym is))
     by_command commands.QuitNew f is = absurd (true≢false (sym is))
     by_command other f is = rw f (no_end-at (stage_of other) e.answer (rw f at on))
+
+-- DATA that goes on isn't refused
+data-goes_on : (command : Command) (answer : Option Answer) → is_final_answer (stage_of command) answer ≡ false → is_refused_data command answer ≡ false
+data-goes_on commands.DataCmd None on = refl
+data-goes_on commands.DataCmd (Some answer) on = by_verdict answer.verdict on
+  where
+    by_verdict : (verdict : Verdict) → is_final_at stages.DataCmd verdict ≡ false → is_refusal verdict ≡ false
+    by_verdict verdicts.Continue on = refl
+    by_verdict verdicts.Skip on = refl
+    by_verdict other on = absurd (true≢false on)
+data-goes_on other answer on = refl
 
 -- ---- order
 
@@ -163,6 +179,13 @@ module _ (b : Behavior) (negotiated : Negotiated) (session : MailSession) where
         ap (λ (x : Step FilterEnd). x.replies) step-is
         ∙ p.replies b (negotiated_in b transcript) e.answer
 
+    alike : IsTakenAlike b (going transcript) (Ok command)
+    alike =
+        record {
+          none_within = ap (λ (o : Option Negotiated). is_within_message o (last_rank transcript) (Ok command)) at.negotiated_is ∙ at.none_within.0;
+          leaves = λ refused. absurd (true≢false (sym refused ∙ at.data_goes_on));
+        }
+
     pub is-replied : IsReplied b (going transcript) (line_of e)
     is-replied =
         record {
@@ -171,6 +194,7 @@ module _ (b : Behavior) (negotiated : Negotiated) (session : MailSession) where
           out_is = refl;
           serving = refl;
           no_fault = no_fault;
+          alike = alike;
           back_is = ap (flat_map replied.encoding) (sym replies-are);
         }
 
@@ -211,8 +235,13 @@ module _ (b : Behavior) (negotiated : Negotiated) (session : MailSession) where
           opened = let o = opened-then in omega arith;
           nothing_shown = λ end. shown-cons e transcript ∙ ap (λ (k : Bool). if k then of_connection (e ∷ transcript) else if is_shown command then command ∷ shown transcript else shown transcript) (ends-at end);
           low = λ end. subst (λ (n : ℕ). n ≤ 2) (sym (rank-at (ends-at end))) (omega arith);
+          data_went_on = λ end. no-data command e.answer end;
         }
       where
+        no-data : (c : Command) (answer : Option Answer) → is_end_command c ≡ true → is_refused_data c answer ≡ false
+        no-data (commands.Eob bytes) answer end = refl
+        no-data other answer end = absurd (true≢false (sym end))
+
         -- the end of a message has a verdict
         end-asked : (c : Command) → is_end_command c ≡ true → ends_message (next_of dialogue c) ≡ true
         end-asked (commands.Eob bytes) end = refl
@@ -243,6 +272,8 @@ module _ (b : Behavior) (negotiated : Negotiated) (session : MailSession) where
           shown_is = shown_now ∙ ap (λ (l : List Command). command ∷ l) at.shown_is;
           kept_is = kept-then;
           in_turn = subst (λ (n : ℕ). AreInTurn n left) (sym rank_now) at.in_turn.2;
+          none_within = subst (λ (n : ℕ). NoneWithin n left) (sym rank_now) at.none_within.1;
+          data_goes_on = data-goes_on command e.answer on;
           amount = subst (λ (l : List Command). bytes_of l + bytes_of left ≤ WEIGHT_MAX) (sym shown_now)
               (let f = bytes-cons command (shown transcript) in let g = bytes-cons command left in let a = at.amount in omega arith);
           opened = opened-then;
@@ -261,6 +292,8 @@ module _ (b : Behavior) (negotiated : Negotiated) (session : MailSession) where
           shown_is = at.shown_is;
           kept_is = at.kept_is;
           in_turn = turn-higher _ _ left (in_order-rank (last_rank transcript) command body at.in_turn.1) at.in_turn.2;
+          none_within = none-higher _ _ left (in_order-rank (last_rank transcript) command body at.in_turn.1) at.none_within.1;
+          data_goes_on = at.data_goes_on;
           amount = let g = bytes-cons command left in let a = at.amount in omega arith;
           opened = subst (λ (k : Bool). bytes_of (of_connection transcript) + bytes_of (cond k (command ∷ filter is_of_connection left) (filter is_of_connection left)) ≤ bytes_of (opening negotiated session))
               (body-inner command body) at.opened;

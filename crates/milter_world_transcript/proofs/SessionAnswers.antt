@@ -23,6 +23,7 @@ use Rattle.milter_protocol.specs.declared.filter_fault.FilterFault.TheVariants.{
 use Rattle.milter_protocol.specs.declared.filter_state.FilterState.TheVariants.{Serving}
 use Rattle.milter_protocol.specs.declared.limits.TheConstants.{VERSION_MIN}
 use Rattle.milter_protocol.specs.Behavior.{Behavior}
+use Rattle.milter_protocol.specs.Aborts.{is_after_refused_data, is_within_message}
 use Rattle.milter_protocol.specs.Commands.{is_of_connection}
 use Rattle.milter_protocol.specs.FilterEnds.{FilterEnd, answer_by, exchange_at, fault_at, next, start, step, step_by}
 use Rattle.milter_protocol.specs.Steps.{Step, silent}
@@ -31,6 +32,7 @@ use Rattle.milter_protocol.specs.Faults.{fault_of}
 use Rattle.milter_protocol.specs.Transcripts.{negotiated_in, last_rank, of_connection, shown}
 use Rattle.milter_protocol.specs.Replies.{options_reply, replies_to}
 use Rattle.milter_protocol.specs.Dialogue.{has_end, is_end_command, dialogue_with}
+use Rattle.milter_protocol.proofs.TakenAlike.{in-turn, left-by}
 use Rattle.milter_protocol.proofs.TranscriptParts.{negotiated_in-cons, connection-cons, last_rank-cons, shown-cons}
 use Rattle.milter_mta_laws.specs.Lines.{Line, abort_line, line_of, offer_line, quit_line}
 use Rattle.milter_mta_laws.specs.Sessions.{lines_after, lines_from, session_lines}
@@ -40,6 +42,7 @@ use Rattle.milter_world_transcript.specs.FilterTranscript.{IsAt, IsOver}
 use Rattle.milter_world_transcript.specs.Answered.{IsReplied, Replies}
 use Rattle.milter_mta_transaction.proofs.PlanOrders.{message-of, plan-bytes, plan-of, plan-within, turn-higher, within-message}
 use Rattle.milter_world_transcript.proofs.DialogueAnswers.{joined}
+use Rattle.milter_world_transcript.proofs.PlanAborts.{none-higher, none-message, none-plan}
 
 -- ---- lines one after the other
 
@@ -108,6 +111,7 @@ module _ (to_end : GoToTheEnd) (b : Behavior) (negotiated : Negotiated) (s : Mai
     kept_is : of_connection transcript ≡ commands_of (opening_of dialogue)
     opened : bytes_of (of_connection transcript) ≤ bytes_of (opening negotiated s)
     low : last_rank transcript ≤ 2
+    data_went_on : is_after_refused_data transcript ≡ false
 
   at-next : (transcript dialogue : List Exchange) → IsBetween transcript dialogue → (m : MailObject) → IsGood m → IsAt b negotiated s transcript (opening_of dialogue) (steps_of m)
   at-next transcript dialogue between m good =
@@ -116,6 +120,8 @@ module _ (to_end : GoToTheEnd) (b : Behavior) (negotiated : Negotiated) (s : Mai
         shown_is = between.shown_is;
         kept_is = between.kept_is ∙ ap commands_of (sym (again dialogue));
         in_turn = turn-higher (last_rank transcript) 2 (steps_of m) between.low (within-message negotiated (macros_of negotiated s) m).in_turn;
+        none_within = none-higher (last_rank transcript) 2 (steps_of m) between.low (none-message negotiated (macros_of negotiated s) m);
+        data_goes_on = between.data_went_on;
         amount = subst (λ (l : List Command). bytes_of l + bytes_of (steps_of m) ≤ WEIGHT_MAX) (between.kept_is ∙ sym between.shown_is)
             (let l = plan-light m good in let p = plan-bytes negotiated s m in let o = between.opened in omega arith);
         opened = subst (λ (l : List Command). bytes_of (of_connection transcript) + bytes_of l ≤ bytes_of (opening negotiated s)) (sym (message-of negotiated (macros_of negotiated s) m))
@@ -140,6 +146,7 @@ module _ (to_end : GoToTheEnd) (b : Behavior) (negotiated : Negotiated) (s : Mai
           out_is = refl;
           serving = refl;
           no_fault = quit-fault;
+          alike = left-by (ap (λ (o : Option Negotiated). is_within_message o (last_rank transcript) (Ok commands.Quit)) has) refl;
           back_is = ap (flat_map replied.encoding) (sym (ap (λ (f : Option FilterFault). (step_by b transcript (Ok commands.Quit) f).replies) quit-fault ∙ quit-none));
         },
         refl,
@@ -174,6 +181,7 @@ module _ (to_end : GoToTheEnd) (b : Behavior) (negotiated : Negotiated) (s : Mai
           out_is = refl;
           serving = refl;
           no_fault = abort-fault;
+          alike = left-by (ap (λ (o : Option Negotiated). is_within_message o (last_rank transcript) (Ok commands.Abort)) has) refl;
           back_is = ap (λ (x : Step FilterEnd). flat_map replied.encoding x.replies) (sym abort-step);
         }
 
@@ -188,6 +196,7 @@ module _ (to_end : GoToTheEnd) (b : Behavior) (negotiated : Negotiated) (s : Mai
         kept_is = kept ∙ over.kept_is;
         opened = subst (λ (l : List Command). bytes_of l ≤ bytes_of (opening negotiated s)) (sym kept) over.opened;
         low = subst (λ (n : ℕ). n ≤ 2) (sym (last_rank-cons gone transcript)) (omega arith);
+        data_went_on = refl;
       }
 
   between-ended : (transcript dialogue : List Exchange) → IsOver b negotiated s transcript dialogue → ends_with_message dialogue ≡ true → IsBetween transcript dialogue
@@ -198,6 +207,7 @@ module _ (to_end : GoToTheEnd) (b : Behavior) (negotiated : Negotiated) (s : Mai
         kept_is = over.kept_is;
         opened = over.opened;
         low = over.low end;
+        data_went_on = over.data_went_on end;
       }
 
   -- ---- after a message
@@ -261,6 +271,7 @@ module _ (to_end : GoToTheEnd) (b : Behavior) (offer : Options) (s : MailSession
         out_is = refl;
         serving = refl;
         no_fault = offer-fault;
+        alike = in-turn refl refl;
         back_is = sym (ap (λ (x : Step FilterEnd). flat_map replied.encoding x.replies) offer-step ∙ one (options_reply g));
       }
     where
@@ -275,6 +286,8 @@ module _ (to_end : GoToTheEnd) (b : Behavior) (offer : Options) (s : MailSession
         shown_is = refl;
         kept_is = refl;
         in_turn = (plan-within g s m).in_turn;
+        none_within = none-plan g s m;
+        data_goes_on = refl;
         amount = let l = plan-light to_end b g s is m good in omega arith;
         opened = subst (λ (l : List Command). bytes_of [] + bytes_of l ≤ bytes_of (opening g s)) (sym (plan-of g s m)) (omega arith);
         fits = plan-fits to_end b g s is m good;

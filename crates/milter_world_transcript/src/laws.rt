@@ -10,14 +10,14 @@ ghost use Rattle.milter_message.specs.MailObject.{MailObject};
 ghost use Rattle.milter_mail.specs.MailSession.{IsSendable, IsSession, MailSession};
 ghost use Rattle.milter_protocol.specs.declared.command_order.CommandOrder.{CommandOrder as Order};
 ghost use Rattle.milter_protocol.specs.declared.command_order.CommandOrder.TheVariants.{Lenient, Strict};
-ghost use Rattle.milter_protocol.specs.Aborts.{NoneWithinMessage};
+ghost use Rattle.milter_protocol.specs.Aborts.{AreTakenAlike};
 ghost use Rattle.milter_protocol.specs.Behavior.{Behavior};
 ghost use Rattle.milter_protocol.specs.FilterEnds.{FilterEnd, start};
 ghost use Rattle.milter_protocol.specs.declared.filter_state.FilterState.TheVariants.{Serving};
 ghost use Rattle.milter_protocol.specs.declared.limits.TheConstants.{VERSION_MIN};
 ghost use Rattle.milter_protocol.specs.Exchanges.{Exchange, onto};
 ghost use Rattle.milter_protocol.specs.Dialogue.{has_end, dialogue_with};
-ghost use Rattle.milter_filter_core.specs.Streams.{filter_end_of, received_in, reply_bytes};
+ghost use Rattle.milter_filter_stream.specs.Streams.{filter_end_of, received_in, reply_bytes};
 ghost use Rattle.milter_mta_laws.specs.Lines.{Line, line_of};
 ghost use Rattle.milter_mta_laws.specs.Sessions.{session_lines};
 ghost use Rattle.milter_world_transcript.specs.Answered.{AnswersLines, Replies};
@@ -48,12 +48,12 @@ pub fn entries_of_sessions()
 {}
 
 /// A filter's end that replies so to commands, line by line, does so to their bytes, at each byte and in whichever
-/// order it takes commands, as no greeting and no sender of them comes within a message.
+/// order it takes commands, as they are taken alike in both.
 pub fn bytes_are_answered()
     ensures answered { (order : Order) (b : Behavior) (lines : List Line) (new : FilterEnd) →
         Replies b start lines new → AnswersLines order b lines }
-    ensures none_within { (b : Behavior) (lines : List Line) (new : FilterEnd) (taken : ℕ) →
-        Replies b start lines new → NoneWithinMessage b start (received_in (take taken (to_filter lines))) }
+    ensures alike { (b : Behavior) (lines : List Line) (new : FilterEnd) (taken : ℕ) →
+        Replies b start lines new → AreTakenAlike b start (received_in (take taken (to_filter lines))) }
 {
     command_frames();
     order_states_of_filter_ends();
@@ -70,7 +70,7 @@ pub fn dialogues_are_answered()
 {}
 
 /// What a filter's end replies to the packets of a session, whichever policy it has, is the dialogue about each
-/// message, line by line; none of them is a fault to it.
+/// message, line by line; none of them is a fault to it, and each is taken alike in either order.
 pub fn sessions_are_replied_to()
     ensures { (b : Behavior) (offer : Options) (session : MailSession) (messages : List MailObject) →
         IsSession session → VERSION_MIN ≤ offer.version → Fits (commands.Options offer) →
@@ -92,19 +92,19 @@ pub fn sessions_are_answered()
     sessions_are_replied_to();
 }
 
-/// A mail server sends no greeting and no sender within a message, whichever policy the filter has: at each byte of a
-/// session a filter's end that takes commands in the lenient order has come as far as one in the strict order, and has
-/// replied the same bytes.
+/// A mail server sends no greeting and no sender within a message, nor macros of one, and after a DATA command that was
+/// refused it leaves the message, whichever policy the filter has: at each byte of a session a filter's end that takes
+/// commands in the lenient order has come to the same state as one in the strict order, and has replied the same bytes.
 pub fn sessions_need_no_aborts()
-    ensures none_within { (b : Behavior) (offer : Options) (session : MailSession) (messages : List MailObject)
+    ensures alike { (b : Behavior) (offer : Options) (session : MailSession) (messages : List MailObject)
         (taken : ℕ) → IsSession session → VERSION_MIN ≤ offer.version → Fits (commands.Options offer) →
         All (IsSendable session.client session.helo session.macros) messages →
-        NoneWithinMessage b start (received_in (take taken (to_filter (session_lines b offer session messages)))) }
-    ensures filter_end { (b : Behavior) (offer : Options) (session : MailSession) (messages : List MailObject)
+        AreTakenAlike b start (received_in (take taken (to_filter (session_lines b offer session messages)))) }
+    ensures state { (b : Behavior) (offer : Options) (session : MailSession) (messages : List MailObject)
         (taken : ℕ) → IsSession session → VERSION_MIN ≤ offer.version → Fits (commands.Options offer) →
         All (IsSendable session.client session.helo session.macros) messages →
-        filter_end_of Lenient b (take taken (to_filter (session_lines b offer session messages)))
-        ≡ filter_end_of Strict b (take taken (to_filter (session_lines b offer session messages))) }
+        (filter_end_of Lenient b (take taken (to_filter (session_lines b offer session messages)))).state
+        ≡ (filter_end_of Strict b (take taken (to_filter (session_lines b offer session messages)))).state }
     ensures replies { (b : Behavior) (offer : Options) (session : MailSession) (messages : List MailObject)
         (taken : ℕ) → IsSession session → VERSION_MIN ≤ offer.version → Fits (commands.Options offer) →
         All (IsSendable session.client session.helo session.macros) messages →

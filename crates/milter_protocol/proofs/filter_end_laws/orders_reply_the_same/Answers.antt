@@ -1,8 +1,5 @@
-use Rattle.milter_protocol.proofs.CommandsInTurn.{none-beginning, out_of_order, replies-are, state-is, taken-is}
+use Rattle.milter_protocol.proofs.TakenAlike.{alike-beginning, out_of_order, replies-are, state-is}
 use Rattle.milter_protocol.proofs.filter_end_laws.orders_reply_the_same.Goals as goal
-
-pub returns-clause-taken : goal.returns-clause-taken
-returns-clause-taken c = taken-is
 
 pub returns-clause-state : goal.returns-clause-state
 returns-clause-state c = state-is
@@ -11,7 +8,7 @@ pub returns-clause-replies : goal.returns-clause-replies
 returns-clause-replies c = replies-are
 
 pub returns-clause-beginning : goal.returns-clause-beginning
-returns-clause-beginning c = none-beginning
+returns-clause-beginning c = alike-beginning
 
 pub returns-clause-out_of_order : goal.returns-clause-out_of_order
 returns-clause-out_of_order c = out_of_order

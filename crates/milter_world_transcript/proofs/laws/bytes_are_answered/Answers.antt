@@ -4,10 +4,10 @@ use Rattle.milter_world_transcript.proofs.laws.bytes_are_answered.Goals as goal
 
 pub returns-clause-answered : goal.returns-clause-answered
 returns-clause-answered c = λ order b lines new r.
-    answers-lines c.command_frames.ensures.computed c.command_frames.ensures.frame c.orders_reply_the_same.ensures.out_of_order b
+    answers-lines c.command_frames.ensures.computed c.command_frames.ensures.frame b
     c.order_states_of_filter_ends.ensures.order_state c.order_states_of_filter_ends.ensures.replies (c.order_states_of_filter_ends.ensures.fresh b)
     (record { state = c.orders_reply_the_same.ensures.state b; replies = c.orders_reply_the_same.ensures.replies b }) order lines new r
 
-pub returns-clause-none_within : goal.returns-clause-none_within
-returns-clause-none_within c = λ b lines new taken r.
-    (answers c.command_frames.ensures.computed c.command_frames.ensures.frame c.orders_reply_the_same.ensures.out_of_order b lines start new r taken).none_within
+pub returns-clause-alike : goal.returns-clause-alike
+returns-clause-alike c = λ b lines new taken r.
+    (answers c.command_frames.ensures.computed c.command_frames.ensures.frame b lines start new r taken).alike

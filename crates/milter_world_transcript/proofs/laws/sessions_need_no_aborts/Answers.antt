@@ -4,20 +4,20 @@ use Rattle.milter_mta_laws.specs.Sessions.{session_lines}
 use Rattle.milter_world_transcript.specs.ByteCounts.{to_filter}
 use Rattle.milter_world_transcript.proofs.laws.sessions_need_no_aborts.Goals as goal
 
-none-within : goal.returns-clause-none_within
-none-within c = λ b offer s messages taken is known fits good.
+alike : goal.returns-clause-alike
+alike c = λ b offer s messages taken is known fits good.
     let ends = c.sessions_are_replied_to.ensures b offer s messages is known fits good in
-    c.bytes_are_answered.ensures.none_within b (session_lines b offer s messages) ends.0 taken ends.1
+    c.bytes_are_answered.ensures.alike b (session_lines b offer s messages) ends.0 taken ends.1
 
-pub returns-clause-none_within : goal.returns-clause-none_within
-returns-clause-none_within = none-within
+pub returns-clause-alike : goal.returns-clause-alike
+returns-clause-alike = alike
 
-pub returns-clause-filter_end : goal.returns-clause-filter_end
-returns-clause-filter_end c = λ b offer s messages taken is known fits good.
-    c.orders_reply_the_same_bytes.ensures.filter_end b Lenient (take taken (to_filter (session_lines b offer s messages)))
-    (none-within c b offer s messages taken is known fits good)
+pub returns-clause-state : goal.returns-clause-state
+returns-clause-state c = λ b offer s messages taken is known fits good.
+    c.orders_reply_the_same_bytes.ensures.state b Lenient (take taken (to_filter (session_lines b offer s messages)))
+    (alike c b offer s messages taken is known fits good)
 
 pub returns-clause-replies : goal.returns-clause-replies
 returns-clause-replies c = λ b offer s messages taken is known fits good.
     c.orders_reply_the_same_bytes.ensures.replies b Lenient (take taken (to_filter (session_lines b offer s messages)))
-    (none-within c b offer s messages taken is known fits good)
+    (alike c b offer s messages taken is known fits good)
