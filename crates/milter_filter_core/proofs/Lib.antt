@@ -1,9 +1,4 @@
-pub mod MacroLists
-pub mod EditPackets
-pub mod NegotiatedOptions
-pub mod PacketCommands
-pub mod LengthFaults
-pub mod PieceStreams
-pub mod Progress
-pub mod FirstReplies
+pub mod EndedStates
 pub mod CutInputs
+pub mod PolicyCores
+pub mod ConversationInputs

@@ -1,7 +1,1 @@
-pub mod MacroLists
-pub mod SeenParts
-pub mod PassLaw
-pub mod Streams
 pub mod Cores
-pub mod AskedPolicy
-pub mod AnswerPackets

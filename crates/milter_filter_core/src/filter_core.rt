@@ -1,16 +1,19 @@
 //! A filter's end of a connection, over any policy.
 
-ghost use Rattle.std.specs.Prelude.{◌≡◌, ◌≢◌, ◌≤◌, ◌++◌, [], Err, IfErr, IfOk, Ok, drop, length};
+ghost use Rattle.std.specs.Prelude.{◌≡◌, ◌≢◌, ◌≤◌, ◌++◌, [], Err, IfErr, IfOk, None, Ok, OnErr, OnOk, Some, drop, length};
 ghost use Rattle.milter_protocol.specs.declared.filter_fault.FilterFault.{FilterFault as Fault};
 ghost use Rattle.milter_protocol.specs.declared.filter_fault.FilterFault.TheVariants as faults;
 ghost use Rattle.milter_protocol.specs.declared.filter_state.FilterState.TheVariants.{Failed, Quit, Serving};
-ghost use Rattle.milter_filter_core.specs.Streams.{received_in};
+ghost use Rattle.milter_protocol.specs.Questions.{answer_step, wanted_of};
+ghost use Rattle.milter_filter_stream.specs.Conversations.{failed_stream, stream_by};
+ghost use Rattle.milter_filter_stream.specs.Streams.{received_in};
 
-use crate::pieces::take_piece;
-use crate::policy::Policy;
-use crate::replier::Replier;
+use crate::policy_answer::answer_at_once;
+use milter_filter_answer::WantsRef;
+use milter_filter_policy::Policy;
+use milter_filter_stream::FilterStream;
 use milter_protocol::{CommandOrder, FilterFault, FilterState};
-use milter_wire::{NoMemory, Splitter};
+use milter_wire::{NoMemory, Stage};
 use std::alloc::Global;
 use std::marker::Model;
 
@@ -18,53 +21,51 @@ use std::marker::Model;
 /// replies that its policy calls for, by what was negotiated. It neither reads nor writes.
 #[derive(Drop)]
 pub struct FilterCore<'p, P: Policy> {
-    splitter: Splitter,
-    replier: Replier<'p, P>,
-    // How many bytes of the replies were sent.
-    sent: usize,
+    alloc: Global,
+    policy: &'p P,
+    wants: WantsRef<'p>,
+    stream: FilterStream,
 }
 
 impl<'p, P: Policy> Model for FilterCore<'p, P> {
-    ghost use Rattle.std.specs.Prelude.{◌≡◌, ◌≤◌, drop, length};
-    ghost use Rattle.milter_protocol.specs.declared.filter_state.FilterState.TheVariants.{Serving};
+    ghost use Rattle.std.specs.Prelude.{◌≡◌, None};
     ghost use Rattle.milter_filter_core.specs.Cores.{Core};
-    ghost use Rattle.milter_filter_core.specs.AnswerPackets.{IsUnread};
+    ghost use Rattle.milter_protocol.specs.Questions.{wanted_of};
 
     ghost Value = { Core P };
 
     ghost view = { λ c. record {
-      policy = c.replier.policy;
-      order_state = c.replier.order_state;
-      unread = c.splitter;
-      pending = drop c.sent c.replier.pending;
+      policy = c.policy.now;
+      order_state = c.stream.state.order_state;
+      unread = c.stream.unread;
+      pending = c.stream.pending;
     } };
 
-    ghost invariant = { λ c. (c.replier.order_state.state ≡ Serving → IsUnread c.splitter)
-        × (c.sent ≤ length c.replier.pending) };
+    ghost invariant = { λ c. (c.wants ≡ wanted_of (P.behavior c.policy.now))
+        × (c.stream.state.asked ≡ None) };
 }
 
 impl<'p, P: Policy> FilterCore<'p, P> {
     ghost use Rattle.milter_filter_core.specs.Cores.{GivesUp, Takes, fresh_core, fresh_core_in, given_up};
 
-    /// A connection of which nothing has come, and which takes commands in the strict order. It takes room for one
-    /// packet, 65,540 bytes.
+    /// A connection of which nothing has come, and which takes commands in the strict order. It always answers `Ok`,
+    /// and doesn't allocate.
     pub fn new(alloc: Global, policy: &'p P) -> Result<Self, NoMemory>
         ensures { IfOk result (λ core. core ≡ fresh_core policy.now) }
     {
         FilterCore::with_order(alloc, policy, CommandOrder::Strict)
     }
 
-    /// A connection of which nothing has come, and which takes commands in this order: in the lenient one it replies to
-    /// a greeting or a sender that comes within a message as the strict one does with an abort before it. It takes room
-    /// for one packet, 65,540 bytes. Source: libmilter (the states that may follow one another).
+    /// A connection of which nothing has come, and which takes commands in this order. It always answers `Ok`, and
+    /// doesn't allocate. Source: libmilter (the states that may follow one another).
     pub fn with_order(alloc: Global, policy: &'p P, order: CommandOrder) -> Result<Self, NoMemory>
         ensures { IfOk result (λ core. core ≡ fresh_core_in order policy.now) }
     {
-        let splitter = Splitter::new(alloc)?;
         Ok(FilterCore {
-            splitter,
-            replier: Replier::new(alloc, policy, order),
-            sent: 0,
+            alloc,
+            policy,
+            wants: wants_of(policy),
+            stream: FilterStream::new(alloc, order),
         })
     }
 
@@ -74,23 +75,23 @@ impl<'p, P: Policy> FilterCore<'p, P> {
     pub fn restart(&mut self, policy: &'p P, order: CommandOrder)
         ensures { self.new ≡ fresh_core_in order policy.now }
     {
-        self.splitter.clear();
-        self.replier.restart(policy, order);
-        self.sent = 0;
+        self.policy = policy;
+        self.wants = wants_of(policy);
+        self.stream.restart(order);
     }
 
     /// The policy that it has. Doesn't allocate.
     pub fn policy(&self) -> &'p P
         ensures { result.now ≡ self.now.policy }
     {
-        self.replier.policy()
+        self.policy
     }
 
     /// The bytes of replies that wait to be sent. Doesn't allocate.
     pub fn pending(&self) -> &[u8]
         ensures { result.now ≡ self.now.pending }
     {
-        &self.replier.pending()[self.sent..]
+        self.stream.pending()
     }
 
     /// Notes that the first `count` bytes of what waits were sent. Doesn't allocate.
@@ -98,9 +99,7 @@ impl<'p, P: Policy> FilterCore<'p, P> {
         requires { count ≤ length self.old.pending }
         ensures { self.new ≡ record self.old { pending = drop count self.old.pending } }
     {
-        // No more bytes are sent than there are, so the sum has no overflow.
-        let _all = self.replier.pending().len();
-        self.sent += count;
+        self.stream.sent(count);
     }
 
     /// How many bytes were taken and not handed out: those of a packet that isn't whole yet, or after a length at fault
@@ -108,14 +107,14 @@ impl<'p, P: Policy> FilterCore<'p, P> {
     pub fn unread(&self) -> usize
         ensures { result ≡ length self.now.unread }
     {
-        self.splitter.unread()
+        self.stream.unread()
     }
 
     /// Whether it goes on. Doesn't allocate.
     pub fn state(&self) -> FilterState
         ensures { result ≡ self.now.order_state.state }
     {
-        self.replier.state()
+        self.stream.state()
     }
 
     /// Takes bytes from the start of a piece of what the mail server sends, and answers how many. While replies wait
@@ -138,11 +137,11 @@ impl<'p, P: Policy> FilterCore<'p, P> {
             GivesUp (P.behavior self.old.policy) self.old.order_state (received_in (self.old.unread ++ piece.now))
             fault) }
     {
-        match self.replier.state() {
+        match self.stream.state() {
             FilterState::Failed(fault) => Err(fault),
             FilterState::Quit => Ok(piece.len()),
             FilterState::Serving => {
-                if !self.pending().is_empty() {
+                if !self.stream.pending().is_empty() {
                     return Ok(0);
                 }
                 self.take(piece)
@@ -151,6 +150,7 @@ impl<'p, P: Policy> FilterCore<'p, P> {
     }
 
     /// Takes bytes of a piece where it serves and nothing waits to be sent.
+    #[inline(always)]
     fn take(&mut self, piece: &[u8]) -> Result<usize, FilterFault>
         requires serving { self.old.order_state.state ≡ Serving }
         requires nothing_pending { self.old.pending ≡ [] }
@@ -161,24 +161,29 @@ impl<'p, P: Policy> FilterCore<'p, P> {
             fault) }
     {
         let FilterCore {
-            splitter,
-            replier,
-            sent,
+            alloc,
+            policy,
+            wants,
+            stream,
         } = self;
-        replier.clear_pending();
-        *sent = 0;
-        let policy = replier.policy();
-        let taken = match take_piece(splitter, replier, piece) {
+        let taken = match stream.take(wants, piece) {
             Ok(taken) => taken,
-            Err(fault) => {
-                replier.fail(policy, fault);
-                return Err(fault);
-            }
+            Err(fault) => return Err(fault),
         };
-        if replier.is_serving() {
+        let Some(stage) = stream.asked() else {
             return Ok(taken);
+        };
+        if let Err(_) = answer_at_once(*alloc, *policy, stream, stage) {
+            stream.give_up();
+            return Err(FilterFault::NoMemory);
         }
-        splitter.clear();
-        Ok(piece.len())
+        Ok(taken)
     }
+}
+
+/// What the policy wants.
+fn wants_of<P: Policy>(policy: &P) -> WantsRef<'_>
+    ensures { result ≡ wanted_of (P.behavior policy.now) }
+{
+    WantsRef::new(policy.wants(), policy.lists())
 }

@@ -1,0 +1,3 @@
+pub mod EditPackets
+pub mod NegotiatedOptions
+pub mod PacketLengths

@@ -1,0 +1,2 @@
+pub mod AnswerFaults
+pub mod WantsFaults

@@ -1,0 +1,3 @@
+pub mod MacroLists
+pub mod SeenParts
+pub mod PassLaw

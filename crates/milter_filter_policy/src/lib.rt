@@ -1,0 +1,13 @@
+//! What a filter's author writes, and what it decides by: a [`Policy`] answers at each stage of a connection by what is
+//! [`Seen`] there, which a filter's end fills command by command. What was searched for once isn't searched for again.
+#![tactic(auto)]
+
+mod macro_list;
+mod pass;
+mod policy;
+mod seen;
+
+pub use milter_filter_search::{Pattern, Test, TextCase};
+pub use pass::Pass;
+pub use policy::Policy;
+pub use seen::Seen;
