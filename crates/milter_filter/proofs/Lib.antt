@@ -1,1 +1,5 @@
 pub mod ServedBytes
+mod Turns
+mod Taken
+mod Replied
+mod Answered

@@ -1,7 +1,7 @@
 -- What serving a connection does, piece by piece.
-use Rattle.std.proofs.Common.{◌≡◌, ◌≢◌, ℕ, List, [], ◌++◌, length, take, drop, Bool, true, false, Option, refl, sym, ◌∙◌, ap, subst, append_assoc, append-nil, take-append-drop}
+use Rattle.std.proofs.Common.{◌≡◌, ◌≢◌, ℕ, List, [], ◌++◌, length, take, Option, refl, sym, ◌∙◌, ap, subst, append_assoc, append-nil}
 use Rattle.std.specs.Io.KnownBytes.{Appends, Consumes, IsAtEnd, Keeps}
-use Rattle.std.proofs.KnownBytes.{Appends-kept, Appends-nil, Appends-trans, Consumes-kept, Consumes-nil, Consumes-trans}
+use Rattle.std.proofs.KnownBytes.{Appends-nil, Appends-trans, Consumes-kept, Consumes-nil, Consumes-trans}
 use Rattle.milter_wire_stream.specs.Stream.{IsUnfinished, divide}
 use Rattle.milter_protocol.specs.Behavior.{Behavior}
 use Rattle.milter_protocol.specs.declared.command_order.CommandOrder.{CommandOrder}
@@ -12,9 +12,9 @@ use Rattle.milter_protocol.specs.OrderStates.{OrderState}
 use Rattle.milter_filter.specs.declared.served.Served.{Served}
 use Rattle.milter_filter.specs.declared.served.Served.TheVariants as ends
 use Rattle.milter_filter_core.specs.Cores.{Core, GivesUp, GoesOn, Takes, fresh_core_in, given_up}
-use Rattle.milter_filter.specs.ServedPieces.{CutOff, Goes, PieceCut, PieceServed, Sends}
+use Rattle.milter_filter.specs.ServedPieces.{CutOff, Goes, PieceCut, PieceServed, Writes}
 use Rattle.milter_filter.specs.ServedConnections.{RepliedAs, RepliedInPart, RepliedToPart, Serves}
-use Rattle.milter_filter_core.specs.Streams.{filter_end_of, received_in, reply_bytes}
+use Rattle.milter_filter_stream.specs.Streams.{filter_end_of, received_in, reply_bytes}
 use Rattle.milter_filter_core.proofs.CutInputs.{goes_on-gives_up, goes_on-joins, goes_on-takes, replies-add, replies-from, state-from, stays}
 
 -- ---- the states of a connection
@@ -28,40 +28,6 @@ serving-or-quit s going on = by_state s.state refl
     by_state (Failed fault) is = absurd (going fault is)
 
 module _ {P : Type 0} where
-  -- ---- one write after the other
-
-  pub sends-none : (core : Core P) (a : Option (List ℕ)) → Sends core core a a false
-  sends-none core a = record { sent = []; was_written = Appends-nil a; core = refl; whole = refl; nothing_pending = λ never. absurd cc }
-
-  pub sends-more : (n : ℕ) (old mid : Core P) (a b c : Option (List ℕ)) → Sends old mid a b false → Appends b c (take n mid.pending)
-      → Sends old (record mid { pending = drop n mid.pending }) a c false
-  sends-more n old mid a b c s p = record {
-    sent = s.sent ++ take n mid.pending;
-    was_written = Appends-trans a b c _ _ s.was_written p;
-    core = ap (λ (core : Core P). record core { pending = drop n mid.pending }) s.core;
-    whole = append_assoc s.sent _ _ ∙ ap (λ xs. s.sent ++ xs) (take-append-drop n mid.pending) ∙ s.whole;
-    nothing_pending = λ never. absurd cc;
-  }
-
-  -- a write that failed, and one that took nothing
-  pub sends-stuck : (old mid : Core P) (a b c : Option (List ℕ)) → Sends old mid a b false → Keeps b c → Sends old mid a c false
-  sends-stuck old mid a b c s kept = record {
-    sent = s.sent;
-    was_written = Appends-kept a b c _ s.was_written kept;
-    core = s.core;
-    whole = s.whole;
-    nothing_pending = s.nothing_pending;
-  }
-
-  pub sends-done : (old mid : Core P) (a b : Option (List ℕ)) → Sends old mid a b false → mid.pending ≡ [] → Sends old mid a b true
-  sends-done old mid a b s none = record {
-    sent = s.sent;
-    was_written = s.was_written;
-    core = s.core;
-    whole = s.whole;
-    nothing_pending = λ done. none;
-  }
-
   -- ---- a part of a piece after the other
 
   -- what was written is off what waits
@@ -93,11 +59,11 @@ module _ {P : Type 0} where
   }
 
   module _ (b : Behavior) (old core : Core P) (taken : List ℕ) (w v : Option (List ℕ)) (p : Goes b old taken core w v) (none : core.pending ≡ []) where
-    pub goes-step : (mid new : Core P) (rest : List ℕ) (n : ℕ) (u : Option (List ℕ)) (done : Bool) → Takes b core rest n mid → Sends mid new v u done
+    pub goes-step : (mid new : Core P) (rest : List ℕ) (n : ℕ) (u : Option (List ℕ)) → Takes b core rest n mid → new ≡ record mid { pending = new.pending } → Writes mid.pending new.pending v u
         → Goes b old (taken ++ take n rest) new w u
-    goes-step mid new rest n u done t s = record {
+    goes-step mid new rest n u t is s = record {
       sent = p.sent ++ s.sent;
-      goes_on = goes_on-written b old mid new (taken ++ take n rest) p.sent s.sent (goes_on-takes b old core taken p.sent p.goes_on mid rest n none t) s.core s.whole;
+      goes_on = goes_on-written b old mid new (taken ++ take n rest) p.sent s.sent (goes_on-takes b old core taken p.sent p.goes_on mid rest n none t) is s.whole;
       was_written = Appends-trans w v u _ _ p.was_written s.was_written;
     }
 

@@ -1,2 +1,3 @@
 pub mod ServedConnections
 pub mod ServedPieces
+pub mod Connections

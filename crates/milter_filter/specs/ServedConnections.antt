@@ -9,7 +9,7 @@ use Rattle.milter_protocol.specs.declared.filter_state.FilterState.{FilterState}
 use Rattle.milter_protocol.specs.declared.filter_state.FilterState.TheVariants as states
 use Rattle.milter_filter.specs.declared.served.Served.{Served}
 use Rattle.milter_filter.specs.declared.served.Served.TheVariants.{Quit, Ended, Failed, ReadFault, WriteFault, TurnLimit}
-use Rattle.milter_filter_core.specs.Streams.{filter_end_of, reply_bytes}
+use Rattle.milter_filter_stream.specs.Streams.{filter_end_of, reply_bytes}
 
 -- by what connections are served one after another: a policy, and the order in which commands are taken
 pub record ServedBy (P : Type 0) : Type 0 where

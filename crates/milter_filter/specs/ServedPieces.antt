@@ -1,5 +1,5 @@
 -- What serving one piece of the input does, of which the contract of serving a connection is made.
-use Rattle.std.specs.Prelude.{◌≡◌, ◌≢◌, ℕ, Bool, true, List, [], ◌++◌, Option}
+use Rattle.std.specs.Prelude.{◌≡◌, ◌≢◌, ℕ, List, [], ◌++◌, Option}
 use Rattle.std.specs.Io.KnownBytes.{Appends}
 use Rattle.milter_protocol.specs.Behavior.{Behavior}
 use Rattle.milter_protocol.specs.declared.filter_fault.FilterFault.{FilterFault as Fault}
@@ -9,13 +9,11 @@ use Rattle.milter_filter.specs.declared.served.Served.{Served}
 use Rattle.milter_filter.specs.declared.served.Served.TheVariants.{Failed, WriteFault}
 use Rattle.milter_filter_core.specs.Cores.{Core, GoesOn, given_up}
 
--- these bytes of what waits were written, and all of it where it is done
-pub record Sends {P : Type 0} (old new : Core P) (written all : Option (List ℕ)) (done : Bool) : Type 0 where
+-- the first of the bytes that were pending were written, and these are left
+pub record Writes (pending left : List ℕ) (written all : Option (List ℕ)) : Type 0 where
   pub sent : List ℕ
   pub was_written : Appends written all sent
-  pub core : new ≡ record old { pending = new.pending }
-  pub whole : sent ++ new.pending ≡ old.pending
-  pub nothing_pending : done ≡ true → new.pending ≡ []
+  pub whole : sent ++ left ≡ pending
 
 -- the core goes on by these bytes, and what was sent was written
 pub record Goes {P : Type 0} (b : Behavior) (old : Core P) (input : List ℕ) (new : Core P)

@@ -1,13 +1,14 @@
 //! A filter's end of a connection over a reader and a writer.
 
-ghost use Rattle.std.specs.Prelude.{◌≡◌, ◌<◌, ◌↔◌, [], IfErr, IfOk, IsTrue, OnOk, length};
+ghost use Rattle.std.specs.Prelude.{◌≡◌, ◌<◌, ◌↔◌, [], IfErr, IfOk, IsTrue, OnOk, length, true};
 ghost use Rattle.milter_wire_stream.specs.Stream.{IsUnfinished};
 ghost use Rattle.milter_protocol.specs.declared.filter_state.FilterState.TheVariants.{Quit, Serving};
 ghost use Rattle.milter_protocol.specs.declared.command_order.CommandOrder.TheVariants.{Strict};
 ghost use Rattle.milter_filter_core.specs.Cores.{fresh_core_in};
 ghost use Rattle.milter_filter.specs.ServedConnections.{Serves};
-ghost use Rattle.milter_filter.specs.ServedPieces.{CutOff, PieceServed, Sends};
+ghost use Rattle.milter_filter.specs.ServedPieces.{CutOff, PieceServed, Writes};
 
+use crate::output::write_now;
 use crate::served::Served;
 use milter_filter_core::{CommandOrder, FilterCore, FilterFault, FilterState, Policy};
 use milter_wire::{NoMemory, READ_LEN_MAX, read_buffer};
@@ -223,13 +224,11 @@ fn serve_piece<P: Policy, W: Write>(
 
 /// Writes what waits to be sent, and answers whether all of it was written.
 fn write_pending<P: Policy, W: Write>(core: &mut FilterCore<'_, P>, writer: &mut W) -> bool
-    ensures { Sends core.old core.new (W.contents writer.old) (W.contents writer.new) result }
+    ensures writes { Writes core.old.pending core.new.pending (W.contents writer.old) (W.contents writer.new) }
+    ensures rest { core.new ≡ record core.old { pending = core.new.pending } }
+    ensures whole { result ≡ true → core.new.pending ≡ [] }
 {
-    while !core.pending().is_empty() {
-        match writer.write(core.pending()) {
-            Ok(0) | Err(_) => return false,
-            Ok(count) => core.sent(count),
-        }
-    }
-    true
+    let written = write_now(core.pending(), writer);
+    core.sent(written.count);
+    core.pending().is_empty()
 }

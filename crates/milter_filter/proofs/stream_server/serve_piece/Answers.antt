@@ -4,7 +4,7 @@ use Rattle.milter_protocol.specs.declared.filter_fault.FilterFault.{FilterFault}
 use Rattle.milter_protocol.specs.declared.filter_state.FilterState.TheVariants.{Failed, Serving}
 use Rattle.milter_filter_core.specs.Cores.{Core, GivesUp, Takes, given_up}
 use Rattle.milter_filter.specs.ServedPieces.{Goes}
-use Rattle.milter_filter_core.specs.Streams.{received_in}
+use Rattle.milter_filter_stream.specs.Streams.{received_in}
 use Rattle.milter_filter.proofs.ServedBytes.{goes-failed, goes-none, goes-step, still-serving}
 use Rattle.milter_filter.proofs.stream_server.serve_piece.Goals as goal
 
@@ -51,7 +51,7 @@ returns-then-not-write_pending-clause-cut_off g c =
     let n = c.in-Ok.count in
     let taken = rw (take_rest piece i) at (c.in-Ok.ensures.takes serving inv.nothing_pending) in
     let takes = subst (λ policy. Takes (g.P.Policy.behavior policy) core rest n c.feed.new.self) inv.goes.goes_on.policy taken in
-    let goes = goes-step b c.args.core.now core (take i piece) _ _ inv.goes inv.nothing_pending _ _ rest n _ _ takes c.write_pending.ensures in (
+    let goes = goes-step b c.args.core.now core (take i piece) _ _ inv.goes inv.nothing_pending _ _ rest n _ takes c.write_pending.ensures.rest c.write_pending.ensures.writes in (
       c.write_pending.new.core,
       record {
         taken = take i piece ++ take n rest;
@@ -73,14 +73,13 @@ loop-taken-preserved g c =
     let n = c.in-Ok.count in
     let taken = rw (take_rest piece i) at (c.in-Ok.ensures.takes serving inv.nothing_pending) in
     let takes = subst (λ policy. Takes (g.P.Policy.behavior policy) core rest n c.feed.new.self) inv.goes.goes_on.policy taken in
-    let sends = c.write_pending.ensures in
-    let same = ap (λ (x : Core g.row.P.Denot). x.order_state.state) sends.core in
-    let goes = goes-step b c.args.core.now core (take i piece) _ _ inv.goes inv.nothing_pending _ _ rest n _ _ takes sends in
+    let same = ap (λ (x : Core g.row.P.Denot). x.order_state.state) c.write_pending.ensures.rest in
+    let goes = goes-step b c.args.core.now core (take i piece) _ _ inv.goes inv.nothing_pending _ _ rest n _ takes c.write_pending.ensures.rest c.write_pending.ensures.writes in
     record {
       within = let m = takes.within in omega (arith, m, inv.within, length-drop i piece);
       goes =
           subst (λ bytes. Goes b c.args.core.now bytes c.write_pending.new.core (g.W.Write.contents c.args.writer.now) (g.W.Write.contents c.write_pending.new.writer)) (sym (take-add i n piece)) goes;
-      nothing_pending = sends.nothing_pending c.if-not-write_pending.false;
+      nothing_pending = c.write_pending.ensures.whole c.if-not-write_pending.false;
       going = λ fault failed. takes.going fault (sym same ∙ failed);
       serving = λ within. same ∙ still-serving b core c.feed.new.self rest n takes (λ all. omega (arith, all, within, length-drop i piece));
     }
