@@ -1,17 +1,21 @@
 //! The subcommand `serve`: the rules of connections that are served at once, and the lines of these.
 
-ghost use Rattle.std.specs.Prelude.{◌≡◌, ◌++◌, [], ◌∷◌, IfErr, OnErr, OnOk};
+ghost use Rattle.std.specs.Prelude.{◌≡◌, ◌++◌, [], ◌∷◌, IfErr, IfOk, OnErr, OnOk, Some};
+ghost use Rattle.milter_wire.specs.declared.stage.Stage.{Stage as At};
+ghost use Rattle.milter_protocol.specs.Questions.{wanted_of};
+ghost use Rattle.milter_filter.specs.Connections.{connected_answered, question_in};
 ghost use Rattle.milter_cli_io.specs.FileRun.{IsFileFault};
-ghost use Rattle.milter_cli_serve.specs.RefreshedRules.{Refreshes, latest};
+ghost use Rattle.milter_cli_serve.specs.RefreshedRules.{Refreshes, behavior_by, latest};
 
 use crate::decision_log::{DecisionLog, LoggedPolicy};
 use crate::rule_source::RuleSource;
 use bumpalo::Bump;
 use milter_cli_io::{ConnectionReport, FileError};
-use milter_filter::Served;
-use milter_filter_service::{Host, ServiceError};
+use milter_filter::{Connection, FilterFault, Served, Wants};
+use milter_filter_service::{Host, Key, QuestionKey, ServiceError, policy_wants};
 use milter_rules::Rules;
 use milter_text::{TextFault, write_text};
+use milter_wire::NoMemory;
 use std::alloc::Global;
 use std::io::Write;
 
@@ -102,10 +106,7 @@ impl<'p, 'w, S: RuleSource, W: Write, E: Write> RuleHost<'p, 'w, S, W, E> {
         }
         self.failed = Some(error);
     }
-}
 
-impl<'p, 'w, S: RuleSource, W: Write, E: Write> Host<'p, LoggedPolicy<'p, Rules, E>>
-    for RuleHost<'p, 'w, S, W, E> {
     /// The policy of a connection that has come: the rules that the source gives now where they changed, else those
     /// before.
     fn policy(&mut self) -> &'p LoggedPolicy<'p, Rules, E>
@@ -120,11 +121,8 @@ impl<'p, 'w, S: RuleSource, W: Write, E: Write> Host<'p, LoggedPolicy<'p, Rules,
         self.later.last().copied().unwrap_or(self.first)
     }
 
-    fn begins_turn(&mut self, number: u32) {
-        self.log.begin_turn(number);
-    }
-
-    fn ended(&mut self, number: u32, served: Served) -> Result<(), ServiceError> {
+    /// Writes the line of a connection that has ended.
+    fn write_report(&mut self, number: u32, served: Served) -> Result<(), ServiceError> {
         let report = ConnectionReport { number, served };
         let Ok(line) = format!(in self.alloc; "{report}\n") else {
             return Err(ServiceError::NoMemory);
@@ -134,5 +132,55 @@ impl<'p, 'w, S: RuleSource, W: Write, E: Write> Host<'p, LoggedPolicy<'p, Rules,
             Err(TextFault::Write) => Err(ServiceError::Write),
             Err(TextFault::NoMemory) => Err(ServiceError::NoMemory),
         }
+    }
+}
+
+impl<'p, 'w, S: RuleSource, W: Write, E: Write> Host for RuleHost<'p, 'w, S, W, E> {
+    /// The rules by which the connection goes: those that held when it came.
+    type Session = &'p LoggedPolicy<'p, Rules, E>;
+
+    /// What the rules want that hold now, as the source gives them where they changed.
+    fn connect(&mut self, _key: Key) -> Result<(Wants, Self::Session), NoMemory>
+        ensures latest { IfOk result (λ begun. begun.1 ≡ latest self.new.first self.new.later.items) }
+        ensures wants { IfOk result (λ begun. begun.0 ≡ wanted_of (behavior_by begun.1.now.policy.now)) }
+        ensures refreshed { Refreshes (λ policy rules. (policy.now.policy.now ≡ rules)
+            × (policy.now.log ≡ self.old.first.now.log)) S.answers S.looks_again
+            self.old.source self.old.later.items self.new.source self.new.later.items }
+        ensures first { self.new.first ≡ self.old.first }
+    {
+        let policy = self.policy();
+        let wants = policy_wants(self.alloc, policy)?;
+        Ok((wants, policy))
+    }
+
+    /// Answers by the rules of the connection.
+    fn asked(
+        &mut self,
+        question: QuestionKey,
+        session: &mut Self::Session,
+        connection: &mut Connection,
+    ) -> Result<(), NoMemory>
+        ensures answered { OnOk result ((stage : At) → question_in connection.old ≡ Some stage → connection.new
+            ≡ connected_answered connection.old ((behavior_by session.old.now.policy.now).decide stage
+            connection.old.conversation.state.order_state.shown.seen)) }
+        ensures kept { session.new ≡ session.old }
+        ensures rules { (self.new.first ≡ self.old.first) × (self.new.later ≡ self.old.later)
+            × (self.new.source ≡ self.old.source) }
+    {
+        self.log.begin_turn(question.connection().number());
+        connection.answer_by(self.alloc, *session)
+    }
+
+    fn ended(
+        &mut self,
+        key: Key,
+        _session: Self::Session,
+        served: Served,
+    ) -> Result<(), ServiceError> {
+        self.write_report(key.number(), served)
+    }
+
+    fn refused(&mut self, key: Key) -> Result<(), ServiceError> {
+        self.write_report(key.number(), Served::Failed(FilterFault::NoMemory))
     }
 }

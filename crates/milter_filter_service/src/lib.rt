@@ -1,12 +1,25 @@
 //! A service of many connections of mail servers at once, in one process and without a thread, by the readiness of
-//! sockets that never wait.
+//! sockets that never wait. Its host answers the questions of the connections, each at once or later.
 #![tactic(auto)]
 
 mod client;
+mod clients;
+mod given;
+mod host;
+mod key;
+mod limits;
 mod listener;
 mod service;
 mod service_error;
+mod wants;
 
+pub use clients::Clients;
+pub use given::Given;
+pub use host::Host;
+pub use key::{Key, QuestionKey};
+pub use limits::Limits;
 pub use listener::{Listener, Stream};
-pub use service::{Host, Limits, Service};
+pub use mio::{Interest, Registry, Token};
+pub use service::Service;
 pub use service_error::ServiceError;
+pub use wants::policy_wants;

@@ -1,20 +1,23 @@
 //! A service of many connections.
 
-ghost use Rattle.std.specs.Prelude.{◌≡◌, ◌≤◌, ◌<◌, ◌⊎◌, ◌++◌, [], ◌∷◌, IfSome, length};
-ghost use Rattle.milter_filter_server.specs.Connections.{fresh_connected};
+ghost use Rattle.std.specs.Prelude.{◌≡◌, ◌≤◌, ◌<◌, ◌⊎◌, ◌++◌, [], ◌∷◌, length};
+ghost use Rattle.milter_filter.specs.Connections.{fresh_connected};
 ghost use Rattle.milter_filter_service.specs.declared.service.TheConstants.{SPARE_MAX};
 
-use crate::client::Client;
+use crate::client::{Client, Due, Next};
+use crate::clients::Clients;
+use crate::host::Host;
+use crate::key::Key;
+use crate::limits::Limits;
 use crate::listener::{Listener, Stream};
 use crate::service_error::ServiceError;
-use milter_filter::{FilterFault, read_buffer};
-use milter_filter_server::{CommandOrder, Connection, Policy, Served, Turn};
+use milter_filter::{CommandOrder, Connection, FilterFault, Served, Wants, read_buffer};
+use mio::event::Event;
 use mio::{Events, Poll, Token};
-use slab::Slab;
 use std::alloc::Global;
-use std::collections::VecDeque;
-use std::io::{self, ErrorKind};
+use std::io::ErrorKind;
 use std::net::Net;
+use std::ops::Range;
 use std::rt::Clock;
 use std::time::{Duration, Instant};
 
@@ -24,34 +27,13 @@ const EVENTS_MAX: usize = 1_024;
 const ACCEPTS_MAX: u32 = 64;
 /// How many milliseconds the listeners are left alone after the system had no room for a connection.
 const RETRY: u64 = 100;
-/// How many milliseconds pass between two looks for idle connections.
+/// How many milliseconds pass between two looks at all clients.
 const CHECK: u64 = 1_000;
 /// The most connections that have ended whose memory is kept for others: for each of them room for one packet, 65,540
-/// bytes, and what else `FilterCore::restart` leaves it, which is less than 3 MB.
+/// bytes, up to the next look, and what else `Connection::restart` leaves it, which is less than 3 MB.
 const SPARE_MAX: usize = 16;
 /// The tokens of listeners: the highest is that of the first.
 const LISTENER_TOKENS: usize = usize::MAX;
-
-/// What a service allows.
-#[derive(Clone, Copy, Debug, PartialEq, Eq)]
-pub struct Limits {
-    /// How many connections are open at once; others wait in the queues of the listeners.
-    pub at_once: usize,
-    /// After how many seconds a connection is closed that says nothing and takes nothing; it may take two seconds more.
-    pub timeout: u64,
-}
-
-/// Who has a service run: it gives connections their policies, and takes note of what becomes of them.
-pub trait Host<'p, P: Policy> {
-    /// The policy of a connection that has come.
-    fn policy(&mut self) -> &'p P;
-
-    /// Takes note that the connection with this number has its turn.
-    fn begins_turn(&mut self, number: u32);
-
-    /// Takes note of how a connection ended; they are numbered from 1 in the order in which they came.
-    fn ended(&mut self, number: u32, served: Served) -> Result<(), ServiceError>;
-}
 
 /// A listener, and whether a connection may have come on it.
 #[derive(Drop)]
@@ -60,29 +42,29 @@ struct Source {
     is_ready: bool,
 }
 
-/// A service of many connections, each of which has a policy of its host.
+/// A service of many connections, of each of which its host keeps an `S`.
 #[derive(Drop)]
-pub struct Service<'r, 'p, R: Net + Clock, P: Policy> {
+pub struct Service<'r, R: Net + Clock, S: Drop> {
     rt: &'r R,
     alloc: Global,
     limits: Limits,
     poll: Poll,
     start: Instant,
     sources: Vec<Source>,
-    clients: Slab<Client<'p, P>>,
+    clients: Clients<S>,
     // Connections that have ended, begun again for those that come.
-    spare: Vec<Connection<'p, P>>,
-    // The clients that wait for their turns.
-    queue: VecDeque<usize>,
+    spare: Vec<Connection>,
+    // Whether none of them has memory for a packet.
+    is_released: bool,
     // How many connections have come.
     count: u32,
     // Whether the system had no room for a connection.
     is_full: bool,
-    // The second at which idle connections are looked for again.
+    // The second at which all clients are looked at again.
     next_check: u64,
 }
 
-impl<'r, 'p, R: Net + Clock, P: Policy> Service<'r, 'p, R, P> {
+impl<'r, R: Net + Clock, S: Drop> Service<'r, R, S> {
     /// A service on these listeners.
     pub fn new(
         rt: &'r R,
@@ -111,9 +93,9 @@ impl<'r, 'p, R: Net + Clock, P: Policy> Service<'r, 'p, R, P> {
             poll,
             start: Instant::now(rt)?,
             sources,
-            clients: Slab::new(alloc),
+            clients: Clients::new(alloc),
             spare: Vec::new(alloc),
-            queue: VecDeque::new(alloc),
+            is_released: true,
             count: 0,
             is_full: false,
             next_check: 0,
@@ -121,39 +103,51 @@ impl<'r, 'p, R: Net + Clock, P: Policy> Service<'r, 'p, R, P> {
     }
 
     /// Serves until it is ended from outside, or by an error.
-    pub fn run<H: Host<'p, P>>(&mut self, host: &mut H) -> Result<(), ServiceError> {
+    pub fn run<H: Host<Session = S>>(&mut self, host: &mut H) -> Result<(), ServiceError> {
         let mut events = Events::with_capacity(self.alloc, EVENTS_MAX)?;
         let mut buffer = read_buffer(self.alloc)?;
+        host.start(self.poll.registry(), self.host_tokens())?;
         for _ in 0..u64::MAX {
-            let timeout = self.time_to_wait();
+            let timeout = self.time_to_wait(host.deadline())?;
             self.poll.poll(&mut events, timeout)?;
-            let now = self.now()?;
-            self.note(&events)?;
-            self.accept(now, host)?;
-            self.take_turns(now, buffer.as_mut_slice(), host)?;
-            self.close_idle(now, host)?;
+            let now = Instant::now(self.rt)?;
+            let second = now.saturating_duration_since(self.start).as_secs();
+            self.on_events(&events, host)?;
+            self.call_due(now, host)?;
+            self.accept(second, host)?;
+            self.take_turns(second, buffer.as_mut_slice(), host)?;
+            self.look(second, host)?;
         }
         Ok(())
     }
 
-    /// The second of the service's time.
-    fn now(&self) -> Result<u64, ServiceError> {
-        Ok(
-            Instant::now(self.rt)?
-                .saturating_duration_since(self.start)
-                .as_secs(),
-        )
+    /// The tokens for sockets of the host: those of clients are below them, and those of listeners above.
+    fn host_tokens(&self) -> Range<usize> {
+        self.limits.at_once..LISTENER_TOKENS - self.sources.len()
     }
 
     /// How long nothing is to be done unless a socket becomes ready; for ever where that is `None`.
-    fn time_to_wait(&self) -> Option<Duration> {
-        if !self.queue.is_empty() || self.can_accept() {
+    fn time_to_wait(&self, deadline: Option<Instant>) -> Result<Option<Duration>, ServiceError> {
+        let own = self.own_time_to_wait();
+        let Some(deadline) = deadline else {
+            return Ok(own);
+        };
+        let of_host = deadline.saturating_duration_since(Instant::now(self.rt)?);
+        match own {
+            Some(own) if own < of_host => Ok(Some(own)),
+            _ => Ok(Some(of_host)),
+        }
+    }
+
+    /// The same, but for the time that the host asks for.
+    fn own_time_to_wait(&self) -> Option<Duration> {
+        if self.clients.waiting() > 0 || self.can_accept() {
             return Some(Duration::from_millis(0));
         }
         if self.is_full {
             return Some(Duration::from_millis(RETRY));
         }
-        if self.clients.is_empty() {
+        if self.clients.is_empty() && self.is_released {
             return None;
         }
         Some(Duration::from_millis(CHECK))
@@ -166,46 +160,70 @@ impl<'r, 'p, R: Net + Clock, P: Policy> Service<'r, 'p, R, P> {
             && self.sources.iter().any(|source| source.is_ready)
     }
 
-    /// Takes note of the sockets that are ready.
-    fn note(&mut self, events: &Events) -> Result<(), ServiceError> {
+    /// Passes on which sockets are ready.
+    fn on_events<H: Host<Session = S>>(
+        &mut self,
+        events: &Events,
+        host: &mut H,
+    ) -> Result<(), ServiceError> {
         for event in events.iter() {
-            let Token(place) = event.token();
-            match self.sources.get_mut(LISTENER_TOKENS - place) {
-                Some(source) => source.is_ready = true,
-                None => self.enqueue(place)?,
-            }
+            self.on_event(event, host)?;
         }
         Ok(())
     }
 
-    /// Has a client wait for its turn.
-    fn enqueue(&mut self, key: usize) -> Result<(), ServiceError> {
-        let Some(client) = self.clients.get_mut(key) else {
+    /// Passes on that a socket is ready: to its listener, its client or the host.
+    fn on_event<H: Host<Session = S>>(
+        &mut self,
+        event: &Event,
+        host: &mut H,
+    ) -> Result<(), ServiceError> {
+        let Token(place) = event.token();
+        if let Some(source) = self.sources.get_mut(LISTENER_TOKENS - place) {
+            source.is_ready = true;
             return Ok(());
-        };
-        if !client.is_queued {
-            client.is_queued = true;
-            if self.queue.push_back(key).is_err() {
-                return Err(ServiceError::NoMemory);
-            }
         }
-        Ok(())
+        if place >= self.limits.at_once {
+            return host.ready(Token(place), &mut self.clients);
+        }
+        if let Some(client) = self.clients.at_mut(place) {
+            client.is_closed |= event.is_read_closed()
+                || event.is_write_closed()
+                || event.is_error();
+        }
+        self.clients.enqueue(place)
+    }
+
+    /// Calls the host, where the time has come that it asked for.
+    fn call_due<H: Host<Session = S>>(
+        &mut self,
+        now: Instant,
+        host: &mut H,
+    ) -> Result<(), ServiceError> {
+        match host.deadline() {
+            Some(deadline) if deadline <= now => host.due(now, &mut self.clients),
+            _ => Ok(()),
+        }
     }
 
     /// Takes connections that have come, as far as there is room for them.
-    fn accept<H: Host<'p, P>>(&mut self, now: u64, host: &mut H) -> Result<(), ServiceError> {
+    fn accept<H: Host<Session = S>>(
+        &mut self,
+        second: u64,
+        host: &mut H,
+    ) -> Result<(), ServiceError> {
         self.is_full = false;
         for place in 0..self.sources.len() {
-            self.accept_from(place, now, host)?;
+            self.accept_from(place, second, host)?;
         }
         Ok(())
     }
 
     /// Takes connections that have come on one of the listeners.
-    fn accept_from<H: Host<'p, P>>(
+    fn accept_from<H: Host<Session = S>>(
         &mut self,
         place: usize,
-        now: u64,
+        second: u64,
         host: &mut H,
     ) -> Result<(), ServiceError> {
         for _ in 0..ACCEPTS_MAX {
@@ -219,7 +237,7 @@ impl<'r, 'p, R: Net + Clock, P: Policy> Service<'r, 'p, R, P> {
                 return Ok(());
             }
             match source.listener.accept() {
-                Ok(stream) => self.add(stream, now, host)?,
+                Ok(stream) => self.add(stream, second, host)?,
                 Err(error) => match error.kind() {
                     ErrorKind::WouldBlock => source.is_ready = false,
                     ErrorKind::ConnectionAborted | ErrorKind::ConnectionReset => {}
@@ -234,142 +252,178 @@ impl<'r, 'p, R: Net + Clock, P: Policy> Service<'r, 'p, R, P> {
     }
 
     /// Adds a client.
-    fn add<H: Host<'p, P>>(
+    fn add<H: Host<Session = S>>(
         &mut self,
         stream: Stream,
-        now: u64,
+        second: u64,
         host: &mut H,
     ) -> Result<(), ServiceError> {
         self.count = self.count.wrapping_add(1);
-        let number = self.count;
-        let Some(connection) = self.connect(host.policy()) else {
-            return host.ended(number, Served::Failed(FilterFault::NoMemory));
+        let key = Key {
+            place: self.clients.next_place(),
+            number: self.count,
         };
-        let client = Client {
-            stream,
-            connection,
-            number,
-            last: now,
-            is_queued: false,
+        let Ok((wants, session)) = host.connect(key) else {
+            return host.refused(key);
         };
-        match self.clients.insert(client) {
-            Ok(key) => self.watch(key, host),
-            Err(_) => host.ended(number, Served::Failed(FilterFault::NoMemory)),
+        let connection = self.connect(wants);
+        let client = Client::new(stream, connection, session, key.number, second);
+        match self.clients.add(client) {
+            Ok(()) => self.watch(key, host),
+            Err(client) => {
+                host.ended(key, client.session, Served::Failed(FilterFault::NoMemory))
+            }
         }
     }
 
-    /// A connection of which nothing has come, in the lenient order, by this policy; in the memory of one that has
-    /// ended where there is one, of which nothing else is left. `None` where memory was refused.
-    fn connect(&mut self, policy: &'p P) -> Option<Connection<'p, P>>
-        ensures { IfSome result (λ connection. connection ≡ fresh_connected CommandOrder.Lenient policy.now) }
+    /// A connection of which nothing has come, in the lenient order, of a filter that wants this; in the memory of one
+    /// that has ended where there is one, of which nothing else is left. Doesn't allocate.
+    fn connect(&mut self, wants: Wants) -> Connection
+        ensures { result ≡ fresh_connected CommandOrder.Lenient wants }
     {
         let Some(mut connection) = self.spare.pop() else {
-            return Connection::new(self.alloc, policy, CommandOrder::Lenient).ok();
+            return Connection::new(self.alloc, wants, CommandOrder::Lenient);
         };
-        connection.restart(policy, CommandOrder::Lenient);
-        Some(connection)
+        connection.restart_with(wants, CommandOrder::Lenient);
+        connection
     }
 
     /// Keeps a connection that has ended for others, begun again so that it gives up much memory, unless there are
     /// enough.
-    fn keep(&mut self, mut ended: Connection<'p, P>)
+    fn keep(&mut self, mut ended: Connection)
         ensures kept { (self.new.spare.items ≡ self.old.spare.items) ⊎ (self.new.spare.items
-            ≡ self.old.spare.items ++ fresh_connected CommandOrder.Lenient ended.entry.core.policy ∷ []) }
+            ≡ self.old.spare.items ++ fresh_connected CommandOrder.Lenient ended.conversation.wanted ∷ []) }
         ensures bounded { length self.old.spare.items ≤ SPARE_MAX → length self.new.spare.items ≤ SPARE_MAX }
     {
         if self.spare.len() < SPARE_MAX {
-            let policy = ended.policy();
-            ended.restart(policy, CommandOrder::Lenient);
+            ended.restart(CommandOrder::Lenient);
+            self.is_released = false;
             drop(self.spare.push(ended));
         }
     }
 
     /// Has the system say when a client is ready.
-    fn watch<H: Host<'p, P>>(&mut self, key: usize, host: &mut H) -> Result<(), ServiceError> {
-        let Some(client) = self.clients.get_mut(key) else {
+    fn watch<H: Host<Session = S>>(&mut self, key: Key, host: &mut H) -> Result<(), ServiceError> {
+        let Some(client) = self.clients.at_mut(key.place) else {
             return Ok(());
         };
         if client
             .stream
-            .watch(self.poll.registry(), Token(key))
+            .watch(self.poll.registry(), key.token())
             .is_err()
         {
-            return self.close(key, Served::ReadFault, host);
+            return self.close(key.place, Served::ReadFault, host);
         }
         Ok(())
     }
 
     /// Closes the connection of a client, and says how it ended.
-    fn close<H: Host<'p, P>>(
+    fn close<H: Host<Session = S>>(
         &mut self,
-        key: usize,
+        place: usize,
         served: Served,
         host: &mut H,
     ) -> Result<(), ServiceError> {
-        match self.clients.try_remove(key) {
+        match self.clients.remove(place) {
             Some(client) => {
+                let key = Key {
+                    place,
+                    number: client.number,
+                };
                 self.keep(client.connection);
-                host.ended(client.number, served)
+                host.ended(key, client.session, served)
             }
             None => Ok(()),
         }
     }
 
     /// Gives each client that waits for its turn one.
-    fn take_turns<H: Host<'p, P>>(
+    fn take_turns<H: Host<Session = S>>(
         &mut self,
-        now: u64,
+        second: u64,
         buffer: &mut [u8],
         host: &mut H,
     ) -> Result<(), ServiceError>
         requires { 0 < length buffer.old }
     {
-        for _ in 0..self.queue.len() {
-            if let Some(key) = self.queue.pop_front() {
-                self.take_turn(key, now, buffer, host)?;
+        for _ in 0..self.clients.waiting() {
+            if let Some(place) = self.clients.next_in_turn() {
+                self.take_turn(place, second, buffer, host)?;
             }
         }
         Ok(())
     }
 
     /// Gives a client its turn.
-    fn take_turn<H: Host<'p, P>>(
+    fn take_turn<H: Host<Session = S>>(
         &mut self,
-        key: usize,
-        now: u64,
+        place: usize,
+        second: u64,
         buffer: &mut [u8],
         host: &mut H,
     ) -> Result<(), ServiceError>
         requires { 0 < length buffer.old }
     {
-        let Some(client) = self.clients.get_mut(key) else {
+        let Some(client) = self.clients.at_mut(place) else {
             return Ok(());
         };
-        client.is_queued = false;
-        client.last = now;
-        host.begins_turn(client.number);
-        match client.take_turn(buffer) {
-            Turn::Again => self.enqueue(key),
-            Turn::AwaitsInput | Turn::AwaitsOutput => Ok(()),
-            Turn::Ended(served) => self.close(key, served, host),
+        match client.take_turns(place, second, buffer, host) {
+            Next::Turn => self.clients.enqueue(place),
+            Next::Wait => Ok(()),
+            Next::Close(served) => self.close(place, served, host),
         }
     }
 
-    /// Closes the connections that have been idle for too long.
-    fn close_idle<H: Host<'p, P>>(&mut self, now: u64, host: &mut H) -> Result<(), ServiceError> {
-        if now < self.next_check {
+    /// Looks at all clients, once a second: at those that are idle, and at questions that are open.
+    fn look<H: Host<Session = S>>(
+        &mut self,
+        second: u64,
+        host: &mut H,
+    ) -> Result<(), ServiceError> {
+        if second < self.next_check {
             return Ok(());
         }
-        self.next_check = now.saturating_add(1);
-        for key in 0..self.limits.at_once {
-            let is_idle = match self.clients.get(key) {
-                Some(client) => now.saturating_sub(client.last) > self.limits.timeout,
-                None => false,
-            };
-            if is_idle {
-                self.close(key, Served::ReadFault, host)?;
-            }
+        self.next_check = second.saturating_add(1);
+        self.release_spare();
+        for place in 0..self.limits.at_once {
+            self.look_at(place, second, host)?;
         }
         Ok(())
+    }
+
+    /// Frees the memory for packets of connections that are kept for others.
+    fn release_spare(&mut self) {
+        for connection in &mut self.spare {
+            connection.release();
+        }
+        self.is_released = true;
+    }
+
+    /// Does what is due about a client.
+    fn look_at<H: Host<Session = S>>(
+        &mut self,
+        place: usize,
+        second: u64,
+        host: &mut H,
+    ) -> Result<(), ServiceError> {
+        let Some(client) = self.clients.at_mut(place) else {
+            return Ok(());
+        };
+        match client.due(second, &self.limits) {
+            Due::Nothing => Ok(()),
+            Due::Release => {
+                client.connection.release();
+                Ok(())
+            }
+            Due::Progress => {
+                client.report_progress(second);
+                self.clients.enqueue(place)
+            }
+            Due::Default(stage) => {
+                let verdict = host.default_verdict(stage);
+                self.clients.give_default(self.alloc, place, verdict)
+            }
+            Due::Close => self.close(place, Served::ReadFault, host),
+        }
     }
 }

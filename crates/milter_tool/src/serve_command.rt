@@ -4,7 +4,6 @@ use bumpalo::Bump;
 use milter_cli_io::{ToolError, listen_error, service_error};
 use milter_cli_request::{Address, ServeRequest, UsageError, parse_mode};
 use milter_cli_serve::{DecisionLog, LoggedPolicy, RuleFile, RuleHost, RuleSource};
-use milter_filter::Policy;
 use milter_filter_service::{Host, Limits, Listener, Service};
 use milter_rules::Rules;
 use std::alloc::Global;
@@ -56,6 +55,8 @@ fn serve_by_rules<
         limits: Limits {
             at_once: asked.at_once as usize,
             timeout: u64::from(asked.timeout),
+            answer: u64::from(asked.timeout),
+            progress: 0,
         },
         listeners: listeners_at(rt, asked.addresses.as_slice(), mode)?,
         source,
@@ -141,8 +142,8 @@ fn listener_at<R: Net<Listener = TcpListener, Stream = TcpStream> + Files>(
     bound.map_err(|error| listen_error(error.kind()))
 }
 
-/// Serves the connections of these listeners at once, as a filter with the policies of the host.
-fn serve_listeners<'p, R: Net + Clock + AllocGlobal, P: Policy + 'p, H: Host<'p, P>>(
+/// Serves the connections of these listeners at once, as a filter whose questions the host answers.
+fn serve_listeners<R: Net + Clock + AllocGlobal, H: Host>(
     rt: &R,
     limits: Limits,
     listeners: Vec<Listener>,

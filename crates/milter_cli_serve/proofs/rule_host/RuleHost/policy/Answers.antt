@@ -1,5 +1,5 @@
 use Rattle.std.proofs.Common.{rules, sym}
-use Rattle.milter_cli_serve.proofs.rule_host.RuleHostHostLoggedPolicyRules.policy.Goals as goal
+use Rattle.milter_cli_serve.proofs.rule_host.RuleHost.policy.Goals as goal
 
 pub returns-clause-latest : goal.returns-clause-latest
 returns-clause-latest g c = search rules
