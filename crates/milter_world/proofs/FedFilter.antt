@@ -5,7 +5,7 @@ use Rattle.milter_protocol.specs.Behavior.{Behavior}
 use Rattle.milter_protocol.specs.declared.filter_fault.FilterFault.{FilterFault}
 use Rattle.milter_protocol.specs.declared.filter_fault.FilterFault.TheVariants as faults
 use Rattle.milter_filter_core.specs.Cores.{Core, GivesUp, Takes}
-use Rattle.milter_filter_core.specs.Streams.{received_in}
+use Rattle.milter_filter_stream.specs.Streams.{received_in}
 use Rattle.milter_world.specs.Reached.{CanTake}
 
 abbrev as_ok : ℕ → Result ℕ FilterFault

@@ -11,7 +11,7 @@ use Rattle.milter_mta.specs.Dispositions.{acted_in, defaulted, lost}
 use Rattle.milter_mta_laws.specs.Lines.{Line}
 use Rattle.milter_protocol.specs.declared.filter_fault.FilterFault.{FilterFault as Fault}
 use Rattle.milter_protocol.specs.declared.filter_state.FilterState.TheVariants.{Serving}
-use Rattle.milter_filter_core.specs.Streams.{received_in}
+use Rattle.milter_filter_stream.specs.Streams.{received_in}
 use Rattle.milter_filter_core.specs.Cores.{Core, GivesUp, Takes}
 use Rattle.milter_world_schedule.specs.declared.event.Event.{Event}
 use Rattle.milter_world_schedule.specs.declared.event.Event.TheVariants.{Send, ToFilter, Answer, Die}

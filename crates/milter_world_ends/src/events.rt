@@ -6,7 +6,7 @@ ghost use Rattle.milter_protocol.specs.declared.command_order.CommandOrder.{Comm
 ghost use Rattle.milter_protocol.specs.declared.filter_fault.FilterFault.{FilterFault as Fault};
 ghost use Rattle.milter_protocol.specs.declared.filter_state.FilterState.TheVariants.{Serving};
 ghost use Rattle.milter_filter_core.specs.Cores.{Core, GivesUp, Takes, fresh_core_in};
-ghost use Rattle.milter_filter_core.specs.Streams.{received_in};
+ghost use Rattle.milter_filter_stream.specs.Streams.{received_in};
 ghost use Rattle.milter_mta_outcome.specs.declared.loss.Loss.{Loss};
 ghost use Rattle.milter_mta.specs.declared.want.Want.TheVariants as wants;
 ghost use Rattle.milter_mta.specs.Mta.{fresh as fresh_mta};

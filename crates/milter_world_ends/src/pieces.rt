@@ -5,7 +5,7 @@ ghost use Rattle.milter_protocol.specs.Behavior.{Behavior};
 ghost use Rattle.milter_protocol.specs.declared.command_order.CommandOrder.{CommandOrder as Order};
 ghost use Rattle.milter_protocol.specs.declared.filter_fault.FilterFault.{FilterFault as Fault};
 ghost use Rattle.milter_filter_core.specs.Cores.{Core, GivesUp, Takes};
-ghost use Rattle.milter_filter_core.specs.Streams.{received_in};
+ghost use Rattle.milter_filter_stream.specs.Streams.{received_in};
 ghost use Rattle.milter_mta.specs.Mta.{Mta};
 ghost use Rattle.milter_mta.specs.Replies.{received};
 ghost use Rattle.milter_mta.specs.Output.{advanced, pending, sent};
