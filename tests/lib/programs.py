@@ -15,6 +15,7 @@ PROGRAMS = {
     'tool': ('milter_tool', []),
     'loop guard': ('example_loop_guard', []),
     'smtp server': ('example_smtp_server', []),
+    'greylist': ('example_greylist', []),
     'edits': ('milter_tests_driver', ['edits', 'text']),
     'filter faults': ('milter_tests_driver', ['faults']),
     'payloads': ('milter_tests_driver', ['packets']),
