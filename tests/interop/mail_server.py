@@ -39,6 +39,7 @@ MESSAGES_REFUSED = {
     'X-First: 1\r\nX-Second: 2\r\n\r\na body\r\n': '554 5.6.0 Not with these fields',
     '\r\nthis is not wanted\r\n': '554 5.6.0 Not this body',
     'Subject: the end\r\n\r\na body\r\n': '554 5.7.1 Not at the end'}
+SENDER_AT_EOH = "554 5.7.1 Not this sender's message"
 GREETING_REFUSED = '550 5.7.1 Not this name'
 
 

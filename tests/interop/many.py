@@ -89,11 +89,11 @@ class Client:
         return self.say('RSET', '250')
 
     def data(self, message):
-        """Sends the message of a transaction, which ends it; one that is refused at its beginning is given up."""
+        """Sends the message of a transaction, which ends it, but where DATA is refused: the transaction stays then."""
         if not self.has_recipient:
             return self.say('DATA', self.server.no_recipient if self.sender else '503')
         if self.last in mail_server.DATA_REFUSED:
-            return self.say('DATA', mail_server.DATA_REFUSED[self.last]) or self.reset()
+            return self.say('DATA', mail_server.DATA_REFUSED[self.last])
         wrong = self.say('DATA', '354')
         self.forget()
         wrong = wrong or self.say(message + '.', REPLIES[message])
@@ -146,6 +146,16 @@ GREETINGS = {
 }
 
 
+# Sequences of their own, in which DATA is said again after it was refused: by the same rule, and by one at the end of
+# the header that looks at the sender, which the client named before.
+AGAIN = {
+    'the same rule': lambda it: it.greet('a.example') or it.mail(FROM) or it.rcpt('data@example.net')
+    or it.data(FIRST) or it.data(FIRST) or it.rcpt(TO) or it.rcpt('data@example.net') or it.data(FIRST),
+    'by the sender': lambda it: it.greet('a.example') or it.mail('eoh@example.org') or it.rcpt('data@example.net')
+    or it.data(FIRST) or it.rcpt(TO) or it.say('DATA', '354') or it.say(FIRST + '.', mail_server.SENDER_AT_EOH),
+}
+
+
 def check_delivered(checks, server, name, count):
     """Checks that so many messages are delivered, which passed the rules."""
     checks.check(name + ': delivered', [mail_server.fields(text, 'X-Passed') for text in server.received(count)],
@@ -161,6 +171,15 @@ def play_greetings(checks, server, kind):
         client.close()
         passed += client.passed
     check_delivered(checks, server, '%s, %s: greetings' % (server.name, kind), passed)
+
+
+def play_data_again(checks, server, kind):
+    """DATA that is said again after it was refused."""
+    for name, steps in AGAIN.items():
+        client = Client(server, kind)
+        checks.check('%s, %s: DATA again: %s' % (server.name, kind, name), steps(client), None)
+        client.close()
+    check_delivered(checks, server, '%s, %s: DATA again' % (server.name, kind), 0)
 
 
 def play_sequences(checks, server, kind):
@@ -238,7 +257,7 @@ def play(checks, program, new_server):
             with new_server(work, inet, unix) as server:
                 for kind in server.ports:
                     for part in [mail_server.play_refusals, mail_server.play_edits, play_clients, play_greetings,
-                                 play_greeting_refused, play_sequences]:
+                                 play_greeting_refused, play_data_again, play_sequences]:
                         part(checks, server, kind)
             for served in (first, second):
                 found = {line.split(' ', 2)[2] for line in served.ended().splitlines()}
