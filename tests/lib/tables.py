@@ -25,12 +25,13 @@ PLAYERS = {
     'mta': ('mail server', []),
     'links': ('links', []),
     'connection': ('connection', []),
+    'questions': ('connection', []),
     'play': ('tool', ['play', FILE]),
 }
 # The kinds whose programs write packets: a filter's.
 FILTERS = ['answer', 'guard']
-# The kinds whose programs print packets, and are fed them by a line: a mail server's end.
-MAIL_SERVERS = ['mta', 'connection']
+# The kinds whose programs print the packets of one end, and are fed those of the other by a line: the mark of these.
+BY_LINES = {'mta': b'<', 'connection': b'<', 'questions': b'>'}
 # The marks of lines of further files, and of each what it has: an option of this name names it.
 FILES = {b'@': 'rules', b'~': 'events'}
 MARKS = b'|^<>&=!*#$%@~'
@@ -123,8 +124,8 @@ def part_of(kind, mark, text, code):
         digits = packet.hex().encode()
         if kind == 'trace':
             return 'given', b'%s %s\n' % (mark, digits)
-        if kind in MAIL_SERVERS:
-            return ('given', b'feed %s\n' % digits) if mark == b'<' else ('out', digits + b'\n')
+        if kind in BY_LINES:
+            return ('given', b'feed %s\n' % digits) if mark == BY_LINES[kind] else ('out', digits + b'\n')
         return ('out' if kind in FILTERS and mark == b'<' else 'given'), packet
     if mark in FILES:
         return FILES[mark], ended(text, code, False)

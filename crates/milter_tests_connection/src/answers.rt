@@ -7,7 +7,7 @@ use milter_wire::{HEAD_LEN, Packet, Verdict};
 use std::str::from_utf8;
 
 /// The text that these bytes are.
-fn text_of(bytes: &[u8]) -> &str {
+pub fn text_of(bytes: &[u8]) -> &str {
     from_utf8(bytes).unwrap_or("no text")
 }
 

@@ -1,8 +1,11 @@
-//! `milter_tests_connection`: plays a script, which is standard input, on a mail server's end of one connection to a
-//! filter, for the tables `connection_*.table` and `tests/test_captures.py`.
+//! `milter_tests_connection`: plays a script, which is standard input, on one end of a connection: a mail server's, for
+//! the tables `connection_*.table` and `tests/test_captures.py`, or that of a filter whose caller answers, for the
+//! tables `questions_*.table`. The first word says which.
 //!
 //! A line is words, plain or in quotes, as the lines of session files are; an empty line, and one that begins with `#`,
 //! is skipped. HEX are hexadecimal digits, two a byte. In brackets is what a line prints.
+//!
+//! A mail server's end:
 //!
 //! - `offer VERSION ACTIONS PROTOCOL`, the first: what the filter is offered, in hexadecimal digits.
 //! - `macro NAME VALUE`: a macro of the next call that takes macros.
@@ -23,18 +26,44 @@
 //! - `edits`: [how many edits came, and each of them as the packet that asks for it, in HEX]. `take_edits`: the same of
 //!   the edits that are taken.
 //! - `edited SENDER RECIPIENT NAME VALUE BODY`: [the message of these parts after the edits].
+//!
+//! A filter's end:
+//!
+//! - `wants VERSION ACTIONS PROTOCOL ORDER STAGE NAMES ..`, the first: what the filter wants, in hexadecimal digits,
+//!   the order in which commands are taken, `strict` or `lenient`, and symbol lists, the numbers of whose stages are in
+//!   hexadecimal digits too [why it can't be wanted; the script ends then].
+//! - `feed HEX`: a piece [`taken NUMBER of NUMBER` where it isn't taken whole, or why the connection is given up].
+//!   `feed_bytes HEX`: a piece for each byte. Where memory is refused the program is out of memory.
+//! - `edit HEX`: an edit of the next answer, by the packet that asks for it. `answer VERDICT`, with the text of a code:
+//!   an answer to the question that is open [why it isn't taken]. An answer for which memory is refused is given again,
+//!   once: nothing may have changed before that.
+//! - `progress`: a report of progress [why that isn't made].
+//! - `send`, `sent NUMBER`: as above.
+//! - `next`: [what the caller does next: `feed`, `send`, `answer STAGE` or `done`].
+//! - `shown`, `macro NAME`, `pending`, `unread`: [the sender, and how much is shown of the rest; the value of a macro;
+//!   the bytes that are pending as HEX; and how many bytes are unread].
+//! - `release`; `restart ORDER`: for another connection.
 #![tactic(auto)]
 
 mod answers;
 mod calls;
 mod edits;
+mod filter_player;
 mod player;
 mod texts;
 
+use crate::texts::{next_texts, str_of};
+use anyhow::Context;
+use milter_text::LineCursor;
 use std::io::Read;
 
 fn main(rt: HostRuntime) -> anyhow::Result<()> {
     let mut input = Vec::new(rt.alloc());
     rt.reader().read_to_end(&mut input)?;
-    player::play(&rt, &input)
+    let mut lines = LineCursor::new(&input);
+    let first = next_texts(rt.alloc(), &mut lines)?.context("no line")?;
+    match str_of(first.first().context("no word")?)? {
+        "wants" => filter_player::play(&rt, &first, &mut lines),
+        _ => player::play(&rt, &first, &mut lines),
+    }
 }

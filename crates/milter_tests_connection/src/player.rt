@@ -5,8 +5,8 @@ use crate::answers::{
 };
 use crate::calls::answer_to;
 use crate::edits::{print_edited, print_edits};
-use crate::texts::{next_texts, offer_in, one_of, pair_in, str_of};
-use anyhow::{Context, bail};
+use crate::texts::{next_texts, number_in, offer_in, one_of, pair_in, str_of};
+use anyhow::bail;
 use milter_mta_connection::{FilterEvent, MtaConnection};
 use milter_text::LineCursor;
 use milter_wire::{Pair, Text};
@@ -161,24 +161,18 @@ impl Player {
     }
 }
 
-/// A number of bytes.
-fn number_in(texts: &[Text]) -> anyhow::Result<usize> {
-    let [text] = texts else {
-        bail!("a number is to follow");
-    };
-    str_of(text)?.parse::<usize>().ok().context("no number")
-}
-
-/// Plays a script, and prints what its lines ask for.
-pub fn play<R: Print + AllocGlobal>(rt: &R, script: &[u8]) -> anyhow::Result<()> {
-    let mut lines = LineCursor::new(script);
-    let first = next_texts(rt.alloc(), &mut lines)?.context("no line")?;
+/// Plays a script whose first line is this, and prints what its lines ask for.
+pub fn play<R: Print + AllocGlobal>(
+    rt: &R,
+    first: &[Text],
+    lines: &mut LineCursor<'_>,
+) -> anyhow::Result<()> {
     let mut player = Player {
-        connection: MtaConnection::new(rt.alloc(), offer_in(&first)?)?,
+        connection: MtaConnection::new(rt.alloc(), offer_in(first)?)?,
         macros: Vec::new(rt.alloc()),
     };
     // The call of `drop` is proved in a tenth of the time that drops at the end of the scope take.
-    let played = player.obey_all(rt, &mut lines);
+    let played = player.obey_all(rt, lines);
     drop(player);
     played
 }

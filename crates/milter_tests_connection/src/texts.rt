@@ -96,7 +96,7 @@ pub fn client_in(texts: &[Text]) -> anyhow::Result<ClientRef<'_>> {
 }
 
 /// A number in hexadecimal digits.
-fn bits_in(text: &Text) -> anyhow::Result<u32> {
+pub fn bits_in(text: &Text) -> anyhow::Result<u32> {
     u32::from_str_radix(str_of(text)?, 16)
         .ok()
         .context("bits are to be a hexadecimal number")
@@ -115,4 +115,12 @@ pub fn offer_in(texts: &[Text]) -> anyhow::Result<Options> {
         actions: Actions(bits_in(actions)?),
         protocol: Protocol(bits_in(protocol)?),
     })
+}
+
+/// A number of bytes.
+pub fn number_in(texts: &[Text]) -> anyhow::Result<usize> {
+    let [text] = texts else {
+        bail!("a number is to follow");
+    };
+    str_of(text)?.parse::<usize>().ok().context("no number")
 }
