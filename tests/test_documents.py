@@ -17,7 +17,8 @@ from lib.programs import TOP
 
 # The documents with code, and the crates whose it is.
 EXAMPLES = {
-    'docs/LIBRARY.md': ['example_mail'], 'docs/FILTERS.md': ['example_loop_guard'],
+    'docs/LIBRARY.md': ['example_mail'],
+    'docs/FILTERS.md': ['example_loop_guard', 'example_greylist', 'milter_filter_service'],
     'docs/MAIL_SERVERS.md': ['example_smtp_server', 'milter_tests_pair']}
 COLUMNS = 120
 NUMBERS = ['ten', 'eleven', 'twelve', 'thirteen', 'fourteen', 'fifteen', 'sixteen']
