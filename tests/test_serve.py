@@ -207,6 +207,13 @@ def greeted_again(program, kind, folder):
         (sender, CONTINUE), (recipient, CONTINUE), (packet(b'H', b'two'), CONTINUE), (sender, CONTINUE),
         (packet(b'R', b'<c@y>'), CONTINUE), (packet(b'T'), CONTINUE), (packet(b'E'), CONTINUE),
         (sender, CONTINUE), (recipient, CONTINUE), (packet(b'T'), reject)])
+    # DATA that is refused ends nothing: what was shown stays, and more recipients may come.
+    yield checked('DATA again', serves, at_data, begin + [
+        (sender, CONTINUE), (recipient, CONTINUE), (packet(b'T'), reject), (packet(b'T'), reject),
+        (packet(b'R', b'<c@y>'), CONTINUE), (packet(b'T'), CONTINUE)])
+    yield checked('the sender after refused DATA', serves, at_data + 'at eoh when sender is "<a@x>" do reject\n', begin + [
+        (sender, CONTINUE), (recipient, CONTINUE), (packet(b'T'), reject), (packet(b'R', b'<c@y>'), CONTINUE),
+        (packet(b'T'), CONTINUE), (packet(b'N'), reject)])
     # Postfix sends the abort after the greeting.
     yield checked('an abort after it', serves, at_rcpt, again + [
         (ABORT, b''), (sender, CONTINUE), (recipient, reject)])
@@ -226,10 +233,10 @@ def greeted_again(program, kind, folder):
         (packet(b'D', b'Mi', b'1') + sender, reject)])
     yield checked('macros of the first sender', serves, 'at mail when macro "i" is "1" do reject\n', first + [
         (packet(b'D', b'Mi', b'1') + sender, reject)])
-    # The macros that are sent before a sender belong to the message that it ends; those before a greeting stay.
+    # The macros that are sent before a sender or a greeting stay: the message ends before them.
     yield checked('macros of a sender within a message', serves, 'at mail when macro "i" is "2" do reject\n', first + [
         (packet(b'D', b'Mi', b'1') + sender, CONTINUE), (recipient, CONTINUE),
-        (packet(b'D', b'Mi', b'2') + sender, CONTINUE)])
+        (packet(b'D', b'Mi', b'2') + sender, reject)])
     yield checked('macros of a greeting within a message', serves, 'at helo when macro "t" is "2" do reject\n', first
                   + [(packet(b'D', b'Mi', b'1') + sender, CONTINUE),
                      (packet(b'D', b'Ht', b'2') + packet(b'H', b'two'), reject)])
