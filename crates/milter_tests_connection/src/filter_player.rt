@@ -8,7 +8,7 @@ use milter_filter_core::{
 };
 use milter_message::Edit;
 use milter_text::LineCursor;
-use milter_wire::{Actions, Options, Protocol, Reply, SymList, SymLists, Text, Verdict};
+use milter_wire::{Actions, Options, Packet, Protocol, Reply, SymList, SymLists, Text, Verdict};
 use std::alloc::Global;
 
 /// A connection, and the edits of its next answer.
@@ -73,10 +73,10 @@ impl Player {
 
     /// Adds an edit of the next answer: the one that this packet asks for.
     fn add_edit(&mut self, alloc: Global, packet: &[u8]) -> anyhow::Result<()> {
-        let [_, _, _, _, code, payload @ ..] = packet else {
+        let Some(packet) = Packet::first_of(packet) else {
             bail!("an edit is to be a packet");
         };
-        let reply = Reply::decode(alloc, *code, payload)?;
+        let reply = Reply::decode(alloc, packet.code, packet.payload)?;
         let Ok(edit) = Edit::from_reply(reply) else {
             bail!("the packet asks for no edit");
         };
