@@ -305,7 +305,7 @@ def full(program, folder):
 
 def refused(program, tool, folder):
     """Runs with an allocation refused, the first one, then the second one, until a run makes fewer allocations: a mail
-    is stored whole, with the edits, where the client is told that it is taken, and else not at all."""
+    is stored whole, with the edits, where the reply says that it is queued, and else not at all."""
     refuser = preloaded.compiled('refuse.c', folder)
 
     def run(words, text, number):
