@@ -1,5 +1,6 @@
 -- Questions, and what the answers to them do to what is kept.
 use Rattle.std.proofs.Common.{◌≡◌, ◌≢◌, ◌<◌, ◌≤◌, ◌+◌, ℕ, min, nat_lt, ◌&&◌, Bool, true, false, [], Option, None, Some, refl, sym, ◌∙◌, ap, subst, arith, length, if◌then◌else◌}
+use Rattle.std.specs.Prelude.{is_some}
 use Rattle.std.proofs.lemmas.Bool.{ltb-true}
 use Rattle.std.proofs.lemmas.Option.{same_Some}
 use Rattle.milter_wire_stream.specs.declared.number.TheConstants.{HEAD_LEN}
@@ -130,6 +131,11 @@ asked-shown s command stage serving at asked =
 
     never : counts_late s.order (with_shown s command).last_rank stage ≡ true → ⊥
     never late = at-data (late-data s.order (with_shown s command).last_rank stage late) late
+
+-- a question is open only while the connection serves
+pub asked-serves : (s : OrderState) (asked : Option Stage) → ((stage : Stage) → asked ≡ Some stage → IsAsked s stage) → is_some asked ≡ true → s.state ≡ Serving
+asked-serves s None law some = absurd cc
+asked-serves s (Some stage) law some = (law stage refl).serving
 
 -- ---- answers
 

@@ -1,7 +1,5 @@
 -- The first packet that has replies is the last that is taken.
 use Rattle.std.proofs.Common.{◌≡◌, ◌≢◌, ◌⊎◌, ℕ, suc, ◌+◌, ◌<◌, drop, length-drop, List, [], ◌∷◌, ◌++◌, length, Option, None, Some, Ok, Err, refl, sym, ◌∙◌, ap, subst, inl, inr, flat_map, length-append, arith}
-use Rattle.std.specs.Prelude.{◌==◌, Bool, true}
-use Rattle.std.proofs.lemmas.Bool.{eqb-true}
 use Rattle.milter_wire_stream.specs.Number.{number}
 use Rattle.milter_wire_stream.specs.Stream.{Division, divide}
 use Rattle.milter_wire_stream.proofs.StreamLaws.{divide-append}
@@ -26,15 +24,6 @@ use Rattle.milter_protocol.specs.OrderStates.{Part, OrderState, order_state_answ
 use Rattle.milter_protocol.specs.Steps.{Step}
 use Rattle.milter_filter_stream.specs.Streams.{IsOnePacketAtMost, read_in}
 use Rattle.milter_filter_stream.proofs.Progress.{Progress, read-append}
-
--- ---- nothing waits
-
-empty : (bytes : List ℕ) → (length bytes == 0) ≡ true → bytes ≡ []
-empty [] e = refl
-empty (x ∷ xs) e = let n : suc (length xs) ≡ 0 = eqb-true (suc (length xs)) 0 e in absurd (omega (arith, n))
-
-pub nothing-waits : (out slice : List ℕ) (is_empty : Bool) → slice ≡ out → is_empty ≡ (length slice == 0) → is_empty ≡ true → out ≡ []
-nothing-waits out slice is_empty same is none = sym same ∙ empty slice (sym is ∙ none)
 
 -- ---- replies have bytes
 

@@ -132,6 +132,11 @@ pub record FailsIn (w : Wanted) (s : AskState) (unread piece : List ℕ) (fault 
 abbrev pub IsUnread : List ℕ → Type 0
 IsUnread bytes = IsUnfinished bytes × IsBytes bytes
 
+-- packets are taken, and these bytes came before that are of one that isn't whole
+pub record IsReady (a : Asking) (bytes : List ℕ) : Type 0 where
+  pub taking : IsTaking a.state
+  pub unread : IsUnread bytes
+
 -- What the first bytes of a piece come to, which follow unread bytes: the replies to the packets that are whole with
 -- these, and the bytes that stay unread.
 pub record TakesBytes (w : Wanted) (old : Asking) (unread piece : List ℕ) (n : ℕ) (new : Asking) (left : List ℕ)

@@ -117,14 +117,15 @@ impl Asker {
     pub(crate) fn is_serving(&self) -> bool
         ensures { IsTrue result ↔ (self.now.state.order_state.state ≡ FilterState.Serving) }
     {
-        self.connection.is_serving()
+        // A question is open only while it serves, and most commands leave one open.
+        self.asked.is_some() || self.connection.is_serving()
     }
 
-    /// Whether commands are taken.
-    pub(crate) fn is_taking(&self) -> bool
-        ensures { IsTrue result ↔ IsTaking self.now.state }
+    /// Whether more packets are taken: no question is open, no replies are pending, and the connection serves.
+    pub(crate) fn takes_more(&self) -> bool
+        ensures { IsTrue result ↔ (IsTaking self.now.state × (self.now.pending ≡ [])) }
     {
-        self.asked.is_none() && self.connection.is_serving()
+        self.asked.is_none() && self.pending.is_empty() && self.connection.is_serving()
     }
 
     /// What is shown.

@@ -3,8 +3,7 @@
 ghost use Rattle.std.specs.Prelude.{◌≡◌, ◌≢◌, ◌≤◌, ◌<◌, ◌++◌, [], IfErr, IfOk, OnErr, length, take};
 ghost use Rattle.milter_wire_stream.specs.FirstPacket.{fed_len};
 ghost use Rattle.milter_wire_stream.specs.Stream.{IsUnfinished};
-ghost use Rattle.milter_protocol.specs.Questions.{IsTaking};
-ghost use Rattle.milter_filter_stream.specs.Asking.{FailsIn, IsUnread, StopsAt, TakesBytes, TakesPacket};
+ghost use Rattle.milter_filter_stream.specs.Asking.{FailsIn, IsReady, StopsAt, TakesBytes, TakesPacket};
 
 use crate::asker::Asker;
 use milter_filter_answer::WantsRef;
@@ -19,8 +18,7 @@ fn take_packet(
     asker: &mut Asker,
     piece: &[u8],
 ) -> Result<usize, FilterFault>
-    requires unread { IsUnread splitter.old }
-    requires taking { IsTaking asker.old.state }
+    requires { IsReady asker.old splitter.old }
     ensures { TakesPacket wants.now asker.old splitter.old piece.now result asker.new
         splitter.new }
 {
@@ -42,8 +40,7 @@ fn take_through_splitter(
     asker: &mut Asker,
     piece: &[u8],
 ) -> Result<usize, FilterFault>
-    requires unread { IsUnread splitter.old }
-    requires taking { IsTaking asker.old.state }
+    requires { IsReady asker.old splitter.old }
     ensures { TakesPacket wants.now asker.old splitter.old piece.now result asker.new
         splitter.new }
 {
@@ -85,8 +82,7 @@ pub(crate) fn take_piece(
     asker: &mut Asker,
     piece: &[u8],
 ) -> Result<usize, FilterFault>
-    requires unread { IsUnread splitter.old }
-    requires taking { IsTaking asker.old.state }
+    requires ready { IsReady asker.old splitter.old }
     requires nothing_pending { asker.old.pending ≡ [] }
     ensures takes { IfOk result (λ n. TakesBytes wants.now asker.old splitter.old piece.now n
         asker.new splitter.new) }
@@ -97,14 +93,14 @@ pub(crate) fn take_piece(
 {
     let mut taken = 0;
     while taken < piece.len() {
-        if !asker.pending().is_empty() || !asker.is_taking() {
-            break;
-        }
         let more = match take_packet(wants, splitter, asker, &piece[taken..]) {
             Ok(more) => more,
             Err(fault) => return Err(fault),
         };
         taken += more;
+        if !asker.takes_more() {
+            return Ok(taken);
+        }
     }
     Ok(taken)
 }
