@@ -7,8 +7,8 @@ use Rattle.milter_wire_stream.specs.Stream.{IsUnfinished, divide}
 use Rattle.milter_wire.specs.declared.command.Command.{Command}
 use Rattle.milter_wire.specs.declared.command.Command.TheVariants.{DataCmd}
 use Rattle.milter_wire.specs.declared.stage.Stage.{Stage}
+use Rattle.milter_wire.specs.declared.stage.Stage.TheVariants as stages
 use Rattle.milter_wire.specs.declared.verdict.Verdict.{Verdict}
-use Rattle.milter_wire.specs.declared.verdict.Verdict.TheVariants.{Continue, Accept, Reject, Tempfail, Discard, Skip, Code}
 use Rattle.milter_wire.specs.Stages.{stage_of}
 use Rattle.milter_wire.specs.declared.reply.Reply.{Reply}
 use Rattle.milter_wire.specs.Reply.{encoding}
@@ -21,6 +21,7 @@ use Rattle.milter_protocol.specs.FilterEnds.{Received}
 use Rattle.milter_protocol.specs.OrderStates.{OrderState, after_message, nothing_kept, with_shown}
 use Rattle.milter_protocol.specs.Steps.{Step, steps}
 use Rattle.milter_protocol.specs.Commands.{is_end_by}
+use Rattle.milter_protocol.specs.Verdicts.{is_final_at, is_refusal}
 use Rattle.milter_filter_stream.specs.declared.answer_effect.AnswerEffect.{AnswerEffect}
 use Rattle.milter_filter_stream.specs.declared.answer_effect.AnswerEffect.TheVariants.{Nothing, EndsMessage, CountsData}
 use Rattle.milter_filter_stream.specs.Conversations.{EndsThere, GivesUpIn}
@@ -88,15 +89,12 @@ shown_and_asked old command =
 
 -- ---- answers
 
--- of a verdict about DATA that isn't counted yet
+-- of a verdict about DATA that isn't counted yet: refused it stays so, and else it counts unless the message ends
 abbrev pub late_effect : Verdict → AnswerEffect
-late_effect Reject = Nothing
-late_effect Tempfail = Nothing
-late_effect (Code text) = Nothing
-late_effect Accept = EndsMessage
-late_effect Discard = EndsMessage
-late_effect Continue = CountsData
-late_effect Skip = CountsData
+late_effect verdict =
+    if is_refusal verdict then Nothing
+    else if is_final_at stages.DataCmd verdict then EndsMessage
+    else CountsData
 
 abbrev pub effect_at : OrderState → Stage → Verdict → AnswerEffect
 effect_at s stage verdict =
