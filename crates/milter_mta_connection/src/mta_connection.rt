@@ -9,12 +9,12 @@ ghost use Rattle.milter_wire.specs.Stages.{macro_command_of};
 ghost use Rattle.milter_wire_fields.specs.Borrowed.{client_of, header_of, path_of};
 ghost use Rattle.milter_message.specs.EditReplies.{reply_of};
 ghost use Rattle.milter_message.specs.EditedMessage.{edited_message};
-ghost use Rattle.milter_mta_channel.specs.Channel.{queue, queue_all, sent, without_edits};
+ghost use Rattle.milter_mta_channel.specs.Channel.{sent, without_edits};
 ghost use Rattle.milter_mta_channel.specs.ChannelParts.{Receives};
-ghost use Rattle.milter_mta_connection.specs.Connection.{CallLeaves, CanBeQueued, CommandLeaves, FitPackets, QueuesSome, UnknownLeaves, abort_before, aborts, after_abort, after_command, after_event, after_fed, after_quit, after_verdict, any_fault, closed_by, fault_at, fresh, has_leading_space_in, header_command, is_left_out, is_under_way, lost, outcome_of, pairs_for, want, with_command};
+ghost use Rattle.milter_mta_connection.specs.Connection.{CallLeaves, CanBeQueued, CommandLeaves, FitPackets, QueuesSome, UnknownLeaves, after_abort, after_command, after_event, after_fed, after_quit, after_verdict, any_fault, closed_by, fault_at, fresh, has_leading_space_in, header_command, is_left_out, is_under_way, lost, outcome_of, pairs_for, want, with_command};
 
 use crate::call_outcome::{CallFault, CallOutcome};
-use crate::packets::{packets_fit, queue_packets};
+use crate::packets::{packets_fit, queue_abort, queue_abort_before, queue_packets, queue_quit};
 use crate::phase::{Phase, rank_aborted, rank_after, rank_after_verdict};
 use crate::want::Want;
 use milter_mail::pairs_asked_for;
@@ -308,7 +308,7 @@ impl MtaConnection {
         ensures { CallLeaves (any_fault self.old) Unit (after_abort self.old) self.old self.new result }
     {
         self.check()?;
-        if self.queue_abort().is_err() {
+        if queue_abort(&mut self.channel, self.phase).is_err() {
             return Err(CallFault::NoMemory);
         }
         self.channel.clear_edits();
@@ -322,7 +322,7 @@ impl MtaConnection {
         ensures { CallLeaves (any_fault self.old) Unit (after_quit self.old) self.old self.new result }
     {
         self.check()?;
-        if self.queue_quit().is_err() {
+        if queue_quit(&mut self.channel, self.phase).is_err() {
             self.channel.discard_pending();
             return Err(CallFault::NoMemory);
         }
@@ -457,47 +457,10 @@ impl MtaConnection {
         }) }
         ensures err { OnErr result (QueuesSome self.old self.new) }
     {
-        self.queue_abort_before(stage)?;
+        queue_abort_before(&mut self.channel, self.phase, stage)?;
         if left_out {
             return Ok(());
         }
         queue_packets(&mut self.channel, stage.macro_command(), command, macros)
-    }
-
-    /// Queues the abort that comes before a command of the stage.
-    fn queue_abort_before(&mut self, stage: Stage) -> Result<(), NoMemory>
-        ensures ok { OnOk result (self.new ≡ record self.old {
-          channel = queue_all (abort_before self.old.phase stage) self.old.channel;
-        }) }
-        ensures err { OnErr result (self.new ≡ self.old) }
-    {
-        if self.phase == Phase::MessageOver && stage == Stage::Mail {
-            return self.channel.queue(&CommandRef::Abort);
-        }
-        Ok(())
-    }
-
-    /// Queues the abort of a message that was sent in part.
-    fn queue_abort(&mut self) -> Result<(), NoMemory>
-        ensures ok { OnOk result (self.new ≡ record self.old {
-          channel = queue_all (aborts self.old.phase) self.old.channel;
-        }) }
-        ensures err { OnErr result (self.new ≡ self.old) }
-    {
-        if self.phase.is_due_abort() {
-            return self.channel.queue(&CommandRef::Abort);
-        }
-        Ok(())
-    }
-
-    /// Queues the end of the connection.
-    fn queue_quit(&mut self) -> Result<(), NoMemory>
-        ensures ok { OnOk result (self.new ≡ record self.old {
-          channel = queue commands.Quit (queue_all (aborts self.old.phase) self.old.channel);
-        }) }
-        ensures err { OnErr result (QueuesSome self.old self.new) }
-    {
-        self.queue_abort()?;
-        self.channel.queue(&CommandRef::Quit)
     }
 }

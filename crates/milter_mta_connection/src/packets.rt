@@ -1,15 +1,17 @@
-//! The packets of a command: whether they fit, and how they are queued.
+//! The packets of a call: whether those of a command fit, and how all are queued.
 
 ghost use Rattle.std.specs.Prelude.{◌≡◌, ◌↔◌, All, IsTrue, OnErr, OnOk, false, option_map};
 ghost use Rattle.std.specs.Option.{option_to_list};
+ghost use Rattle.milter_wire.specs.declared.command.Command.TheVariants as commands;
 ghost use Rattle.milter_wire.specs.BorrowedCommand.{command_of};
 ghost use Rattle.milter_wire.specs.Command.{Fits};
 ghost use Rattle.milter_mail.specs.Steps.{macro_step};
-ghost use Rattle.milter_mta_channel.specs.Channel.{queue_all};
-ghost use Rattle.milter_mta_connection.specs.Connection.{FitPackets, HasQueuedSome, with_packets};
+ghost use Rattle.milter_mta_channel.specs.Channel.{queue, queue_all};
+ghost use Rattle.milter_mta_connection.specs.Connection.{FitPackets, HasQueuedSome, abort_before, aborts, with_packets};
 
+use crate::phase::Phase;
 use milter_mta_channel::MtaChannel;
-use milter_wire::{CommandRef, NoMemory, Pair, PairsRef};
+use milter_wire::{CommandRef, NoMemory, Pair, PairsRef, Stage};
 
 /// The packet with the macros for the command of this code, where there are some.
 fn macro_packet<'a>(code: Option<u8>, macros: &'a [Pair]) -> Option<CommandRef<'a>>
@@ -68,4 +70,40 @@ pub(crate) fn queue_packets(
 {
     queue_macros(channel, code, macros)?;
     channel.queue(command)
+}
+
+/// Queues the abort that comes before a command of the stage.
+pub(crate) fn queue_abort_before(
+    channel: &mut MtaChannel,
+    phase: Phase,
+    stage: Stage,
+) -> Result<(), NoMemory>
+    ensures ok { OnOk result (channel.new ≡ queue_all (abort_before phase stage) channel.old) }
+    ensures err { OnErr result (channel.new ≡ channel.old) }
+{
+    if phase == Phase::MessageOver && stage == Stage::Mail {
+        return channel.queue(&CommandRef::Abort);
+    }
+    Ok(())
+}
+
+/// Queues the abort of a message that was sent in part.
+pub(crate) fn queue_abort(channel: &mut MtaChannel, phase: Phase) -> Result<(), NoMemory>
+    ensures ok { OnOk result (channel.new ≡ queue_all (aborts phase) channel.old) }
+    ensures err { OnErr result (channel.new ≡ channel.old) }
+{
+    if phase.is_due_abort() {
+        return channel.queue(&CommandRef::Abort);
+    }
+    Ok(())
+}
+
+/// Queues the end of the connection, after the abort of a message that was sent in part. After `NoMemory` the abort
+/// may be pending.
+pub(crate) fn queue_quit(channel: &mut MtaChannel, phase: Phase) -> Result<(), NoMemory>
+    ensures ok { OnOk result (channel.new ≡ queue commands.Quit (queue_all (aborts phase) channel.old)) }
+    ensures err { OnErr result (HasQueuedSome channel.old channel.new) }
+{
+    queue_abort(channel, phase)?;
+    channel.queue(&CommandRef::Quit)
 }
