@@ -1,7 +1,8 @@
 //! A script of a filter's end, and the connection on which it is played.
 
-use crate::answers::{print_hex, print_packets, text_of};
-use crate::texts::{bits_in, next_texts, number_in, one_of, str_of};
+use crate::answers::text_of;
+use crate::script::{Player, obey_lines};
+use crate::texts::{bits_in, one_of, str_of};
 use anyhow::bail;
 use milter_filter_core::{
     Answer, AnswerFault, CommandOrder, Edits, FilterConnection, FilterFault, NextStep, Seen, Wants,
@@ -13,12 +14,12 @@ use std::alloc::Global;
 
 /// A connection, and the edits of its next answer.
 #[derive(Drop)]
-struct Player {
+struct FilterPlayer {
     connection: FilterConnection,
     edits: Vec<Edit>,
 }
 
-impl Player {
+impl FilterPlayer {
     /// Feeds a piece, and prints how many bytes are taken where that isn't all, or why the connection is given up.
     fn feed<R: Print>(&mut self, rt: &R, piece: &[u8]) -> anyhow::Result<()> {
         match self.connection.feed(piece) {
@@ -84,19 +85,6 @@ impl Player {
         Ok(())
     }
 
-    /// Prints the packets that are pending, and says that they were sent.
-    fn send<R: Print + AllocGlobal>(&mut self, rt: &R) -> anyhow::Result<()> {
-        print_packets(rt, self.connection.pending())?;
-        self.sent(usize::MAX);
-        Ok(())
-    }
-
-    /// Says that so many of the bytes that are pending were sent, or all of them where they are fewer.
-    fn sent(&mut self, count: usize) {
-        let count = self.connection.pending().len().min(count);
-        self.connection.sent(count);
-    }
-
     /// Reports progress, and prints why that isn't done.
     fn progress<R: Print>(&mut self, rt: &R) -> anyhow::Result<()> {
         match self.connection.progress() {
@@ -135,7 +123,6 @@ impl Player {
     ) -> anyhow::Result<()> {
         match word {
             "next" => print_next(rt, self.connection.next_step())?,
-            "pending" => print_hex(rt, self.connection.pending())?,
             "unread" => println!(rt; "{}", self.connection.unread())?,
             "shown" => print_shown(rt, self.connection.seen())?,
             "macro" => print_macro(rt, self.connection.seen(), one_of(texts)?)?,
@@ -145,40 +132,32 @@ impl Player {
         }
         Ok(())
     }
+}
 
-    /// Does what a line asks for, and prints what comes of it.
-    fn obey<R: Print + AllocGlobal>(&mut self, rt: &R, line: &[Text]) -> anyhow::Result<()> {
-        let [word, texts @ ..] = line else {
-            bail!("a line is to have a word");
-        };
-        match str_of(word)? {
+impl Player for FilterPlayer {
+    fn pending(&self) -> &[u8] {
+        self.connection.pending()
+    }
+
+    fn sent(&mut self, count: usize) {
+        let count = self.connection.pending().len().min(count);
+        self.connection.sent(count);
+    }
+
+    fn obey<R: Print + AllocGlobal>(
+        &mut self,
+        rt: &R,
+        word: &str,
+        texts: &[Text],
+    ) -> anyhow::Result<()> {
+        match word {
             "feed" => self.feed(rt, &hex::decode(rt.alloc(), one_of(texts)?)?),
             "feed_bytes" => self.feed_bytes(rt, &hex::decode(rt.alloc(), one_of(texts)?)?),
             "edit" => self.add_edit(rt.alloc(), &hex::decode(rt.alloc(), one_of(texts)?)?),
             "answer" => self.answer(rt, &verdict_in(rt.alloc(), texts)?),
             "progress" => self.progress(rt),
-            "send" => self.send(rt),
-            "sent" => {
-                self.sent(number_in(texts)?);
-                Ok(())
-            }
-            word => self.print(rt, word, texts),
+            _ => self.print(rt, word, texts),
         }
-    }
-
-    /// Does what each line asks for.
-    fn obey_all<R: Print + AllocGlobal>(
-        &mut self,
-        rt: &R,
-        lines: &mut LineCursor<'_>,
-    ) -> anyhow::Result<()> {
-        for _ in 0..u64::MAX {
-            match next_texts(rt.alloc(), lines)? {
-                Some(line) => self.obey(rt, &line)?,
-                None => break,
-            }
-        }
-        Ok(())
     }
 }
 
@@ -276,12 +255,9 @@ pub fn play<R: Print + AllocGlobal>(
         }
     };
     let order = order_of(order)?;
-    let mut player = Player {
+    let player = FilterPlayer {
         connection: FilterConnection::new(rt.alloc(), wants, order),
         edits: Vec::new(rt.alloc()),
     };
-    // The call of `drop` is proved in a tenth of the time that drops at the end of the scope take.
-    let played = player.obey_all(rt, lines);
-    drop(player);
-    played
+    obey_lines(rt, player, lines)
 }

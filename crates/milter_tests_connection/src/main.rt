@@ -50,6 +50,7 @@ mod calls;
 mod edits;
 mod filter_player;
 mod player;
+mod script;
 mod texts;
 
 use crate::texts::{next_texts, str_of};

@@ -1,30 +1,22 @@
 //! A script, and the connection on which it is played.
 
-use crate::answers::{
-    check_memory, phase_words, print_answer, print_fed, print_hex, print_packets, want_word,
-};
+use crate::answers::{check_memory, phase_words, print_answer, print_fed, want_word};
 use crate::calls::answer_to;
 use crate::edits::{print_edited, print_edits};
-use crate::texts::{next_texts, number_in, offer_in, one_of, pair_in, str_of};
-use anyhow::bail;
+use crate::script::{Player, obey_lines};
+use crate::texts::{offer_in, one_of, pair_in};
 use milter_mta_connection::{FilterEvent, MtaConnection};
 use milter_text::LineCursor;
 use milter_wire::{Pair, Text};
 
 /// A connection, and the macros of its next call.
 #[derive(Drop)]
-struct Player {
+struct MtaPlayer {
     connection: MtaConnection,
     macros: Vec<Pair>,
 }
 
-impl Player {
-    /// Notes that so many of the bytes that are pending were sent, or all of them where they are fewer.
-    fn sent(&mut self, count: usize) {
-        let count = self.connection.pending().len().min(count);
-        self.connection.sent(count);
-    }
-
+impl MtaPlayer {
     /// Feeds a piece, and prints what comes of it.
     fn feed<R: Print>(&mut self, rt: &R, piece: &[u8]) -> anyhow::Result<()> {
         let fed = self.connection.feed(piece);
@@ -83,7 +75,6 @@ impl Player {
         match name {
             "want" => println!(rt; "{}", want_word(self.connection.want()))?,
             "phase" => println!(rt; "{}", phase_words(self.connection.phase()))?,
-            "pending" => print_hex(rt, self.connection.pending())?,
             "under_way" => println!(rt;
                 "{}",
                 if self.connection.is_message_under_way() {
@@ -105,16 +96,19 @@ impl Player {
         self.macros.push(pair_in(rt.alloc(), texts)?)?;
         Ok(())
     }
+}
 
-    /// Prints the packets that are pending, and notes that they were sent.
-    fn send<R: Print + AllocGlobal>(&mut self, rt: &R) -> anyhow::Result<()> {
-        print_packets(rt, self.connection.pending())?;
-        self.sent(usize::MAX);
-        Ok(())
+impl Player for MtaPlayer {
+    fn pending(&self) -> &[u8] {
+        self.connection.pending()
     }
 
-    /// Does what this word asks for with these texts, and prints what comes of it.
-    fn obey_word<R: Print + AllocGlobal>(
+    fn sent(&mut self, count: usize) {
+        let count = self.connection.pending().len().min(count);
+        self.connection.sent(count);
+    }
+
+    fn obey<R: Print + AllocGlobal>(
         &mut self,
         rt: &R,
         word: &str,
@@ -122,11 +116,6 @@ impl Player {
     ) -> anyhow::Result<()> {
         match word {
             "macro" => self.add_macro(rt, texts),
-            "send" => self.send(rt),
-            "sent" => {
-                self.sent(number_in(texts)?);
-                Ok(())
-            }
             "lost" => {
                 self.connection.lost();
                 Ok(())
@@ -136,29 +125,6 @@ impl Player {
             _ => self.print_or_call(rt, word, texts),
         }
     }
-
-    /// Does what a line asks for, and prints what comes of it.
-    fn obey<R: Print + AllocGlobal>(&mut self, rt: &R, line: &[Text]) -> anyhow::Result<()> {
-        let [word, texts @ ..] = line else {
-            bail!("a line is to have a word");
-        };
-        self.obey_word(rt, str_of(word)?, texts)
-    }
-
-    /// Does what each line asks for.
-    fn obey_all<R: Print + AllocGlobal>(
-        &mut self,
-        rt: &R,
-        lines: &mut LineCursor<'_>,
-    ) -> anyhow::Result<()> {
-        for _ in 0..u64::MAX {
-            match next_texts(rt.alloc(), lines)? {
-                Some(line) => self.obey(rt, &line)?,
-                None => break,
-            }
-        }
-        Ok(())
-    }
 }
 
 /// Plays a script whose first line is this, and prints what its lines ask for.
@@ -167,12 +133,9 @@ pub fn play<R: Print + AllocGlobal>(
     first: &[Text],
     lines: &mut LineCursor<'_>,
 ) -> anyhow::Result<()> {
-    let mut player = Player {
+    let player = MtaPlayer {
         connection: MtaConnection::new(rt.alloc(), offer_in(first)?)?,
         macros: Vec::new(rt.alloc()),
     };
-    // The call of `drop` is proved in a tenth of the time that drops at the end of the scope take.
-    let played = player.obey_all(rt, lines);
-    drop(player);
-    played
+    obey_lines(rt, player, lines)
 }
