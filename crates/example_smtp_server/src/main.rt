@@ -2,7 +2,7 @@
 //! mail server's end.
 //!
 //! It serves one client on standard input and output, as a super-server such as inetd, tcpserver or systemd starts it.
-//! It ends with status 0, with 1 and a line on standard error after a fault, and with 2 after a wrong use of the
+//! It ends with status 0, with 1 and the error on standard error after a fault, and with 2 after a wrong use of the
 //! command line.
 #![tactic(auto)]
 
@@ -44,27 +44,16 @@ fn serve(rt: &HostRuntime, settings: &Settings<'_>) -> anyhow::Result<()> {
     answered
 }
 
-/// Does what the command line asks for, and answers the status.
-fn run(rt: &HostRuntime) -> anyhow::Result<ExitCode> {
-    let words: Vec<String> = env::args(rt)?.collect(rt.alloc())?;
+fn main(rt: HostRuntime) -> anyhow::Result<ExitCode> {
+    let words: Vec<String> = env::args(&rt)?.collect(rt.alloc())?;
     match read_settings(rt.alloc(), words.as_slice()) {
         Ok(settings) => {
-            serve(rt, &settings)?;
+            serve(&rt, &settings)?;
             Ok(ExitCode::SUCCESS)
         }
         Err(error) => {
-            error.print(rt)?;
-            Ok(ExitCode::from(if error.use_stderr() { 2 } else { 0 }))
-        }
-    }
-}
-
-fn main(rt: HostRuntime) -> ExitCode {
-    match run(&rt) {
-        Ok(status) => status,
-        Err(error) => {
-            let _ = eprintln!(rt; "{error}");
-            ExitCode::FAILURE
+            error.print(&rt)?;
+            Ok(ExitCode::from(error.exit_code() as u8))
         }
     }
 }
