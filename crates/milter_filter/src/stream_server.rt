@@ -228,7 +228,8 @@ fn write_pending<P: Policy, W: Write>(core: &mut FilterCore<'_, P>, writer: &mut
     ensures rest { core.new ≡ record core.old { pending = core.new.pending } }
     ensures whole { result ≡ true → core.new.pending ≡ [] }
 {
+    let count = core.pending().len();
     let written = write_now(core.pending(), writer);
     core.sent(written.count);
-    core.pending().is_empty()
+    written.count == count
 }
