@@ -3,8 +3,8 @@
 use crate::allow_list::AllowList;
 use crate::store::{Standing, Store};
 use crate::triple::Triple;
-use milter_filter::{Answer, Connection, Served, VERSION_MAX, Wants};
-use milter_filter_service::{Clients, Host, Key, QuestionKey, ServiceError};
+use milter_filter::{Answer, Served, VERSION_MAX, Wants};
+use milter_filter_service::{AskedConnection, Clients, Host, Key, QuestionKey, ServiceError};
 use milter_wire::{Actions, NoMemory, Options, Protocol, Stage, SymLists, Text, Verdict};
 use std::alloc::Global;
 use std::mem;
@@ -121,7 +121,7 @@ impl<'x> Host for Greylist<'x> {
         &mut self,
         question: QuestionKey,
         _session: &mut (),
-        connection: &mut Connection,
+        connection: &mut AskedConnection,
     ) -> Result<(), NoMemory> {
         if connection.asked() == Some(Stage::Rcpt) && !self.allowed.allows(connection.seen()) {
             let triple = Triple::of(self.alloc, connection.seen())?;

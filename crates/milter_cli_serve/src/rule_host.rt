@@ -11,8 +11,8 @@ use crate::decision_log::{DecisionLog, LoggedPolicy};
 use crate::rule_source::RuleSource;
 use bumpalo::Bump;
 use milter_cli_io::{ConnectionReport, FileError};
-use milter_filter::{Connection, FilterFault, Served, Wants};
-use milter_filter_service::{Host, Key, QuestionKey, ServiceError, policy_wants};
+use milter_filter::{FilterFault, Served, Wants};
+use milter_filter_service::{AskedConnection, Host, Key, QuestionKey, ServiceError, policy_wants};
 use milter_rules::Rules;
 use milter_text::{TextFault, write_text};
 use milter_wire::NoMemory;
@@ -158,7 +158,7 @@ impl<'p, 'w, S: RuleSource, W: Write, E: Write> Host for RuleHost<'p, 'w, S, W, 
         &mut self,
         question: QuestionKey,
         session: &mut Self::Session,
-        connection: &mut Connection,
+        connection: &mut AskedConnection,
     ) -> Result<(), NoMemory>
         ensures answered { OnOk result ((stage : At) → question_in connection.old ≡ Some stage → connection.new
             ≡ connected_answered connection.old ((behavior_by session.old.now.policy.now).decide stage

@@ -5,6 +5,7 @@ ghost use Rattle.milter_filter.specs.Connections.{TurnsBy};
 ghost use Rattle.milter_filter.specs.declared.turn.Turn.TheVariants as turns;
 ghost use Rattle.milter_filter_service.specs.declared.given.Given.TheVariants as givens;
 
+use crate::asked_connection::AskedConnection;
 use crate::given::Given;
 use crate::host::Host;
 use crate::key::{Key, QuestionKey};
@@ -57,7 +58,7 @@ pub(crate) enum Due {
 #[derive(Drop)]
 pub(crate) struct Client<S: Drop> {
     pub(crate) stream: Stream,
-    pub(crate) connection: Connection,
+    pub(crate) connection: AskedConnection,
     pub(crate) session: S,
     /// The number of its connection.
     pub(crate) number: u32,
@@ -102,7 +103,7 @@ impl<S: Drop> Client<S> {
     ) -> Self {
         Client {
             stream,
-            connection,
+            connection: AskedConnection { inner: connection },
             session,
             number,
             last: second,
@@ -123,9 +124,10 @@ impl<S: Drop> Client<S> {
         ensures ended { IfSome self.old.connection.ended (λ end. (result ≡ turns.Ended end)
             × (self.new.connection ≡ self.old.connection)) }
     {
+        let connection = &mut self.connection.inner;
         match &self.stream {
-            Stream::Inet(stream) => self.connection.turn(buffer, &mut &*stream, &mut &*stream),
-            Stream::Unix(stream) => self.connection.turn(buffer, &mut &*stream, &mut &*stream),
+            Stream::Inet(stream) => connection.turn(buffer, &mut &*stream, &mut &*stream),
+            Stream::Unix(stream) => connection.turn(buffer, &mut &*stream, &mut &*stream),
         }
     }
 
@@ -261,7 +263,7 @@ impl<S: Drop> Client<S> {
 
     /// Reports progress at this second; where memory is refused, at the next look.
     pub(crate) fn report_progress(&mut self, second: u64) {
-        if self.connection.progress().is_ok() {
+        if self.connection.inner.progress().is_ok() {
             if let Some(question) = &mut self.question {
                 question.reported = second;
             }
@@ -270,8 +272,19 @@ impl<S: Drop> Client<S> {
 }
 
 impl OpenQuestion {
+    ghost use Rattle.std.specs.Prelude.{◌≤◌, ◌-◌, ◌⊎◌};
+    ghost use Rattle.milter_wire.specs.declared.stage.Stage.TheVariants.{Eob};
+    ghost use Rattle.milter_filter_service.specs.declared.client.Due.TheVariants as dues;
+
     /// What is to be done about this question, which is about this stage.
-    fn due(&self, second: u64, stage: Stage, limits: &Limits) -> Due {
+    fn due(&self, second: u64, stage: Stage, limits: &Limits) -> Due
+        ensures default { limits.now.answer ≤ second - self.now.since → result ≡ dues.Default stage }
+        ensures progress { second - self.now.since < limits.now.answer → stage ≡ Eob → 0 < limits.now.progress →
+            limits.now.progress ≤ second - self.now.reported → result ≡ dues.Progress }
+        ensures waits { second - self.now.since < limits.now.answer →
+            (stage ≢ Eob) ⊎ (limits.now.progress ≡ 0) ⊎ (second - self.now.reported < limits.now.progress) →
+            result ≡ dues.Release }
+    {
         if second.saturating_sub(self.since) >= limits.answer {
             return Due::Default(stage);
         }

@@ -1,6 +1,6 @@
 //! The mail servers that are connected.
 
-ghost use Rattle.std.specs.Prelude.{◌≡◌, ◌≢◌, ◌↔◌, IfOk, None, Ok, Some};
+ghost use Rattle.std.specs.Prelude.{◌≡◌, ◌≢◌, ◌↔◌, IfOk, None, Ok, Some, option_copied, option_map};
 ghost use Rattle.milter_filter_service.specs.declared.given.Given.TheVariants as givens;
 
 use crate::client::Client;
@@ -73,7 +73,13 @@ impl<S: Drop> Clients<S> {
     }
 
     /// The client whose connection has this name; `None` where it has ended.
-    pub(crate) fn get(&self, key: Key) -> Option<&Client<S>> {
+    pub(crate) fn get(&self, key: Key) -> Option<&Client<S>>
+        ensures found { (client : ClientState S) → get self.now key.place ≡ Some client → client.number ≡ key.number →
+            option_copied result ≡ Some client }
+        ensures other { (client : ClientState S) → get self.now key.place ≡ Some client → client.number ≢ key.number →
+            result ≡ None }
+        ensures gone { get self.now key.place ≡ None → result ≡ None }
+    {
         let client = self.connected.get(key.place)?;
         if client.number == key.number {
             Some(client)
@@ -114,20 +120,44 @@ impl<S: Drop> Clients<S> {
     }
 
     /// What the host keeps of a connection; `None` where that has ended. Doesn't allocate.
-    pub fn session(&self, key: Key) -> Option<&S> {
+    pub fn session(&self, key: Key) -> Option<&S>
+        ensures found { (client : ClientState S) → get self.now key.place ≡ Some client → client.number ≡ key.number →
+            option_copied result ≡ Some client.session }
+        ensures other { (client : ClientState S) → get self.now key.place ≡ Some client → client.number ≢ key.number →
+            result ≡ None }
+        ensures gone { get self.now key.place ≡ None → result ≡ None }
+    {
         let client = self.get(key)?;
         Some(&client.session)
     }
 
     /// What is shown of a connection; `None` where that has ended. Doesn't allocate.
-    pub fn seen(&self, key: Key) -> Option<&Seen> {
+    pub fn seen(&self, key: Key) -> Option<&Seen>
+        ensures found { (client : ClientState S) → get self.now key.place ≡ Some client → client.number ≡ key.number →
+            option_map (λ seen. seen.now.shown) result
+            ≡ Some client.connection.conversation.state.order_state.shown.seen }
+        ensures other { (client : ClientState S) → get self.now key.place ≡ Some client → client.number ≢ key.number →
+            result ≡ None }
+        ensures gone { get self.now key.place ≡ None → result ≡ None }
+    {
         let client = self.get(key)?;
         Some(client.connection.seen())
     }
 
     /// Gives the answer to a question, where that is open: it is sent in the connection's next turn. An error is that
     /// memory was refused for the service itself.
-    pub fn give(&mut self, question: QuestionKey, answer: Answer) -> Result<Given, ServiceError> {
+    pub fn give(&mut self, question: QuestionKey, answer: Answer) -> Result<Given, ServiceError>
+        ensures taken { IfOk result (λ given. given ≡ givens.Taken → (client : ClientState S) →
+            get self.old question.connection.place ≡ Some client →
+            get self.new question.connection.place ≡ Some (answered_by client answer)) }
+        ensures unchanged { IfOk result (λ given. given ≢ givens.Taken →
+            (place : ℕ) → get self.new place ≡ get self.old place) }
+        // No other client is touched, whatever becomes of the answer.
+        ensures others { (place : ℕ) → place ≢ question.connection.place → get self.new place ≡ get self.old place }
+        ensures asked { (client : ClientState S) → get self.old question.connection.place ≡ Some client →
+            IfOk result (λ given. (given ≢ givens.TooLate) ↔ HasQuestion client question) }
+        ensures gone { get self.old question.connection.place ≡ None → result ≡ Ok givens.TooLate }
+    {
         let place = question.connection.place;
         let given = match self.connected.get_mut(place) {
             Some(client) => client.give(question, answer),

@@ -1,9 +1,10 @@
 //! Who has a service run.
 
+use crate::asked_connection::AskedConnection;
 use crate::clients::Clients;
 use crate::key::{Key, QuestionKey};
 use crate::service_error::ServiceError;
-use milter_filter::{Connection, Served, Wants};
+use milter_filter::{Served, Wants};
 use milter_wire::{NoMemory, Stage, Verdict};
 use mio::{Registry, Token};
 use std::ops::Range;
@@ -26,13 +27,14 @@ pub trait Host {
     /// connection is closed, and [`Host::refused`] is called.
     fn connect(&mut self, key: Key) -> Result<(Wants, Self::Session), NoMemory>;
 
-    /// A question is open on a connection. It is answered now, by `connection.answer(..)` or `answer_by(..)`, or later,
-    /// by [`Clients::give`] with its key. After `NoMemory` the connection is closed.
+    /// A question is open on a connection. It is answered now, by [`AskedConnection::answer`] or
+    /// [`AskedConnection::answer_by`], or later, by [`Clients::give`] with its key; it isn't asked again. After
+    /// `NoMemory` the connection is closed.
     fn asked(
         &mut self,
         question: QuestionKey,
         session: &mut Self::Session,
-        connection: &mut Connection,
+        connection: &mut AskedConnection,
     ) -> Result<(), NoMemory>;
 
     /// The verdict where a question about this stage isn't answered in time. One that this stage can't have, and one

@@ -4,8 +4,8 @@ ghost use Rattle.std.specs.Prelude.{◌≡◌};
 
 use mio::Token;
 
-/// The name of a connection. No two connections of a service have the same, though the place of one that has ended is
-/// used again.
+/// The name of a connection: its place, which is used again once it has ended, and its number. Two connections of a
+/// service have the same name only where a multiple of 4,294,967,296 connections came from the one to the other.
 #[derive(Clone, Copy, Debug, PartialEq, Eq)]
 pub struct Key {
     /// Its place among the clients.
@@ -15,7 +15,8 @@ pub struct Key {
 }
 
 impl Key {
-    /// The number of the connection: they are numbered from 1 in the order in which they came.
+    /// The number of the connection: they are numbered from 1 in the order in which they came, and after 4,294,967,295
+    /// from 0.
     pub fn number(self) -> u32
         ensures { result ≡ self.number }
     {
@@ -28,8 +29,10 @@ impl Key {
     }
 }
 
-/// The name of a question: the connection on which it is open, and its number there. A late answer that is given by it
-/// is never taken for the answer to another question.
+/// The name of a question: the connection on which it is open, and its number there, from 1. Two questions of a
+/// connection have the same name only where a multiple of 18,446,744,073,709,551,616 questions came from the one to the
+/// other. So a late answer is taken for the answer to another question only where the names of their connections or of
+/// both have come again.
 #[derive(Clone, Copy, Debug, PartialEq, Eq)]
 pub struct QuestionKey {
     pub(crate) connection: Key,

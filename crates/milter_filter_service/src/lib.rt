@@ -2,6 +2,7 @@
 //! sockets that never wait. Its host answers the questions of the connections, each at once or later.
 #![tactic(auto)]
 
+mod asked_connection;
 mod client;
 mod clients;
 mod given;
@@ -13,6 +14,7 @@ mod service;
 mod service_error;
 mod wants;
 
+pub use asked_connection::AskedConnection;
 pub use clients::Clients;
 pub use given::Given;
 pub use host::Host;

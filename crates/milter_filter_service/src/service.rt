@@ -330,7 +330,7 @@ impl<'r, R: Net + Clock, S: Drop> Service<'r, R, S> {
                     place,
                     number: client.number,
                 };
-                self.keep(client.connection);
+                self.keep(client.connection.inner);
                 host.ended(key, client.session, served)
             }
             None => Ok(()),
@@ -412,7 +412,7 @@ impl<'r, R: Net + Clock, S: Drop> Service<'r, R, S> {
         match client.due(second, &self.limits) {
             Due::Nothing => Ok(()),
             Due::Release => {
-                client.connection.release();
+                client.connection.inner.release();
                 Ok(())
             }
             Due::Progress => {
