@@ -1,11 +1,12 @@
 //! The filter: which mail is deferred.
 
 use crate::allow_list::AllowList;
-use crate::store::{Standing, Store};
+use crate::decision::{Standing, verdict_on};
+use crate::store::Store;
 use crate::triple::Triple;
 use milter_filter::{Answer, Served, VERSION_MAX, Wants};
 use milter_filter_service::{AskedConnection, Clients, Host, Key, QuestionKey, ServiceError};
-use milter_wire::{Actions, NoMemory, Options, Protocol, Stage, SymLists, Text, Verdict};
+use milter_wire::{Actions, NoMemory, Options, Protocol, Stage, SymLists, Verdict};
 use std::alloc::Global;
 use std::mem;
 use std::rt::Clock;
@@ -60,14 +61,6 @@ impl<'x> Greylist<'x> {
         })
     }
 
-    /// What becomes of mail that isn't looked up.
-    fn verdict_on_error(&self) -> Verdict {
-        match self.accepts_on_error {
-            true => Verdict::Continue,
-            false => Verdict::Tempfail,
-        }
-    }
-
     /// What the recipients that wait come to; `None` where the store fails, which is said once.
     fn standings(&mut self, triples: &[Triple]) -> Option<Vec<Standing>> {
         let standings = match current_second(self.rt) {
@@ -86,18 +79,6 @@ impl<'x> Greylist<'x> {
                 self.fails = true;
                 None
             }
-        }
-    }
-
-    /// The verdict of a recipient, where it could be looked up.
-    fn verdict_of(&self, standing: Option<Standing>) -> Verdict {
-        match standing {
-            Some(Standing::Passes) => Verdict::Continue,
-            Some(Standing::Deferred(seconds)) => match code_of(self.alloc, seconds) {
-                Ok(code) => Verdict::Code(code),
-                Err(_) => Verdict::Tempfail,
-            },
-            None => self.verdict_on_error(),
         }
     }
 }
@@ -136,7 +117,7 @@ impl<'x> Host for Greylist<'x> {
     }
 
     fn default_verdict(&self, _stage: Stage) -> Verdict {
-        self.verdict_on_error()
+        verdict_on(self.alloc, None, self.accepts_on_error)
     }
 
     /// At once, where recipients wait.
@@ -156,8 +137,8 @@ impl<'x> Host for Greylist<'x> {
                 Some(standings) => standings.get(at).copied(),
                 None => None,
             };
-            let answer = Answer::of_verdict(self.alloc, self.verdict_of(standing));
-            clients.give(*question, answer)?;
+            let verdict = verdict_on(self.alloc, standing, self.accepts_on_error);
+            clients.give(*question, Answer::of_verdict(self.alloc, verdict))?;
         }
         Ok(())
     }
@@ -167,15 +148,9 @@ impl<'x> Host for Greylist<'x> {
     }
 }
 
-/// The reply that defers mail.
-fn code_of(alloc: Global, seconds: i64) -> Result<Text, NoMemory> {
-    let text = format!(in alloc; "451 4.7.1 Greylisted, try again in {seconds} seconds")?;
-    Text::copy_of(alloc, text.as_bytes())
-}
-
 /// The second that it is since 1970; `None` where the system doesn't say it.
-fn current_second<R: Clock>(clock: &R) -> Option<i64> {
+fn current_second<R: Clock>(clock: &R) -> Option<u64> {
     let now = SystemTime::now(clock).ok()?;
     let since = now.duration_since(UNIX_EPOCH).ok()?;
-    i64::try_from(since.as_secs()).ok()
+    Some(since.as_secs())
 }

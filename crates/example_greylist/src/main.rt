@@ -7,6 +7,7 @@
 #![tactic(auto)]
 
 mod allow_list;
+mod decision;
 mod greylist;
 mod network;
 mod settings;
@@ -24,11 +25,12 @@ use std::{env, fs, io};
 
 /// The mode of a Unix socket.
 const MODE: u32 = 0o660;
-/// What the service allows.
+/// What the service allows. A question gets its default within a second after `answer`: before Postfix gives the filter
+/// up, which it does after 30 seconds where its `milter_command_timeout` isn't set.
 const LIMITS: Limits = Limits {
     at_once: 1_000,
     timeout: 7_210,
-    answer: 30,
+    answer: 20,
     progress: 0,
 };
 

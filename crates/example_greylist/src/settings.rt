@@ -1,6 +1,6 @@
 //! What the command line says.
 
-use crate::store::Times;
+use crate::decision::Times;
 use clap::builder::ValueParser;
 use clap::error::ErrorKind;
 use clap::{Arg, ArgAction, ArgMatches, Command, Error};
@@ -16,15 +16,15 @@ const HOURS_MAX: u64 = 8_760;
 
 const DAYS_MAX: u64 = 3_650;
 /// What holds where an option isn't given.
-const DELAY: i64 = 300;
+const DELAY: u64 = 300;
 
-const WINDOW: i64 = 48;
+const WINDOW: u64 = 48;
 
-const LIFETIME: i64 = 35;
+const LIFETIME: u64 = 35;
 
-const HOUR: i64 = 3_600;
+const HOUR: u64 = 3_600;
 
-const DAY: i64 = 86_400;
+const DAY: u64 = 86_400;
 
 /// What the command line says.
 #[derive(Drop)]
@@ -125,7 +125,7 @@ fn settings_of<'x>(address: Address<'x>, matches: &ArgMatches<'x>) -> Settings<'
 }
 
 /// The number that an option has, or else this one.
-fn number_in(matches: &ArgMatches<'_>, name: &str, default: i64) -> i64 {
+fn number_in(matches: &ArgMatches<'_>, name: &str, default: u64) -> u64 {
     match matches.get_str(name) {
         Some(text) => text.parse().unwrap_or(default),
         None => default,

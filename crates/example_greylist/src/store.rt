@@ -1,5 +1,6 @@
 //! The triples that have been seen, in a SQLite file.
 
+use crate::decision::{Known, Standing, Times, standing_of};
 use crate::triple::Triple;
 use sqlite::{Alter, Connection, Error, ErrorCode, File, FileStore, Transaction, params};
 use std::alloc::Global;
@@ -11,7 +12,7 @@ const TABLE: &str =
     PRIMARY KEY (network, sender, recipient)) STRICT";
 
 const FIND: &str =
-    "SELECT first FROM triple WHERE network = ?1 AND sender = ?2 AND recipient = ?3 AND last >= ?4";
+    "SELECT first, last FROM triple WHERE network = ?1 AND sender = ?2 AND recipient = ?3";
 
 const KEEP: &str =
     "UPDATE triple SET last = ?4 WHERE network = ?1 AND sender = ?2 AND recipient = ?3";
@@ -21,27 +22,7 @@ const ADD: &str =
 
 const CLEAN: &str = "DELETE FROM triple WHERE last < ?1";
 /// After how many seconds rows that are known no more are removed.
-const CLEAN_SECONDS: i64 = 3_600;
-
-/// How long mail is deferred, and how long it is known.
-#[derive(Clone, Copy, Debug, PartialEq, Eq)]
-pub(crate) struct Times {
-    /// For how many seconds after its first try mail is deferred.
-    pub(crate) delay: i64,
-    /// For how many seconds after its first try it is known, where no later one has passed.
-    pub(crate) window: i64,
-    /// For how many seconds after a try that passed it is known.
-    pub(crate) lifetime: i64,
-}
-
-/// What a try comes to.
-#[derive(Clone, Copy, Debug, PartialEq, Eq)]
-pub(crate) enum Standing {
-    /// It is deferred, for so many seconds more.
-    Deferred(i64),
-    /// It passes.
-    Passes,
-}
+const CLEAN_SECONDS: u64 = 3_600;
 
 /// The file of triples. While it is open no other program can open it.
 #[derive(Drop)]
@@ -52,9 +33,9 @@ pub(crate) struct Store<'x> {
     // None where it couldn't be opened, or failed.
     file: Option<Connection<FileStore<File>>>,
     // The second at which it is opened again after that.
-    next_open: i64,
+    next_open: u64,
     // The second at which rows are removed again.
-    next_clean: i64,
+    next_clean: u64,
 }
 
 impl<'x> Store<'x> {
@@ -76,7 +57,7 @@ impl<'x> Store<'x> {
         &mut self,
         alloc: Global,
         triples: &[Triple],
-        now: i64,
+        now: u64,
     ) -> Result<Vec<Standing>, Error> {
         let mut file = self.take_file(now)?;
         let clean = (now >= self.next_clean).then_some(now);
@@ -89,7 +70,7 @@ impl<'x> Store<'x> {
     }
 
     /// The open file; it is to be put back where it doesn't fail.
-    fn take_file(&mut self, now: i64) -> Result<Connection<FileStore<File>>, Error> {
+    fn take_file(&mut self, now: u64) -> Result<Connection<FileStore<File>>, Error> {
         if let Some(file) = self.file.take() {
             return Ok(file);
         }
@@ -113,15 +94,15 @@ fn try_all<S: Alter + Drop>(
     alloc: Global,
     file: &mut Connection<S>,
     triples: &[Triple],
-    at: (Times, i64),
-    clean: Option<i64>,
+    at: (Times, u64),
+    clean: Option<u64>,
 ) -> Result<Vec<Standing>, Error> {
     if !file.is_autocommit() {
         return Err(Error::SqliteFailure(ErrorCode::TransactionState));
     }
     let mut transaction = file.transaction();
     if let Some(now) = clean {
-        transaction.execute(CLEAN, params![now])?;
+        transaction.execute(CLEAN, params![sql(now)])?;
     }
     let mut standings = Vec::new(alloc);
     for triple in triples {
@@ -136,38 +117,32 @@ fn try_all<S: Alter + Drop>(
 fn try_one<S: Alter + Drop>(
     transaction: &mut Transaction<'_, S>,
     triple: &Triple,
-    (times, now): (Times, i64),
+    (times, now): (Times, u64),
 ) -> Result<Standing, Error> {
-    let Some(first) = first_try(transaction, triple, now)? else {
-        let last = now.saturating_add(times.window);
-        add(transaction, triple, now, last)?;
-        return Ok(Standing::Deferred(times.delay));
-    };
-    let wait = first.saturating_add(times.delay).saturating_sub(now);
-    if wait > 0 {
-        return Ok(Standing::Deferred(wait));
+    let known = known_of(transaction, triple)?;
+    let standing = standing_of(known, now, times);
+    match standing {
+        Standing::First(_) => add(transaction, triple, now, now.saturating_add(times.window))?,
+        Standing::Early(_) => {}
+        Standing::Passes => keep(transaction, triple, now.saturating_add(times.lifetime))?,
     }
-    keep(transaction, triple, now.saturating_add(times.lifetime))?;
-    Ok(Standing::Passes)
+    Ok(standing)
 }
 
-/// The second of the first try with this triple, where that is known.
-fn first_try<S: Alter + Drop>(
+/// What is known of a triple, also where it is known no more.
+fn known_of<S: Alter + Drop>(
     transaction: &mut Transaction<'_, S>,
     triple: &Triple,
-    now: i64,
-) -> Result<Option<i64>, Error> {
+) -> Result<Option<Known>, Error> {
     let found = transaction.query_row(
         FIND,
-        params![
-            triple.network_start(),
-            &triple.sender,
-            &triple.recipient,
-            now
-        ],
+        params![triple.network_start(), &triple.sender, &triple.recipient],
     );
     match found {
-        Ok(row) => Ok(Some(row.get(0)?)),
+        Ok(row) => Ok(Some(Known {
+            first: row.get(0)?,
+            last: row.get(1)?,
+        })),
         Err(Error::QueryReturnedNoRows) => Ok(None),
         Err(error) => Err(error),
     }
@@ -177,8 +152,8 @@ fn first_try<S: Alter + Drop>(
 fn add<S: Alter + Drop>(
     transaction: &mut Transaction<'_, S>,
     triple: &Triple,
-    now: i64,
-    last: i64,
+    now: u64,
+    last: u64,
 ) -> Result<(), Error> {
     transaction.execute(
         ADD,
@@ -186,8 +161,8 @@ fn add<S: Alter + Drop>(
             triple.network_start(),
             &triple.sender,
             &triple.recipient,
-            now,
-            last
+            sql(now),
+            sql(last)
         ],
     )?;
     Ok(())
@@ -197,7 +172,7 @@ fn add<S: Alter + Drop>(
 fn keep<S: Alter + Drop>(
     transaction: &mut Transaction<'_, S>,
     triple: &Triple,
-    last: i64,
+    last: u64,
 ) -> Result<(), Error> {
     transaction.execute(
         KEEP,
@@ -205,8 +180,13 @@ fn keep<S: Alter + Drop>(
             triple.network_start(),
             &triple.sender,
             &triple.recipient,
-            last
+            sql(last)
         ],
     )?;
     Ok(())
+}
+
+/// A second as SQLite has it: a later one than the last that it has is that.
+fn sql(second: u64) -> i64 {
+    i64::try_from(second).unwrap_or(i64::MAX)
 }
