@@ -224,6 +224,34 @@ def idle(program, kind, folder):
     yield checked('idle for a second', run)
 
 
+def released(program, kind, folder):
+    """Connections that are idle give back the room for a packet that was cut, and not before it is whole. The C library
+    has to take room of that size from the system, and give it back, or nothing would be seen of it."""
+    count, room = 100, 64
+    given = packet(b'H', 1000 * b'h')
+
+    def run():
+        started = {'env': {**os.environ, 'MALLOC_MMAP_THRESHOLD_': '32768'}}
+        with serving.Service(program, kind, folder, **started) as served:
+            connections = [served.connected() for _ in range(count)]
+            for connection in connections:
+                say(connection, [(OFFER, AGREED)])
+            time.sleep(2.5)
+            before = served.reserved()
+            for connection in connections:
+                connection.sendall(given[:500])
+            time.sleep(3.5)
+            expect('room for packets that are cut', served.reserved() - before >= count * room, True)
+            for connection in connections:
+                say(connection, [(given[500:], CONTINUE)])
+            left = serving.waited_for(lambda: served.reserved() - before < count * room // 10)
+            expect('room when they are whole', left, True)
+            quit_all(connections)
+            served.expect_all(b'quit')
+
+    yield checked('%d packets that are cut' % count, run)
+
+
 def few_descriptors(program, kind, folder):
     """Where descriptors are used up, connections wait until one ends; nothing is printed of them, and it doesn't
     spin."""
@@ -467,7 +495,8 @@ def groups(folder):
         program = programs.tool(build)
         name = os.path.basename(program)
         for kind in serving.KINDS:
-            for group in [many, idle, crowd, unread, flooded, few_descriptors, queue, stopped, restarted, unwritten]:
+            for group in [many, idle, released, crowd, unread, flooded, few_descriptors, queue, stopped, restarted,
+                          unwritten]:
                 found.append(('%s at %s' % (name, kind), group, (program, kind, tempfile.mkdtemp(dir=folder))))
         for group in [sockets, words_refused]:
             found.append((name, group, (program, tempfile.mkdtemp(dir=folder))))

@@ -16,6 +16,7 @@ PROGRAMS = {
     'loop guard': ('example_loop_guard', []),
     'smtp server': ('example_smtp_server', []),
     'greylist': ('example_greylist', []),
+    'host': ('milter_tests_host', []),
     'edits': ('milter_tests_driver', ['edits', 'text']),
     'filter faults': ('milter_tests_driver', ['faults']),
     'payloads': ('milter_tests_driver', ['packets']),

@@ -99,6 +99,11 @@ class Service(Filter):
         with open('/proc/%d/status' % self.process.pid) as status:
             return next(int(line.split()[1]) for line in status if line.startswith('VmRSS:'))
 
+    def reserved(self):
+        """The KiB of data for which it has room, also where they are no memory yet."""
+        with open('/proc/%d/status' % self.process.pid) as status:
+            return next(int(line.split()[1]) for line in status if line.startswith('VmData:'))
+
     def descriptors(self):
         """How many descriptors it has open."""
         return len(os.listdir('/proc/%d/fd' % self.process.pid))

@@ -1,0 +1,60 @@
+//! `milter_tests_host`: a filter that has recipients and the ends of messages looked up by another program, for
+//! `tests/test_host.py`, which plays that program.
+//!
+//! It listens at an address, and connects to the Unix socket of the look-up server before. All else goes on. The lines
+//! that pass over that socket are in `look_up_host`.
+#![tactic(auto)]
+
+mod look_up_host;
+
+use crate::look_up_host::LookUpHost;
+use anyhow::bail;
+use milter_cli_request::Address;
+use milter_filter_service::{Limits, Listener, Service};
+use std::env;
+
+/// The mode of a Unix socket.
+const MODE: u32 = 0o600;
+/// How many connections are open at once.
+const AT_ONCE: usize = 100;
+
+/// Listens at the address that a text names.
+fn listen(rt: &HostRuntime, text: &str) -> anyhow::Result<Listener> {
+    match Address::parse(text) {
+        Some(Address::Inet { port, host }) => Ok(Listener::bind_inet(rt, host, port)?),
+        Some(Address::Unix { path }) => Ok(Listener::bind_unix(rt, path, MODE)?),
+        None => bail!("'{text}' is no address"),
+    }
+}
+
+/// Serves mail servers until it is ended from outside.
+fn serve(
+    rt: &HostRuntime,
+    host: &mut LookUpHost,
+    limits: Limits,
+    listener: Listener,
+) -> anyhow::Result<()> {
+    let mut listeners = Vec::new(rt.alloc());
+    listeners.push(listener)?;
+    let mut service = Service::new(rt, rt.alloc(), limits, listeners)?;
+    service.run(host)?;
+    Ok(())
+}
+
+fn main(rt: HostRuntime) -> anyhow::Result<()> {
+    let words: Vec<String> = env::args(&rt)?.collect(rt.alloc())?;
+    let [_, address, look_up, answer, progress, timeout] = words.as_slice() else {
+        bail!(
+            "usage: milter_tests_host ADDRESS LOOK_UP_PATH ANSWER_SECONDS PROGRESS_SECONDS TIMEOUT_SECONDS"
+        );
+    };
+    let limits = Limits {
+        at_once: AT_ONCE,
+        timeout: timeout.parse()?,
+        answer: answer.parse()?,
+        progress: progress.parse()?,
+    };
+    let mut host = LookUpHost::connect(&rt, look_up.as_str())?;
+    let listener = listen(&rt, address.as_str())?;
+    serve(&rt, &mut host, limits, listener)
+}
