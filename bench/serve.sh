@@ -5,9 +5,10 @@
 # Unix socket. The filter has processor 1 for itself, the generator processor 0. For 1, 50 and 500 connections at once
 # it prints how many connections of one message each a filter takes a second, and how many messages a second over
 # connections that stay, the best of three runs: by the clock and, but for socat, by the filter's own processor time;
-# and the KiB of memory of the filter before and with 500 idle connections. A message has sixteen commands, with ten
-# header fields and 4 KiB of body. It takes libmilter (libmilter-dev), a C compiler, Python and some minutes. The
-# program is built first where it has to be; another one may be given.
+# and the KiB of memory of the filter before and with 500 and 9,990 idle connections, which have negotiated and sent
+# nothing more. A message has sixteen commands, with ten header fields and 4 KiB of body. It takes libmilter
+# (libmilter-dev), a C compiler, Python and some minutes. The program is built first where it has to be; another one may
+# be given.
 #
 #     bash bench/serve.sh [PROGRAM]
 set -eu
@@ -21,7 +22,7 @@ work=$(mktemp -d)
 trap 'rm -rf "$work"' EXIT
 CONNECTIONS=5000
 MESSAGES=10000
-IDLE=500
+IDLE='500 9990'
 FILTERS='serve libmilter'
 if command -v socat >/dev/null; then FILTERS="$FILTERS answer"; fi
 cc -O2 -o "$work/libmilter" bench/filter.c -lmilter -lpthread
@@ -33,7 +34,7 @@ play() {
     shift
     rm -f "$work/socket"
     case $filter in
-    serve) set -- "$@" "$program" serve "unix:$work/socket" --at-once 1000 ;;
+    serve) set -- "$@" "$program" serve "unix:$work/socket" --at-once 10000 ;;
     libmilter) set -- "$@" "$work/libmilter" "$work/socket" many ;;
     answer) set -- "$@" socat "UNIX-LISTEN:$work/socket,fork,backlog=128" "EXEC:$program answer" ;;
     esac
@@ -57,8 +58,10 @@ for at_once in 1 50 500; do
         rate messages "$filter" "$at_once" "$at_once" $((MESSAGES / at_once))
     done
 done
-echo "KiB before and with $IDLE idle connections:"
-for filter in serve libmilter; do
-    printf '%-10s ' "$filter"
-    play "$filter" idle "$IDLE"
+echo "KiB before and with idle connections:"
+for idle in $IDLE; do
+    for filter in serve libmilter; do
+        printf '%-12s %4d %-10s ' idle "$idle" "$filter"
+        play "$filter" idle "$idle"
+    done
 done
