@@ -1,8 +1,8 @@
 #!/usr/bin/env python3
 """Plays a mail server and the look-up server of `milter_tests_host`, as both compilers built it, over TCP and over Unix
 sockets: answers that come later, in any order and in pieces; the default where none comes in time, and progress
-meanwhile; answers that come too late, that can't be, or come twice; mail servers that hang up, are reset or idle while a
-question is open; and a look-up server that is gone. What is run is what `rt ci` built; nothing is proved here.
+meanwhile; answers that come too late, that can't be, or come twice; mail servers that hang up, are reset or idle while
+a question is open; and a look-up server that is gone. What is run is what `rt ci` built; nothing is proved here.
 
 Counted are the runs.
 """
@@ -144,8 +144,8 @@ def at_once(program, kind, folder):
 
 
 def by_default(program, kind, folder):
-    """A question that stays open has the host's default in time, or Tempfail where the stage can't have that; the answer
-    to it comes too late, also while another question is open."""
+    """A question that stays open has the host's default in time, or Tempfail where the stage can't have that; the
+    answer to it comes too late, also while another question is open."""
     limit = 2
 
     def expect_default(given, line, reply):
@@ -204,8 +204,8 @@ def replies_to(connection, last):
 
 
 def hung_up(program, kind, folder):
-    """A mail server that goes while a question is open: the host is told, the service goes on, and the answer is too
-    late, also for another connection in that place."""
+    """A mail server that hangs up while a question is open: the host is notified, the service goes on, and the answer
+    is too late, also for another connection in that place."""
     def goes(connection, how):
         if how == 'half':
             connection.shutdown(socket.SHUT_WR)
