@@ -1,9 +1,9 @@
 //! The filter: which mail is deferred.
 
 use crate::allow_list::AllowList;
-use crate::decision::{Standing, verdict_on};
 use crate::store::Store;
 use crate::triple::Triple;
+use example_greylist_decision::{Standing, verdict_on};
 use milter_filter::{Answer, Served, VERSION_MAX, Wants};
 use milter_filter_service::{AskedConnection, Clients, Host, Key, QuestionKey, ServiceError};
 use milter_wire::{Actions, NoMemory, Options, Protocol, Stage, SymLists, Verdict};

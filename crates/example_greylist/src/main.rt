@@ -7,7 +7,6 @@
 #![tactic(auto)]
 
 mod allow_list;
-mod decision;
 mod greylist;
 mod network;
 mod settings;

@@ -1,9 +1,9 @@
 //! What the command line says.
 
-use crate::decision::Times;
 use clap::builder::ValueParser;
 use clap::error::ErrorKind;
 use clap::{Arg, ArgAction, ArgMatches, Command, Error};
+use example_greylist_decision::Times;
 use milter_cli_request::Address;
 use std::alloc::{AllocError, Global};
 

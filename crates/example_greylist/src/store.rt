@@ -1,7 +1,7 @@
 //! The triples that have been seen, in a SQLite file.
 
-use crate::decision::{Known, Standing, Times, standing_of};
 use crate::triple::Triple;
+use example_greylist_decision::{Known, Standing, Times, standing_of};
 use sqlite::{Alter, Connection, Error, ErrorCode, File, FileStore, Transaction, params};
 use std::alloc::Global;
 

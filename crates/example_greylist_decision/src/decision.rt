@@ -2,36 +2,36 @@
 
 ghost use Rattle.std.specs.Prelude.{◌≡◌, ◌<◌, ◌≤◌, ◌-◌, IfOk, None, Some, true, false, ℕ};
 ghost use Rattle.milter_wire.specs.declared.verdict.Verdict.TheVariants as verdicts;
-ghost use Rattle.example_greylist.specs.Greylisting.{Defers, deferral};
-ghost use Rattle.example_greylist.specs.declared.decision.Known.{Known as Row};
-ghost use Rattle.example_greylist.specs.declared.decision.Standing.TheVariants as standings;
+ghost use Rattle.example_greylist_decision.specs.Greylisting.{Defers, deferral};
+ghost use Rattle.example_greylist_decision.specs.declared.decision.Known.{Known as Row};
+ghost use Rattle.example_greylist_decision.specs.declared.decision.Standing.TheVariants as standings;
 
 use milter_wire::{NoMemory, Text, Verdict};
 use std::alloc::Global;
 
 /// How long mail is deferred, and how long it is known.
 #[derive(Clone, Copy, Debug, PartialEq, Eq)]
-pub(crate) struct Times {
+pub struct Times {
     /// For how many seconds after its first try mail is deferred.
-    pub(crate) delay: u64,
+    pub delay: u64,
     /// For how many seconds after its first try it is known, where no later one has passed.
-    pub(crate) window: u64,
+    pub window: u64,
     /// For how many seconds after a try that passed it is known.
-    pub(crate) lifetime: u64,
+    pub lifetime: u64,
 }
 
 /// What is known of a triple, in seconds since 1970.
 #[derive(Clone, Copy, Debug, PartialEq, Eq)]
-pub(crate) struct Known {
+pub struct Known {
     /// The second of its first try.
-    pub(crate) first: u64,
+    pub first: u64,
     /// The last second at which it is known.
-    pub(crate) last: u64,
+    pub last: u64,
 }
 
 /// What a try comes to.
 #[derive(Clone, Copy, Debug, PartialEq, Eq)]
-pub(crate) enum Standing {
+pub enum Standing {
     /// It is the first one, and deferred for so many seconds.
     First(u64),
     /// It comes too early, and is deferred for so many seconds more.
@@ -41,7 +41,7 @@ pub(crate) enum Standing {
 }
 
 /// What a try at this second comes to, where this is known of its triple.
-pub(crate) fn standing_of(known: Option<Known>, now: u64, times: Times) -> Standing
+pub fn standing_of(known: Option<Known>, now: u64, times: Times) -> Standing
     ensures unknown { known ≡ None → result ≡ standings.First times.delay }
     ensures expired { (row : Row) → known ≡ Some row → row.last < now → result ≡ standings.First times.delay }
     // Where the clock was set back, no time has passed.
@@ -64,11 +64,7 @@ pub(crate) fn standing_of(known: Option<Known>, now: u64, times: Times) -> Stand
 
 /// The verdict on a recipient of this standing; `None` is one that couldn't be looked up. Where memory is refused for
 /// the text of a deferral, it has none.
-pub(crate) fn verdict_on(
-    alloc: Global,
-    standing: Option<Standing>,
-    accepts_on_error: bool,
-) -> Verdict
+pub fn verdict_on(alloc: Global, standing: Option<Standing>, accepts_on_error: bool) -> Verdict
     ensures passes { standing ≡ Some standings.Passes → result ≡ verdicts.Continue }
     ensures first { (seconds : ℕ) → standing ≡ Some (standings.First seconds) → Defers seconds result }
     ensures early { (seconds : ℕ) → standing ≡ Some (standings.Early seconds) → Defers seconds result }
