@@ -9,6 +9,7 @@ use Rattle.milter_protocol.specs.declared.filter_fault.FilterFault.{FilterFault}
 use Rattle.milter_protocol.specs.declared.filter_state.FilterState.{FilterState}
 use Rattle.milter_protocol.specs.declared.filter_state.FilterState.TheVariants.{Failed, Quit, Serving}
 use Rattle.milter_protocol.specs.OrderStates.{OrderState}
+use Rattle.milter_protocol.proofs.FilterStates.{quit_serving}
 use Rattle.milter_filter.specs.declared.served.Served.{Served}
 use Rattle.milter_filter.specs.declared.served.Served.TheVariants as ends
 use Rattle.milter_filter_core.specs.Cores.{Core, GivesUp, GoesOn, Takes, fresh_core_in, given_up}
@@ -83,9 +84,6 @@ module _ {P : Type 0} where
       by_state : (state : FilterState) → mid.order_state.state ≡ state → mid.order_state.state ≡ Serving
       by_state Serving is = is
       by_state Quit is = absurd (within (t.quit (λ serving. quit_serving (sym is ∙ serving))))
-        where
-          quit_serving : Quit ≡ Serving → ⊥
-          quit_serving e = absurd cc
       by_state (Failed fault) is = absurd (t.going fault is)
 
   -- ---- what was served so far

@@ -17,6 +17,7 @@ use Rattle.milter_filter.specs.declared.turn.Turn.{Turn}
 use Rattle.milter_filter.specs.declared.turn.Turn.TheVariants as turns
 use Rattle.milter_filter.specs.ServedPieces.{Writes}
 use Rattle.milter_filter.specs.Connections.{Connected, EndsBy, GoesBy, GoesFrom, GoesIn, IsOpen, IsOver, IsServing, StandsAt, Stops, TurnsBy, connected}
+use Rattle.milter_protocol.proofs.FilterStates.{failed_serving, quit_serving}
 use Rattle.milter_filter_core.proofs.ConversationInputs.{goes_on-gives_up, goes_on-stays, goes_on-takes}
 use Rattle.milter_filter.proofs.Turns.{goes_on-written, nothing-goes, serving-goes, serving-opens}
 
@@ -35,12 +36,6 @@ feeds c none unasked serving = λ i. next_step (none i) (unasked i) (serving i)
 none-left : (sent pending : List ℕ) → sent ++ pending ≡ [] → pending ≡ []
 none-left [] pending e = e
 none-left (x ∷ xs) pending e = absurd cc
-
-quit_serving : Quit ≡ Serving → ⊥
-quit_serving e = absurd cc
-
-failed_serving : (fault : FilterFault) → Failed fault ≡ Serving → ⊥
-failed_serving fault e = absurd cc
 
 some_none : (stage : Stage) (asked : Option Stage) → asked ≡ Some stage → asked ≡ None → ⊥
 some_none stage asked is none = let no : Some stage ≡ None = sym is ∙ none in absurd cc

@@ -12,10 +12,11 @@ use Rattle.milter_wire.specs.declared.stage.Stage.TheVariants.{Eob}
 use Rattle.milter_protocol.specs.declared.answer.Answer.{Answer}
 use Rattle.milter_protocol.specs.declared.command_order.CommandOrder.{CommandOrder}
 use Rattle.milter_protocol.specs.declared.filter_fault.FilterFault.{FilterFault}
-use Rattle.milter_protocol.specs.declared.filter_state.FilterState.TheVariants.{Failed, Quit, Serving}
+use Rattle.milter_protocol.specs.declared.filter_state.FilterState.TheVariants.{Serving}
 use Rattle.milter_protocol.specs.GivenAnswers.{IsInTurn}
 use Rattle.milter_protocol.specs.FilterEnds.{Received}
 use Rattle.milter_protocol.specs.Steps.{Step, joined, silent, steps}
+use Rattle.milter_protocol.proofs.FilterStates.{failed_quit, failed_serving, quit_serving, same_fault}
 use Rattle.milter_protocol.proofs.StepSequences.{after-append, replies-append}
 use Rattle.milter_filter_stream.specs.Conversations.{Conversation, EndsThere, GivesUpIn, GoesOnIn, TakesIn, answered, conversation_by, fresh_conversation, given_up_in}
 use Rattle.milter_filter_stream.specs.Conversations.{unread_after}
@@ -78,18 +79,6 @@ settled w s (Some f) quiet = ended-stays w s (fault_after (Some f)) (λ taking. 
   where
     some_fault : (g : WireFault) → Some g ≡ None → ⊥
     some_fault g e = absurd cc
-
-quit_serving : Quit ≡ Serving → ⊥
-quit_serving e = absurd cc
-
-failed_serving : (fault : FilterFault) → Failed fault ≡ Serving → ⊥
-failed_serving fault e = absurd cc
-
-failed_quit : (fault : FilterFault) → Failed fault ≡ Quit → ⊥
-failed_quit fault e = absurd cc
-
-same_fault : (fault other : FilterFault) → Failed fault ≡ Failed other → fault ≡ other
-same_fault fault other e = cc
 
 -- it goes on to itself by nothing
 pub goes_on-stays : (c : Conversation) → c.state.order_state.state ≡ Serving → IsUnfinished c.unread → GoesOnIn c [] [] [] c

@@ -13,6 +13,7 @@ use Rattle.milter_protocol.specs.declared.filter_state.FilterState.{FilterState}
 use Rattle.milter_protocol.specs.declared.filter_state.FilterState.TheVariants.{Failed, Quit, Serving}
 use Rattle.milter_protocol.specs.FilterEnds.{Received}
 use Rattle.milter_protocol.specs.OrderStates.{OrderState, fresh_in, order_state_after, order_state_replies, order_step}
+use Rattle.milter_protocol.proofs.FilterStates.{failed_quit, failed_serving, quit_serving, same_fault}
 use Rattle.milter_protocol.proofs.Lenient.{orders-replies, orders-state}
 use Rattle.milter_protocol.proofs.StepSequences.{after-append, replies-append}
 use Rattle.milter_filter_core.specs.Cores.{Core, GivesUp, GoesOn, Takes, fresh_core_in, given_up}
@@ -91,19 +92,7 @@ settled b s (Some f) quiet =
     some_fault : (g : WireFault) → Some g ≡ None → ⊥
     some_fault g e = absurd cc
 
--- ---- the states of a connection
-
-quit_serving : Quit ≡ Serving → ⊥
-quit_serving e = absurd cc
-
-failed_serving : (fault : FilterFault) → Failed fault ≡ Serving → ⊥
-failed_serving fault e = absurd cc
-
-failed_quit : (fault : FilterFault) → Failed fault ≡ Quit → ⊥
-failed_quit fault e = absurd cc
-
-same_fault : (fault other : FilterFault) → Failed fault ≡ Failed other → fault ≡ other
-same_fault fault other e = cc
+-- ---- a connection that stays, and one that has ended
 
 module _ {P : Type 0} (b : Behavior) where
   pub stays : (core : Core P) → IsUnfinished core.unread → core.order_state.state ≡ Serving → GoesOn b core [] [] core

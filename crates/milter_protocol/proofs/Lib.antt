@@ -7,6 +7,7 @@ pub mod Sendable
 pub mod WholeDialogues
 pub mod StepSequences
 pub mod TranscriptParts
+pub mod FilterStates
 pub mod OrderStates
 pub mod Lenient
 pub mod TakenAlike
