@@ -51,7 +51,7 @@ impl<'p, P: Policy> FilterCore<'p, P> {
     /// A connection of which nothing has come, and which takes commands in the strict order. It always answers `Ok`,
     /// and doesn't allocate.
     pub fn new(alloc: Global, policy: &'p P) -> Result<Self, NoMemory>
-        ensures { IfOk result (λ core. core ≡ fresh_core policy.now) }
+        ensures { result ≡ Ok (fresh_core policy.now) }
     {
         FilterCore::with_order(alloc, policy, CommandOrder::Strict)
     }
@@ -59,7 +59,7 @@ impl<'p, P: Policy> FilterCore<'p, P> {
     /// A connection of which nothing has come, and which takes commands in this order. It always answers `Ok`, and
     /// doesn't allocate. Source: libmilter (the states that may follow one another).
     pub fn with_order(alloc: Global, policy: &'p P, order: CommandOrder) -> Result<Self, NoMemory>
-        ensures { IfOk result (λ core. core ≡ fresh_core_in order policy.now) }
+        ensures { result ≡ Ok (fresh_core_in order policy.now) }
     {
         Ok(FilterCore {
             alloc,

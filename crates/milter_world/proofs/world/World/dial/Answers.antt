@@ -1,4 +1,5 @@
 use Rattle.std.proofs.Common.{Some, refl, sym, ap, ◌∙◌}
+use Rattle.std.specs.Result.{result_ok}
 use Rattle.milter_mta.specs.Output.{dialled}
 use Rattle.milter_filter_core.specs.Cores.{fresh_core_in}
 use Rattle.milter_world_schedule.specs.declared.event.Event.TheVariants as events
@@ -13,6 +14,6 @@ returns-in_ok-filter-in-Idle g c = λ p b is.
     (ap (λ s. s.policy) u ∙ ap (λ s. s.policy) v)
     (ap (λ s. s.order) u ∙ ap (λ s. s.order) v)
     (ap (λ s. s.mta) u ∙ c.dialled.ensures ∙ ap (λ s. dialled s.mta) v)
-    (ap (λ s. s.filter) u ∙ ap Some c.in_ok-filter-in-Idle.ensures ∙ ap (λ s. Some (fresh_core_in s.order s.policy)) v)
+    (ap (λ s. s.filter) u ∙ ap result_ok c.in_ok-filter-in-Idle.ensures ∙ ap (λ s. Some (fresh_core_in s.order s.policy)) v)
     (ap (λ s. s.to_filter) u) (ap (λ s. s.to_mta) u) refl
     (c.dialled_ends_step.ensures p c.args.self.now c.in-Idle.settled is (sym (ap (λ s. s.state) v) ∙ c.in-Idle.is))
