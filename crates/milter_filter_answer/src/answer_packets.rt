@@ -37,8 +37,11 @@ pub fn put_answer(
         ≡ out.old.items ++ flat_map encoding (replies_of_answer (Some (permitted negotiated.now answer)))) }
     ensures err { OnErr result (out.new.items ≡ out.old.items) }
 {
-    let start = out.len();
     let Answer { edits, verdict } = answer;
+    if edits.as_slice().is_empty() {
+        return put_verdict(alloc, negotiated, verdict, out);
+    }
+    let start = out.len();
     let mut written = put_edits(alloc, negotiated, edits.into_vec(), out);
     if written.is_ok() {
         written = put_verdict(alloc, negotiated, verdict, out);
@@ -98,10 +101,12 @@ fn put_verdict(
         ≡ out.old.items ++ encoding (given.reply_of (permitted_verdict negotiated.now verdict))) }
     ensures err { OnErr result (out.new.items ≡ out.old.items) }
 {
-    match permitted_verdict(negotiated, verdict) {
-        Verdict::Continue => put_continue(out),
-        other => other.into_reply().encode(alloc, out),
+    if let Verdict::Continue = verdict {
+        return put_continue(out);
     }
+    permitted_verdict(negotiated, verdict)
+        .into_reply()
+        .encode(alloc, out)
 }
 
 /// Appends the packet that lets the message go on, which is most of what a filter sends. After `NoMemory`, `out` is as
