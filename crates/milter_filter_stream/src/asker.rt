@@ -27,9 +27,10 @@ use milter_filter_answer::{WantsRef, put_answer, put_continue, put_progress};
 use milter_filter_policy::{Pattern, Policy, Seen};
 use milter_protocol::{Answer, CommandOrder, FilterFault, FilterState};
 use milter_wire::{
-    CommandRef, HEAD_LEN, Negotiated, NoMemory, Options, Packet, Protocol, Reply, Stage, SymList,
-    SymLists, Text, WireFault, negotiate,
+    CommandRef, HEAD_LEN, Negotiated, NoMemory, Options, Packet, Protocol, Reply, Stage, WireFault,
+    negotiate,
 };
+use milter_wire_options::copy_sym_lists;
 use std::alloc::Global;
 use std::marker::Model;
 
@@ -327,20 +328,6 @@ fn negotiated_with(
         negotiated ≡ negotiate offer wants.now.options wants.now.lists) }
     ensures fits { IfOk result (λ negotiated. wire_replies.Fits (options_reply negotiated)) }
 {
-    let lists = copy_lists(alloc, wants.lists())?;
+    let lists = copy_sym_lists(alloc, wants.lists())?;
     Ok(negotiate(offer, wants.options(), lists))
-}
-
-/// A copy of the symbol lists.
-fn copy_lists(alloc: Global, lists: &[SymList]) -> Result<SymLists, NoMemory>
-    ensures { IfOk result (λ copy. copy ≡ lists.now) }
-{
-    let mut copies = Vec::with_capacity(alloc, lists.len())?;
-    for list in lists {
-        copies.push(SymList {
-            stage: list.stage,
-            names: Text::copy_of(alloc, list.names.as_slice())?,
-        })?;
-    }
-    Ok(SymLists::new(copies))
 }

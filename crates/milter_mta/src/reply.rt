@@ -22,30 +22,15 @@ use milter_mta_channel::{
 use milter_mta_outcome::{ActedVerdicts, Loss, received_replies};
 use milter_mta_transaction::{ClientInfo, Transaction};
 use milter_protocol::Answer;
-use milter_wire::{Negotiated, NoMemory, Stage, SymList, SymLists, Text};
+use milter_wire::{Negotiated, NoMemory, Stage};
+use milter_wire_options::copy_sym_lists;
 use std::alloc::Global;
-
-/// A copy of the symbol lists.
-fn copy_lists(alloc: Global, lists: &SymLists) -> Result<SymLists, NoMemory>
-    ensures { IfOk result (λ copy. copy ≡ lists.now) }
-{
-    let lists = lists.as_slice();
-    let mut copies = Vec::with_capacity(alloc, lists.len())?;
-    for list in lists {
-        let names = Text::copy_of(alloc, list.names.as_slice())?;
-        copies.push(SymList {
-            stage: list.stage,
-            names,
-        })?;
-    }
-    Ok(SymLists::new(copies))
-}
 
 /// A copy of what was negotiated, which a message under way keeps while the channel is changed.
 fn copy_negotiated(alloc: Global, negotiated: &Negotiated) -> Result<Negotiated, NoMemory>
     ensures { IfOk result (λ copy. copy ≡ negotiated.now) }
 {
-    let lists = copy_lists(alloc, &negotiated.lists)?;
+    let lists = copy_sym_lists(alloc, negotiated.lists.as_slice())?;
     Ok(Negotiated {
         options: negotiated.options,
         lists,

@@ -22,6 +22,6 @@ pub use negotiation::common_options;
 pub use options::{Actions, Options, Protocol};
 pub use payload::{OPTIONS_LEN, options_fit, put_options, take_options, take_options_first};
 pub use symbol_lists::{
-    SymList, SymLists, options_with_lists_fit, options_with_lists_len, put_options_with_lists,
-    sym_list_len, sym_lists_len, take_options_with_lists,
+    SymList, SymLists, copy_sym_lists, options_with_lists_fit, options_with_lists_len,
+    put_options_with_lists, sym_list_len, sym_lists_len, take_options_with_lists,
 };

@@ -1,6 +1,6 @@
 //! Symbol lists: the macros that a filter asks for, by name.
 
-ghost use Rattle.std.specs.Prelude.{◌≡◌, ◌-◌, ◌^◌, ◌↔◌, IsTrue, is_some, length, min, option_map};
+ghost use Rattle.std.specs.Prelude.{◌≡◌, ◌-◌, ◌^◌, ◌↔◌, IfOk, IsTrue, is_some, length, min, option_map};
 ghost use Rattle.std.specs.List.{flat_map};
 ghost use Rattle.milter_wire_stream.specs.AppendedBytes.{PutsBytes};
 ghost use Rattle.milter_wire_options.specs.Payload.{options_with_lists, OptionsWithListsFit, sym_list, SymListFits, options_with_lists_in, sym_list_at, sym_lists_in};
@@ -27,6 +27,20 @@ pub struct SymList {
 
 /// The symbol lists of a filter, from none to as many as a packet has room for. Source: mfapi.h (smfi_setsymlist).
 pub type SymLists = List<SymList>;
+
+/// A copy of the symbol lists.
+pub fn copy_sym_lists(alloc: Global, lists: &[SymList]) -> Result<SymLists, NoMemory>
+    ensures { IfOk result (λ copy. copy ≡ lists.now) }
+{
+    let mut copies = Vec::with_capacity(alloc, lists.len())?;
+    for list in lists {
+        copies.push(SymList {
+            stage: list.stage,
+            names: Text::copy_of(alloc, list.names.as_slice())?,
+        })?;
+    }
+    Ok(SymLists::new(copies))
+}
 
 /// Whether the stage is in its range, as it is by its type, and the names have no NUL.
 fn sym_list_fits(list: &SymList) -> bool

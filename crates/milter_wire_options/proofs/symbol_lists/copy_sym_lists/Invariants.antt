@@ -1,6 +1,5 @@
 use Rattle.std.proofs.Common.{◌≡◌, take}
-use Rattle.milter_filter_service.proofs.wants.copies.Given as goal
+use Rattle.milter_wire_options.proofs.symbol_lists.copy_sym_lists.Given as goal
 
--- copies of the lists so far
 abbrev pub invariant-loop-list : goal.invariant-loop-list
 invariant-loop-list l = l.copies.items ≡ take l.list-index l.lists
