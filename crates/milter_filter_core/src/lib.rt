@@ -9,6 +9,7 @@ mod cutting_laws;
 mod filter_connection;
 mod filter_core;
 mod policy_answer;
+mod wants;
 
 pub use conversation_laws::{conversations_go_on, conversations_reply};
 pub use cutting_laws::{cores_go_on, cores_reply, orders_reply_the_same_bytes};
@@ -20,3 +21,4 @@ pub use milter_filter_stream::NextStep;
 pub use milter_protocol::{
     ACTIONS_MAX, Answer, CommandOrder, Edits, FilterFault, FilterState, PROTOCOL_MAX, VERSION_MAX,
 };
+pub use wants::policy_wants;

@@ -12,7 +12,6 @@ mod limits;
 mod listener;
 mod service;
 mod service_error;
-mod wants;
 
 pub use asked_connection::AskedConnection;
 pub use clients::Clients;
@@ -21,7 +20,7 @@ pub use host::Host;
 pub use key::{Key, QuestionKey};
 pub use limits::Limits;
 pub use listener::{Listener, Stream};
+pub use milter_filter::policy_wants;
 pub use mio::{Interest, Registry, Token};
 pub use service::Service;
 pub use service_error::ServiceError;
-pub use wants::policy_wants;

@@ -3,12 +3,14 @@
 ghost use Rattle.std.specs.Prelude.{◌≡◌, IfOk};
 ghost use Rattle.milter_protocol.specs.Questions.{wanted_of};
 
-use milter_filter::{Policy, Wants};
+use milter_filter_answer::Wants;
+use milter_filter_policy::Policy;
 use milter_wire::NoMemory;
 use milter_wire_options::copy_sym_lists;
 use std::alloc::Global;
 
-/// What a policy wants of a connection, for a host that answers by it.
+/// What a policy wants of a connection, for a [`FilterConnection`](crate::FilterConnection) that is answered by it.
+/// Allocates copies of its symbol lists.
 pub fn policy_wants<P: Policy>(alloc: Global, policy: &P) -> Result<Wants, NoMemory>
     ensures { IfOk result (λ wants. wants ≡ wanted_of (P.behavior policy.now)) }
 {
