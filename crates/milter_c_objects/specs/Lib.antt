@@ -1,0 +1,4 @@
+pub mod Edits
+pub mod Faults
+pub mod Numbers
+pub mod Shown
