@@ -1,0 +1,4 @@
+pub mod EditParts
+pub mod MtaEnds
+pub mod MtaNumbers
+pub mod Origins
