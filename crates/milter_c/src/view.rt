@@ -1,0 +1,51 @@
+//! Bytes that a caller in C borrows.
+
+ghost use Rattle.std.specs.Prelude.{◌≡◌, option_map};
+ghost use Rattle.milter_c.specs.Views.{IsBorrowed};
+
+use milter_c_objects::status::{NOTHING, OK};
+
+/// Bytes that are borrowed: in C a pointer and a length.
+#[repr(C)]
+#[derive(Clone, Copy)]
+pub struct View<'a> {
+    /// The bytes.
+    pub bytes: &'a [u8],
+}
+
+/// A packet that is borrowed: in C a pointer and a length, and the code.
+#[repr(C)]
+#[derive(Clone, Copy)]
+pub struct PacketView<'a> {
+    /// What follows the code.
+    pub payload: &'a [u8],
+    /// The code.
+    pub code: u8,
+}
+
+/// An edit that is borrowed: in C a pointer and a length for each of its texts, and its numbers.
+#[repr(C)]
+#[derive(Clone, Copy)]
+pub struct EditView<'a> {
+    /// The name of a header field, an address, a chunk of a body, or a reason.
+    pub first: &'a [u8],
+    /// The value of a header field, or the ESMTP parameters of an address.
+    pub second: &'a [u8],
+    /// Which edit it is.
+    pub kind: u32,
+    /// The index of a header field, else 0.
+    pub index: u32,
+}
+
+/// What an accessor answers of a text, which the caller borrows where there is one. Doesn't allocate.
+pub fn borrow<'a>(text: Option<&'a [u8]>, out: &mut View<'a>) -> i32
+    ensures { IsBorrowed (option_map (λ bytes. bytes.now) text.entry) result out.old out.new }
+{
+    match text {
+        Some(bytes) => {
+            out.bytes = bytes;
+            OK
+        }
+        None => NOTHING,
+    }
+}
