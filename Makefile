@@ -1,15 +1,21 @@
-# `make` proves and builds the program, `make check` proves what changed, `make test` is the whole test command,
-# `make bench` measures, `make install PREFIX=/usr/local` puts the program in place, with its manual pages, units and
-# documents, and `make dist` and `make deb` pack the same for machines without the toolchain.
+# `make` proves and builds the program, `make lib` the library for C, `make check` proves what changed, `make test` is the
+# whole test command, `make bench` measures, `make install PREFIX=/usr/local` puts the program in place, with its manual
+# pages, units and documents, and the library with its header, and `make dist` and `make deb` pack the program, and the
+# latter also the library, for machines without the toolchain.
 
 PREFIX ?= /usr/local
 PROGRAM := crates/milter_tool/out/milter_tool
 
-.PHONY: all check test bench install dist deb clean
+.PHONY: all lib check test bench install dist deb clean
 
 all:
 	@python3 tools/prove.py --build milter_tool
 	@echo "the proved program is $(PROGRAM)"
+
+lib:
+	@python3 tools/prove.py --build milter_c
+	bash tools/library.sh make crates/milter_c/out/libmilter_c.a crates/milter_c/out/deiruska "$(PREFIX)"
+	@echo "the proved library is crates/milter_c/out/deiruska/lib/libdeiruska.a, and libdeiruska.so beside it"
 
 check:
 	@python3 tools/prove.py
@@ -29,13 +35,14 @@ bench:
 	bash bench/texts.sh
 	bash bench/world.sh
 
-install: all
+install: all lib
 	bash tools/package.sh install "$(DESTDIR)" "$(PREFIX)"
+	bash tools/library.sh install "$(DESTDIR)" "$(PREFIX)"
 
 dist: all
 	bash tools/package.sh dist
 
-deb: all
+deb: all lib
 	bash tools/package.sh deb
 
 clean:

@@ -4,12 +4,15 @@
 #
 #     tools/package.sh install DESTDIR PREFIX   in place, as DESTDIR/PREFIX/bin/milter_tool and so on
 #     tools/package.sh dist                     dist/milter_tool-VERSION-x86_64-linux.tar.gz
-#     tools/package.sh deb                      dist/milter-tool_VERSION_amd64.deb
+#     tools/package.sh deb                      dist/milter-tool_VERSION_amd64.deb, and where the library for C is built
+#                                               also libdeiruska0, libdeiruska-dev and python3-deiruska
 #
-# The program is one file that needs the C library alone, so the packages are for machines without the toolchain.
+# The program is one file that needs the C library alone, and so does the shared library for C: the packages are for
+# machines without the toolchain.
 set -eu
 cd "$(dirname "${BASH_SOURCE[0]}")/.."
 program=crates/milter_tool/out/milter_tool
+archive=crates/milter_c/out/libmilter_c.a
 version=$("$program" --version | cut -d ' ' -f 2)
 
 # Prints the manual page of a form of file.
@@ -42,11 +45,11 @@ put() {
     done
     install -m 644 README.md CHANGELOG.md SECURITY.md "$root/share/doc/milter_tool"
     install -m 644 docs/*.md "$root/share/doc/milter_tool/docs"
-    install -m 644 examples/* "$root/share/doc/milter_tool/examples"
+    find examples -maxdepth 1 -type f -exec install -m 644 -t "$root/share/doc/milter_tool/examples" {} +
 }
 
-# The newest version of the C library of which the program names a symbol.
-c_library() { grep -ao 'GLIBC_[0-9.]*[0-9]' "$program" | cut -d _ -f 2 | sort -uV | tail -n 1; }
+# The newest version of the C library of which the file $1 names a symbol.
+c_library() { grep -ao 'GLIBC_[0-9.]*[0-9]' "$1" | cut -d _ -f 2 | sort -uV | tail -n 1; }
 
 # Packs a tar file, with $1 as the folder to work in.
 pack_tar() {
@@ -56,26 +59,70 @@ pack_tar() {
     echo "dist/$name.tar.gz"
 }
 
-# Packs a package for Debian and what is made of it, with $1 as the folder to work in.
-pack_deb() {
-    local package=dist/milter-tool_${version}_amd64.deb
-    put "$1/usr" /usr/bin
-    install -d "$1/DEBIAN"
-    cat >"$1/DEBIAN/control" <<END
-Package: milter-tool
+# Packs what is below the folder $1/$2 as a package for Debian of the name $2, for the architecture $3 and the section
+# $4, which depends on $5; its description is the standard input.
+pack() {
+    local root=$1/$2 package=dist/$2_${version}_$3.deb description
+    description=$(cat)
+    install -d "$root/DEBIAN"
+    cat >"$root/DEBIAN/control" <<END
+Package: $2
 Version: $version
-Architecture: amd64
+Architecture: $3
 Maintainer: ${MAINTAINER:-Deiruska <deiruska@localhost>}
-Depends: libc6 (>= $(c_library))
-Installed-Size: $(du -sk "$1/usr" | cut -f 1)
-Section: mail
+Depends: $5
+Installed-Size: $(du -sk "$root/usr" | cut -f 1)
+Section: $4
 Priority: optional
-Description: both ends of the milter protocol, proved
+Description: $description
+END
+    dpkg-deb --root-owner-group --build "$root" "$package" >/dev/null
+    echo "$package"
+}
+
+# Packs the program for Debian, with $1 as the folder to work in.
+pack_program() {
+    put "$1/milter-tool/usr" /usr/bin
+    pack "$1" milter-tool amd64 mail "libc6 (>= $(c_library "$program"))" <<END
+both ends of the milter protocol, proved
  A filter by rules for Sendmail and Postfix, a tester of filters, and a player of
  sessions, events and traces of the milter protocol, version 6.
 END
-    dpkg-deb --root-owner-group --build "$1" "$package" >/dev/null
-    echo "$package"
+}
+
+# Packs the library for Debian, with $1 as the folder to work in: what programs load, what compilers need, and the
+# package for Python.
+pack_library() {
+    local shared=$1/libdeiruska0 dev=$1/libdeiruska-dev python=$1/python3-deiruska/usr/lib/python3/dist-packages/deiruska
+    local lib=usr/lib/x86_64-linux-gnu
+    LIBDIR=${lib#usr/} bash tools/library.sh install "$dev" /usr
+    mv "$dev/usr/share/doc/libdeiruska" "$dev/usr/share/doc/libdeiruska-dev"
+    install -d "$shared/$lib" "$shared/DEBIAN" "$python"
+    mv "$dev/$lib"/libdeiruska.so.* "$shared/$lib"
+    echo 'activate-noawait ldconfig' >"$shared/DEBIAN/triggers"
+    echo "libdeiruska 0 libdeiruska0 (>= $version)" >"$shared/DEBIAN/shlibs"
+    install -m 644 bindings/python/deiruska/{*.py,py.typed} "$python"
+    pack "$1" libdeiruska0 amd64 libs "libc6 (>= $(c_library "$shared/$lib/libdeiruska.so.0"))" <<END
+both ends of the milter protocol, proved: shared library
+ A filter's end and a mail server's end without input and output, for programs in
+ C and in languages that call C.
+END
+    pack "$1" libdeiruska-dev amd64 libdevel "libdeiruska0 (= $version)" <<END
+both ends of the milter protocol, proved: development files
+ The header, the static library, the manual page deiruska(3), a document and
+ examples.
+END
+    pack "$1" python3-deiruska all python "python3 (>= 3.9), libdeiruska0 (= $version)" <<END
+both ends of the milter protocol, proved: Python package
+ A server of filters over asyncio, both ends without input and output, and a
+ player of messages for tests of filters.
+END
+}
+
+# Packs the packages for Debian, with $1 as the folder to work in.
+pack_deb() {
+    pack_program "$1"
+    if [ -f "$archive" ]; then pack_library "$1"; fi
 }
 
 case ${1-} in
@@ -87,7 +134,7 @@ dist | deb)
     mkdir -p dist
     work=$(mktemp -d)
     trap 'rm -rf "$work"' EXIT
-    if [ "$1" = dist ]; then pack_tar "$work"; else chmod 755 "$work"; pack_deb "$work"; fi
+    if [ "$1" = dist ]; then pack_tar "$work"; else pack_deb "$work"; fi
     ;;
 *)
     sed -n '2,/^set/{/^set/d;s/^# \{0,1\}//;p}' "${BASH_SOURCE[0]}" >&2

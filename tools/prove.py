@@ -5,10 +5,10 @@
     tools/prove.py --workers
 
 It proves the crates that are named and those below them, and all of crates.txt where none is named: each by `rt lib`,
-or by `rt check` where it is a program; with --test the tests of each crate too, and with --build it builds the
-programs. A crate that did not change since it was proved, nor any below it, is passed over, so a run that was
-interrupted is taken up again where it was. Each crate keeps its work in its out/. This is for work at hand: `rt ci`
-alone proves all of it from nothing.
+or by `rt check` where it is a program or a static library; with --test the tests of each crate too, and with --build it
+builds the programs and the static libraries. A crate that did not change since it was proved, nor any below it, is
+passed over, so a run that was interrupted is taken up again where it was. Each crate keeps its work in its out/. This
+is for work at hand: `rt ci` alone proves all of it from nothing.
 
 Two `rt` wait for one another where they share a library, so each crate is proved in a folder of its own, in which the
 libraries below it are links, and its out/ is moved there and back. As many crates are proved at a time as there are
@@ -40,13 +40,16 @@ RUNNING = set()
 
 
 class Crate:
-    """A line of crates.txt: a crate's name, and the crates of this repository that it uses."""
+    """A line of crates.txt: a crate's name, what kind of crate it is, and the crates that it uses, of which this
+    repository has some and the kit the others."""
 
-    def __init__(self, name, uses, known):
-        self.name = name
-        self.line = f"{name}: {' '.join(uses)}\n"
-        self.folder = os.path.join(TOP, "crates", name)
+    def __init__(self, line, known):
+        (self.name, *kind), uses = (part.split() for part in line.split(":", 1))
+        self.line = line
+        self.folder = os.path.join(TOP, "crates", self.name)
         self.below = [known[it] for it in uses if it in known]
+        self.of_kit = [it for it in uses if it not in known]
+        self.is_static = "staticlib" in kind
         self.is_program = os.path.isfile(os.path.join(self.folder, "src", "main.rt"))
         self.size = sum(os.path.getsize(it) for it in self.files())
         self.way_up = self.size
@@ -90,8 +93,8 @@ def crates_listed():
     with open(os.path.join(TOP, "crates.txt"), encoding="utf-8") as listed:
         for line in listed:
             if not line.startswith("#") and ":" in line:
-                name, uses = line.split(":", 1)
-                known[name] = Crate(name, uses.split(), known)
+                crate = Crate(line, known)
+                known[crate.name] = crate
     for crate in reversed(list(known.values())):
         for library in crate.below:
             library.way_up = max(library.way_up, library.size + crate.way_up)
@@ -172,10 +175,10 @@ def prove(crate, mark, command):
 
 def steps(crate, wanted, jobs):
     """What is to be done of a crate: of each step its mark in out/, and the words of rt."""
-    if not crate.is_program:
+    if not crate.is_program and not crate.is_static:
         yield "proved", ["lib", "--jobs", str(jobs)]
     elif "--build" in wanted:
-        yield "built", ["run", "--", "--version"]
+        yield "built", ["run", "--", "--version"] if crate.is_program else ["lib", "--jobs", str(jobs)]
     else:
         yield "proved", ["check", "--jobs", str(jobs)]
     if "--test" in wanted and crate.has_tests():
