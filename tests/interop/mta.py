@@ -1,5 +1,6 @@
 """Plays sessions by `milter_tool mta` to filters on libmilter: scripted.c with the words of each row of
 tests/lib/reports.py, and OpenDKIM, which signs."""
+import contextlib
 import os
 import re
 import signal
@@ -66,22 +67,29 @@ def scripted(checks, program, filter_program, work, address, row):
             os.remove(peers.plain(address))
 
 
-def opendkim(checks, program, work, address):
-    """Plays a message to OpenDKIM, and looks for its signature above the header fields."""
+@contextlib.contextmanager
+def signing(work, address):
+    """A run of OpenDKIM that listens at this address, and signs what comes from the hosts of the sessions."""
     folder = tempfile.mkdtemp(dir=work)
     subprocess.run(['openssl', 'genrsa', '-out', os.path.join(folder, 'key'), '2048'], check=True, capture_output=True)
     with open(os.path.join(folder, 'hosts'), 'w') as file:
-        file.write('127.0.0.1\n')
+        file.write('127.0.0.1\n192.0.2.17\n')
     with open(os.path.join(folder, 'conf'), 'w') as file:
         socket = address if address.startswith('inet:') else 'local:' + peers.plain(address)
         file.write(OPENDKIM.format(folder=folder, socket=socket, user='root'))
     served = subprocess.Popen(['opendkim', '-f', '-x', os.path.join(folder, 'conf')])
     try:
         peers.listening(address)
-        found, status = run(program, address, work, SIGNED)
+        yield
     finally:
         served.terminate()
         served.wait(peers.SECONDS)
+
+
+def opendkim(checks, program, work, address):
+    """Plays a message to OpenDKIM, and looks for its signature above the header fields."""
+    with signing(work, address):
+        found, status = run(program, address, work, SIGNED)
     expected = re.compile(
         r'message 1 filter released\n(acted [a-z]+ \d continue\n)*acted eob 1 (continue|accept)\n'
         r'sender "<ada@example\.org>"\nrecipient "<bob@example\.net>"\n'

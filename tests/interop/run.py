@@ -16,6 +16,7 @@ import cookbook_statements
 import edit_rules
 import first_rules
 import greylist
+import library
 import many
 import mta
 import peers
@@ -96,6 +97,7 @@ def main():
     checks.part('Postfix, chrooted', postfix.play_chrooted, program)
     checks.part('Postfix, many at once', many.play, program, postfix.Postfix)
     checks.part('Postfix, greylist', greylist.play)
+    checks.part('library', library.play)
     checks.part('edits in memory', edit_rules.play, program)
     checks.part('Postfix, edits', edit_rules.play, program, postfix.Postfix)
     for part in (cookbook, cookbook_settings, cookbook_statements, first_rules):
