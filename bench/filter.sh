@@ -1,16 +1,17 @@
 #!/usr/bin/env bash
 # Measures `milter_tool answer` and `milter_tool filter` beside a filter on Sendmail's libmilter (`filter.c`), which
-# also lets all mail go on and keeps the body, with one generator (`filter.py`) that waits for each reply. `answer` has
-# a socket as its standard streams; the others listen at a Unix socket, and one connection is made. For each it prints
-# the user instructions of a message of sixteen commands, with ten header fields and 4 KiB of body, how many of these
-# messages it takes a second, and MB of messages of 10 MiB a second, both by the filter's processor time and by the
-# clock, the generator and the filter each on a processor of its own. It also prints the user instructions of a
-# connection of one such message, for `filter`, `serve` and libmilter. The instructions are callgrind's, without those
-# of a run of one message or one connection; callgrind counts a copy by `rep movsb` a byte at a time, so that this is
-# turned off in the C library. It takes libmilter (libmilter-dev), a C compiler, valgrind, Python and some minutes. The
-# program is built first where it has to be; another one may be given.
+# also lets all mail go on and keeps the body, and beside the same on libdeiruska (`library.c`) where that is built,
+# with one generator (`filter.py`) that waits for each reply. `answer` has a socket as its standard streams; the others
+# listen at a Unix socket, and one connection is made. For each it prints the user instructions of a message of sixteen
+# commands, with ten header fields and 4 KiB of body, how many of these messages it takes a second, and MB of messages
+# of 10 MiB a second, both by the filter's processor time and by the clock, the generator and the filter each on a
+# processor of its own. It also prints the user instructions of a connection of one such message, for `filter`, `serve`
+# and libmilter. The instructions are callgrind's, without those of a run of one message or one connection; callgrind
+# counts a copy by `rep movsb` a byte at a time, so that this is turned off in the C library. It takes libmilter
+# (libmilter-dev), a C compiler, valgrind, Python and some minutes. The program is built first where it has to be;
+# another one may be given. libdeiruska is that of `make lib`, or another one in the folder LIBRARY.
 #
-#     bash bench/filter.sh [PROGRAM]
+#     [LIBRARY=FOLDER] bash bench/filter.sh [PROGRAM]
 set -eu
 cd "$(dirname "${BASH_SOURCE[0]}")/.."
 program=${1:-}
@@ -26,7 +27,13 @@ SMALL_COUNT=2000
 LARGE=10485760
 LARGE_COUNT=50
 FILTERS='answer filter libmilter'
+MANY='filter serve libmilter'
 cc -O2 -o "$work/libmilter" bench/filter.c -lmilter -lpthread
+library=${LIBRARY:-crates/milter_c/out/deiruska}
+if [ -f "$library/lib/libdeiruska.a" ]; then
+    cc -O2 -I "$library/include" -o "$work/library" bench/library.c "$library/lib/libdeiruska.a"
+    FILTERS="$FILTERS library" MANY="$MANY library"
+fi
 
 # play COUNT BODY FILTER COMMAND..: plays messages on a filter, which runs under the command
 play() {
@@ -36,7 +43,7 @@ play() {
     case $filter in
     answer) python3 bench/filter.py 1 "$count" "$body" - "$@" "$program" answer ;;
     filter) python3 bench/filter.py 1 "$count" "$body" "$work/socket" "$@" "$program" filter "unix:$work/socket" ;;
-    libmilter) python3 bench/filter.py 1 "$count" "$body" "$work/socket" "$@" "$work/libmilter" "$work/socket" ;;
+    *) python3 bench/filter.py 1 "$count" "$body" "$work/socket" "$@" "$work/$filter" "$work/socket" ;;
     esac
 }
 
@@ -48,7 +55,7 @@ connect() {
     case $filter in
     filter) set -- "$count" 1 "$body" "$work/socket" "$@" "$program" filter "unix:$work/socket" --count "$count" ;;
     serve) set -- "$count+" 1 "$body" "$work/socket" "$@" "$program" serve "unix:$work/socket" ;;
-    libmilter) set -- "$count+" 1 "$body" "$work/socket" "$@" "$work/libmilter" "$work/socket" many ;;
+    *) set -- "$count+" 1 "$body" "$work/socket" "$@" "$work/$filter" "$work/socket" many ;;
     esac
     python3 bench/filter.py "$@"
 }
@@ -90,7 +97,7 @@ rates() {
 echo "a message of sixteen commands, user instructions:"
 for filter in $FILTERS; do cost play "$filter"; done
 echo "a connection of one such message, user instructions:"
-for filter in filter serve libmilter; do cost connect "$filter"; done
+for filter in $MANY; do cost connect "$filter"; done
 taskset -cp 0 $$ >/dev/null
 echo "$SMALL_COUNT such messages, messages/s by processor time and by the clock:"
 rates "$SMALL_COUNT" "$SMALL" 1

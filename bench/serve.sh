@@ -1,16 +1,17 @@
 #!/usr/bin/env bash
 # Measures `milter_tool serve` beside a filter on Sendmail's libmilter (`filter.c`, which libmilter serves by threads),
-# which also lets all mail go on and keeps the body, and beside `milter_tool answer` under socat (a process for each
-# connection) where socat is installed. One generator (`load.c`) plays mail servers that wait for each reply, over a
-# Unix socket. The filter has processor 1 for itself, the generator processor 0. For 1, 50 and 500 connections at once
-# it prints how many connections of one message each a filter takes a second, and how many messages a second over
-# connections that stay, the best of three runs: by the clock and, but for socat, by the filter's own processor time;
-# and the KiB of memory of the filter before and with 500 and 9,990 idle connections, which have negotiated and sent
-# nothing more. A message has sixteen commands, with ten header fields and 4 KiB of body. It takes libmilter
-# (libmilter-dev), a C compiler, Python and some minutes. The program is built first where it has to be; another one may
-# be given.
+# which also lets all mail go on and keeps the body, beside the same on libdeiruska (`library.c`, one thread) where that
+# is built, and beside `milter_tool answer` under socat (a process for each connection) where socat is installed. One
+# generator (`load.c`) plays mail servers that wait for each reply, over a Unix socket. The filter has processor 1 for
+# itself, the generator processor 0. For 1, 50 and 500 connections at once it prints how many connections of one message
+# each a filter takes a second, and how many messages a second over connections that stay, the best of three runs: by
+# the clock and, but for socat, by the filter's own processor time; and the KiB of memory of the filter before and with
+# 500 and 9,990 idle connections, which have negotiated and sent nothing more. A message has sixteen commands, with ten
+# header fields and 4 KiB of body. It takes libmilter (libmilter-dev), a C compiler, Python and some minutes. The
+# program is built first where it has to be; another one may be given. libdeiruska is that of `make lib`, or another one
+# in the folder LIBRARY.
 #
-#     bash bench/serve.sh [PROGRAM]
+#     [LIBRARY=FOLDER] bash bench/serve.sh [PROGRAM]
 set -eu
 cd "$(dirname "${BASH_SOURCE[0]}")/.."
 program=${1:-}
@@ -24,6 +25,12 @@ CONNECTIONS=5000
 MESSAGES=10000
 IDLE='500 9990'
 FILTERS='serve libmilter'
+library=${LIBRARY:-crates/milter_c/out/deiruska}
+if [ -f "$library/lib/libdeiruska.a" ]; then
+    cc -O2 -I "$library/include" -o "$work/library" bench/library.c "$library/lib/libdeiruska.a"
+    FILTERS="$FILTERS library"
+fi
+IDLE_FILTERS=$FILTERS
 if command -v socat >/dev/null; then FILTERS="$FILTERS answer"; fi
 cc -O2 -o "$work/libmilter" bench/filter.c -lmilter -lpthread
 cc -O2 -o "$work/load" bench/load.c
@@ -35,7 +42,7 @@ play() {
     rm -f "$work/socket"
     case $filter in
     serve) set -- "$@" "$program" serve "unix:$work/socket" --at-once 10000 ;;
-    libmilter) set -- "$@" "$work/libmilter" "$work/socket" many ;;
+    libmilter | library) set -- "$@" "$work/$filter" "$work/socket" many ;;
     answer) set -- "$@" socat "UNIX-LISTEN:$work/socket,fork,backlog=128" "EXEC:$program answer" ;;
     esac
     python3 bench/serve.py "$work/load" "$work/socket" "$@"
@@ -60,7 +67,7 @@ for at_once in 1 50 500; do
 done
 echo "KiB before and with idle connections:"
 for idle in $IDLE; do
-    for filter in serve libmilter; do
+    for filter in $IDLE_FILTERS; do
         printf '%-12s %4d %-10s ' idle "$idle" "$filter"
         play "$filter" idle "$idle"
     done
