@@ -93,16 +93,17 @@ END
 # Packs the library for Debian, with $1 as the folder to work in: what programs load, what compilers need, and the
 # package for Python.
 pack_library() {
-    local shared=$1/libdeiruska0 dev=$1/libdeiruska-dev python=$1/python3-deiruska/usr/lib/python3/dist-packages/deiruska
+    local runtime=$1/libdeiruska0 dev=$1/libdeiruska-dev
+    local python=$1/python3-deiruska/usr/lib/python3/dist-packages/deiruska
     local lib=usr/lib/x86_64-linux-gnu
     LIBDIR=${lib#usr/} bash tools/library.sh install "$dev" /usr
     mv "$dev/usr/share/doc/libdeiruska" "$dev/usr/share/doc/libdeiruska-dev"
-    install -d "$shared/$lib" "$shared/DEBIAN" "$python"
-    mv "$dev/$lib"/libdeiruska.so.* "$shared/$lib"
-    echo 'activate-noawait ldconfig' >"$shared/DEBIAN/triggers"
-    echo "libdeiruska 0 libdeiruska0 (>= $version)" >"$shared/DEBIAN/shlibs"
+    install -d "$runtime/$lib" "$runtime/DEBIAN" "$python"
+    mv "$dev/$lib"/libdeiruska.so.* "$runtime/$lib"
+    echo 'activate-noawait ldconfig' >"$runtime/DEBIAN/triggers"
+    echo "libdeiruska 0 libdeiruska0 (>= $version)" >"$runtime/DEBIAN/shlibs"
     install -m 644 bindings/python/deiruska/{*.py,py.typed} "$python"
-    pack "$1" libdeiruska0 amd64 libs "libc6 (>= $(c_library "$shared/$lib/libdeiruska.so.0"))" <<END
+    pack "$1" libdeiruska0 amd64 libs "libc6 (>= $(c_library "$runtime/$lib/libdeiruska.so.0"))" <<END
 both ends of the milter protocol, proved: shared library
  A filter's end and a mail server's end without input and output, for programs in
  C and in languages that call C.
