@@ -1,0 +1,10 @@
+pub mod Cuts
+pub mod TrimmedBytes
+pub mod LastAt
+pub mod LabelSuffixes
+pub mod ByteSuffixes
+pub mod EachByte
+pub mod ReadMailboxes
+pub mod WrittenMailboxes
+pub mod CanonicalAddresses
+pub mod AddressDomains
