@@ -1,0 +1,9 @@
+pub mod AddressRows
+pub mod Families
+pub mod Memberships
+pub mod NetworkRows
+pub mod Numbers
+pub mod Positions
+pub mod Prefixes
+pub mod Shifts
+pub mod Zones

@@ -1,0 +1,28 @@
+//! Texts cut in two.
+
+ghost use Rattle.std.specs.Prelude.{◌≡◌, ◌==◌, drop};
+ghost use Rattle.std.specs.List.{before_first, position, position_or_len};
+
+/// The text before the first such byte, and the text from there on.
+#[tactic(auto, using(crate::proofs::Positions::position_or_len_of))]
+pub(crate) fn split_at_byte(text: &[u8], byte: u8) -> (&[u8], &[u8])
+    ensures before { result.0.now ≡ before_first (λ b. b == byte) text.now }
+    ensures rest { result.1.now ≡ drop (position_or_len (λ b. b == byte) text.now) text.now }
+{
+    text.split_at(len_before(text, byte))
+}
+
+/// How many bytes stand before the first such byte: all where there is none.
+#[tactic(auto, using(crate::proofs::Positions::position_or_len_of))]
+fn len_before(text: &[u8], byte: u8) -> usize
+    ensures { result ≡ position_or_len (λ b. b == byte) text.now }
+{
+    position_of(text, byte).unwrap_or(text.len())
+}
+
+/// Where the first such byte stands.
+fn position_of(text: &[u8], byte: u8) -> Option<usize>
+    ensures { result ≡ position (λ b. b == byte) text.now }
+{
+    text.iter().position(|b| *b == byte)
+}
