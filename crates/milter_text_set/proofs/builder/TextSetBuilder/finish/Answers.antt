@@ -1,0 +1,17 @@
+use Rattle.std.specs.List.Sorted.{IsPermutation}
+use Rattle.std.proofs.lemmas.List.Sorted.{Contains-permutation, IsPermutation-map, IsPermutation-sym}
+use Rattle.milter_text_set.specs.Entries.{entry_of}
+use Rattle.milter_text_set.proofs.builder.TextSetBuilder.finish.Goals as goal
+use Rattle.milter_text_set.proofs.builder.TextSetBuilder.finish.Goals.{After-new}
+
+in_order : (c : After-new) → IsPermutation c.args.self c.new.result
+in_order c =
+    rw (← c.self.view_is, c.new.ensures)
+    (IsPermutation-map (entry_of c.self.inside.bytes.items) _ _ c.sort_spans.ensures.permutation)
+
+pub returns-clause-order : goal.returns-clause-order
+returns-clause-order c = in_order c
+
+pub returns-clause-texts : goal.returns-clause-texts
+returns-clause-texts c = λ text.
+    (Contains-permutation _ _ text (IsPermutation-sym _ _ (in_order c)), Contains-permutation _ _ text (in_order c))

@@ -1,0 +1,15 @@
+//! Sets of texts: many texts, in one buffer, and a search among them.
+#![tactic(auto)]
+
+mod builder;
+mod entry_fault;
+mod limits;
+mod set;
+mod span;
+#[cfg(test)]
+mod tests;
+
+pub use builder::TextSetBuilder;
+pub use entry_fault::EntryFault;
+pub use limits::{BYTES_MAX, ENTRIES_MAX};
+pub use set::TextSet;

@@ -1,0 +1,55 @@
+//! Where the entries stand among their bytes, and the search among them.
+
+ghost use Rattle.std.specs.Prelude.{◌≡◌, ◌↔◌, IsTrue};
+ghost use Rattle.std.specs.Cmp.Lexicographic.{slice_cmp};
+ghost use Rattle.std.specs.List.{Contains};
+ghost use Rattle.std.specs.List.Sorted.{IsPermutation, IsSortedByKey};
+ghost use Rattle.std.specs.Ordering.{nat_cmp};
+ghost use Rattle.milter_text_set.specs.Entries.{entries_of, entry_of};
+
+use std::cmp::Ordering;
+
+/// Where the bytes of an entry stand.
+#[derive(Clone, Copy, Debug)]
+pub(crate) struct Span {
+    /// The place of the first byte.
+    pub(crate) start: u32,
+    /// How many bytes there are.
+    pub(crate) len: u32,
+}
+
+impl Span {
+    /// The bytes of the entry.
+    fn of(self, bytes: &[u8]) -> &[u8]
+        ensures { result.now ≡ entry_of bytes.now self }
+    {
+        let start = bytes.len().min(self.start as usize);
+        let rest = &bytes[start..];
+        &rest[..rest.len().min(self.len as usize)]
+    }
+
+    /// How the bytes of the entry compare with a text.
+    fn compare(self, bytes: &[u8], text: &[u8]) -> Ordering
+        ensures { result ≡ slice_cmp nat_cmp (entry_of bytes.now self) text.now }
+    {
+        self.of(bytes).cmp(&text)
+    }
+}
+
+/// Puts the spans in the order of their entries.
+pub(crate) fn sort_spans(bytes: &[u8], spans: &mut Vec<Span>)
+    ensures permutation { IsPermutation spans.old.items spans.new.items }
+    ensures sorted { IsSortedByKey (entry_of bytes.now) (slice_cmp nat_cmp) spans.new.items }
+{
+    spans.sort_unstable_by(|a, b| a.compare(bytes, b.of(bytes)));
+}
+
+/// Whether the text is one of the entries, which are in order.
+pub(crate) fn is_entry(bytes: &[u8], spans: &[Span], text: &[u8]) -> bool
+    requires { IsSortedByKey (entry_of bytes.now) (slice_cmp nat_cmp) spans.now }
+    ensures { IsTrue result ↔ Contains (entries_of bytes.now spans.now) text.now }
+{
+    spans
+        .binary_search_by(|span| span.compare(bytes, text))
+        .is_ok()
+}
