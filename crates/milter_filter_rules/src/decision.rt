@@ -14,8 +14,24 @@ use milter_protocol::Action;
 use milter_wire::{NoMemory, Origin, Verdict};
 use std::alloc::Global;
 
-/// The answer of a stage's rules to what is shown.
+/// The answer of a stage's rules to what is shown. Most stages have none.
+#[inline(always)]
 pub(crate) fn decide_by(
+    alloc: Global,
+    case: TextCase,
+    rules: &[Rule],
+    seen: &Seen,
+) -> Result<Answer, NoMemory>
+    ensures { IfOk result (λ answer. answer ≡ decided case rules.now seen.now.shown) }
+{
+    if rules.is_empty() {
+        return Ok(Answer::of_verdict(alloc, Verdict::Continue));
+    }
+    decide_in_turn(alloc, case, rules, seen)
+}
+
+/// The answer of rules, which are looked at in their order.
+fn decide_in_turn(
     alloc: Global,
     case: TextCase,
     rules: &[Rule],
@@ -121,6 +137,7 @@ fn is_found_in_address(pattern: &Pattern<'_>, origin: &Origin) -> bool
 }
 
 /// Has what is shown searched for what the conditions of a stage's rules look for in header fields and in the body.
+#[inline(always)]
 pub(crate) fn search_by(alloc: Global, case: TextCase, rules: &[Rule], seen: &mut Seen)
     ensures { seen.new ≡ seen.old }
 {

@@ -125,12 +125,14 @@ impl Policy for Rules {
         self.lists.as_slice()
     }
 
+    #[inline(always)]
     fn prepare(&self, alloc: Global, at: Stage, seen: &mut Seen) {
         if matches!(at, Stage::Header | Stage::Body) {
             search_by(alloc, self.case, self.rules.at(at), seen);
         }
     }
 
+    #[inline(always)]
     fn decide(&self, alloc: Global, at: Stage, seen: &Seen) -> Result<Answer, NoMemory> {
         decide_by(alloc, self.case, self.rules.at(at), seen)
     }
