@@ -65,12 +65,13 @@ pub fn filter_run<P: Policy, C: Connections, W: Write>(
         connections.old connections.new (W.contents writer.old) (W.contents writer.new)) }
 {
     let mut server = Server::new(alloc, policy, order);
-    serve_all(alloc, &mut server, connections, count, writer)
+    let mut line = String::new(alloc);
+    serve_all(&mut line, &mut server, connections, count, writer)
 }
 
-/// Has the server serve so many connections, and writes a line for each as it ends.
+/// Has the server serve so many connections, and writes a line for each as it ends, in the memory of the line before.
 fn serve_all<P: Policy, C: Connections, W: Write>(
-    alloc: Global,
+    line: &mut String,
     server: &mut Server<'_, P>,
     connections: &mut C,
     count: u32,
@@ -83,20 +84,21 @@ fn serve_all<P: Policy, C: Connections, W: Write>(
 {
     for number in 1..=count {
         let served = connections.serve_next(server);
-        write_report(alloc, ConnectionReport { number, served }, writer)?;
+        write_report(line, ConnectionReport { number, served }, writer)?;
     }
     Ok(())
 }
 
 /// Writes the line of a connection.
 fn write_report<W: Write>(
-    alloc: Global,
+    line: &mut String,
     report: ConnectionReport,
     writer: &mut W,
 ) -> Result<(), TextFault>
     ensures { WritesText (report_line report.number report.served) (W.contents writer.old) (W.contents writer.new)
         result }
 {
-    let line = format!(in alloc; "{report}\n")?;
+    line.clear();
+    writeln!(line, "{report}")?;
     write_text(writer, line.as_bytes())
 }
