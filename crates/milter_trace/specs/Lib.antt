@@ -3,6 +3,7 @@ pub mod PacketText
 pub mod Trace
 pub mod TraceState
 pub mod UndecodedLine
+pub mod PrintedPackets
 pub mod PrinterState
 pub mod HexDigits
 pub mod AssemblerState

@@ -1,7 +1,8 @@
 //! Traces: conversations between a mail server and a filter as lines of hexadecimal digits.
 //!
 //! [`trace_run`] reads a trace and writes a line for each packet of either direction, with its fields. Where the trace
-//! ends before its input, a [`TraceFault`] says why.
+//! ends before its input, a [`TraceFault`] says why. A [`PacketTrace`] prints the packets of a connection as their
+//! bytes come.
 #![tactic(auto)]
 
 mod direction;
@@ -10,10 +11,12 @@ mod fields;
 mod line_assembler;
 mod packet_line;
 mod packet_stream;
+mod packet_trace;
 mod trace;
 mod trace_line;
 mod trace_printer;
 
 pub use direction::Direction;
 pub use fault::TraceFault;
+pub use packet_trace::PacketTrace;
 pub use trace::{trace_limits, trace_run};

@@ -70,7 +70,7 @@ impl TracePrinter {
     }
 
     /// Appends the packets that become whole with these bytes of a direction.
-    fn print_bytes(
+    pub(crate) fn print_bytes(
         &mut self,
         number: u64,
         direction: Direction,
