@@ -12,17 +12,17 @@
  *    members are private: don't read or write them. A handle may be moved in memory, if the old place is not used
  *    again; it is never duplicated.
  * 2. Objects. A function that is given an empty handle, or one with an object of another kind, answers
- *    DEIRUSKA_WRONG_KIND and does nothing. An object is freed by deiruska_free, or where a function whose name ends in
- *    _new puts another one into its handle.
+ *    DEIRUSKA_WRONG_KIND and does nothing. An object is freed by deiruska_free, or where a function puts another one
+ *    into its handle: one whose name ends in _new, deiruska_rules_read, deiruska_decoded_command or _reply.
  * 3. Bytes in. `at` points to `len` readable bytes, fewer than 2^63, which nobody writes during the call. It may be
  *    NULL where `len` is 0. What is kept of them is copied.
- * 4. Bytes out. A deiruska_bytes, deiruska_packet or deiruska_edit is borrowed: its bytes are readable until the next
- *    call with the handle that it came from, or, where the function has no handle, until the caller's own bytes change.
- *    The caller neither writes nor frees them. They have no NUL at their end.
+ * 4. Bytes out. A deiruska_bytes, deiruska_packet, deiruska_part or deiruska_edit is borrowed: its bytes are readable
+ *    until the next call with the handle that it came from, or, where the function has no handle, until the caller's
+ *    own bytes change. The caller neither writes nor frees them. They have no NUL at their end.
  * 5. Parameters. What a pointer points to is initialized before the call, also where it is only written:
- *    DEIRUSKA_NO_BYTES, DEIRUSKA_NO_PACKET, DEIRUSKA_NO_EDIT, or 0 for a number. No pointer is NULL but one to bytes
- *    of which there are none. Two parameters never point to the same memory; in particular no handle is passed twice in
- *    one call.
+ *    DEIRUSKA_NO_BYTES, DEIRUSKA_NO_PACKET, DEIRUSKA_NO_PART, DEIRUSKA_NO_EDIT, or 0 for a number. No pointer is NULL
+ *    but one to bytes of which there are none. Two parameters never point to the same memory; in particular no handle
+ *    is passed twice in one call.
  * 6. Threads. A handle is used by one thread at a time. It may go to another thread where the program orders this by a
  *    lock, or by the start or the end of a thread. Different handles may be used by different threads at once.
  * 7. No function is called from a signal handler, nor in the child of a fork of a process with several threads. No
@@ -124,7 +124,9 @@ enum deiruska_result {
     DEIRUSKA_LOSS_NOT_AT_THIS_STAGE = 715,    /* the reply is none to what was sent */
     DEIRUSKA_LOSS_EDIT_NOT_NEGOTIATED = 716,
     DEIRUSKA_LOSS_TOO_MANY_EDITS = 717,       /* more than 16,777,216 bytes of packets */
-    DEIRUSKA_LOSS_EARLY = 718                 /* something came while no reply was owed */
+    DEIRUSKA_LOSS_EARLY = 718,                /* something came while no reply was owed */
+
+    DEIRUSKA_MESSAGE_DOES_NOT_FIT = 801 /* a part of a message is too long for a packet, or has a NUL */
 };
 
 /* ---- types ------------------------------------------------------------------------------------------------------- */
@@ -142,6 +144,14 @@ typedef struct {
     uint8_t code;
 } deiruska_packet;
 
+/* A part of a command or a reply that is borrowed: its texts and its numbers. What it doesn't have is empty, or 0. */
+typedef struct {
+    deiruska_bytes first;
+    deiruska_bytes second;
+    uint32_t kind;
+    uint32_t number;
+} deiruska_part;
+
 /* An edit that is borrowed: its texts, which edit it is (a deiruska_edit_kind), and its index. */
 typedef struct {
     deiruska_bytes first;
@@ -152,6 +162,7 @@ typedef struct {
 
 #define DEIRUSKA_NO_BYTES {(const uint8_t *)"", 0}
 #define DEIRUSKA_NO_PACKET {(const uint8_t *)"", 0, 0}
+#define DEIRUSKA_NO_PART {DEIRUSKA_NO_BYTES, DEIRUSKA_NO_BYTES, 0, 0}
 #define DEIRUSKA_NO_EDIT {DEIRUSKA_NO_BYTES, DEIRUSKA_NO_BYTES, 0, 0}
 
 /* A handle (rules 1 and 2). Each kind of object has a type of its own, so that compilers distinguish them. */
@@ -161,10 +172,13 @@ typedef struct {
 } deiruska_handle;
 
 typedef struct { deiruska_handle handle; } deiruska_stream;
+typedef struct { deiruska_handle handle; } deiruska_decoded;
+typedef struct { deiruska_handle handle; } deiruska_trace;
 typedef struct { deiruska_handle handle; } deiruska_filter;
 typedef struct { deiruska_handle handle; } deiruska_answer;
 typedef struct { deiruska_handle handle; } deiruska_rules;
 typedef struct { deiruska_handle handle; } deiruska_mta;
+typedef struct { deiruska_handle handle; } deiruska_message;
 
 #define DEIRUSKA_EMPTY {{NULL, false}}
 
@@ -260,6 +274,37 @@ int32_t deiruska_stream_feed(deiruska_stream *stream, const uint8_t *at, size_t 
 /* Hands the next packet out, where it is whole, and else DEIRUSKA_NOTHING. DEIRUSKA_WIRE_ZERO_LENGTH and _TOO_LONG: the
    length of the next packet is at fault, now and from now on. */
 int32_t deiruska_stream_next(deiruska_stream *stream, deiruska_packet *out);
+
+/* Decodes a packet to a filter, of this code and this payload, or a packet of a filter, and keeps its command or reply.
+   DEIRUSKA_WIRE_UNKNOWN_CODE, _MALFORMED, _TOO_LONG: it has none. DEIRUSKA_NO_MEMORY or DEIRUSKA_WIRE_NO_MEMORY: memory
+   was refused. */
+int32_t deiruska_decoded_command(deiruska_decoded *decoded, uint8_t code, const uint8_t *at, size_t len);
+int32_t deiruska_decoded_reply(deiruska_decoded *decoded, uint8_t code, const uint8_t *at, size_t len);
+/* The part at a place, from 0, in the order of the payload; DEIRUSKA_NOTHING after the last one. A packet of the code O
+   has three numbers, the version, the actions and the protocol bits; in a reply the symbol lists follow, each with its
+   names in `first` and the `number` of its stage. C has one part, the host in `first`, the address in `second`, its
+   deiruska_family in `kind` and the port in `number`. D has the code of the command that its macros belong to, a
+   `number`, and then for each macro its name and its value. M and R have the address, and then each ESMTP parameter. L,
+   h, i and m have one part, the name and the value of a header field, for i and m with the index in `number`. 2 and e
+   have one part, the address, and where `kind` is 1 its ESMTP parameters in `second`. H, U, B, E, +, -, b, q and y have
+   one text in `first`, and other packets have no part. */
+int32_t deiruska_decoded_part(deiruska_decoded *decoded, size_t place, deiruska_part *out);
+
+/* Which end bytes go to. */
+enum deiruska_direction {
+    DEIRUSKA_TO_FILTER = 0,
+    DEIRUSKA_TO_MTA = 1
+};
+
+/* A trace of a connection of which nothing has come: for each packet a line, as `milter_tool trace` prints it. */
+int32_t deiruska_trace_new(deiruska_trace *trace);
+/* Adds the lines of the packets that become whole with these bytes, which go to an end, a deiruska_direction, and may
+   end within a packet. A number from 201: a packet can't be read, and the lines before it were added.
+   DEIRUSKA_NO_MEMORY: there are no lines. After either nothing more is printed, and later calls answer the same. */
+int32_t deiruska_trace_feed(deiruska_trace *trace, uint32_t direction, const uint8_t *at, size_t len);
+/* The lines since the last deiruska_trace_clear, each with its line feed. */
+int32_t deiruska_trace_text(deiruska_trace *trace, deiruska_bytes *out);
+int32_t deiruska_trace_clear(deiruska_trace *trace);
 
 /* ---- a filter's end of a connection ------------------------------------------------------------------------------ */
 
@@ -357,8 +402,8 @@ int32_t deiruska_answer_quarantine(deiruska_answer *answer, const uint8_t *at, s
 
 /* ---- rules ------------------------------------------------------------------------------------------------------- */
 
-/* Reads the rules of a rule file. A number from 501: the file has none, and *line is the line at fault, from 1, or 0
-   where memory was refused. */
+/* Reads the rules of a rule file. A number from 501: the file has none, and *line is the line at fault, from 1; or 0
+   with DEIRUSKA_RULES_NO_MEMORY. */
 int32_t deiruska_rules_read(deiruska_rules *rules, const uint8_t *at, size_t len, uint64_t *line);
 /* A connection of which nothing has come, of a filter that wants what the rules do. */
 int32_t deiruska_filter_new_by(deiruska_filter *filter, deiruska_rules *rules);
@@ -469,6 +514,32 @@ int32_t deiruska_mta_quit(deiruska_mta *mta, uint32_t *outcome);
    the client did that isn't refused. */
 int32_t deiruska_mta_edits(deiruska_mta *mta, size_t *count);
 int32_t deiruska_mta_edit(deiruska_mta *mta, size_t place, deiruska_edit *out);
+
+/* ---- messages ---------------------------------------------------------------------------------------------------- */
+
+/* A message of this sender, with nothing else. DEIRUSKA_MESSAGE_DOES_NOT_FIT, here and below: the part is too long for
+   a packet, or has a NUL. */
+int32_t deiruska_message_new(deiruska_message *message, const uint8_t *address, size_t address_len);
+/* Adds a recipient, without ESMTP parameters, and a header field, with the blank that its value begins with, after the
+   others, and bytes of the body after those before. */
+int32_t deiruska_message_add_recipient(deiruska_message *message, const uint8_t *at, size_t len);
+int32_t deiruska_message_add_header(deiruska_message *message, const uint8_t *name, size_t name_len,
+                                    const uint8_t *value, size_t value_len);
+int32_t deiruska_message_add_body(deiruska_message *message, const uint8_t *at, size_t len);
+/* Makes the edits of the answer to the end of the message, one after the other, as libmilter's documentation has them.
+   It may be called until the next call for what the client did that isn't refused. */
+int32_t deiruska_message_edit(deiruska_message *message, deiruska_mta *mta);
+
+/* The address of the sender; how many recipients there are, and the address of the one at a place, from 0; the header
+   fields; the body; and why the message goes into quarantine. DEIRUSKA_NOTHING: there is none. */
+int32_t deiruska_message_sender(deiruska_message *message, deiruska_bytes *out);
+int32_t deiruska_message_recipients(deiruska_message *message, size_t *count);
+int32_t deiruska_message_recipient(deiruska_message *message, size_t place, deiruska_bytes *out);
+int32_t deiruska_message_headers(deiruska_message *message, size_t *count);
+int32_t deiruska_message_header_name(deiruska_message *message, size_t place, deiruska_bytes *out);
+int32_t deiruska_message_header_value(deiruska_message *message, size_t place, deiruska_bytes *out);
+int32_t deiruska_message_body(deiruska_message *message, deiruska_bytes *out);
+int32_t deiruska_message_quarantine(deiruska_message *message, deiruska_bytes *out);
 
 #ifdef __cplusplus
 }

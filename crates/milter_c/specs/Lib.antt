@@ -1,7 +1,9 @@
 pub mod Answers
 pub mod AskedMacros
 pub mod Filters
+pub mod Messages
 pub mod Mtas
+pub mod Packets
 pub mod RuleFaults
 pub mod Statuses
 pub mod Views

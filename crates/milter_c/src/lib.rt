@@ -4,15 +4,18 @@
 #![tactic(auto)]
 
 mod answer;
+mod decoded;
 mod filter;
 mod free;
 mod let_object;
 mod macros;
+mod message;
 mod mta;
 mod mta_calls;
 mod packet;
 mod rules;
 mod shown;
 mod stream;
+mod trace;
 mod version;
 mod view;

@@ -6,10 +6,11 @@ ghost use Rattle.milter_protocol.specs.declared.command_order.CommandOrder.TheVa
 ghost use Rattle.milter_protocol.specs.Questions.{wanted_of};
 ghost use Rattle.milter_filter_stream.specs.Conversations.{answered, fresh_conversation};
 ghost use Rattle.milter_filter_rules.specs.RulesValue.{case_of, rule_set};
-ghost use Rattle.milter_filter_rules.specs.RuleSet.{behavior_of};
+ghost use Rattle.milter_filter_rules.specs.RuleSet.{RuleSet, behavior_of};
+ghost use Rattle.milter_filter_search.specs.declared.text_case.TextCase.TheVariants.{Exact};
 ghost use Rattle.milter_rules.specs.RuleFile.{IsRuleFile};
 ghost use Rattle.milter_c_handle.specs.Objects.{IsKept, filter_of, rules_of};
-ghost use Rattle.milter_c.specs.RuleFaults.{rule_fault_number};
+ghost use Rattle.milter_c.specs.RuleFaults.{IsLineOf, rule_fault_number};
 
 use crate::let_object::let_object;
 use milter_c_handle::{Handle, Object};
@@ -32,16 +33,26 @@ pub extern "C" fn deiruska_rules_read(
     line: &mut u64,
 ) -> i32
     ensures done { result ≡ OK → IsSomeAnd (rules_of rules.new) (λ it. IsRuleFile text.now (rule_set it)) }
+    // The case of letters counts in their texts.
+    ensures case { result ≡ OK → IsSomeAnd (rules_of rules.new) (λ it. case_of it ≡ Exact) }
+    // What a file gives is read, unless memory is refused.
+    ensures only { (set : RuleSet) → IsRuleFile text.now set → result ≡ OK →
+        IsSomeAnd (rules_of rules.new) (λ it. rule_set it ≡ set) }
+    ensures memory { (set : RuleSet) → IsRuleFile text.now set → result ≢ OK → result ≡ RULES_NO_MEMORY }
     ensures kept { result ≢ OK → IsKept rules.old rules.new }
     ensures unwritten { result ≡ OK → line.new ≡ line.old }
+    ensures no_line { result ≡ RULES_NO_MEMORY → line.new ≡ 0 }
+    ensures within { result ≢ OK → result ≢ RULES_NO_MEMORY → IsLineOf text.now line.new }
 {
-    match read_rules(alloc, text) {
-        Ok(it) => memory_status(rules.put(alloc, Object::Rules(it))),
-        Err(fault) => {
-            *line = fault.line().unwrap_or(0);
-            rule_fault_number(fault)
-        }
-    }
+    let fault = match read_rules(alloc, text) {
+        Ok(it) => match rules.put(alloc, Object::Rules(it)) {
+            Ok(()) => return OK,
+            Err(_) => RuleFault::NoMemory,
+        },
+        Err(fault) => fault,
+    };
+    *line = fault.line().unwrap_or(0);
+    rule_fault_number(fault)
 }
 
 /// Puts a filter's end into the handle, of a connection of which nothing has come, that wants what the rules do.

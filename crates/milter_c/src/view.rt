@@ -37,6 +37,20 @@ pub struct EditView<'a> {
     pub index: u32,
 }
 
+/// A part of a command or a reply that is borrowed: in C a pointer and a length for each of its texts, and its numbers.
+#[repr(C)]
+#[derive(Clone, Copy)]
+pub struct PartView<'a> {
+    /// The first text.
+    pub first: &'a [u8],
+    /// The second text.
+    pub second: &'a [u8],
+    /// The family of an address, or whether there are ESMTP parameters.
+    pub kind: u32,
+    /// The number.
+    pub number: u32,
+}
+
 /// What an accessor answers of a text, which the caller borrows where there is one. Doesn't allocate.
 pub fn borrow<'a>(text: Option<&'a [u8]>, out: &mut View<'a>) -> i32
     ensures { IsBorrowed (option_map (λ bytes. bytes.now) text.entry) result out.old out.new }

@@ -1,9 +1,12 @@
 //! What a handle has.
 
 use milter_c_mta::MtaEnd;
+use milter_c_packets::Decoded;
 use milter_filter_core::FilterConnection;
+use milter_message::Held;
 use milter_protocol::Answer;
 use milter_rules::Rules;
+use milter_trace::PacketTrace;
 use milter_wire_stream::Splitter;
 
 /// What a handle has.
@@ -11,12 +14,18 @@ use milter_wire_stream::Splitter;
 pub enum Object {
     /// A stream of packets.
     Stream(Splitter),
+    /// What a packet is decoded to.
+    Decoded(Decoded),
+    /// The lines of packets.
+    Trace(PacketTrace),
     /// A filter's end of a connection.
     Filter(FilterConnection),
     /// An answer.
     Answer(Answer),
     /// Rules.
     Rules(Rules),
+    /// A message, and why it is in quarantine, if it is.
+    Message(Held),
     /// A mail server's end of a connection to a filter.
     Mta(MtaEnd),
 }

@@ -194,3 +194,11 @@ pub const EVENT_IN_PROGRESS: i32 = 1;
 pub const EVENT_NEGOTIATED: i32 = 2;
 /// The verdict that was due came.
 pub const EVENT_VERDICT: i32 = 3;
+
+/// A part of a message is too long for a packet, or has a NUL.
+pub const MESSAGE_DOES_NOT_FIT: i32 = 801;
+
+/// Bytes to the filter.
+pub const TO_FILTER: u32 = 0;
+/// Bytes to the mail server.
+pub const TO_MTA: u32 = 1;

@@ -1,0 +1,2 @@
+pub mod DecodedPackets
+pub mod Parts
