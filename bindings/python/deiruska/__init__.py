@@ -3,7 +3,8 @@
 A mail server such as Postfix or Sendmail asks a filter about each message while it arrives. `serve` has an asynchronous
 function, or an object with a method for each stage, answer these questions on a socket. `FilterConnection` is one
 connection without input and output, for an event loop or threads of one's own; `RuledConnection` is one that `Rules`
-can answer, and `MtaConnection` is a mail server's end. `packets` takes a stream apart.
+can answer, and `MtaConnection` is a mail server's end, whose edits change a `Message`. `packets` takes a stream apart,
+`command_parts` and `reply_parts` decode a packet, and a `PacketTrace` prints what passes over a connection.
 
     import asyncio
     import deiruska
@@ -20,16 +21,19 @@ encoded as UTF-8.
 """
 from ._answer import Answer, Edit
 from ._connection import Address, FilterConnection, Shown
-from ._faults import AnswerFault, CallFault, Fault, FilterFault, LossFault, RulesFault, WantsFault, WireFault
+from ._faults import (
+    AnswerFault, CallFault, Fault, FilterFault, LossFault, MessageFault, RulesFault, WantsFault, WireFault)
 from ._library import version
+from ._message import Message
 from ._mta import MtaConnection, Negotiated
-from ._names import Actions, Event, Family, Outcome, Protocol, Stage, Step, Verdict, Want
-from ._packets import Packet, packets
+from ._names import Actions, Direction, Event, Family, Outcome, Protocol, Stage, Step, Verdict, Want
+from ._packets import PacketTrace, Packet, Part, command_parts, packets, reply_parts
 from ._rules import RuledConnection, Rules
 from ._server import serve
 
 __all__ = [
-    "Actions", "Address", "Answer", "AnswerFault", "CallFault", "Edit", "Event", "Family", "Fault",
-    "FilterConnection", "FilterFault", "LossFault", "MtaConnection", "Negotiated", "Outcome", "Packet",
-    "Protocol", "RuledConnection", "Rules", "RulesFault", "Shown", "Stage", "Step", "Verdict", "Want",
-    "WantsFault", "WireFault", "packets", "serve", "version"]
+    "Actions", "Address", "Answer", "AnswerFault", "CallFault", "Direction", "Edit", "Event", "Family", "Fault",
+    "FilterConnection", "FilterFault", "LossFault", "Message", "MessageFault", "MtaConnection", "Negotiated",
+    "Outcome", "Packet", "PacketTrace", "Part", "Protocol", "RuledConnection", "Rules", "RulesFault", "Shown",
+    "Stage", "Step", "Verdict", "Want", "WantsFault", "WireFault", "command_parts", "packets", "reply_parts",
+    "serve", "version"]

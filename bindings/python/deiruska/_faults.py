@@ -42,6 +42,10 @@ class CallFault(Fault):
     """A call of a mail server's end is refused, and changes nothing."""
 
 
+class MessageFault(Fault):
+    """A part of a message doesn't fit a packet. The message is as it was."""
+
+
 class LossFault(Fault):
     """The filter is lost: it sent what can't be taken, or memory was refused."""
 
@@ -102,6 +106,7 @@ FAULTS: Dict[int, Tuple[Type[Fault], str]] = {
     716: (LossFault, "an edit that was not negotiated"),
     717: (LossFault, "the edits have more than 16,777,216 bytes of packets"),
     718: (LossFault, "something came while no reply was owed"),
+    801: (MessageFault, "a part of a message is too long for a packet, or has a NUL"),
 }
 
 

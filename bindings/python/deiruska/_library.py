@@ -27,6 +27,12 @@ class BorrowedPacket(ctypes.Structure):
     _fields_ = [("at", ctypes.c_void_p), ("len", ctypes.c_size_t), ("code", ctypes.c_uint8)]
 
 
+class BorrowedPart(ctypes.Structure):
+    """A deiruska_part: a borrowed part of a command or a reply."""
+
+    _fields_ = [("first", Bytes), ("second", Bytes), ("kind", ctypes.c_uint32), ("number", ctypes.c_uint32)]
+
+
 class BorrowedEdit(ctypes.Structure):
     """A deiruska_edit: a borrowed edit."""
 
@@ -49,13 +55,21 @@ IN = [ctypes.c_void_p, ctypes.c_size_t]
 HANDLE, NUMBER, WORD = ctypes.POINTER(Handle), ctypes.c_uint32, ctypes.c_size_t
 TO_BYTES, TO_PACKET = ctypes.POINTER(Bytes), ctypes.POINTER(BorrowedPacket)
 TO_NUMBER, TO_WORD = ctypes.POINTER(NUMBER), ctypes.POINTER(WORD)
-LINE, PORT, TO_EDIT = ctypes.c_uint64, ctypes.c_uint16, ctypes.POINTER(BorrowedEdit)
+LINE, PORT, CODE = ctypes.c_uint64, ctypes.c_uint16, ctypes.c_uint8
+TO_PART, TO_EDIT = ctypes.POINTER(BorrowedPart), ctypes.POINTER(BorrowedEdit)
 # The parameters of each function that answers a deiruska_result or a deiruska_step.
 PARAMETERS = {
     "packet_first": [*IN, TO_PACKET],
     "stream_new": [HANDLE],
     "stream_feed": [HANDLE, *IN, TO_WORD],
     "stream_next": [HANDLE, TO_PACKET],
+    "decoded_command": [HANDLE, CODE, *IN],
+    "decoded_reply": [HANDLE, CODE, *IN],
+    "decoded_part": [HANDLE, WORD, TO_PART],
+    "trace_new": [HANDLE],
+    "trace_feed": [HANDLE, NUMBER, *IN],
+    "trace_text": [HANDLE, TO_BYTES],
+    "trace_clear": [HANDLE],
     "filter_new": [HANDLE, NUMBER, NUMBER, NUMBER],
     "filter_ask_macros": [HANDLE, NUMBER, *IN],
     "filter_restart": [HANDLE],
@@ -122,6 +136,19 @@ PARAMETERS = {
     "mta_quit": [HANDLE, TO_NUMBER],
     "mta_edits": [HANDLE, TO_WORD],
     "mta_edit": [HANDLE, WORD, TO_EDIT],
+    "message_new": [HANDLE, *IN],
+    "message_add_recipient": [HANDLE, *IN],
+    "message_add_header": [HANDLE, *IN, *IN],
+    "message_add_body": [HANDLE, *IN],
+    "message_edit": [HANDLE, HANDLE],
+    "message_sender": [HANDLE, TO_BYTES],
+    "message_recipients": [HANDLE, TO_WORD],
+    "message_recipient": [HANDLE, WORD, TO_BYTES],
+    "message_headers": [HANDLE, TO_WORD],
+    "message_header_name": [HANDLE, WORD, TO_BYTES],
+    "message_header_value": [HANDLE, WORD, TO_BYTES],
+    "message_body": [HANDLE, TO_BYTES],
+    "message_quarantine": [HANDLE, TO_BYTES],
 }
 
 
@@ -187,6 +214,11 @@ def no_bytes() -> Bytes:
 def no_packet() -> BorrowedPacket:
     """A borrowed packet, before a function has put one there: DEIRUSKA_NO_PACKET."""
     return BorrowedPacket(ctypes.addressof(EMPTY), 0, 0)
+
+
+def no_part() -> BorrowedPart:
+    """A borrowed part, before a function has put one there: DEIRUSKA_NO_PART."""
+    return BorrowedPart(no_bytes(), no_bytes(), 0, 0)
 
 
 def no_edit() -> BorrowedEdit:

@@ -62,6 +62,13 @@ class Event(enum.IntEnum):
     VERDICT = 3
 
 
+class Direction(enum.IntEnum):
+    """Which end bytes go to."""
+
+    TO_FILTER = 0
+    TO_MTA = 1
+
+
 class Family(enum.IntEnum):
     """The family of a client's address."""
 

@@ -8,8 +8,8 @@
         played = play(Filter(), b"Subject: hello\\n\\nA line.\\n", recipients=["<noreply@example.net>"])
         assert played.refusals == {b"<noreply@example.net>": REFUSAL}
 
-The mail server's end is that of the library. What the filter's edits make of the message isn't of the proved library:
-it is written after docs/PROTOCOL.md, which says in what mail servers differ.
+The mail server's end is that of the library, and so is what the filter's edits make of the message; docs/PROTOCOL.md
+says in what mail servers differ.
 
 In pytest the fixture `play_to_filter` is this function, where conftest.py has the line
 `pytest_plugins = ["deiruska.pytest_plugin"]`.
@@ -25,8 +25,8 @@ from typing import Any, Callable, Dict, Iterator, List, Mapping, NamedTuple, Opt
 from ._address import READ_MAX, connected
 from ._answer import CHUNK_MAX, Answer, Edit
 from ._connection import Address
-from ._edited import Fields, Message, parts_of
 from ._library import Text, bytes_of
+from ._message import Fields, Message, parts_of
 from ._mta import NO_MACROS, Macros, MtaConnection
 from ._names import Family, Outcome, Stage, Verdict, Want
 from ._server import serve
@@ -143,12 +143,10 @@ class _Player:
             taken += [address] if stage is Stage.RCPT else []
             if verdict.code is not None or verdict.verdict not in GOES_ON:
                 break
-        edits = self.connection.edits
         message = Message(given.sender, taken, given.fields, given.body)
-        for edit in edits:
-            message.edit(edit)
-        return Played(verdict, ended, refusals, edits, message.sender, message.recipients, bytes(message),
-                      message.quarantined)
+        message.edit(self.connection)
+        return Played(verdict, ended, refusals, self.connection.edits, message.sender, message.recipients,
+                      bytes(message), message.quarantined)
 
 
 @contextlib.contextmanager
