@@ -14,7 +14,9 @@ are changed, and is run with each allocation refused in turn, and under valgrind
 helgrind (lib/c_threads.c). A million packets of each end, half of them with bytes changed, are played under
 AddressSanitizer (lib/c_mutated.c). The scripts of the tables `connection_*` and those of the captures are played to a
 mail server's end in Python (lib/c_calls.py), and rule files answer filter's ends in Python. A mail server's end and a
-filter's end in C exchange packets in memory, with each allocation refused in turn (lib/c_pair.c).
+filter's end in C exchange packets in memory, with each allocation refused in turn (lib/c_pair.c). Packets of the
+tables `trace_*` are printed by the binding as there, and what they are decoded to gives the same lines
+(lib/c_traces.py); those of a capture are decoded in C with each allocation refused (lib/c_packets.c).
 
 The first filter of docs/C.md and the filters of examples/ are played to by `milter_tool mta` and by miltertest, and the
 one in C by the mail server's side beside it; the server of the binding has handlers that raise, take long, and are
@@ -35,13 +37,14 @@ import sys
 import tempfile
 
 import test_captures
-from lib import c_calls, c_library, c_plays, captures, checks, programs, replayed, serving, tables
+from lib import c_calls, c_library, c_plays, c_traces, captures, checks, programs, replayed, serving, tables
 from lib.checks import checked, expect
 from lib.packets import packet_of, packets_of
 
 TOOL = programs.tool(programs.BUILDS[0])
 C_FILTER, C_THREADS, C_MUTATED = (os.path.join(programs.TOP, 'tests', 'lib', 'c_%s.c' % name)
                                   for name in ['filter', 'threads', 'mutated'])
+C_PACKETS = os.path.join(programs.TOP, 'tests', 'lib', 'c_packets.c')
 C_PAIR = os.path.join(programs.TOP, 'tests', 'lib', 'c_pair.c')
 WRAPPED = '-Wl,--wrap=malloc,--wrap=realloc'
 VALGRIND = ['valgrind', '-q', '--leak-check=full', '--show-leak-kinds=all', '--errors-for-leak-kinds=all',
@@ -53,6 +56,7 @@ USES = '''#include <deiruska.h>
 deiruska_filter filter = DEIRUSKA_EMPTY;
 deiruska_bytes bytes = DEIRUSKA_NO_BYTES;
 deiruska_packet packet = DEIRUSKA_NO_PACKET;
+deiruska_part part = DEIRUSKA_NO_PART;
 deiruska_edit edit = DEIRUSKA_NO_EDIT;
 deiruska_mta mta = DEIRUSKA_EMPTY;
 '''
@@ -86,17 +90,29 @@ ANSWER = b'''1 0 "X-Seen" "yes"
 8 0 "in two pieces\r\n" ""
 9 0 "looked at by a person" ""
 0 ""
+sender "<changed@example.org>"
+recipient "<added@example.net>"
+name "X-Top"
+value " inserted"
+name "X-Seen"
+value " yes"
+name "X-Added"
+value " added"
+body "another body\r\nin two pieces\r\n"
+quarantine "looked at by a person"
 '''
 # The actions that these edits need, and how many of the bits of options are actions.
 ACTIONS, ACTION_BITS = 0x7f, 9
 # The enums of the binding, whose names those of the header begin with, and the kinds of faults.
 ENUMS = ['Stage', 'Step', 'Family', 'Want', 'Outcome', 'Event', 'Protocol']
-FAULTS = 'FILTER_|WIRE_|ANSWER_|WANTS_|RULES_|CALL_|LOSS_'
+FAULTS = 'FILTER_|WIRE_|ANSWER_|WANTS_|RULES_|CALL_|LOSS_|MESSAGE_'
 TYPES = {
     'const uint8_t *': 'c_void_p', 'size_t': 'c_ulong', 'uint32_t': 'c_uint', 'size_t *': 'LP_c_ulong',
     'uint32_t *': 'LP_c_uint', 'uint16_t': 'c_ushort', 'uint64_t *': 'LP_c_ulong', 'deiruska_bytes *': 'LP_Bytes',
-    'deiruska_packet *': 'LP_BorrowedPacket', 'deiruska_edit *': 'LP_BorrowedEdit', 'deiruska_handle *': 'LP_Handle',
-    **{'deiruska_%s *' % kind: 'LP_Handle' for kind in ['stream', 'filter', 'answer', 'rules', 'mta']}}
+    'uint8_t': 'c_ubyte', 'deiruska_packet *': 'LP_BorrowedPacket', 'deiruska_part *': 'LP_BorrowedPart',
+    'deiruska_edit *': 'LP_BorrowedEdit', 'deiruska_handle *': 'LP_Handle',
+    **{'deiruska_%s *' % kind: 'LP_Handle'
+       for kind in ['stream', 'decoded', 'trace', 'filter', 'answer', 'rules', 'mta', 'message']}}
 
 
 def binding(library):
@@ -172,6 +188,7 @@ def numbers_of_binding(library):
     verdicts = {name: found[name] for name in deiruska.Verdict.__members__}
     enums = [(deiruska.Verdict, verdicts), (deiruska.Actions, {**of_header('ACTION_'), 'ALL': 0x1ff})]
     enums += [(getattr(deiruska, name), of_header(name.upper() + '_')) for name in ENUMS]
+    enums += [(deiruska.Direction, {name: found[name] for name in ['TO_FILTER', 'TO_MTA']})]
     for enum, expected in enums:
         yield checked('the binding', expect, enum.__name__, dict(enum.__members__), expected)
 
@@ -318,6 +335,26 @@ def by_rules(library):
     yield checked('rows with rules', expect, 'their number', count > 100, True)
 
 
+def traces(library):
+    """What packets are decoded to and their lines, beside those of the tables `trace_*`."""
+    deiruska, count = binding(library), 0
+    for table in ['trace_commands', 'trace_replies', 'trace_streams']:
+        for row in tables.rows_of(table):
+            for code in row.codes:
+                given, (_, text, said) = tables.streams_of('trace', row.lines, code)
+                lines, wanted = c_traces.lines_of(given), (text, c_traces.number_of(said))
+                if lines is None:
+                    continue
+                count += 1
+                for piece in pieces_of(given):
+                    yield checked('%s by %d bytes' % (tables.row_name(row), piece), expect, 'text and fault',
+                                  c_traces.printed(deiruska, lines, piece), wanted)
+                if table != 'trace_streams' and len(lines) == 1:
+                    yield checked(tables.row_name(row), expect, 'what it is decoded to',
+                                  c_traces.decoded(deiruska, *lines[0]), wanted)
+    yield checked('rows of traces', expect, 'their number', count > 300, True)
+
+
 def rule_faults(library):
     """The faults of rule files, and their lines."""
     deiruska = binding(library)
@@ -413,6 +450,28 @@ def refused(program):
         yield from checks.with_each_refused(functools.partial(run, wanted=wanted, piece=piece))
 
 
+def refused_packets(library):
+    """Packets of a capture that are decoded and printed in C, with each allocation refused: what is refused is done
+    again, but a trace has stopped. Under valgrind they make no error."""
+    program, talk = c_library.compiled(library, C_PACKETS, 'c_packets', WRAPPED), captures.halves(capture())
+    streams_of = [b''.join(it for it, _ in talk), b''.join(it for _, replies in talk for it in replies)]
+    for direction, stream in enumerate(streams_of):
+        command = [program, str(direction)]
+        _, wanted, _ = programs.ended([*command, '0'], stream)
+        yield checked('packets in direction %d' % direction, expect, 'lines', len(wanted.splitlines()) > 20, True)
+
+        def run(number, command=tuple(command), stream=stream, wanted=wanted, checker=()):
+            status, out, said = programs.ended([*checker, *command, str(number)], stream)
+            is_stopped = said.startswith(b'stopped, ') and wanted.startswith(out)
+            expect('the run %r' % said, (status, is_stopped or (said[:7], out) == (b'printed', wanted)), (0, True))
+            return said.endswith(b', an allocation was refused\n')
+
+        yield from checks.with_each_refused(run)
+        if installed('valgrind'):
+            for number in [0, 1, 10, 100]:
+                yield checked('valgrind, allocation %d' % number, functools.partial(run, checker=VALGRIND), number)
+
+
 def pair(library, folder):
     """A mail server's end and a filter's end that rules answer, which exchange packets in memory, and of whose
     allocations each is refused: they end as ever, or one of them is given up for that. Under valgrind they make no
@@ -458,7 +517,7 @@ def plays(library, folder):
             yield checked('the example in ' + language, c_plays.example, TOOL, library, folder, language)
     for kind in serving.KINDS:
         yield checked('the example in Python at %s' % kind, c_plays.example_in_python, TOOL, library, folder, kind)
-    yield checked('the test in Python', c_plays.test_in_python, library)
+    yield checked('the tests in Python', c_plays.tests_in_python, library)
     deiruska = binding(library)
     logging.disable(logging.CRITICAL)
     for play in [c_plays.raises, c_plays.takes_long, c_plays.is_left, c_plays.does_edits, c_plays.ends_there,
@@ -475,7 +534,8 @@ def groups(library, archive, folder):
         ('parameters', parameters, (library,)), ('replies', same_replies, (library, program)),
         ('answers', same_answers, (library,)), ('rules', by_rules, (library,)),
         ('faults of rules', rule_faults, (library,)), ('mail servers', mail_servers, (library,)),
-        ('mutations', mutated, (program,)), ('streams', streams, (library,)),
+        ('mutations', mutated, (program,)), ('streams', streams, (library,)), ('traces', traces, (library,)),
+        ('refused memory of packets', refused_packets, (library,)),
         ('sanitizer', sanitized, (library, folder)), ('refused memory', refused, (program,)),
         ('pair', pair, (library, folder)), ('valgrind', in_valgrind, (library, program)),
         ('filters', plays, (library, folder))]

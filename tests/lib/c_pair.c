@@ -4,9 +4,9 @@
  *
  *     c_pair RULES REFUSED
  *
- * RULES is a rule file. A message is shown to the filter, and its edits and the last verdict are printed. The
- * allocation of number REFUSED is refused, from 1; none where it is 0. What failed for want of memory is done again,
- * which shows that the first call changed nothing, but where an end is given up for it.
+ * RULES is a rule file. A message is shown to the filter, and its edits, the last verdict and the edited message are
+ * printed. The allocation of number REFUSED is refused, from 1; none where it is 0. What failed for want of memory is
+ * done again, which shows that the first call changed nothing, but where an end is given up for it.
  *
  * Its last line on standard error says how it ended, and whether an allocation was refused. Its status is 1 where
  * something isn't as deiruska.h says. The linker has it call __wrap_malloc and __wrap_realloc.
@@ -29,6 +29,7 @@ static unsigned long allocations, refused;
 static deiruska_rules rules = DEIRUSKA_EMPTY;
 static deiruska_filter filter = DEIRUSKA_EMPTY;
 static deiruska_mta mta = DEIRUSKA_EMPTY;
+static deiruska_message message = DEIRUSKA_EMPTY;
 static uint32_t outcome;
 
 void *__wrap_malloc(size_t size) { return ++allocations == refused ? NULL : __real_malloc(size); }
@@ -40,6 +41,7 @@ void *__wrap_realloc(void *block, size_t size) {
 static bool was_refused(void) { return refused != 0 && allocations >= refused; }
 
 static int end(const char *how) {
+    deiruska_free(&message.handle);
     deiruska_free(&mta.handle);
     deiruska_free(&filter.handle);
     deiruska_free(&rules.handle);
@@ -141,6 +143,36 @@ static void print_answer(void) {
     printf("%u \"%.*s\"\n", (unsigned)verdict, (int)text.len, (const char *)text.at);
 }
 
+static void print_text(const char *what, deiruska_bytes text) {
+    printf("%s \"%.*s\"\n", what, (int)text.len, (const char *)text.at);
+}
+
+/* Prints the message that was shown, after the edits. */
+static void print_edited(void) {
+    deiruska_bytes text = DEIRUSKA_NO_BYTES;
+    DO(deiruska_message_new(&message, TEXT("<ada@example.org>")));
+    DO(deiruska_message_add_recipient(&message, TEXT("<bob@example.net>")));
+    DO(deiruska_message_add_header(&message, TEXT("Subject"), TEXT(" first")));
+    DO(deiruska_message_add_body(&message, TEXT("a body\r\n")));
+    int32_t result = deiruska_message_add_recipient(&message, (const uint8_t *)"a NUL", 6);
+    check(result == DEIRUSKA_MESSAGE_DOES_NOT_FIT || again(result), "not so: a recipient with a NUL isn't added");
+    check(deiruska_message_quarantine(&message, &text) == DEIRUSKA_NOTHING, "not so: it isn't in quarantine yet");
+    DO(deiruska_message_edit(&message, &mta));
+    DO(deiruska_message_sender(&message, &text));
+    print_text("sender", text);
+    for (size_t at = 0; deiruska_message_recipient(&message, at, &text) == DEIRUSKA_OK; at++)
+        print_text("recipient", text);
+    for (size_t at = 0; deiruska_message_header_name(&message, at, &text) == DEIRUSKA_OK; at++) {
+        print_text("name", text);
+        DO(deiruska_message_header_value(&message, at, &text));
+        print_text("value", text);
+    }
+    DO(deiruska_message_body(&message, &text));
+    print_text("body", text);
+    DO(deiruska_message_quarantine(&message, &text));
+    print_text("quarantine", text);
+}
+
 int main(int words, char **word) {
     static uint8_t bytes[RULES_MAX];
     uint64_t line = 0;
@@ -157,6 +189,7 @@ int main(int words, char **word) {
     exchange();
     show_message();
     print_answer();
+    print_edited();
     DO(deiruska_mta_abort(&mta, &outcome));
     CALL(deiruska_mta_quit(&mta, &outcome));
     return end("all is shown");

@@ -36,6 +36,8 @@ STAGES = ['connect', 'helo', 'mail', 'rcpt', 'data', 'header', 'eoh', 'eob']
 PYTHON_STAGES = ['rcpt', 'eob']
 ADDED = 'header "X-Filtered" " mx.example.org"\n'
 PYTHON = os.path.join(programs.TOP, 'examples', 'python')
+# Calls the tests of a module, as pytest does, and prints how many these are.
+CALL_TESTS = 'import %s as it; print(len([getattr(it, name)() for name in dir(it) if name.startswith("test_")]))'
 
 
 def reports(stages, added):
@@ -119,16 +121,17 @@ def of_binding(library, *paths):
             'DEIRUSKA_LIBRARY': c_library.shared(library)}
 
 
-def test_in_python(library):
-    """The test of the filter of examples/python. docs/C.md has parts of both."""
+def tests_in_python(library):
+    """The tests of the filters of examples/python. docs/C.md has parts of one and of its filter."""
     texts = ''
     for name in ['filter.py', 'test_filter.py']:
         with open(os.path.join(PYTHON, name), encoding='utf-8') as file:
             texts += file.read()
     expect('docs/C.md has parts of them', [block for block in blocks_of('python') if block not in texts], [])
-    call = 'import test_filter; test_filter.test_noreply_is_refused()'
-    end = programs.ended([sys.executable, '-c', call], env=of_binding(library, PYTHON), timeout=serving.SECONDS)
-    expect('the test', end, (0, b'', b''))
+    for name in sorted(it[:-3] for it in os.listdir(PYTHON) if it.startswith('test_')):
+        end = programs.ended([sys.executable, '-c', CALL_TESTS % name], env=of_binding(library, PYTHON),
+                             timeout=serving.SECONDS)
+        expect('the tests of ' + name, (end[0], end[1] != b'0\n'), (0, True))
 
 
 def example_in_python(tool, library, folder, kind):
