@@ -1,0 +1,4 @@
+pub mod Segments
+pub mod Leftmost
+pub mod Joins
+mod Rows
