@@ -5,6 +5,7 @@ ghost use Rattle.milter_protocol.specs.declared.command_order.CommandOrder.TheVa
 ghost use Rattle.milter_filter_stream.specs.Conversations.{fresh_conversation};
 ghost use Rattle.milter_c_handle.specs.Objects.{IsKept, filter_of};
 ghost use Rattle.milter_c.specs.AskedMacros.{asking_for, list_stage};
+ghost use Rattle.milter_c.specs.Filters.{BreaksWants};
 
 use crate::let_object::let_object;
 use milter_c_handle::{Handle, Object};
@@ -35,6 +36,9 @@ pub extern "C" fn deiruska_filter_ask_macros(
         filter_of filter.new ≡ Some (fresh_conversation Lenient (asking_for at names.now old.wanted)))) }
     ensures kept { result ≢ OK → IsKept filter.old filter.new }
     ensures stages { result ≢ WRONG_KIND → list_stage stage ≡ None → result ≡ BAD_ARGUMENT }
+    ensures no_stage { result ≡ BAD_ARGUMENT → list_stage stage ≡ None }
+    ensures cause { result ≢ OK → result ≢ NO_MEMORY → IfSome (filter_of filter.old) (λ old.
+        IfSome (list_stage stage) (λ at. BreaksWants (asking_for at names.now old.wanted) result)) }
     ensures no_filter { filter_of filter.old ≡ None → result ≡ WRONG_KIND }
 {
     let_object!(connection: Filter = filter);
