@@ -2,6 +2,7 @@
 """Plays the recipes of docs/COOKBOOK.md by `milter_tool play`, as both compilers built it. The lines of each recipe are
 taken out of the document: they are the rule file with which sessions are played, some to which it applies and some to
 which it doesn't. What becomes of their messages is written in lib/recipes.py, by what the document says of the recipe.
+So are the rules beside rows of other programs' tables.
 
 Besides, of each line of a recipe: without it, one of its sessions ends otherwise. And all recipes are one rule file,
 which is printed in the same lines.
@@ -36,7 +37,7 @@ def message_lines(parts):
 def session_of(row):
     """The session file of a row."""
     parts = {**recipes.USUAL, **row.given}
-    lines = ['client 4 "mail.example.org" 49152 "%s"' % parts['address'], 'helo "%s"' % parts['helo']]
+    lines = ['client 4 "%s" 49152 "%s"' % (parts['host'], parts['address']), 'helo "%s"' % parts['helo']]
     lines += ['macro %s "%s" "%s"' % each for each in parts['macros']] + ['message', *message_lines(parts)]
     return ''.join(line + '\n' for line in lines)
 
@@ -89,12 +90,27 @@ def of_recipe(program, folder, title, rules, rows):
 
 
 def as_one_file(program, folder, lines):
-    """The recipes as one rule file: its rules are printed as they stand, whatever the order of their stages."""
+    """The lines as one rule file: its rules are printed as they stand, whatever the order of their stages."""
+    lines = recipes.as_file(lines)
     path = programs.written(os.path.join(folder, 'rules'), ''.join(line + '\n' for line in lines))
     status, out, err = programs.ended([program, 'rules', path])
     expect('the run', (status, err), (0, b''))
-    printed = [line for line in out.decode().splitlines() if line.startswith('at ')]
+    printed = [line for line in out.decode().splitlines() if line.startswith('at ') or line == recipes.WIDE]
     expect('the rules', sorted(printed), sorted(lines))
+
+
+def of_tables(program, folder):
+    """The checks of the rules beside rows of other programs' tables."""
+    rules = recipes.in_tables()
+    yield checked('the rules of tables', lambda: expect('rules', set(rules), set(recipes.OF_TABLES)))
+    lines = [recipes.WIDE, *dict.fromkeys(rules)]
+    yield checked('the rules of tables, as one file', as_one_file, program, folder, lines)
+    for rule, rows in recipes.OF_TABLES.items():
+        stage = rule.split()[1]
+        lines = [recipes.WIDE, rule] + ['at %s do reject' % stage] * rule.endswith(' do continue')
+        for number, row in enumerate(rows, 1):
+            end = 0, report_of(row).encode(), b''
+            yield programs.compared('%s, session %d' % (rule, number), played(program, folder, lines, row), end)
 
 
 def of_document(program, folder):
@@ -115,7 +131,7 @@ def of_first_rules(program, folder):
         yield programs.compared(name, programs.ended([program, 'rules', '--check', path]), (0, b'', b''))
     rules, session, printed = (''.join(line + '\n' for line in lines) for lines in first_rules.of_readme())
     paths = [programs.written(os.path.join(folder, name), text) for name, text in (('session', session), ('rules', rules))]
-    command = [program, 'play', paths[0], '--rules', paths[1], '--ignore-case']
+    command = [program, 'play', paths[0], '--rules', paths[1], '--least-stages']
     yield programs.compared('README.md: its session', programs.ended(command), (0, printed.encode(), b''))
 
 
@@ -123,7 +139,7 @@ def groups(folder):
     """Groups of checks: of each its name, its function, and what that is called with."""
     for build in programs.BUILDS:
         program = programs.tool(build)
-        for checks_of in (of_document, of_first_rules):
+        for checks_of in (of_document, of_tables, of_first_rules):
             yield os.path.basename(program), checks_of, (program, tempfile.mkdtemp(dir=folder))
 
 

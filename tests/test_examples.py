@@ -279,10 +279,10 @@ def readme(kind, folder):
     """The rules and the session of README.md, by `serve` and `mta`, print what stands there."""
     rules, session, printed = (''.join(line + '\n' for line in lines) for lines in first_rules.of_readme())
     expected = programs.written(os.path.join(folder, 'expected'), printed)
-    options = ['--rules', programs.written(os.path.join(folder, 'mail.rules'), rules), '--ignore-case']
+    options = ['--rules', programs.written(os.path.join(folder, 'mail.rules'), rules)]
 
     def run():
-        with serving.Service(TOOL, kind, folder, options) as served:
+        with serving.Service(TOOL, kind, folder, options, all_stages=False) as served:
             serving.listening(served)
             command = [TOOL, 'mta', served.address, '/dev/stdin', '--wait', '10', '--expect', expected]
             expect('the test', ended(command, session.encode()), (0, '', ''))

@@ -20,8 +20,8 @@ import test_sockets
 from lib import checks, programs, serving
 from lib.checks import checked, expect
 from lib.talks import (
-    ABORT, AGREED, CONTINUE, GREETED_AGAIN, KEYS, LENIENTLY, OFFER, QUIT, STRICTLY, filled, message, opening, packet,
-    quit_all, rules_file, rules_of_keys, run_to_end, say)
+    ABORT, AGREED, CONTINUE, GREETED_AGAIN, KEYS, LENIENTLY, OFFER, QUIT, STRICTLY, filled, message, opening, options,
+    packet, quit_all, rules_file, rules_of_keys, run_to_end, say)
 
 
 def is_lenient(lines):
@@ -480,8 +480,31 @@ def changed_rules(program, kind, folder):
     yield checked('changed rules', run)
 
 
+# Rules, options, and the protocol bits that are asked for: without a stage that no rule looks at, and without replies
+# where no rule stands.
+AT_RCPT = 'at rcpt when rcpt is "<b@y>" do reject\n'
+ASKED_FOR = [
+    ('no rule', '', [], 0xff3ff), ('recipients', AT_RCPT, [], 0xf73f3),
+    ('a body at the end', 'at eob when body has "x" do reject\n', [], 0xff3eb),
+    ('all stages', AT_RCPT, ['--all-stages'], 0), ('stated bits', 'protocol NOHELO\n' + AT_RCPT, [], 2)]
+
+
+def asked_for(program, kind, folder):
+    """What is asked for by the rules of a file."""
+
+    def asks(rules, words, bits):
+        words = rules_file(folder, rules) + words
+        with serving.Service(program, kind, folder, words, all_stages=False) as served, served.connected() as one:
+            say(one, [(OFFER, options(0, bits)), (QUIT, b'')])
+            serving.expect_closed(one)
+
+    for name, rules, words, bits in ASKED_FOR:
+        yield checked('asks for ' + name, asks, rules, words, bits)
+
+
 GROUPS = [
-    rows_with_rules, rows, far_ends, interleaved, streams, greeted_again, several_addresses, logged, changed_rules]
+    rows_with_rules, rows, far_ends, interleaved, streams, greeted_again, several_addresses, logged, changed_rules,
+    asked_for]
 
 
 def groups(folder):

@@ -36,7 +36,8 @@ class Server(postfix.Postfix):
 
     def asking(self, rules, *options):
         """The filter, with these rules and options."""
-        path = programs.written(os.path.join(self.work, 'rules'), ''.join(rule + '\n' for rule in rules))
+        lines = recipes.as_file(rules)
+        path = programs.written(os.path.join(self.work, 'rules'), ''.join(line + '\n' for line in lines))
         return peers.Service(self.program, self.filter, path, options=options)
 
     def client(self, address='192.0.2.1', helo='mail.example.org', login=None, kind='inet'):

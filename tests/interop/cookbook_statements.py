@@ -79,14 +79,13 @@ def play_writings(checks, server):
 
 
 def play_recipes_written(checks, server):
-    """The recipes for one address, and the ways to write it: those that compare the macro hold for all, and the one
-    that compares what was written for what it names."""
+    """The recipes for one address, and the ways to write it: those that compare the macro too hold for all, and the one
+    that compares the address alone for all but that with a percent sign."""
     of_recipe = recipes.rules()
-    named = [NO_REPLY, NO_REPLY[1:-1]]
     for title, name, text in [(HOWEVER, 'noreply', NO_MAIL), (WHOLE, 'noreply', NO_MAIL), (PEOPLE, 'staff', OUR_OWN)]:
         with server.asking(of_recipe[title]), server.client() as client:
             for way in recipes.writings(name):
-                reply = 'taken' if title == WHOLE and way not in named else text
+                reply = 'taken' if title == WHOLE and '%' in way else text
                 checks.check('%s: %s' % (title, way), said(client, SENDER, [way]), ['taken', reply])
     with server.asking(of_recipe[LOGGED_IN]), server.client() as client:
         for way in recipes.writings('ceo'):
@@ -98,10 +97,9 @@ def play_recipes_written(checks, server):
 
 def play_symbols(checks, server):
     """Lists of macros, with the one that a rule compares and without it."""
-    ceo = '<ceo@example.net>'
     for title, stage, macro, sender, recipient, replies in [
-            (HOWEVER, 'rcpt', '{rcpt_addr}', SENDER, NO_REPLY, ['taken', NO_MAIL]),
-            (LOGGED_IN, 'mail', '{mail_addr}', ceo, TO, [LOG_IN])]:
+            (HOWEVER, 'rcpt', '{rcpt_addr}', SENDER, '<noreply%example.net>', ['taken', NO_MAIL]),
+            (LOGGED_IN, 'mail', '{mail_addr}', '<ceo%example.net>', TO, [LOG_IN])]:
         for names, expected in [(macro, replies), ('{client_addr}', ['taken', 'taken'])]:
             rules = ['symbols %s "%s"' % (stage, names)] + recipes.rules()[title]
             with server.asking(rules), server.client() as client:

@@ -8,10 +8,13 @@ import re
 from lib import programs
 
 DOCUMENT = os.path.join(programs.TOP, 'docs', 'COOKBOOK.md')
+# The first line of a file whose conditions are of more kinds.
+WIDE = 'rules 2'
 # What a session has that isn't said otherwise.
 USUAL = {
-    'address': '192.0.2.1', 'helo': 'mail.example.org', 'macros': [], 'sender': '<ada@example.org>',
-    'recipients': ['<brook@example.net>'], 'headers': [('Subject', 'Lunch')], 'body': r'Lunch at one?\r\n'}
+    'host': 'mail.example.org', 'address': '192.0.2.1', 'helo': 'mail.example.org', 'macros': [],
+    'sender': '<ada@example.org>', 'recipients': ['<brook@example.net>'], 'headers': [('Subject', 'Lunch')],
+    'body': r'Lunch at one?\r\n'}
 # A session and what becomes of its message. `given` is what it has unlike USUAL. `verdicts` are those that aren't
 # `continue`, by their stage and number; `end` is the stage and number of the one that ends the message, and None where
 # all stages are gone through. `outcome` is what becomes of it, and `released` what it then has unlike the session.
@@ -56,6 +59,11 @@ OUR_OWN = '550 5.7.2 This list is for our own people'
 STAFF = {'recipients': ['<staff@example.net>'], 'macros': [('rcpt', '{rcpt_addr}', 'staff@example.net')]}
 NO_REPLY = ('rcpt', '{rcpt_addr}', 'noreply@example.net')
 CEO = ('mail', '{mail_addr}', 'ceo@example.net')
+NO_DOMAIN = '550 5.7.1 No mail from this domain'
+HELD = {'quarantine': 'looked at by a person'}
+# Ways to write the address `noreply@example.net`, as a session file has them.
+WRITTEN = ['<noreply@example.net>', 'noreply@example.net', '<NoReply@Example.NET>', r'<\"noreply\"@example.net>',
+           '<noreply@example.net.>', '<@other.example:noreply@example.net>']
 YES = ('X-Spam-Flag', 'YES')
 BULK = ('X-Bulk', 'yes')
 EXTERNAL = ('X-External', 'yes')
@@ -78,20 +86,22 @@ RECIPES = {
         refused('eoh', SPAM, headers=fields(('X-Virus', 'Eicar'))),
         refused('eoh', SPAM, headers=fields(('X-Virus', 'Eicar'), YES)),
         refused('eoh', SPAM, headers=fields(('X-Spam-Flag', 'NO'), YES)),
+        refused('eoh', SPAM, headers=fields(('X-Spam-Flag', 'yes'))),
         passes(),
-        passes(headers=fields(('X-Spam-Flag', 'yes'))),
         passes(headers=fields(('X-Spam-Flag', 'YES?')))],
     'Either of two things, with an edit': [
         edited({'headers': fields(('List-Id', 'a list'), BULK)}, headers=fields(('List-Id', 'a list'))),
         edited({'headers': fields(('Precedence', 'bulk'), BULK)}, headers=fields(('Precedence', 'bulk'))),
+        edited({'headers': fields(('Precedence', 'List'), BULK)}, headers=fields(('Precedence', 'List'))),
         edited({'headers': fields(('Precedence', 'bulk'), ('List-Id', ''), BULK)},
                headers=fields(('Precedence', 'bulk'), ('List-Id', ''))),
         passes(),
-        passes(headers=fields(('Precedence', 'list')))],
+        passes(headers=fields(('Precedence', 'listless')))],
     'Mark a message': [
         edited({'headers': fields(EXTERNAL)}),
         edited({'headers': fields(EXTERNAL, EXTERNAL)}, headers=fields(EXTERNAL)),
         passes(macros=[login()]),
+        edited({'headers': fields(EXTERNAL)}, address='127.0.0.10'),
         passes(address='127.0.0.1'),
         passes(address='127.0.0.1', macros=[login()])],
     'Take out a header field': [
@@ -110,6 +120,8 @@ RECIPES = {
         refused('rcpt', OUR_OWN, **STAFF),
         refused('rcpt', OUR_OWN, **{**STAFF, 'recipients': ['<Staff@Example.NET>']}),
         refused('rcpt', OUR_OWN, **{**STAFF, 'address': '127.0.0.10'}),
+        refused('rcpt', OUR_OWN, recipients=['staff@example.net.']),
+        refused('rcpt', OUR_OWN, **{**STAFF, 'recipients': ['<staff%example.net>']}),
         passes(**{**STAFF, 'macros': STAFF['macros'] + [login()]}),
         passes(**{**STAFF, 'address': '127.0.0.1'}),
         passes(),
@@ -118,32 +130,47 @@ RECIPES = {
     'A sender for clients that have logged in': [
         refused('mail', '550 5.7.1 Log in', sender='<ceo@example.net>', macros=[CEO]),
         refused('mail', '550 5.7.1 Log in', sender='CEO@example.net', macros=[CEO]),
+        refused('mail', '550 5.7.1 Log in', sender=r'<\"ceo\"@example.net>'),
+        refused('mail', '550 5.7.1 Log in', sender='<ceo%example.net>', macros=[CEO]),
         passes(sender='<ceo@example.net>', macros=[CEO, login()]),
         passes(macros=[('mail', '{mail_addr}', 'ada@example.org')]),
         passes(sender='<vice-ceo@example.net>', macros=[('mail', '{mail_addr}', 'vice-ceo@example.net')])],
     'The null sender': [
         refused('rcpt', '550 5.7.1 This address sends no mail', sender='<>', recipients=['<news@example.net>']),
+        refused('rcpt', '550 5.7.1 This address sends no mail', sender='<>', recipients=['News@example.net']),
         passes(sender='<>'),
         passes(recipients=['<news@example.net>'])],
+    'Mail from a domain and those below it': [
+        refused('mail', NO_DOMAIN),
+        refused('mail', NO_DOMAIN, sender='<ada@lists.Example.COM>'),
+        passes(sender='<ada@notexample.org>'),
+        passes(sender='<ada@example.org.example>'),
+        passes(sender='<>')],
     "Refuse one's own name as a greeting": [
         refused('helo', '550 5.7.1 This is not your name', helo='mx.example.net'),
+        refused('helo', '550 5.7.1 This is not your name', helo='MX.example.net', address='127.0.0.10'),
         passes(helo='mx.example.net', address='127.0.0.1'),
         passes(),
         passes(helo='mx.example.net.example')],
     'Refuse a recipient by its whole address': [
-        refused('rcpt', NO_MAIL, recipients=['<noreply@example.net>']),
-        refused('rcpt', NO_MAIL, recipients=['noreply@example.net']),
+        *[refused('rcpt', NO_MAIL, recipients=[written]) for written in WRITTEN],
         Row({'recipients': ['<noreply@example.net>', '<brook@example.net>']}, {('rcpt', 1): 'code "%s"' % NO_MAIL},
             None, 'released', {'recipients': ['<brook@example.net>']}),
         passes(),
-        passes(recipients=['<donoreply@example.net>', '<noreply@example.net.example>', '<NoReply@example.net>'])],
+        passes(recipients=['<donoreply@example.net>', '<noreply@example.net.example>', '<noreply@mail.example.net>'])],
     'Refuse a recipient however it is written': [
-        refused('rcpt', NO_MAIL, recipients=['<noreply@example.net>'], macros=[NO_REPLY]),
-        refused('rcpt', NO_MAIL, recipients=['<NoReply@Example.NET>'], macros=[NO_REPLY]),
-        refused('rcpt', NO_MAIL, recipients=[r'<\"noreply\"@example.net>'], macros=[NO_REPLY]),
+        *[refused('rcpt', NO_MAIL, recipients=[written], macros=[NO_REPLY])
+          for written in WRITTEN + ['<noreply%example.net>']],
+        *[refused('rcpt', NO_MAIL, recipients=[written]) for written in WRITTEN],
         passes(macros=[('rcpt', '{rcpt_addr}', 'brook@example.net')]),
         passes(recipients=['<donoreply@example.net>'], macros=[('rcpt', '{rcpt_addr}', 'donoreply@example.net')]),
-        passes(recipients=['<noreply@example.net>'])],
+        passes(recipients=['<noreply%example.net>'])],
+    'Refuse recipients by a pattern': [
+        refused('rcpt', NO_MAIL, recipients=['<brook+test@example.net>']),
+        refused('rcpt', NO_MAIL, recipients=['<Brook+Testing@Example.NET.>']),
+        refused('rcpt', NO_MAIL, recipients=['tmp-1a2b@example.net']),
+        passes(),
+        passes(recipients=['<brook+test@example.net.example>', '<tmp-1a2@example.net>', '<x-tmp-1a2b@example.net>'])],
     'A reply of several lines': [
         refused('rcpt', r'550-5.1.6 This address has moved\r\n550 5.1.6 to example.com',
                 recipients=['<old@example.net>']),
@@ -151,14 +178,24 @@ RECIPES = {
         passes(recipients=['<bold@example.net>'])],
     'A copy for an archive': [
         edited({'recipients': ['<brook@example.net>', '<archive@example.net>']}, sender='<cleo@example.net>'),
+        edited({'recipients': ['<brook@example.net>', '<archive@example.net>']}, sender='<cleo@Example.NET>'),
         passes(),
         passes(sender='<cleo@example.net.example>'),
+        passes(sender='<cleo@mail.example.net>'),
         passes(sender='<>')],
-    'Hold a message': [
-        edited({'quarantine': 'looked at by a person'}, headers=[('Subject', 'Your invoice, at last')]),
-        edited({'quarantine': 'looked at by a person'}, headers=[('subject', 'invoice')]),
+    'A copy of what one of several gets': [
+        edited({'recipients': ['<legal@example.net>', '<brook@example.net>', '<archive@example.net>']},
+               recipients=['<legal@example.net>', '<brook@example.net>']),
+        edited({'recipients': ['<brook@example.net>', '<board@example.net>', '<archive@example.net>']},
+               recipients=['<brook@example.net>', '<board@example.net>']),
         passes(),
-        passes(headers=[('Subject', 'Invoice')]),
+        passes(recipients=['<brook@example.net>', '<illegal@example.net>'])],
+    'Hold a message': [
+        edited(HELD, headers=[('Subject', 'Your invoice, at last')]),
+        edited(HELD, headers=[('subject', 'INVOICE')]),
+        edited(HELD, headers=[('Subject', 'Past due')]),
+        passes(),
+        passes(headers=[('Subject', 'In voice')]),
         passes(body=r'Your invoice.\r\n')],
     'Drop a message': [
         ends('eoh', 'discard', 'discarded', headers=fields(('X-Spam-Level', '*' * 10))),
@@ -167,15 +204,94 @@ RECIPES = {
         passes(headers=fields(('X-Spam-Level', '*' * 9)))],
     'A tag at the end of the body': [
         refused('eob', INTERNAL, body=r'The plan.\r\n[internal]\r\n'),
-        refused('eob', INTERNAL, body=r'The plan.\r\n[internal]\r\nEnd.\r\n'),
+        refused('eob', INTERNAL, body=r'One.\r\n[internal]\r\n[internal]\r\n'),
         passes(),
+        passes(body=r'The plan.\r\n[internal]\r\nEnd.\r\n'),
         passes(body=r'The plan.\r\nNot [internal]\r\n'),
         passes(body=r'The plan.\r\n[Internal]\r\n'),
-        passes(body=r'[internal]\r\nThe plan.\r\n')],
+        passes(body=r'[internal]\r\n')],
     'Another body': [
         edited({'body': r'The text of this message was removed.\r\n'}, headers=fields(('X-Virus', 'Eicar'))),
         passes(),
         passes(headers=fields(('X-Virus-Scanned', 'yes')))],
+}
+
+
+# What becomes of a message that `reject` ends at a stage: no text of its own is given to the client.
+REJECTED = {'connect': 'refused-at-connection', 'helo': 'refused-at-connection', 'rcpt': 'no-recipients'}
+
+
+def rejected(stage, **given):
+    """A session whose message is ended by `reject` at this stage."""
+    return ends(stage, 'reject', REJECTED.get(stage, 'refused "550 5.7.1 Command rejected"'), **given)
+
+
+def subject(value):
+    """The header fields of a message with this subject alone."""
+    return [('Subject', value)]
+
+
+HOLD = {'quarantine': 'HOLD'}
+LEGAL = ['<legal@example.net>', '<brook@example.net>']
+TO_NO_REPLY = ['<brook@example.net>', '<NoReply@example.net>']
+MAILER = ('X-Mailer', 'Pigeon')
+# The rules beside rows of other programs' tables, each with sessions to which it applies, and to which it doesn't.
+# After one that says `continue` all else is rejected.
+OF_TABLES = {
+    'at rcpt when rcpt-address is "noreply@example.net" do code "550 5.1.1 No mail"': [
+        refused('rcpt', '550 5.1.1 No mail', recipients=['noreply@Example.net']), passes()],
+    'at rcpt when rcpt-domain under "example.org" do reject': [
+        rejected('rcpt', recipients=['<cleo@example.org>']), rejected('rcpt', recipients=['<cleo@lists.example.org>']),
+        passes(recipients=['<cleo@notexample.org>'])],
+    'at rcpt when rcpt-domain like "*.example.org" do reject': [
+        rejected('rcpt', recipients=['<cleo@lists.example.org>']), passes(recipients=['<cleo@example.org>'])],
+    'at rcpt when rcpt-address begins "sales@" do code "450 4.2.1 Later"': [
+        refused('rcpt', '450 4.2.1 Later', recipients=['<Sales@example.net>']),
+        passes(recipients=['<presales@example.net>'])],
+    'at eob when recipients-address is "legal@example.net" do quarantine "HOLD"': [
+        edited(HOLD, recipients=LEGAL), passes()],
+    'at mail when sender-address is "" do reject': [rejected('mail', sender='<>'), passes()],
+    'at mail when sender-domain under "example.org" do discard': [
+        ends('mail', 'discard', 'discarded', sender='<ada@mail.example.org>'), passes(sender='<ada@example.com>')],
+    'at connect when host under "example.org" do continue': [
+        passes(), passes(host='example.org'), rejected('connect', host='mail.example.com')],
+    'at helo when helo is any-case "localhost" do reject': [
+        rejected('helo', helo='LocalHost'), passes(helo='localhost.example')],
+    'at eoh when header "Subject" has any-case "lottery" do reject': [
+        rejected('eoh', headers=subject('The Lottery is won')), passes(headers=subject('A lot'))],
+    'at eoh when header "X-Spam-Flag" is any-case "YES" do discard': [
+        ends('eoh', 'discard', 'discarded', headers=fields(('x-spam-flag', 'Yes'))),
+        passes(headers=fields(('X-Spam-Flag', 'YES!')))],
+    'at eob when header "Subject" begins any-case "re:" "fwd:" do quarantine "HOLD"': [
+        edited(HOLD, headers=subject('Re: lunch')), edited(HOLD, headers=subject('FWD: lunch')),
+        passes(headers=subject('More: lunch'))],
+    'at eob do change-header 1 "X-Mailer" ""': [edited({'headers': fields()}, headers=fields(MAILER)), passes()],
+    'at eob when header "Precedence" begins any-case "bulk" do insert-header 0 "X-Bulk" "yes"': [
+        edited({'headers': [BULK] + fields(('Precedence', 'Bulk'))}, headers=fields(('Precedence', 'Bulk'))),
+        passes(headers=fields(('Precedence', 'no bulk')))],
+    'at eob when body has any-case "unsubscribe" do reject': [
+        rejected('eob', body=r'To Unsubscribe, write.\r\n'), passes()],
+    'at rcpt when host under "example.org" do continue': [passes(), rejected('rcpt', host='mail.example.com')],
+    'at rcpt when address is "192.0.2.25" do continue': [
+        passes(address='192.0.2.25'), rejected('rcpt', address='192.0.2.250')],
+    'at rcpt when address begins "192.0.2." do continue': [passes(), rejected('rcpt', address='192.0.20.1')],
+    'at rcpt when rcpt-address like "postmaster@*" "postmaster+*@*" do continue': [
+        passes(recipients=['<Postmaster@example.net>']), passes(recipients=['<postmaster+mx@example.org>']),
+        rejected('rcpt', recipients=['<postmasters@example.net>'])],
+    'at rcpt when rcpt-domain under "example.net" do continue': [
+        passes(), rejected('rcpt', recipients=['<brook@notexample.net>'])],
+    'at mail when sender-address is "eve@example.org" do reject': [
+        rejected('mail', sender='<Eve@example.org.>'), passes(sender='<steve@example.org>')],
+    'at mail when sender-domain is "example.org" "example.com" do reject': [
+        rejected('mail'), rejected('mail', sender='<ada@example.com>'), passes(sender='<ada@mail.example.org>')],
+    'at data when recipients-address is "noreply@example.net" do reject': [
+        rejected('data', recipients=TO_NO_REPLY), rejected('data', recipients=TO_NO_REPLY[::-1]), passes()],
+    'at mail when sender-domain is "example.org" do reject': [
+        rejected('mail'), passes(sender='<ada@mail.example.org>')],
+    'at rcpt when rcpt-address is "noreply@example.net" do reject': [
+        rejected('rcpt', recipients=['<@mx.example:noreply@example.net>']), passes()],
+    'at mail when macro "{auth_authen}" lacks "" and sender-address is "ceo@example.net" do reject': [
+        rejected('mail', sender='<ceo@example.net>'), passes(sender='<ceo@example.net>', macros=[login()]), passes()],
 }
 
 
@@ -196,6 +312,17 @@ def rules():
         elif title in found and line.startswith('    '):
             found[title].append(line.strip())
     return found
+
+
+def in_tables():
+    """The rules beside rows of other programs' tables."""
+    return re.findall(r'(?m)^\| .* \| `(at .*)` \|$', text())
+
+
+def as_file(lines):
+    """The lines as those of one file, in which `rules 2` stands once, as the first line."""
+    others = [line for line in lines if line != WIDE]
+    return others if len(others) == len(lines) else [WIDE] + others
 
 
 def passage(lead):

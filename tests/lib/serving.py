@@ -57,16 +57,17 @@ class Filter:
 
 
 class Service(Filter):
-    """A run of `milter_tool serve` on a socket of this kind, with these options. Its lines are in a file, since they
-    come as connections end, in any order."""
+    """A run of `milter_tool serve` on a socket of this kind, with these options; where it has rules it asks for all
+    stages, unless that is left to it. Its lines are in a file, since they come as connections end, in any order."""
 
     subcommand = 'serve'
 
-    def __init__(self, program, kind, folder, options=(), files=None, **started):
+    def __init__(self, program, kind, folder, options=(), files=None, all_stages=True, **started):
         self.made = 0
+        stages = ['--all-stages'] if all_stages and '--rules' in options else []
         self.out = os.path.join(tempfile.mkdtemp(dir=folder), 'lines')
         with open(self.out, 'wb') as lines:
-            super().__init__(program, kind, folder, list(options), files, lines, **started)
+            super().__init__(program, kind, folder, list(options) + stages, files, lines, **started)
 
     def connected(self):
         """A connection, which has the next number where the one before is made by now."""

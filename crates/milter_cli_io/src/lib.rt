@@ -14,7 +14,7 @@ pub use answer_error::{AnswerError, ended_as};
 pub use connection_report::ConnectionReport;
 pub use file_error::{FileError, InputFile, fault_error, read_error, text_error};
 pub use file_input::{FILE_MAX, file_limit, read_file};
-pub use rules_run::{check_rule_file, load_rules, print_rules, rules_of, with_case_ignored};
+pub use rules_run::{RuleUse, check_rule_file, load_rules, print_rules, rules_of, used_rules};
 pub use session_run::{load_session, print_session};
 pub use tool_error::{
     ToolError, argument_error, end_usage, listen_error, output_error, report, service_error,

@@ -37,7 +37,7 @@ pub enum ToolError {
         /// The number of the line, from 1, in which they begin to differ.
         line: u64,
     },
-    /// Rules of which something was said.
+    /// Rules of which a warning was said.
     Findings,
     /// Help, the version, the line of a connection or the reports of a session were not written.
     Write,

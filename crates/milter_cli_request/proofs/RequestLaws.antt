@@ -216,10 +216,10 @@ module _ (losses : BorrowedWords) where
   mta_fills = (inr (inl refl), (inr (inl refl), (inr (inl refl), (inr (inl refl), (inr (inl refl), (inr (inl refl), (inr (inl refl), (inr (inl refl), (inl refl, tt)))))))))
 
   serve_fills : Each Fills serve_shape.rules
-  serve_fills = (inr (inl refl), (inr (inl refl), (inr (inl refl), (inr (inl refl), (inr (inl refl), (inr (inr refl), (inr (inr refl), (inl refl, tt))))))))
+  serve_fills = (inr (inl refl), (inr (inl refl), (inr (inl refl), (inr (inl refl), (inr (inl refl), (inr (inr refl), (inr (inr refl), (inr (inr refl), (inl refl, tt)))))))))
 
   play_fills : Each Fills play_shape.rules
-  play_fills = (inr (inl refl), (inr (inl refl), (inr (inr refl), (inr (inl refl), (inr (inl refl), (inr (inl refl), (inr (inl refl), (inr (inl refl), (inl refl, tt)))))))))
+  play_fills = (inr (inl refl), (inr (inl refl), (inr (inr refl), (inr (inr refl), (inr (inl refl), (inr (inl refl), (inr (inl refl), (inr (inl refl), (inr (inl refl), (inl refl, tt))))))))))
 
   -- the shape of the subcommand whose test is the first to hold
   abbrev pick : List (Bool × Shape) → Option Shape
@@ -252,7 +252,7 @@ module _ (losses : BorrowedWords) where
       is_there (codes "file") rules_shape words (inr (inl refl), (inr (inr refl), (inl refl, tt))) (λ rows e. required_here _ _ e) below (unasked.3 refl)
   picked_asks words rows false false false true filter serve mta play help none below check unasked = unasked.1 refl
   picked_asks words rows false false false false true serve mta play help none below check unasked =
-      is_there (codes "address") filter_shape words (inr (inl refl), (inr (inl refl), (inr (inl refl), (inr (inr refl), (inr (inr refl), (inl refl, tt)))))) (λ rows e. required_here _ _ e) below (unasked.4 refl)
+      is_there (codes "address") filter_shape words (inr (inl refl), (inr (inl refl), (inr (inl refl), (inr (inr refl), (inr (inr refl), (inr (inr refl), (inl refl, tt))))))) (λ rows e. required_here _ _ e) below (unasked.4 refl)
   picked_asks words rows false false false false false true mta play help none below check unasked =
       is_there (codes "address") serve_shape words serve_fills (λ rows e. required_here _ _ e) below (unasked.5 refl)
   picked_asks words rows false false false false false false true play help none below check unasked = mta_asks words below (unasked.6 refl)

@@ -63,12 +63,14 @@ IsAsked (name, values) (Answer asked) =
     (name ≡ codes "answer") × (first_of (codes "rules") values ≡ text_of asked.rules)
     × IsFlag (first_of (codes "lenient") values) asked.lenient
     × IsFlag (first_of (codes "ignore-case") values) asked.ignore_case
+    × IsFlag (first_of (codes "least-stages") values) asked.least_stages
 IsAsked (name, values) (Filter asked) =
     (name ≡ codes "filter") × (first_of (codes "address") values ≡ Some asked.address.now)
     × (first_of (codes "rules") values ≡ text_of asked.rules)
     × IsCount (first_of (codes "count") values) asked.count
     × IsFlag (first_of (codes "lenient") values) asked.lenient
     × IsFlag (first_of (codes "ignore-case") values) asked.ignore_case
+    × IsFlag (first_of (codes "least-stages") values) asked.least_stages
 IsAsked (name, values) (Serve asked) =
     (name ≡ codes "serve") × (all_of (codes "address") values ≡ Some (texts asked.addresses.items))
     × (first_of (codes "rules") values ≡ text_of asked.rules)
@@ -77,6 +79,7 @@ IsAsked (name, values) (Serve asked) =
     × IsNumberOr MODE_DEFAULT 1 MODE_MAX (first_of (codes "mode") values) asked.mode
     × IsFlag (first_of (codes "log") values) asked.log
     × IsFlag (first_of (codes "ignore-case") values) asked.ignore_case
+    × IsFlag (first_of (codes "all-stages") values) asked.all_stages
 IsAsked (name, values) (Mta asked) =
     (name ≡ codes "mta") × (first_of (codes "address") values ≡ Some asked.address.now)
     × (first_of (codes "session") values ≡ Some asked.session.now)
@@ -90,6 +93,7 @@ IsAsked (name, values) (Play asked) =
     (name ≡ codes "play") × (first_of (codes "session") values ≡ Some asked.session.now)
     × (first_of (codes "rules") values ≡ text_of asked.rules)
     × IsFlag (first_of (codes "ignore-case") values) asked.ignore_case
+    × IsFlag (first_of (codes "least-stages") values) asked.least_stages
     × (first_of (codes "actions") values ≡ text_of asked.actions)
     × (first_of (codes "protocol") values ≡ text_of asked.protocol)
     × (first_of (codes "events") values ≡ text_of asked.events)

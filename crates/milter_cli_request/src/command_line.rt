@@ -87,6 +87,8 @@ pub struct AnswerRequest<'a> {
     pub lenient: bool,
     /// Whether the case of ASCII letters doesn't count in the texts of conditions.
     pub ignore_case: bool,
+    /// Whether the stages alone are asked for that the rules look at.
+    pub least_stages: bool,
 }
 
 /// Connections that are served one after another.
@@ -102,6 +104,8 @@ pub struct FilterRequest<'a> {
     pub lenient: bool,
     /// Whether the case of ASCII letters doesn't count in the texts of conditions.
     pub ignore_case: bool,
+    /// Whether the stages alone are asked for that the rules look at.
+    pub least_stages: bool,
 }
 
 /// A service of many connections.
@@ -121,6 +125,8 @@ pub struct ServeRequest<'a> {
     pub log: bool,
     /// Whether the case of ASCII letters doesn't count in the texts of conditions.
     pub ignore_case: bool,
+    /// Whether all stages are asked for, also those that no rule looks at.
+    pub all_stages: bool,
 }
 
 /// A session that is to be played to a filter.
@@ -153,6 +159,8 @@ pub struct PlayRequest<'a> {
     pub rules: Option<&'a str>,
     /// Whether the case of ASCII letters doesn't count in the texts of conditions.
     pub ignore_case: bool,
+    /// Whether the stages alone are asked for that the rules look at.
+    pub least_stages: bool,
     /// The names of the actions that are offered. Without them all are.
     pub actions: Option<&'a str>,
     /// The names of the protocol bits that are offered. Without them all are.
@@ -238,6 +246,7 @@ fn answer_request<'a>(given: &ArgMatches<'a>) -> Request<'a>
         rules: given.get_str("rules"),
         lenient: is_set(given.get_str("lenient")),
         ignore_case: is_set(given.get_str("ignore-case")),
+        least_stages: is_set(given.get_str("least-stages")),
     })
 }
 
@@ -252,6 +261,7 @@ fn filter_request<'a>(given: &ArgMatches<'a>) -> Option<Request<'a>>
         count: number_or(COUNT_DEFAULT, given.get_str("count")),
         lenient: is_set(given.get_str("lenient")),
         ignore_case: is_set(given.get_str("ignore-case")),
+        least_stages: is_set(given.get_str("least-stages")),
     }))
 }
 
@@ -274,6 +284,7 @@ fn serve_request<'a>(
         mode: number_or(MODE_DEFAULT, given.get_str("mode")),
         log: is_set(given.get_str("log")),
         ignore_case: is_set(given.get_str("ignore-case")),
+        all_stages: is_set(given.get_str("all-stages")),
     })))
 }
 
@@ -304,6 +315,7 @@ fn play_request<'a>(given: &ArgMatches<'a>) -> Option<Request<'a>>
         session,
         rules: given.get_str("rules"),
         ignore_case: is_set(given.get_str("ignore-case")),
+        least_stages: is_set(given.get_str("least-stages")),
         actions: given.get_str("actions"),
         protocol: given.get_str("protocol"),
         events: given.get_str("events"),

@@ -4,7 +4,7 @@ ghost use Rattle.std.specs.Prelude.{◌≡◌, ◌↔◌, IsTrue, None, Some};
 ghost use Rattle.milter_cli_serve.specs.KnownFiles.{TakesFile, TakesOther, known, nothing_known};
 
 use crate::file_stamp::FileStamp;
-use milter_cli_io::{FileError, rules_of, with_case_ignored};
+use milter_cli_io::{FileError, RuleUse, rules_of, used_rules};
 use milter_rules::Rules;
 use std::alloc::Global;
 use std::marker::Model;
@@ -65,14 +65,14 @@ impl KnownFile {
     }
 
     /// Takes what was read of the file, or why it wasn't read: `None` where its bytes are those that are known, else
-    /// its rules, or why they can't be given. The case of letters is ignored in them where that is asked for.
+    /// its rules as they are used, or why they can't be given.
     pub fn take(
         &mut self,
         alloc: Global,
         read: Result<ReadFile, FileError>,
-        ignore_case: bool,
+        usage: RuleUse,
     ) -> Option<Result<Rules, FileError>>
-        ensures { TakesFile ignore_case read self.old result self.new }
+        ensures { TakesFile usage read self.old result self.new }
     {
         self.stamp = None;
         let file = match read {
@@ -83,7 +83,7 @@ impl KnownFile {
             self.stamp = file.stamp;
             return None;
         }
-        Some(self.take_other(alloc, file, ignore_case))
+        Some(self.take_other(alloc, file, usage))
     }
 
     /// Takes a file that has other bytes than those that are known.
@@ -92,15 +92,15 @@ impl KnownFile {
         &mut self,
         alloc: Global,
         file: ReadFile,
-        ignore_case: bool,
+        usage: RuleUse,
     ) -> Result<Rules, FileError>
         requires { self.old.stamp ≡ None }
-        ensures { TakesOther ignore_case file self.old result self.new }
+        ensures { TakesOther usage file self.old result self.new }
     {
         match rules_of(alloc, file.bytes.as_slice()) {
             Ok(rules) => {
                 self.learn(file);
-                Ok(with_case_ignored(rules, ignore_case))
+                Ok(used_rules(rules, usage))
             }
             Err(error) if error.is_file_fault() => {
                 self.learn(file);

@@ -2,7 +2,7 @@
 
 use crate::file_stamp::{FileStamp, current_second};
 use crate::known_file::{KnownFile, ReadFile};
-use milter_cli_io::{FILE_MAX, FileError, InputFile, read_error, read_file};
+use milter_cli_io::{FILE_MAX, FileError, InputFile, RuleUse, read_error, read_file};
 use milter_rules::Rules;
 use std::alloc::Global;
 use std::fs::{self, OpenFile};
@@ -40,7 +40,7 @@ pub struct RuleFile<'r, R: Files + Clock> {
     files: &'r R,
     // None where there are no rules, which never change.
     path: Option<&'r str>,
-    ignore_case: bool,
+    usage: RuleUse,
     known: KnownFile,
 }
 
@@ -51,7 +51,7 @@ impl<'r, R: Files + Clock> Model for RuleFile<'r, R> {
 
     ghost view = { λ source. record {
       known = source.known;
-      ignore_case = source.ignore_case;
+      usage = source.usage;
     } };
 }
 
@@ -59,15 +59,15 @@ impl<'r, R: Files + Clock> RuleFile<'r, R> {
     ghost use Rattle.std.specs.Prelude.{◌≡◌, IfOk};
     ghost use Rattle.milter_cli_serve.specs.KnownFiles.{new_source};
 
-    /// The file at this path, of which nothing is known yet; without a path there are no rules. The case of letters is
-    /// ignored in them where that is asked for.
-    pub fn new(files: &'r R, path: Option<&'r str>, ignore_case: bool) -> Self
-        ensures { result ≡ new_source ignore_case }
+    /// The file at this path, of which nothing is known yet, and how its rules are used; without a path there are no
+    /// rules.
+    pub fn new(files: &'r R, path: Option<&'r str>, usage: RuleUse) -> Self
+        ensures { result ≡ new_source usage }
     {
         RuleFile {
             files,
             path,
-            ignore_case,
+            usage,
             known: KnownFile::new(),
         }
     }
@@ -90,7 +90,7 @@ impl<'r, R: Files + Clock> RuleSource for RuleFile<'r, R> {
             }
         }
         let read = read_rule_file(self.files, path, alloc);
-        self.known.take(alloc, read, self.ignore_case)
+        self.known.take(alloc, read, self.usage)
     }
 
     fn forget(&mut self) {

@@ -20,20 +20,21 @@ rules_app = app_with (codes "rules") (place_rule (codes "file") ∷ flag_rule (c
 abbrev pub answer_app : App
 answer_app =
     app_with (codes "answer")
-    (option_rule (codes "rules") ∷ flag_rule (codes "lenient") ∷ flag_rule (codes "ignore-case") ∷ [])
+    (option_rule (codes "rules") ∷ flag_rule (codes "lenient") ∷ flag_rule (codes "ignore-case")
+    ∷ flag_rule (codes "least-stages") ∷ [])
 
 abbrev pub filter_app : App
 filter_app =
     app_with (codes "filter")
     (place_rule (codes "address") ∷ option_rule (codes "rules") ∷ number_rule (codes "count") COUNT_MAX
-    ∷ flag_rule (codes "lenient") ∷ flag_rule (codes "ignore-case") ∷ [])
+    ∷ flag_rule (codes "lenient") ∷ flag_rule (codes "ignore-case") ∷ flag_rule (codes "least-stages") ∷ [])
 
 abbrev pub serve_app : App
 serve_app =
     app_with (codes "serve")
     (places_rule (codes "address") ∷ option_rule (codes "rules") ∷ number_rule (codes "at-once") AT_ONCE_MAX
     ∷ number_rule (codes "timeout") IDLE_MAX ∷ number_rule (codes "mode") MODE_MAX ∷ flag_rule (codes "log")
-    ∷ flag_rule (codes "ignore-case") ∷ [])
+    ∷ flag_rule (codes "ignore-case") ∷ flag_rule (codes "all-stages") ∷ [])
 
 -- with the words of `--loss`
 abbrev pub mta_app : BorrowedWords → App
@@ -47,8 +48,8 @@ abbrev pub play_app : BorrowedWords → App
 play_app losses =
     app_with (codes "play")
     (place_rule (codes "session") ∷ option_rule (codes "rules") ∷ flag_rule (codes "ignore-case")
-    ∷ option_rule (codes "actions") ∷ option_rule (codes "protocol") ∷ option_rule (codes "events") ∷ loss_rule losses
-    ∷ option_rule (codes "expect") ∷ [])
+    ∷ flag_rule (codes "least-stages") ∷ option_rule (codes "actions") ∷ option_rule (codes "protocol")
+    ∷ option_rule (codes "events") ∷ loss_rule losses ∷ option_rule (codes "expect") ∷ [])
 
 -- the program, which wants a subcommand
 abbrev pub top_app : App

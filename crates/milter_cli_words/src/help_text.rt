@@ -113,7 +113,20 @@ header, eoh, body or eob. CONDITION is one of
 
 in which the case of letters counts, but with --ignore-case where the rules are used,
 and where FIELD is host, address, helo, sender, rcpt, header TEXT, body or macro TEXT.
-ACTION is a verdict:
+Where the first line is rules 2, CONDITION is, with any of the texts:
+
+  FIELD is TEXT ..               FIELD has TEXT ..
+  FIELD begins TEXT ..           FIELD ends TEXT ..
+  FIELD like TEXT ..             as a pattern, with * for any bytes and ? for one;
+                                 not of a body
+  FIELD under TEXT ..            a domain, or one below it: of host, helo and domains
+  FIELD lacks TEXT ..            no value contains any of the texts
+
+FIELD is also recipients, for all of them so far; and sender, rcpt and recipients may
+end with -address, for the address as mail servers compare it, however it is written,
+or with -domain. not before FIELD negates all of it, any-case after the test has the
+case of letters not count, and or joins conditions less closely than and. ACTION is a
+verdict:
 
   continue, accept, reject, tempfail, discard, skip, code TEXT
 
@@ -134,16 +147,16 @@ TEXT is in double quotes, with the escapes \\\" \\\\ \\n \\r \\t and \\xHH. Blan
 lines that begin with #, are skipped. A file has at most 134,217,728 bytes and
 10,000 rules. As:
 
-  protocol NOCONNECT|NOHELO|NOMAIL|NODATA|NOBODY
-  at rcpt when macro \"{rcpt_addr}\" is \"old@example.net\" do code \"550 5.1.1 Moved\"
+  rules 2
+  at rcpt when rcpt-address is \"old@example.net\" do code \"550 5.1.1 Moved\"
   at eoh when header \"X-Spam\" is \"yes\" do reject
   at eob do add-header \"X-Seen\" \"mx.example.net\"
 
 It is printed in canonical form. With --check it isn't printed: in place of it there
 is a line FILE:LINE: TEXT for each thing that is to be said of it, also for a fault,
-as of a word that isn't known or a rule that can never apply, and the status is 1
-where there is one. Without it the first fault is printed on standard error, with
-the number N of its line, from 1:
+as of a word that isn't known or a rule that can never apply. The status is 1 where
+there is one, but for hints: of what works, and can be written better. Without it the
+first fault is printed on standard error, with the number N of its line, from 1:
 
   rules line N: fault 1          an unknown line, or a bad or repeated one of
                                  version, actions, protocol or symbols
@@ -157,8 +170,8 @@ the number N of its line, from 1:
   write fault                    standard output was not written
   out of memory                  memory was refused
 
-Status: 0 after all rules were printed, or nothing was to be said of them, 1 after a
-fault or what was said, 2 after a wrong use of the command line.";
+Status: 0 after all rules were printed, or no more than hints were to be given, 1
+after a fault or what else was said, 2 after a wrong use of the command line.";
 
 /// What is read and written by the filter's end on standard input and output, and its fault lines.
 pub(crate) const ANSWER: &str = "\
@@ -245,9 +258,11 @@ ADDRESS is where mail servers (MTAs) connect:
 
 as inet:8890@127.0.0.1. With several addresses it listens on all of them. The
 filter asks for what the rule file says, and answers by its rules: milter_tool help
-rules has their form. Without one it lets all mail go on. Connections are served at
-once, up to N of them; others wait. A greeting or a sender that comes within a
-message ends that message, as with --lenient.
+rules has their form. Of the stages it asks for those alone that the rules need, but
+for all with --all-stages, and as a line protocol of the file says. Without a file it
+lets all mail go on. Connections are served at once, up to N of them; others wait. A
+greeting or a sender that comes within a message ends that message, as with
+--lenient.
 
 A line is printed for each connection as it ends, with its number, as by filter:
 milter_tool help filter has their forms. One that was idle for too long is closed,

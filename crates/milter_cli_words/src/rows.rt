@@ -73,6 +73,20 @@ pub(crate) const IGNORE_CASE: Word<'static> = Word {
     help: "Takes the texts of conditions without regard to the case of ASCII letters",
 };
 
+pub(crate) const LEAST_STAGES: Word<'static> = Word {
+    kind: Kind::Flag,
+    name: "least-stages",
+    value: "",
+    help: "Asks only for the stages that the rules need",
+};
+
+pub(crate) const ALL_STAGES: Word<'static> = Word {
+    kind: Kind::Flag,
+    name: "all-stages",
+    value: "",
+    help: "Asks for all stages, and not only for those that the rules need",
+};
+
 pub(crate) const COUNT: Word<'static> = Word {
     kind: Kind::Number(COUNT_MAX),
     name: "count",

@@ -8,9 +8,9 @@ ghost use Rattle.milter_cli_words.specs.Words.{IsLocal, loss_rule};
 
 use crate::help_text;
 use crate::rows::{
-    ACTIONS, ADDRESS, ADDRESSES, AT_ONCE, CHECK, COUNT, EVENTS, EXPECT, FILTER_ADDRESS, IDLE,
-    IGNORE_CASE, LENIENT, LOG, LOSS, MODE, PROTOCOL, RULE_FILE, RULES, SESSION, SESSION_FILE,
-    TIMEOUT, WAIT,
+    ACTIONS, ADDRESS, ADDRESSES, ALL_STAGES, AT_ONCE, CHECK, COUNT, EVENTS, EXPECT, FILTER_ADDRESS,
+    IDLE, IGNORE_CASE, LEAST_STAGES, LENIENT, LOG, LOSS, MODE, PROTOCOL, RULE_FILE, RULES, SESSION,
+    SESSION_FILE, TIMEOUT, WAIT,
 };
 use crate::word::{Help, choice, subcommand, with_words};
 use clap::{Arg, Command};
@@ -103,7 +103,12 @@ fn answer<'a>(alloc: Global) -> Result<Command<'a>, AllocError>
         about: "Replies to a mail server, on standard input and output, as a filter",
         after: help_text::ANSWER,
     };
-    subcommand(alloc, "answer", help, &[RULES, LENIENT, IGNORE_CASE])
+    subcommand(
+        alloc,
+        "answer",
+        help,
+        &[RULES, LENIENT, IGNORE_CASE, LEAST_STAGES],
+    )
 }
 
 fn filter<'a>(alloc: Global) -> Result<Command<'a>, AllocError>
@@ -118,7 +123,7 @@ fn filter<'a>(alloc: Global) -> Result<Command<'a>, AllocError>
         alloc,
         "filter",
         help,
-        &[ADDRESS, RULES, COUNT, LENIENT, IGNORE_CASE],
+        &[ADDRESS, RULES, COUNT, LENIENT, IGNORE_CASE, LEAST_STAGES],
     )
 }
 
@@ -134,7 +139,16 @@ fn serve<'a>(alloc: Global) -> Result<Command<'a>, AllocError>
         alloc,
         "serve",
         help,
-        &[ADDRESSES, RULES, AT_ONCE, IDLE, MODE, LOG, IGNORE_CASE],
+        &[
+            ADDRESSES,
+            RULES,
+            AT_ONCE,
+            IDLE,
+            MODE,
+            LOG,
+            IGNORE_CASE,
+            ALL_STAGES,
+        ],
     )
 }
 
@@ -159,7 +173,15 @@ fn play<'a>(alloc: Global, losses: &'a [&'a str]) -> Result<Command<'a>, AllocEr
         about: "Plays a session to a filter in memory, and prints what becomes of its messages",
         after: help_text::PLAY,
     };
-    let words = &[SESSION, RULES, IGNORE_CASE, ACTIONS, PROTOCOL, EVENTS];
+    let words = &[
+        SESSION,
+        RULES,
+        IGNORE_CASE,
+        LEAST_STAGES,
+        ACTIONS,
+        PROTOCOL,
+        EVENTS,
+    ];
     let command = subcommand(alloc, "play", help, words)?.arg(loss(alloc, losses))?;
     with_words(alloc, command, &[EXPECT])
 }

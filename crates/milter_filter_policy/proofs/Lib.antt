@@ -1,1 +1,2 @@
 pub mod MacroLists
+pub mod MacroSearches

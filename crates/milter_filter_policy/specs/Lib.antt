@@ -1,3 +1,4 @@
 pub mod MacroLists
+pub mod MacroSearches
 pub mod SeenParts
 pub mod PassLaw

@@ -2,7 +2,7 @@
 use Rattle.std.specs.Prelude.{Bool, List, ◌++◌, reverse, if◌then◌else◌}
 use Rattle.std.specs.List.{filter, flat_map}
 use Rattle.milter_wire_fields.specs.declared.pair.Pair.{Pair}
-use Rattle.milter_filter_policy.specs.declared.macro_list.MacroGroup.{MacroGroup}
+use Rattle.milter_filter_policy.specs.declared.macro_group.MacroGroup.{MacroGroup}
 
 -- the last ones first
 pub record Macros : Type 0 where

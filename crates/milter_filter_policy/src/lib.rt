@@ -2,7 +2,10 @@
 //! [`Seen`] there, which a filter's end fills command by command. What was searched for once isn't searched for again.
 #![tactic(auto)]
 
+mod macro_group;
 mod macro_list;
+mod macro_search;
+mod macro_values;
 mod pass;
 mod policy;
 mod seen;

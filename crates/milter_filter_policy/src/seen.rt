@@ -154,6 +154,24 @@ impl Seen {
         self.macros.value(name)
     }
 
+    /// The value that was last given to a macro of this name. What [`Seen::search_macro`] found for the same in this
+    /// place isn't looked for again. Doesn't allocate. Source: smfi_getsymval.
+    pub fn macro_value_at(&self, place: usize, name: &[u8]) -> Option<&[u8]>
+        ensures { option_map (λ value. value.now) result ≡ value_in self.now.shown.macros name.now }
+    {
+        self.macros.value_at(place, name)
+    }
+
+    /// Looks for the value that [`Seen::macro_value_at`] is going to be asked for in this place: only among the macros
+    /// that came since the same was looked for in this place. Places are those of macros alone, and are numbered as
+    /// for [`Seen::search_headers`]. It keeps a copy of the name, and where the value is. Where memory is refused
+    /// nothing is kept.
+    pub fn search_macro(&mut self, alloc: Global, place: usize, name: &[u8])
+        ensures { self.new ≡ self.old }
+    {
+        self.macros.search(alloc, place, name);
+    }
+
     /// Whether values of header fields come with the blank that they begin with. Doesn't allocate. Source: mfdef.h
     /// (SMFIP_HDR_LEADSPC).
     pub fn leading_space(&self) -> bool

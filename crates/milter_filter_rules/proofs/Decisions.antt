@@ -7,7 +7,7 @@ use Rattle.milter_message.specs.declared.edit.Edit.{Edit}
 use Rattle.milter_protocol.specs.declared.action.Action.TheVariants as actions
 use Rattle.milter_protocol.specs.Seen.{Seen}
 use Rattle.milter_filter_rules.specs.declared.rule.Rule.{Rule}
-use Rattle.milter_filter_search.specs.declared.text_case.TextCase.{TextCase}
+use Rattle.milter_glob.specs.declared.text_case.TextCase.{TextCase}
 use Rattle.milter_filter_rules.specs.Conditions.{applies}
 use Rattle.milter_filter_rules.specs.Decisions.{actions_of, answer_by, decided, with_edits}
 

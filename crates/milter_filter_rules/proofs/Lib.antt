@@ -1,4 +1,7 @@
+pub mod TextValues
+pub mod ConditionGroups
 pub mod Decisions
 pub mod ActionFields
 pub mod Strings
 pub mod ReadingLaws
+mod LeastLawful

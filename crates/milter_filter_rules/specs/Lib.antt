@@ -6,3 +6,5 @@ pub mod ActionFits
 pub mod RuleSet
 pub mod RulesLaw
 pub mod RulesValue
+pub mod LeastWants
+pub mod WorkedRules

@@ -13,7 +13,7 @@ use Rattle.milter_message.specs.declared.message.TheConstants.{WEIGHT_MAX}
 use Rattle.milter_protocol.specs.declared.limits.TheConstants.{ACTIONS_MAX, PROTOCOL_MAX, VERSION_MAX, VERSION_MIN}
 use Rattle.milter_protocol.specs.Behavior.{Behavior}
 use Rattle.milter_filter_rules.specs.declared.rule_list.StageRules.{StageRules}
-use Rattle.milter_filter_search.specs.declared.text_case.TextCase.{TextCase}
+use Rattle.milter_glob.specs.declared.text_case.TextCase.{TextCase}
 use Rattle.milter_filter_rules.specs.ActionFits.{are_lawful_at, edits_weight, is_string}
 use Rattle.milter_filter_rules.specs.Decisions.{decided}
 use Rattle.milter_filter_rules.specs.StageRules.{no_rules, rules_at}

@@ -33,7 +33,7 @@ use Rattle.milter_protocol.specs.LawfulParts.{continue_fits}
 use Rattle.milter_filter_rules.specs.declared.rule.Condition.{Condition}
 use Rattle.milter_filter_rules.specs.declared.rule.Rule.{Rule}
 use Rattle.milter_filter_rules.specs.declared.rule_list.StageRules.{StageRules}
-use Rattle.milter_filter_search.specs.declared.text_case.TextCase.{TextCase}
+use Rattle.milter_glob.specs.declared.text_case.TextCase.{TextCase}
 use Rattle.milter_filter_rules.specs.ActionFits.{allowed_at, are_lawful_at, edit_fits, edit_in, edits_weight, fields_fit, has_room, is_string, is_string_or_none, may_act, reply_of, verdict_fits}
 use Rattle.milter_filter_rules.specs.Conditions.{applies}
 use Rattle.milter_filter_rules.specs.Decisions.{answer_by, decided}

@@ -1,12 +1,13 @@
-//! The places in which header fields and the body are searched for conditions.
+//! The places in which header fields, the body and macros are searched for conditions.
 
-use crate::rule::{Condition, Field};
+use crate::rule::{Check, Condition, Field};
 
-/// How many conditions came before one: of those on header fields, and of those on the body.
+/// How many searches came before one: of header fields and of the body for a text, and of macros for a name.
 #[derive(Clone, Copy)]
 pub(crate) struct Places {
     pub(crate) in_headers: usize,
     pub(crate) in_body: usize,
+    pub(crate) in_macros: usize,
 }
 
 impl Places {
@@ -15,33 +16,31 @@ impl Places {
         Places {
             in_headers: 0,
             in_body: 0,
+            in_macros: 0,
         }
     }
 
-    /// The places of the next condition after this one.
-    pub(crate) fn after(self, condition: &Condition) -> Self {
-        let Places {
-            in_headers,
-            in_body,
-        } = self;
-        match condition.field {
-            Field::Header(_) => Places {
-                in_headers: in_headers.wrapping_add(1),
-                in_body,
-            },
-            Field::Body => Places {
-                in_headers,
-                in_body: in_body.wrapping_add(1),
-            },
-            _ => self,
+    /// The places of the next condition after one with this check.
+    pub(crate) fn after(self, check: &Check) -> Self {
+        let Check::Text(check) = check else {
+            return self;
+        };
+        let mut places = self;
+        let texts = check.texts.as_slice().len();
+        match check.field {
+            Field::Header(_) => places.in_headers = places.in_headers.wrapping_add(texts),
+            Field::Body => places.in_body = places.in_body.wrapping_add(texts),
+            Field::Macro(_) => places.in_macros = places.in_macros.wrapping_add(1),
+            _ => {}
         }
+        places
     }
 
     /// The places of the next condition after these.
     pub(crate) fn after_all(self, conditions: &[Condition]) -> Self {
         let mut places = self;
         for condition in conditions {
-            places = places.after(condition);
+            places = places.after(&condition.check);
         }
         places
     }

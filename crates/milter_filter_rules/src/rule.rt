@@ -1,11 +1,23 @@
 //! Rules: conditions on what a filter is shown, and what is done where they are met.
 
 ghost use Rattle.std.specs.Prelude.{◌≡◌};
-ghost use Rattle.milter_filter_rules.specs.RuleNames.{field_name};
+ghost use Rattle.milter_filter_rules.specs.RuleNames.{field_name, measure_name, path_part};
 
-use milter_filter_core::{Pattern, Test, TextCase};
+use milter_filter_core::Test;
 use milter_protocol::Action;
 use milter_wire::{List, Text};
+
+/// What of a sender or a recipient a condition looks at.
+#[derive(Clone, Copy, Debug, PartialEq, Eq)]
+pub enum PathPart {
+    /// All of it as it was sent, with `<` and `>`.
+    Sent,
+    /// The address in the form in which mail servers compare addresses:
+    /// [`canonical_address`](milter_address::canonical_address). The null sender's is empty.
+    Address,
+    /// The domain of that address; empty where it has none.
+    Domain,
+}
 
 /// What of a connection and its message a condition looks at. Each has no value where it wasn't seen yet.
 #[derive(Clone, Debug, PartialEq, Eq, Drop)]
@@ -16,10 +28,12 @@ pub enum Field {
     Address,
     /// The name that the client greeted with. Source: xxfi_helo.
     Helo,
-    /// The address of the sender. Source: xxfi_envfrom.
-    Sender,
-    /// The address of the last recipient that was seen. Source: xxfi_envrcpt.
-    Rcpt,
+    /// The sender. Source: xxfi_envfrom.
+    Sender(PathPart),
+    /// The last recipient that was seen. Source: xxfi_envrcpt.
+    Rcpt(PathPart),
+    /// All recipients that were seen, refused ones too. Source: xxfi_envrcpt.
+    Recipients(PathPart),
     /// The values of all header fields of this name, in which ASCII case doesn't count. Source: xxfi_header.
     Header(Text),
     /// The body as far as it was seen, one value also where that is nothing. Source: xxfi_body.
@@ -37,48 +51,108 @@ impl Field {
             Field::Host => b"host",
             Field::Address => b"address",
             Field::Helo => b"helo",
-            Field::Sender => b"sender",
-            Field::Rcpt => b"rcpt",
+            Field::Sender(PathPart::Sent) => b"sender",
+            Field::Sender(PathPart::Address) => b"sender-address",
+            Field::Sender(PathPart::Domain) => b"sender-domain",
+            Field::Rcpt(PathPart::Sent) => b"rcpt",
+            Field::Rcpt(PathPart::Address) => b"rcpt-address",
+            Field::Rcpt(PathPart::Domain) => b"rcpt-domain",
+            Field::Recipients(PathPart::Sent) => b"recipients",
+            Field::Recipients(PathPart::Address) => b"recipients-address",
+            Field::Recipients(PathPart::Domain) => b"recipients-domain",
             Field::Header(_) => b"header",
             Field::Body => b"body",
             Field::Macro(_) => b"macro",
         }
     }
+
+    /// The part of a sender or of recipients that it looks at; `None` for all other fields. Doesn't allocate.
+    pub fn path_part(&self) -> Option<PathPart>
+        ensures { result ≡ path_part self.now }
+    {
+        match self {
+            Field::Sender(part) | Field::Rcpt(part) | Field::Recipients(part) => Some(*part),
+            _ => None,
+        }
+    }
+}
+
+/// How a condition is joined to the one before it.
+#[derive(Clone, Copy, Debug, PartialEq, Eq)]
+pub enum Joint {
+    /// Both are to be met. The first condition of a rule has this one.
+    And,
+    /// It begins another group of conditions: one group is to be met, with all of its conditions.
+    Or,
+}
+
+/// A number that a condition looks at.
+#[derive(Clone, Copy, Debug, PartialEq, Eq)]
+pub enum Measure {
+    /// How many bytes of the body were seen. Source: xxfi_body.
+    Size,
+    /// How many recipients were seen, refused ones too. Source: xxfi_envrcpt.
+    Rcpts,
+}
+
+impl Measure {
+    /// The word of the number in rule files. Doesn't allocate.
+    pub fn name(self) -> &'static [u8]
+        ensures { result.now ≡ measure_name self }
+    {
+        match self {
+            Measure::Size => b"size",
+            Measure::Rcpts => b"rcpts",
+        }
+    }
+}
+
+/// A comparison of texts with the values of a field.
+#[derive(Clone, Debug, PartialEq, Eq, Drop)]
+pub struct TextCheck {
+    /// What it looks at.
+    pub field: Field,
+    /// How it compares.
+    pub test: Test,
+    /// Whether the case of ASCII letters doesn't count, also where it counts in other conditions.
+    pub any_case: bool,
+    /// The texts that it looks for, which may have any byte; any of them is to be found.
+    pub texts: Texts,
+}
+
+/// What is to hold for a condition to be met, unless it is negated.
+#[derive(Clone, Debug, PartialEq, Eq, Drop)]
+pub enum Check {
+    /// Some text is found in some value of a field, or, with [`Test::Lacks`], none is.
+    Text(TextCheck),
+    /// The client has an address, and it is within the network that one of the texts writes, as
+    /// [`Network::parse`](milter_network::Network::parse) reads it.
+    Within(Texts),
+    /// The number is above this one.
+    Over(Measure, u32),
 }
 
 /// A condition of a rule.
 #[derive(Clone, Debug, PartialEq, Eq, Drop)]
 pub struct Condition {
-    /// What it looks at.
-    pub field: Field,
-    /// How it compares.
-    pub test: Test,
-    /// The text that it looks for, which may have any byte.
-    pub text: Text,
+    /// How it is joined to the condition before it.
+    pub joint: Joint,
+    /// Whether it is met where its check doesn't hold.
+    pub negated: bool,
+    /// What is to hold.
+    pub check: Check,
 }
 
-impl Condition {
-    /// The text that it looks for, and how.
-    pub(crate) fn pattern(&self, case: TextCase) -> Pattern<'_>
-        ensures case { result.case ≡ case }
-        ensures test { result.test ≡ self.now.test }
-        ensures text { result.text.now ≡ self.now.text }
-    {
-        Pattern {
-            case,
-            test: self.test,
-            text: self.text.as_slice(),
-        }
-    }
-}
+/// Texts that a condition looks for.
+pub type Texts = List<Text>;
 
-/// The conditions of a rule, all of which have to be met, from none on.
+/// The conditions of a rule, from none on: groups, each of which ends before an `Or`.
 pub type Conditions = List<Condition>;
 
 /// A rule.
 #[derive(Clone, Debug, Drop)]
 pub struct Rule {
-    /// Its conditions.
+    /// Its conditions: all of some group are to be met, or there are none.
     pub conditions: Conditions,
     /// What it does where they are met. No rule after a verdict is looked at.
     pub action: Action,

@@ -3,32 +3,37 @@
 ghost use Rattle.std.specs.Prelude.{◌≡◌, true};
 ghost use Rattle.milter_filter_rules.specs.RuleSet.{is_lawful};
 
-use crate::decision::{decide_by, search_by};
+use crate::decision::decide_by;
+use crate::least_wants::least_protocol;
 use crate::rule::Rule;
 use crate::rule_list::StageRules;
+use crate::searches::search_by;
 use milter_filter_core::{Answer, Policy, Seen, TextCase, VERSION_MAX};
 use milter_wire::{Actions, NoMemory, Options, Protocol, Stage, SymList, SymLists};
 use std::alloc::Global;
 
 /// Rules as a filter's policy: what the filter wants, and the rules that decide at each stage.
 ///
-/// At a stage the rules of that stage are looked at in order, of which those count whose conditions are all met. Up to
-/// the first of them that has a verdict, their edits are asked for; that verdict is the answer's, or `Continue` where
-/// none has one.
+/// At a stage the rules of that stage are looked at in order, of which those count that apply: all conditions of one
+/// of their groups are met. Up to the first of them that has a verdict, their edits are asked for; that verdict is the
+/// answer's, or `Continue` where none has one.
 #[derive(Debug, Drop)]
 pub struct Rules {
     options: Options,
     lists: SymLists,
     rules: StageRules,
     case: TextCase,
+    /// Whether who made the rules stated their protocol bits.
+    is_protocol_stated: bool,
     pub ghost lawful: { is_lawful (record { options = options; lists = lists; rules = rules }) ≡ true },
 }
 
 impl Rules {
-    ghost use Rattle.std.specs.Prelude.{◌≡◌};
+    ghost use Rattle.std.specs.Prelude.{◌≡◌, false};
+    ghost use Rattle.milter_filter_rules.specs.LeastWants.{least_wants, with_least_wants};
     ghost use Rattle.milter_filter_rules.specs.RuleSet.{no_rule_set};
-    ghost use Rattle.milter_filter_rules.specs.RulesValue.{case_of, rule_set};
-    ghost use Rattle.milter_filter_search.specs.declared.text_case.TextCase.TheVariants.{Exact, Ignored};
+    ghost use Rattle.milter_filter_rules.specs.RulesValue.{case_of, rule_set, states_protocol};
+    ghost use Rattle.milter_glob.specs.declared.text_case.TextCase.TheVariants.{Exact, Ignored};
     ghost use Rattle.milter_filter_rules.specs.StageRules.{rules_at};
 
     /// No rules: the filter wants version 6 without any bit, and answers `Continue` to all, as
@@ -36,6 +41,7 @@ impl Rules {
     pub fn new(alloc: Global) -> Self
         ensures set { rule_set result ≡ no_rule_set }
         ensures case { case_of result ≡ Exact }
+        ensures stated { states_protocol result ≡ false }
     {
         Rules {
             options: Options {
@@ -46,6 +52,7 @@ impl Rules {
             lists: SymLists::new(Vec::new(alloc)),
             rules: StageRules::new(alloc),
             case: TextCase::Exact,
+            is_protocol_stated: false,
         }
     }
 
@@ -57,12 +64,14 @@ impl Rules {
         requires { is_lawful (record { options = options; lists = lists; rules = rules }) ≡ true }
         ensures set { rule_set result ≡ record { options = options; lists = lists; rules = rules } }
         ensures case { case_of result ≡ Exact }
+        ensures stated { states_protocol result ≡ false }
     {
         Rules {
             options,
             lists,
             rules,
             case: TextCase::Exact,
+            is_protocol_stated: false,
         }
     }
 
@@ -70,13 +79,67 @@ impl Rules {
     pub fn ignoring_case(self) -> Self
         ensures set { rule_set result ≡ rule_set self }
         ensures case { case_of result ≡ Ignored }
+        ensures stated { states_protocol result ≡ states_protocol self }
     {
         Rules {
             options: self.options,
             lists: self.lists,
             rules: self.rules,
             case: TextCase::Ignored,
+            is_protocol_stated: self.is_protocol_stated,
         }
+    }
+
+    /// What the filter wants, without what its rules don't need: only stages are sent that rules look at, with the
+    /// sender of what is sent of a message, and only those are asked about at which rules stand. The end of a message
+    /// always is; unknown commands of the client never are. It doesn't depend on the texts of conditions. Doesn't
+    /// allocate. Source: mfdef.h (SMFIP_NOCONNECT and those after it).
+    pub fn least_wants(&self) -> Options
+        ensures { result ≡ least_wants (rule_set self.now) }
+    {
+        Options {
+            version: self.options.version,
+            actions: self.options.actions,
+            protocol: least_protocol(self.options.protocol, &self.rules),
+        }
+    }
+
+    /// These rules, where the filter wants no more than they need. Each message comes to the same by them. Neither
+    /// copies nor allocates.
+    pub fn with_least_wants(self) -> Self
+        ensures set { rule_set result ≡ with_least_wants (rule_set self) }
+        ensures case { case_of result ≡ case_of self }
+        ensures stated { states_protocol result ≡ states_protocol self }
+    {
+        Rules {
+            options: self.least_wants(),
+            lists: self.lists,
+            rules: self.rules,
+            case: self.case,
+            is_protocol_stated: self.is_protocol_stated,
+        }
+    }
+
+    /// These rules, whose protocol bits who made them stated, or not: as they are, or by what the rules do.
+    pub fn with_protocol_stated(self, is_stated: bool) -> Self
+        ensures set { rule_set result ≡ rule_set self }
+        ensures case { case_of result ≡ case_of self }
+        ensures stated { states_protocol result ≡ is_stated }
+    {
+        Rules {
+            options: self.options,
+            lists: self.lists,
+            rules: self.rules,
+            case: self.case,
+            is_protocol_stated: is_stated,
+        }
+    }
+
+    /// Whether who made the rules stated their protocol bits, as a line `protocol` of a rule file does.
+    pub fn is_protocol_stated(&self) -> bool
+        ensures { result ≡ states_protocol self.now }
+    {
+        self.is_protocol_stated
     }
 
     /// Whether the case of ASCII letters counts in the texts of conditions: it does unless it is ignored.
@@ -127,7 +190,7 @@ impl Policy for Rules {
 
     #[inline(always)]
     fn prepare(&self, alloc: Global, at: Stage, seen: &mut Seen) {
-        if matches!(at, Stage::Header | Stage::Body) {
+        if matches!(at, Stage::Rcpt | Stage::Header | Stage::Body) {
             search_by(alloc, self.case, self.rules.at(at), seen);
         }
     }

@@ -1,12 +1,11 @@
 -- A text that occurs in bytes occurs in the first of them, or begins so late that it is found without them.
-use Rattle.std.proofs.Common.{◌≡◌, ◌∙◌, ◌≤◌, ◌+◌, ◌-◌, ◌⊎◌, ⊎_elim, inl, inr, ℕ, true, false, List, ◌++◌, length, take, drop, refl, sym, ap, subst, arith, le_refl, append_assoc, length-append, take-append-drop, true≢false}
+use Rattle.std.proofs.Common.{◌≡◌, ◌∙◌, ◌≤◌, ◌+◌, ◌-◌, ◌⊎◌, ⊎_elim, inl, inr, ℕ, true, false, List, ◌++◌, length, take, drop, sym, ap, subst, arith, le_refl, append_assoc, length-append, take-append-drop, true≢false}
 use Rattle.std.proofs.Math.Seq.{take-append-add, take-length}
 use Rattle.std.proofs.lemmas.Bool.{cases_lt}
-use Rattle.std.proofs.lemmas.List.{drop-append-le, drop-map, length-drop, length-map, take-map}
-use Rattle.milter_filter_search.specs.declared.text_case.TextCase.{TextCase}
-use Rattle.milter_filter_search.specs.declared.text_case.TextCase.TheVariants.{Exact, Ignored}
+use Rattle.std.proofs.lemmas.List.{drop-append-le, length-drop}
 use Rattle.milter_filter_search.specs.Searches.{BodySearch, HasRead, occurs_in, read_to_end}
 use Rattle.milter_filter_search.specs.Texts.{contains, folded}
+use Rattle.milter_filter_search.proofs.FoldedParts.{folded_drop, folded_length, folded_take}
 use Rattle.milter_filter_search.proofs.Occurrences.{around_contained, contains_from, same_test}
 
 contains_around : (bytes before text after : List ℕ) → bytes ≡ before ++ (text ++ after) → contains bytes text ≡ true
@@ -61,18 +60,6 @@ contains_late n start bytes text none far =
     absurd (true≢false (sym (subst (λ all. contains (take n all) text ≡ true) (sym around.whole) (early n before text after within)) ∙ none)) in
     ⊎_elim (λ zero. is_late (omega (arith, zero)))
     (λ distance. ⊎_elim (λ less. is_early (omega (arith, distance, less))) is_late (cases_lt (length before) start)) far)
-
-folded_take : (case : TextCase) (n : ℕ) (bytes : List ℕ) → folded case (take n bytes) ≡ take n (folded case bytes)
-folded_take Exact n bytes = refl
-folded_take Ignored n bytes = sym (take-map _ n bytes)
-
-folded_drop : (case : TextCase) (n : ℕ) (bytes : List ℕ) → folded case (drop n bytes) ≡ drop n (folded case bytes)
-folded_drop Exact n bytes = refl
-folded_drop Ignored n bytes = sym (drop-map _ n bytes)
-
-folded_length : (case : TextCase) (text : List ℕ) → length (folded case text) ≡ length text
-folded_length Exact text = refl
-folded_length Ignored text = length-map text _
 
 pub read_before : (s : BodySearch) (bytes : List ℕ) → HasRead bytes s → s.found ≡ true → occurs_in s bytes ≡ true
 read_before s bytes (within, says) found =

@@ -1,3 +1,4 @@
+pub mod FoldedParts
 pub mod Occurrences
 pub mod FoldedTexts
 pub mod Values

@@ -3,7 +3,7 @@ use Rattle.std.specs.Prelude.{◌≡◌, ◌≤◌, ℕ, Bool, false, List, [], 
 use Rattle.milter_wire_fields.specs.declared.header.Header.{Header}
 use Rattle.milter_filter_search.specs.declared.pattern.Test.{Test}
 use Rattle.milter_filter_search.specs.declared.pattern.Test.TheVariants.{Has}
-use Rattle.milter_filter_search.specs.declared.text_case.TextCase.{TextCase}
+use Rattle.milter_glob.specs.declared.text_case.TextCase.{TextCase}
 use Rattle.milter_filter_search.specs.Texts.{finds, finds_named}
 
 -- a text that is looked for in header fields of a name, and whether it was found in so many of them

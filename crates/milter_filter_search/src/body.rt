@@ -72,8 +72,8 @@ impl Body {
         ensures { result ≡ finds pattern.now.case pattern.now.test pattern.now.text.now self.now }
     {
         match pattern.test {
-            Test::Is => pattern.is_found_in(self.as_slice()),
             Test::Has | Test::Lacks => self.has(place, pattern),
+            _ => pattern.is_found_in(self.as_slice()),
         }
     }
 

@@ -5,7 +5,8 @@ ghost use Rattle.std.specs.List.{All};
 ghost use Rattle.milter_filter_search.specs.Searches.{HasRead, IsUnread, occurs_in, read_to_end};
 
 use crate::pattern::Pattern;
-use crate::text_case::{TextCase, contains};
+use crate::text_case::contains;
+use milter_glob::TextCase;
 use milter_wire_fields::Text;
 use milter_wire_stream::NoMemory;
 use std::alloc::Global;

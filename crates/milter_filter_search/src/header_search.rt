@@ -7,7 +7,7 @@ ghost use Rattle.milter_filter_search.specs.Searches.{HasLooked, IsUnlooked, is_
 ghost use Rattle.milter_filter_search.specs.Texts.{finds, finds_named, is_named};
 
 use crate::pattern::{Pattern, Test};
-use crate::text_case::TextCase;
+use milter_glob::TextCase;
 use milter_wire_fields::{Header, Text};
 use milter_wire_stream::NoMemory;
 use std::alloc::Global;

@@ -11,5 +11,5 @@ mod text_case;
 
 pub use body::Body;
 pub use headers::Headers;
+pub use milter_glob::TextCase;
 pub use pattern::{Pattern, Test, texts_in_bytes};
-pub use text_case::TextCase;

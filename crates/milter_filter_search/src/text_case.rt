@@ -1,23 +1,15 @@
-//! Whether the case of letters counts where a value is compared with a text.
+//! How values are compared with texts, with regard to the case of letters or without it.
 
 ghost use Rattle.std.specs.Prelude.{◌≡◌, ◌≤◌, ◌∷◌, ℕ, List, drop, length};
 ghost use Rattle.std.specs.Str.{bytes_eq, str_to_ascii_lowercase};
-ghost use Rattle.milter_filter_search.specs.Texts.{begins_with, contains, folded};
+ghost use Rattle.milter_filter_search.specs.Texts.{begins_with, contains, ends_with, folded};
 
 use bstr::ByteSlice;
 use memchr::memchr;
+use milter_glob::TextCase;
 
 /// The most bytes of a value in which a text is looked for by its first byte.
 const SHORT_LEN: usize = 64;
-
-/// Whether the case of ASCII letters counts where a value is compared with a text.
-#[derive(Clone, Copy, Debug, PartialEq, Eq)]
-pub enum TextCase {
-    /// It counts.
-    Exact,
-    /// It doesn't: each letter from A to Z is taken as the same letter from a to z.
-    Ignored,
-}
 
 /// Whether the value is the text.
 pub(crate) fn is_text(case: TextCase, value: &[u8], text: &[u8]) -> bool
@@ -27,6 +19,22 @@ pub(crate) fn is_text(case: TextCase, value: &[u8], text: &[u8]) -> bool
         TextCase::Exact => value == text,
         TextCase::Ignored => is_ignoring_case(value, text),
     }
+}
+
+/// Whether the value begins with the text.
+pub(crate) fn begins_with(case: TextCase, value: &[u8], text: &[u8]) -> bool
+    ensures { result ≡ begins_with (folded case value.now) (folded case text.now) }
+{
+    let len = text.len().min(value.len());
+    is_text(case, &value[..len], text)
+}
+
+/// Whether the value ends with the text.
+pub(crate) fn ends_with(case: TextCase, value: &[u8], text: &[u8]) -> bool
+    ensures { result ≡ ends_with (folded case value.now) (folded case text.now) }
+{
+    let start = value.len().saturating_sub(text.len());
+    is_text(case, &value[start..], text)
 }
 
 /// Whether the text occurs in the bytes.

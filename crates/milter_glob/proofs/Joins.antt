@@ -5,8 +5,8 @@ use Rattle.std.proofs.lemmas.List.{append-nil}
 use Rattle.std.proofs.lemmas.List.Elements.{All-head, All-tail}
 use Rattle.std.specs.Char.{to_ascii_lowercase}
 use Rattle.std.specs.Str.{bytes_eq, str_eq_ignore_ascii_case}
-use Rattle.milter_glob.specs.declared.case.Case.{Case}
-use Rattle.milter_glob.specs.declared.case.Case.TheVariants.{Exact, Ignored}
+use Rattle.milter_glob.specs.declared.text_case.TextCase.{TextCase}
+use Rattle.milter_glob.specs.declared.text_case.TextCase.TheVariants.{Exact, Ignored}
 use Rattle.milter_glob.specs.declared.wildcards.TheConstants.{ANY_BYTE, ANY_RUN}
 use Rattle.milter_glob.specs.Globs.{IsJoined, IsPlain, first_and_rest, is_like, is_same, some_suffix, stands_for}
 
@@ -58,7 +58,7 @@ regrouped : (value before rest first second : List ℕ) → value ≡ before ++ 
 regrouped value before rest first second whole parts =
     whole ∙ ap (λ bytes. before ++ bytes) parts ∙ sym (append_assoc before first second)
 
-pub joined_like : (case : Case) (first second before after : List ℕ) → is_like case first before ≡ true → is_like case second after ≡ true
+pub joined_like : (case : TextCase) (first second before after : List ℕ) → is_like case first before ≡ true → is_like case second after ≡ true
     → is_like case (first ++ second) (before ++ after) ≡ true
 joined_like case [] second [] after first_like second_like = second_like
 joined_like case [] second (byte ∷ before) after first_like second_like = absurd (false≢true first_like)
@@ -79,7 +79,7 @@ joined_like case (symbol ∷ symbols) second before after first_like second_like
     (joined_like case symbols second begun.others after begun.rest_passes second_like))))
     (cases_Bool (symbol == ANY_RUN))
 
-pub split_like : (case : Case) (first second value : List ℕ) → is_like case (first ++ second) value ≡ true → IsJoined case first second value
+pub split_like : (case : TextCase) (first second value : List ℕ) → is_like case (first ++ second) value ≡ true → IsJoined case first second value
 split_like case [] second value like =
     record { before = []; after = value; whole = refl; first_like = refl; second_like = like }
 split_like case (symbol ∷ symbols) second value like =
@@ -107,14 +107,14 @@ split_like case (symbol ∷ symbols) second value like =
     })
     (cases_Bool (symbol == ANY_RUN))
 
-pub like_nothing : (case : Case) (value : List ℕ) → is_like case [] value ≡ true → value ≡ []
+pub like_nothing : (case : TextCase) (value : List ℕ) → is_like case [] value ≡ true → value ≡ []
 like_nothing case [] like = refl
 like_nothing case (byte ∷ bytes) like = absurd (false≢true like)
 
-pub nothing_like : (case : Case) (value : List ℕ) → value ≡ [] → is_like case [] value ≡ true
+pub nothing_like : (case : TextCase) (value : List ℕ) → value ≡ [] → is_like case [] value ≡ true
 nothing_like case value none = subst (λ bytes. is_like case [] bytes ≡ true) (sym none) refl
 
-pub run_like : (case : Case) (value : List ℕ) → is_like case (ANY_RUN ∷ []) value ≡ true
+pub run_like : (case : TextCase) (value : List ℕ) → is_like case (ANY_RUN ∷ []) value ≡ true
 run_like case value =
     subst (λ bytes. some_suffix (is_like case []) bytes ≡ true) (append-nil value) (any_suffix (is_like case []) value [] refl)
 
@@ -122,10 +122,10 @@ and_true : (x : Bool) → (x && true) ≡ x
 and_true true = refl
 and_true false = refl
 
-pub byte_like : (case : Case) (symbol byte : ℕ) → symbol ≢ ANY_RUN → is_like case (symbol ∷ []) (byte ∷ []) ≡ stands_for case symbol byte
+pub byte_like : (case : TextCase) (symbol byte : ℕ) → symbol ≢ ANY_RUN → is_like case (symbol ∷ []) (byte ∷ []) ≡ stands_for case symbol byte
 byte_like case symbol byte other = rw (ne_eqb symbol ANY_RUN other) (and_true (stands_for case symbol byte))
 
-pub one_like : (case : Case) (symbol : ℕ) (value : List ℕ) → symbol ≢ ANY_RUN → is_like case (symbol ∷ []) value ≡ true → length value ≡ 1
+pub one_like : (case : TextCase) (symbol : ℕ) (value : List ℕ) → symbol ≢ ANY_RUN → is_like case (symbol ∷ []) value ≡ true → length value ≡ 1
 one_like case symbol value other like =
     let begun = begin_of (stands_for case symbol) (is_like case []) value (rw (ne_eqb symbol ANY_RUN other) at like) in
     ap length (begun.whole ∙ ap (λ rest. begun.byte ∷ rest) (like_nothing case begun.others begun.rest_passes))
@@ -137,7 +137,7 @@ eqb_sym x y =
     (cases_eq x y)
 
 -- a text that is plain stands for the values whose bytes are the same, one by one
-module _ (case : Case) (as_compared : ℕ → ℕ) (same : (x y : ℕ) → is_same case x y ≡ eqb (as_compared x) (as_compared y)) where
+module _ (case : TextCase) (as_compared : ℕ → ℕ) (same : (x y : ℕ) → is_same case x y ≡ eqb (as_compared x) (as_compared y)) where
   pub plain_like : (text value : List ℕ) → IsPlain text → is_like case text value ≡ bytes_eq (map as_compared value) (map as_compared text)
   plain_like [] [] plain = refl
   plain_like [] (byte ∷ bytes) plain = refl

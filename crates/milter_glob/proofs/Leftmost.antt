@@ -1,7 +1,7 @@
 -- The leftmost place of a segment is enough where any bytes may follow it.
 use Rattle.std.proofs.Common.{◌≡◌, ℕ, zero, suc, Bool, true, false, ◌||◌, ◌&&◌, List, [], ◌∷◌, length, drop, Option, None, Some, refl, sym, ◌∙◌, ⊎_elim}
 use Rattle.std.proofs.lemmas.Bool.{and_parts, cases_Bool, false_from_ne_true, false≢true, or_cases, or_right}
-use Rattle.milter_glob.specs.declared.case.Case.{Case}
+use Rattle.milter_glob.specs.declared.text_case.TextCase.{TextCase}
 use Rattle.milter_glob.specs.Globs.{some_suffix}
 use Rattle.milter_glob.specs.Segments.{after_first, begins_with}
 
@@ -31,7 +31,7 @@ passes_found test (Some bytes) = test bytes
 
 -- What begins with a segment, and has a suffix after it that passes, is some suffix of bytes only where the bytes after
 -- the leftmost place of the segment have one that passes.
-module _ (case : Case) (segment : List ℕ) (rest whole : List ℕ → Bool)
+module _ (case : TextCase) (segment : List ℕ) (rest whole : List ℕ → Bool)
     (parts : (bytes : List ℕ) → whole bytes ≡ (begins_with case segment bytes && some_suffix rest (drop (length segment) bytes))) where
   from_any : (bytes : List ℕ) → some_suffix whole bytes ≡ true → some_suffix rest (drop (length segment) bytes) ≡ true
   from_any [] has = (and_parts _ _ (sym (parts []) ∙ has)).1

@@ -1,7 +1,7 @@
 -- Patterns, and values that they stand for or don't.
 use Rattle.std.proofs.Common.{◌≡◌, [], ◌∷◌, true, false, refl}
 use Rattle.std.specs.Prelude.{codes}
-use Rattle.milter_glob.specs.declared.case.Case.TheVariants.{Exact, Ignored}
+use Rattle.milter_glob.specs.declared.text_case.TextCase.TheVariants.{Exact, Ignored}
 use Rattle.milter_glob.specs.Globs.{is_like}
 
 below_a_domain : is_like Exact (codes "*.example.org") (codes "mail.example.org") ≡ true

@@ -6,7 +6,7 @@ use Rattle.std.proofs.lemmas.List.Elements.{All-from_get_or, All-head, All-tail}
 use Rattle.std.proofs.lemmas.List.{drop_more, get_or-take, length-drop, length-take-le, take-append-drop}
 use Rattle.std.specs.Prelude.{MatchOption, Option, None, Some}
 use Rattle.memchr.specs.Find.{IsFirst, Passes, is_byte}
-use Rattle.milter_glob.specs.declared.case.Case.{Case}
+use Rattle.milter_glob.specs.declared.text_case.TextCase.{TextCase}
 use Rattle.milter_glob.specs.declared.wildcards.TheConstants.{ANY_RUN}
 use Rattle.milter_glob.specs.Globs.{is_like, some_suffix, stands_for}
 use Rattle.milter_glob.specs.Segments.{IsFirstRun, IsSegment, after_first, begins_with}
@@ -42,7 +42,7 @@ later_symbols : (symbol : ℕ) (symbols : List ℕ) → IsSegment (symbol ∷ sy
 later_symbols symbol symbols is = All-tail (λ byte. byte ≢ ANY_RUN) symbol symbols is
 
 -- a segment with a rest stands for what it begins, where the rest stands for what is after
-pub split : (case : Case) (segment rest : List ℕ) → IsSegment segment → (value : List ℕ)
+pub split : (case : TextCase) (segment rest : List ℕ) → IsSegment segment → (value : List ℕ)
     → is_like case (segment ++ rest) value ≡ (begins_with case segment value && is_like case rest (drop (length segment) value))
 split case [] rest is value = refl
 split case (symbol ∷ symbols) rest is [] = rw (plain_first symbol symbols is) refl
@@ -52,7 +52,7 @@ split case (symbol ∷ symbols) rest is (byte ∷ bytes) =
     ∙ and_assoc (stands_for case symbol byte) (begins_with case symbols bytes) (is_like case rest (drop (length symbols) bytes)))
 
 -- a segment stands for a value as long as it, each of its bytes for one
-pub whole : (case : Case) (segment : List ℕ) → IsSegment segment → (value : List ℕ)
+pub whole : (case : TextCase) (segment : List ℕ) → IsSegment segment → (value : List ℕ)
     → is_like case segment value ≡ (eqb (length value) (length segment) && begins_with case segment value)
 whole case [] is [] = refl
 whole case [] is (byte ∷ bytes) = ap (λ b. b && true) (sym (eqb-suc-zero (length bytes)))
@@ -65,13 +65,13 @@ whole case (symbol ∷ symbols) is (byte ∷ bytes) =
     ∙ ap (λ b. b && (stands_for case symbol byte && begins_with case symbols bytes)) (sym (eqb-suc-suc (length bytes) (length symbols))))
 
 -- a segment that stands for the first bytes of a value is no longer than it
-pub too_short : (case : Case) (segment value : List ℕ) → length value < length segment → begins_with case segment value ≡ false
+pub too_short : (case : TextCase) (segment value : List ℕ) → length value < length segment → begins_with case segment value ≡ false
 too_short case [] value short = absurd (omega arith)
 too_short case (symbol ∷ symbols) [] short = refl
 too_short case (symbol ∷ symbols) (byte ∷ bytes) short = rw (too_short case symbols bytes (omega arith)) (never (stands_for case symbol byte))
 
 -- what is compared from a place on, by the byte there and those after it
-pub from_place : (case : Case) (segment value : List ℕ) (i : ℕ) → i < length segment → i < length value
+pub from_place : (case : TextCase) (segment value : List ℕ) (i : ℕ) → i < length segment → i < length value
     → begins_with case (drop i segment) (drop i value)
     ≡ (stands_for case (get_or segment i 0) (get_or value i 0) && begins_with case (drop (i + 1) segment) (drop (i + 1) value))
 from_place case segment value i within there =
@@ -79,13 +79,13 @@ from_place case segment value i within there =
     ∙ ap (begins_with case (get_or segment i 0 ∷ drop (i + 1) segment)) (drop_more value i 0 there)
 
 -- a segment stands for no value of another length
-pub other_length : (case : Case) (segment : List ℕ) → IsSegment segment → (value : List ℕ) → length value ≢ length segment
+pub other_length : (case : TextCase) (segment : List ℕ) → IsSegment segment → (value : List ℕ) → length value ≢ length segment
     → is_like case segment value ≡ false
 other_length case segment is value differs =
     whole case segment is value ∙ ap (λ b. b && begins_with case segment value) (ne_eqb (length value) (length segment) differs)
 
 -- a segment that stands for some suffix of a value stands for the last bytes, as many as it has
-pub last : (case : Case) (segment : List ℕ) → IsSegment segment → (value : List ℕ)
+pub last : (case : TextCase) (segment : List ℕ) → IsSegment segment → (value : List ℕ)
     → some_suffix (is_like case segment) value ≡ is_like case segment (drop (length value - length segment) value)
 last case segment is [] = ap (is_like case segment) (sym (none_after (0 - length segment)))
 last case segment is (byte ∷ bytes) =
@@ -126,7 +126,7 @@ first_run_found pattern (Some end) (none_before, here) =
     }
 
 -- a pattern with a `*` stands for what its first segment begins, with a suffix of what is after
-pub first_segment : (case : Case) (pattern : List ℕ) (end : ℕ) → IsFirstRun pattern end → (value : List ℕ)
+pub first_segment : (case : TextCase) (pattern : List ℕ) (end : ℕ) → IsFirstRun pattern end → (value : List ℕ)
     → is_like case pattern value
     ≡ (begins_with case (take end pattern) value && some_suffix (is_like case (drop (end + 1) pattern)) (drop end value))
 first_segment case pattern end run value =
@@ -136,7 +136,7 @@ first_segment case pattern end run value =
     ∙ ap (λ k. begins_with case (take end pattern) value && some_suffix (is_like case (drop (end + 1) pattern)) (drop k value)) long
 
 -- after a `*`, the first segment is at its leftmost place
-pub next_segment : (case : Case) (pattern : List ℕ) (end : ℕ) → IsFirstRun pattern end → (value : List ℕ)
+pub next_segment : (case : TextCase) (pattern : List ℕ) (end : ℕ) → IsFirstRun pattern end → (value : List ℕ)
     → some_suffix (is_like case pattern) value
     ≡ passes_found (some_suffix (is_like case (drop (end + 1) pattern))) (after_first case (take end pattern) value)
 next_segment case pattern end run value =

@@ -3,8 +3,8 @@
 ghost use Rattle.std.specs.Prelude.{◌≡◌};
 ghost use Rattle.milter_glob.specs.Globs.{is_like, some_suffix};
 
-use crate::case::Case;
 use crate::segment::{after_segment, begins_with, ends_with, first_run, is_whole};
+use crate::text_case::TextCase;
 
 /// Whether the pattern stands for the whole value: [`ANY_RUN`] in it for any bytes, none too, [`ANY_BYTE`] for any one
 /// byte, and each other byte for itself, or for the same letter where case doesn't count. There is no escape. Compares
@@ -12,7 +12,7 @@ use crate::segment::{after_segment, begins_with, ends_with, first_run, is_whole}
 ///
 /// [`ANY_RUN`]: crate::ANY_RUN
 /// [`ANY_BYTE`]: crate::ANY_BYTE
-pub fn is_like(case: Case, pattern: &[u8], value: &[u8]) -> bool
+pub fn is_like(case: TextCase, pattern: &[u8], value: &[u8]) -> bool
     ensures { result ≡ is_like case pattern.now value.now }
 {
     match first_run(pattern) {
@@ -26,7 +26,7 @@ pub fn is_like(case: Case, pattern: &[u8], value: &[u8]) -> bool
 
 /// Whether the pattern stands for some suffix of the value. Each segment is looked for from the left, after the one
 /// before it, and the last at the end of the value.
-fn some_suffix_is_like(case: Case, pattern: &[u8], value: &[u8]) -> bool
+fn some_suffix_is_like(case: TextCase, pattern: &[u8], value: &[u8]) -> bool
     ensures { result ≡ some_suffix (is_like case pattern.now) value.now }
 {
     let mut rest = pattern;

@@ -2,27 +2,27 @@
 
 ghost use Rattle.std.specs.Prelude.{◌≡◌, ◌≢◌, ◌↔◌, ◌∷◌, ◌++◌, [], List, length, true, ℕ};
 ghost use Rattle.std.specs.Str.{bytes_eq, str_eq_ignore_ascii_case};
-ghost use Rattle.milter_glob.specs.declared.case.Case.{Case};
-ghost use Rattle.milter_glob.specs.declared.case.Case.TheVariants.{Exact, Ignored};
+ghost use Rattle.milter_glob.specs.declared.text_case.TextCase.{TextCase};
+ghost use Rattle.milter_glob.specs.declared.text_case.TextCase.TheVariants.{Exact, Ignored};
 ghost use Rattle.milter_glob.specs.declared.wildcards.TheConstants.{ANY_RUN};
 ghost use Rattle.milter_glob.specs.Globs.{IsJoined, IsPlain, is_like, stands_for};
 
 /// Two patterns, one after the other, stand for each value of the first with each value of the second after it, and for
 /// no others.
 pub fn joined_patterns()
-    ensures joined { (case : Case) (first second before after : List ℕ) → is_like case first before ≡ true →
+    ensures joined { (case : TextCase) (first second before after : List ℕ) → is_like case first before ≡ true →
         is_like case second after ≡ true → is_like case (first ++ second) (before ++ after) ≡ true }
-    ensures only { (case : Case) (first second value : List ℕ) → is_like case (first ++ second) value ≡ true →
+    ensures only { (case : TextCase) (first second value : List ℕ) → is_like case (first ++ second) value ≡ true →
         IsJoined case first second value }
 {}
 
 /// A pattern of no bytes stands for no bytes, `*` for any, and each other byte for one byte, which it stands for.
 pub fn short_patterns()
-    ensures none { (case : Case) (value : List ℕ) → (is_like case [] value ≡ true) ↔ (value ≡ []) }
-    ensures run { (case : Case) (value : List ℕ) → is_like case (ANY_RUN ∷ []) value ≡ true }
-    ensures byte { (case : Case) (symbol byte : ℕ) → symbol ≢ ANY_RUN →
+    ensures none { (case : TextCase) (value : List ℕ) → (is_like case [] value ≡ true) ↔ (value ≡ []) }
+    ensures run { (case : TextCase) (value : List ℕ) → is_like case (ANY_RUN ∷ []) value ≡ true }
+    ensures byte { (case : TextCase) (symbol byte : ℕ) → symbol ≢ ANY_RUN →
         is_like case (symbol ∷ []) (byte ∷ []) ≡ stands_for case symbol byte }
-    ensures one { (case : Case) (symbol : ℕ) (value : List ℕ) → symbol ≢ ANY_RUN →
+    ensures one { (case : TextCase) (symbol : ℕ) (value : List ℕ) → symbol ≢ ANY_RUN →
         is_like case (symbol ∷ []) value ≡ true → length value ≡ 1 }
 {}
 

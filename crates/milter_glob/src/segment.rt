@@ -4,7 +4,7 @@ ghost use Rattle.std.specs.Prelude.{◌≡◌, ◌≤◌, IsTrue, MatchOption, l
 ghost use Rattle.milter_glob.specs.Globs.{is_like, some_suffix, stands_for};
 ghost use Rattle.milter_glob.specs.Segments.{IsFirstRun, IsSegment, after_first, begins_with};
 
-use crate::case::{Case, is_same};
+use crate::text_case::{TextCase, is_same};
 use crate::wildcards::{ANY_BYTE, ANY_RUN};
 use memchr::memchr;
 
@@ -17,14 +17,14 @@ pub(crate) fn first_run(pattern: &[u8]) -> Option<usize>
 
 /// Whether the byte of a segment stands for this byte.
 #[inline]
-fn stands_for(case: Case, symbol: u8, byte: u8) -> bool
+fn stands_for(case: TextCase, symbol: u8, byte: u8) -> bool
     ensures { result ≡ stands_for case symbol byte }
 {
     symbol == ANY_BYTE || is_same(case, symbol, byte)
 }
 
 /// Whether the segment stands for the first bytes of the value.
-pub(crate) fn begins_with(case: Case, segment: &[u8], value: &[u8]) -> bool
+pub(crate) fn begins_with(case: TextCase, segment: &[u8], value: &[u8]) -> bool
     ensures begins { result ≡ begins_with case segment.now value.now }
     ensures fits { IsTrue result → length segment.now ≤ length value.now }
 {
@@ -40,7 +40,7 @@ pub(crate) fn begins_with(case: Case, segment: &[u8], value: &[u8]) -> bool
 }
 
 /// The bytes of the value after the leftmost that the segment stands for.
-pub(crate) fn after_segment<'v>(case: Case, segment: &[u8], value: &'v [u8]) -> Option<&'v [u8]>
+pub(crate) fn after_segment<'v>(case: TextCase, segment: &[u8], value: &'v [u8]) -> Option<&'v [u8]>
     ensures { option_map (λ after. after.now) result ≡ after_first case segment.now value.now }
 {
     let mut rest = value;
@@ -54,7 +54,7 @@ pub(crate) fn after_segment<'v>(case: Case, segment: &[u8], value: &'v [u8]) -> 
 }
 
 /// Whether the segment stands for the whole value.
-pub(crate) fn is_whole(case: Case, segment: &[u8], value: &[u8]) -> bool
+pub(crate) fn is_whole(case: TextCase, segment: &[u8], value: &[u8]) -> bool
     requires { IsSegment segment.now }
     ensures { result ≡ is_like case segment.now value.now }
 {
@@ -62,7 +62,7 @@ pub(crate) fn is_whole(case: Case, segment: &[u8], value: &[u8]) -> bool
 }
 
 /// Whether the segment stands for the last bytes of the value.
-pub(crate) fn ends_with(case: Case, segment: &[u8], value: &[u8]) -> bool
+pub(crate) fn ends_with(case: TextCase, segment: &[u8], value: &[u8]) -> bool
     requires { IsSegment segment.now }
     ensures { result ≡ some_suffix (is_like case segment.now) value.now }
 {

@@ -60,7 +60,7 @@ without_tag (x ∷ text) all =
     rw first refl
 
 -- an IPv4 text writes no IPv6 address
-dotted_not_zoned : (text octets : List ℕ) (number : ℕ) → IsDotted text octets → ¬ (IsZonedText (after_tag text) number)
+pub dotted_not_zoned : (text octets : List ℕ) (number : ℕ) → IsDotted text octets → ¬ (IsZonedText (after_tag text) number)
 dotted_not_zoned text octets number dotted zoned =
     let all = dotted_bytes text octets dotted in
     let P : List ℕ → Type 0 = λ t. IsV6Text (before_first is_percent t) number in

@@ -5,5 +5,6 @@ pub mod NetworkRows
 pub mod Numbers
 pub mod Positions
 pub mod Prefixes
+pub mod ReadTexts
 pub mod Shifts
 pub mod Zones

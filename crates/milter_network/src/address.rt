@@ -3,6 +3,7 @@
 ghost use Rattle.std.specs.Prelude.{◌≡◌, IfNone, IfSome, ℕ};
 ghost use Rattle.milter_network.specs.declared.address.Address.{Address as AddressValue};
 ghost use Rattle.milter_network.specs.Addresses.{IsAddressText, IsV4Text, bits_of, ipv4_mapped};
+ghost use Rattle.milter_network.specs.ReadTexts.{address_in};
 
 use crate::zone::{parse_zoned, without_tag};
 use std::net::Ipv4Addr;
@@ -29,6 +30,7 @@ impl Address {
     pub fn parse(text: &[u8]) -> Option<Self>
         ensures parsed { IfSome result (IsAddressText text.now) }
         ensures none { IfNone result ((address : AddressValue) → ¬ (IsAddressText text.now address)) }
+        ensures value { result ≡ address_in text.now }
     {
         if let Some(number) = parse_v4(text) {
             return Some(Address::V4(number));

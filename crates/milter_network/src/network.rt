@@ -1,8 +1,9 @@
 //! Networks.
 
-ghost use Rattle.std.specs.Prelude.{◌≡◌, ◌≤◌, ◌/◌, ◌^◌, ℕ, IfNone, IfSome};
+ghost use Rattle.std.specs.Prelude.{◌≡◌, ◌≤◌, ◌/◌, ◌^◌, ℕ, IfNone, IfSome, option_map};
 ghost use Rattle.milter_network.specs.declared.address.Address.{Address as AddressValue};
 ghost use Rattle.milter_network.specs.Addresses.{bits_of};
+ghost use Rattle.milter_network.specs.ReadTexts.{network_in};
 ghost use Rattle.milter_network.specs.Networks.{IsNetworkText, IsPrefixText, is_within, mapped_shares_prefix, shares_prefix};
 
 use crate::address::Address;
@@ -27,6 +28,7 @@ impl Network {
         ensures parsed { IfSome result (λ network. IsNetworkText text.now network.address network.prefix) }
         ensures none { IfNone result ((address : AddressValue) (prefix : ℕ) →
             ¬ (IsNetworkText text.now address prefix)) }
+        ensures value { option_map (λ network. (network.address, network.prefix)) result ≡ network_in text.now }
     {
         let (address_text, prefix_text) = split_at_byte(text, b'/');
         let address = Address::parse(address_text)?;

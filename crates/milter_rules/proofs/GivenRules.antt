@@ -5,7 +5,7 @@ use Rattle.std.specs.Prelude.{codes, nat_le, nat_lt}
 use Rattle.std.specs.List.{AllZip, filter_map, flat_map, list_all}
 use Rattle.std.specs.Int.RustNames.{bit_and}
 use Rattle.std.proofs.lemmas.Bool.{and_parts, eqb-true, leb-true}
-use Rattle.std.proofs.lemmas.List.Elements.{All-head, All-tail}
+use Rattle.std.proofs.lemmas.List.Elements.{All-append, All-cons, All-head, All-nil, All-tail}
 use Rattle.milter_wire_options.specs.Bits.{actions_table, bits_named, is_within, names_text, protocol_table}
 use Rattle.milter_wire_options.specs.declared.macro_stage.MacroStage.{MacroStage}
 use Rattle.milter_wire_options.specs.declared.macro_stage.MacroStage.TheVariants as macro_stages
@@ -27,12 +27,15 @@ use Rattle.milter_filter_rules.specs.declared.rule_list.StageRules.{StageRules}
 use Rattle.milter_filter_rules.specs.ActionFits.{allowed_at, are_lawful_at, fields_fit, has_room, is_string, may_act}
 use Rattle.milter_rules.specs.ActionText.{action_words}
 use Rattle.milter_rules.specs.RuleFile.{AllGive}
+use Rattle.milter_rules.specs.declared.form.Form.{Form}
+use Rattle.milter_rules.specs.declared.form.Form.TheVariants.{First, Second}
+use Rattle.milter_rules.specs.RuleForms.{FitsForm, HasForm, all_fit, are_conditions, form_of, header_lines}
 use Rattle.milter_rules.specs.RuleLines.{Gives, setting_of}
 use Rattle.milter_filter_rules.specs.RuleSet.{RuleSet, is_lawful, list_fits, lists_wanted, options_have_room, options_known}
 use Rattle.milter_filter_rules.specs.RuleSet.{rules_lawful, wants_within}
 use Rattle.milter_rules.specs.RulesGiven.{CanBeText, list_given, rules_given, stage_count, stage_given}
 use Rattle.milter_filter_rules.specs.RulesLaw.{EachFits, each_fits}
-use Rattle.milter_rules.specs.RulesText.{macro_stage_numbered, rule_words, rules_lines}
+use Rattle.milter_rules.specs.RulesText.{body_lines, macro_stage_numbered, rule_words, rules_text}
 use Rattle.milter_rules.specs.RulesText.{rules_text, stage_lines, symbols_line, symbols_words, version_words}
 use Rattle.milter_filter_rules.specs.StageRules.{rules_at}
 use Rattle.milter_rules.proofs.ActionRuns.{action_read, number_read}
@@ -50,15 +53,64 @@ both_given (x ∷ a) c [] d p q = absurd p
 both_given (x ∷ a) c (y ∷ b) d p q = (p.0, both_given a c b d p.1 q)
 
 -- lines that have words give what these give
-lines_give : (lines : List (List ℕ)) (words : List (List Word)) (values : List RuleLine)
-    → AllZip HasWords lines words → AllGiven words values → AllGive lines values
-lines_give [] [] [] p q = tt
-lines_give [] [] (y ∷ values) p q = absurd q
-lines_give [] (w ∷ words) values p q = absurd p
-lines_give (x ∷ lines) [] values p q = absurd p
-lines_give (x ∷ lines) (w ∷ words) [] p q = absurd q
-lines_give (x ∷ lines) (w ∷ words) (y ∷ values) p q =
-    (record { words = w; has_words = p.0; gives = q.0 }, lines_give lines words values p.1 q.1)
+lines_give : (form : Form) (lines : List (List ℕ)) (words : List (List Word)) (values : List RuleLine)
+    → AllZip HasWords lines words → AllGiven words values → All (FitsForm form) values → AllGive form lines values
+lines_give form [] [] [] p q fit = tt
+lines_give form [] [] (y ∷ values) p q fit = absurd q
+lines_give form [] (w ∷ words) values p q fit = absurd p
+lines_give form (x ∷ lines) [] values p q fit = absurd p
+lines_give form (x ∷ lines) (w ∷ words) [] p q fit = absurd q
+lines_give form (x ∷ lines) (w ∷ words) (y ∷ values) p q fit = (
+  record { words = w; has_words = p.0; gives = q.0; fits = All-head (FitsForm form) y values fit },
+  lines_give form lines words values p.1 q.1 (All-tail (FitsForm form) y values fit),
+)
+
+-- ---- the form
+
+lists_fit : (form : Form) (lists : List SymList) → All (FitsForm form) (map list_given lists)
+lists_fit form [] = All-nil (FitsForm form)
+lists_fit form (list ∷ lists) = All-cons (FitsForm form) (list_given list) (map list_given lists) tt (lists_fit form lists)
+
+rules_fit : (form : Form) (stage : Stage) (rules : List Rule)
+    → list_all (λ rule. are_conditions form rule.conditions) rules ≡ true → All (FitsForm form) (map (lines.At stage) rules)
+rules_fit form stage [] e = All-nil (FitsForm form)
+rules_fit form stage (rule ∷ rules) e =
+    let both = and_parts (are_conditions form rule.conditions) (list_all (λ r. are_conditions form r.conditions) rules) e in
+    All-cons (FitsForm form) (lines.At stage rule) (map (lines.At stage) rules) both.0 (rules_fit form stage rules both.1)
+
+stages_fit : (form : Form) (rules : StageRules) (all : List Stage)
+    → list_all (λ stage. list_all (λ rule. are_conditions form rule.conditions) (rules_at rules stage)) all ≡ true
+    → All (FitsForm form) (flat_map (stage_given rules) all)
+stages_fit form rules [] e = All-nil (FitsForm form)
+stages_fit form rules (stage ∷ all) e =
+    let here = list_all (λ rule. are_conditions form rule.conditions) (rules_at rules stage) in
+    let both = and_parts here _ e in
+    All-append (FitsForm form) (stage_given rules stage) (flat_map (stage_given rules) all)
+    (rules_fit form stage (rules_at rules stage) both.0) (stages_fit form rules all both.1)
+
+all_of_form : (set : RuleSet) (form : Form) → all_fit form set.rules ≡ true → All (FitsForm form) (rules_given set)
+all_of_form set form e =
+    let fits = FitsForm form in
+    let others = map list_given set.lists ++ flat_map (stage_given set.rules) all_stages in
+    let protocol = lines.Setting (settings.Protocol set.options.protocol) in
+    let actions = lines.Setting (settings.Actions set.options.actions) in
+    All-cons fits (lines.Setting (settings.Version set.options.version)) (actions ∷ protocol ∷ others) tt
+    (All-cons fits actions (protocol ∷ others) tt
+    (All-cons fits protocol others tt
+    (All-append fits (map list_given set.lists) (flat_map (stage_given set.rules) all_stages) (lists_fit form set.lists)
+    (stages_fit form set.rules all_stages e))))
+
+-- the lines after the first one of the form
+record AfterHeader (form : Form) (all : List (List ℕ)) (words : List (List Word)) : Type 0 where
+  pub rest : List (List ℕ)
+  pub has_form : HasForm form all rest
+  pub have_words : AllZip HasWords rest words
+
+after_header : (form : Form) (all : List (List ℕ)) (words : List (List Word))
+    → AllZip HasWords all (header_lines form ++ words) → AfterHeader form all words
+after_header First all words have = record { rest = all; has_form = refl; have_words = have }
+after_header Second [] words have = absurd have
+after_header Second (line ∷ all) words have = record { rest = all; has_form = (line, refl, have.0); have_words = have.1 }
 
 -- ---- options
 
@@ -156,7 +208,7 @@ stages_give rules (stage ∷ all) each =
 
 -- ---- all lines
 
-all_given : (set : RuleSet) → is_lawful set ≡ true → CanBeText set → AllGiven (rules_lines set) (rules_given set)
+all_given : (set : RuleSet) → is_lawful set ≡ true → CanBeText set → AllGiven (body_lines set) (rules_given set)
 all_given set lawful can =
     let o = set.options in
     let both = and_parts (wants_within o set.lists) (rules_lawful set.rules) lawful in
@@ -180,8 +232,19 @@ all_given set lawful can =
       ),
     )
 
-pub rules_give : (set : RuleSet) → is_lawful set ≡ true → CanBeText set
-    → AllGive (contents (rules_text set)) (rules_given set)
+-- the lines of the text give these rules
+pub record Given (set : RuleSet) : Type 0 where
+  pub rest : List (List ℕ)
+  pub has_form : HasForm (form_of set.rules) (contents (rules_text set)) rest
+  pub give : AllGive (form_of set.rules) rest (rules_given set)
+
+pub rules_give : (set : RuleSet) → is_lawful set ≡ true → CanBeText set → Given set
 rules_give set lawful can =
-    lines_give (contents (rules_text set)) (rules_lines set) (rules_given set)
-    (rules_have_words set lawful can.bytes) (all_given set lawful can)
+    let form = form_of set.rules in
+    let after = after_header form (contents (rules_text set)) (body_lines set) (rules_have_words set lawful can.bytes) in
+    record {
+      rest = after.rest;
+      has_form = after.has_form;
+      give = lines_give form after.rest (body_lines set) (rules_given set) after.have_words (all_given set lawful can)
+          (all_of_form set form can.conditions);
+    }

@@ -1,10 +1,12 @@
 pub mod ConditionGrammar
+pub mod TextRuns
 pub mod ConditionRuns
 pub mod LineForms
 pub mod Builders
 pub mod FileParts
 pub mod FileForms
 pub mod FileLines
+pub mod FormLines
 pub mod LineBounds
 pub mod WordRuns
 pub mod ActionRuns

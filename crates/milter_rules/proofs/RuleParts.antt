@@ -9,7 +9,8 @@ use Rattle.milter_wire.specs.Stages.{all_stages}
 use Rattle.milter_filter_rules.specs.declared.rule.Rule.{Rule}
 use Rattle.milter_filter_rules.specs.declared.rule_list.StageRules.{StageRules}
 use Rattle.milter_filter_rules.specs.RuleSet.{RuleSet}
-use Rattle.milter_rules.specs.RulesText.{actions_words, macro_stage_numbered, options_text, protocol_words, rule_text}
+use Rattle.milter_rules.specs.RuleForms.{form_of, header_lines}
+use Rattle.milter_rules.specs.RulesText.{actions_words, body_lines, macro_stage_numbered, options_text, protocol_words, rule_text}
 use Rattle.milter_rules.specs.RulesText.{rule_words, rules_text, stage_lines, stage_text, stages_text, symbols_at}
 use Rattle.milter_rules.specs.RulesText.{symbols_line, symbols_text, version_words}
 use Rattle.milter_filter_rules.specs.StageRules.{rules_at}
@@ -46,10 +47,15 @@ stages_parts rules (stage ∷ stages) =
 three_and_others : (a b c d : List ℕ) → a ++ (b ++ (c ++ d)) ≡ (a ++ (b ++ c)) ++ d
 three_and_others a b c d = simp append_assoc
 
-pub rules_parts : (set : RuleSet)
-    → rules_text set ≡ options_text set.options ++ (flat_map symbols_text set.lists ++ stages_text set.rules)
-unfolding options_text rules_text
-rules_parts set =
+-- the first line of a file of the form in which the rules are written
+abbrev pub form_text : RuleSet → List ℕ
+form_text set = flat_map line_text (header_lines (form_of set.rules))
+
+body_parts : (set : RuleSet)
+    → flat_map line_text (body_lines set)
+    ≡ options_text set.options ++ (flat_map symbols_text set.lists ++ stages_text set.rules)
+unfolding options_text
+body_parts set =
     let o = set.options in
     let version = line_text (version_words o.version) in
     let actions = line_text (actions_words o.actions.0) in
@@ -62,3 +68,11 @@ rules_parts set =
     ∙ ap (λ l. l ++ flat_map line_text rules) (lists_parts set.lists)
     ∙ ap (λ l. flat_map symbols_text set.lists ++ l) (stages_parts set.rules all_stages)
     )
+
+pub rules_parts : (set : RuleSet)
+    → rules_text set
+    ≡ form_text set ++ (options_text set.options ++ (flat_map symbols_text set.lists ++ stages_text set.rules))
+unfolding rules_text
+rules_parts set =
+    flat_map-append line_text (header_lines (form_of set.rules)) (body_lines set)
+    ∙ ap (λ l. form_text set ++ l) (body_parts set)

@@ -24,6 +24,7 @@ use Rattle.milter_rules.specs.RuleFile.{CanBeFile, IsRuleFile, actions_in, is_ru
 use Rattle.milter_rules.specs.RuleFile.{rule_in, rules_of, version_in, with_lists}
 use Rattle.milter_filter_rules.specs.RuleSet.{RuleSet, is_lawful, list_fits, lists_wanted, options_have_room, options_known}
 use Rattle.milter_filter_rules.specs.RuleSet.{rules_lawful, wants_within}
+use Rattle.milter_rules.specs.RuleForms.{form_of}
 use Rattle.milter_rules.specs.RulesGiven.{CanBeText, list_given, rules_given, stage_given}
 use Rattle.milter_filter_rules.specs.RulesLaw.{each_fits}
 use Rattle.milter_rules.specs.RulesText.{rules_text}
@@ -245,9 +246,14 @@ rules_same set lawful =
     rw (found, bits) (ap (λ r. record { options = o; lists = set.lists; rules = r }) rules)
 
 pub is_rule_file : (set : RuleSet) → is_lawful set ≡ true → CanBeText set → IsRuleFile (rules_text set) set
-is_rule_file set lawful can = record {
-  lines = rules_given set;
-  give = rules_give set lawful can;
-  can_be = file_can set lawful can;
-  rules_are = sym (rules_same set lawful);
-}
+is_rule_file set lawful can =
+    let given = rules_give set lawful can in
+    record {
+      form = form_of set.rules;
+      rest = given.rest;
+      has_form = given.has_form;
+      lines = rules_given set;
+      give = given.give;
+      can_be = file_can set lawful can;
+      rules_are = sym (rules_same set lawful);
+    }

@@ -38,13 +38,18 @@ use Rattle.milter_filter_rules.specs.declared.rule_list.StageRules.{StageRules}
 use Rattle.milter_filter_rules.specs.ActionFits.{allowed_at, are_lawful_at, edit_fits, fields_fit, has_room, header_fits}
 use Rattle.milter_filter_rules.specs.ActionFits.{is_index, may_act}
 use Rattle.milter_rules.specs.ActionText.{action_words, edit_words, verdict_words}
-use Rattle.milter_rules.specs.ConditionWords.{condition_words, conditions_words, joined, name_words}
+use Rattle.milter_filter_rules.specs.declared.rule.Joint.{Joint}
+use Rattle.milter_filter_rules.specs.declared.rule.Joint.TheVariants.{And, Or}
+use Rattle.milter_filter_rules.specs.declared.rule.PathPart.TheVariants as parts
+use Rattle.milter_rules.specs.declared.form.Form.{Form}
+use Rattle.milter_rules.specs.declared.form.Form.TheVariants.{First, Second}
+use Rattle.milter_rules.specs.RuleForms.{form_of, header_lines}
+use Rattle.milter_rules.specs.ConditionWords.{condition_words, conditions_words, field_words, flag_words, joined, joint_word, quoted_word, test_words}
 use Rattle.milter_rules.specs.ConditionWords.{quoted_word}
-use Rattle.milter_filter_rules.specs.RuleNames.{field_name}
 use Rattle.milter_filter_search.specs.Texts.{test_name}
 use Rattle.milter_filter_rules.specs.RuleSet.{RuleSet, is_lawful, options_known, rules_lawful, wants_within}
 use Rattle.milter_filter_rules.specs.RulesLaw.{EachFits, each_fits}
-use Rattle.milter_rules.specs.RulesText.{actions_words, macro_stage_numbered, protocol_words, rule_words, rules_lines}
+use Rattle.milter_rules.specs.RulesText.{actions_words, body_lines, macro_stage_numbered, protocol_words, rule_words, rules_lines}
 use Rattle.milter_rules.specs.RulesText.{rules_text, stage_lines, symbols_line, symbols_words, version_words}
 use Rattle.milter_filter_rules.specs.StageRules.{rules_at}
 use Rattle.milter_rules.specs.WordsText.{CanBeLine, CanBeWritten, HasBytes, IsTextOf, words_text}
@@ -217,33 +222,68 @@ stage_plain stages.Eoh = refl
 stage_plain stages.Body = refl
 stage_plain stages.Eob = refl
 
-test_plain : (test : Test) (text : List ℕ) → are_writable (keyword (test_name test) ∷ quoted_word text ∷ []) ≡ true
-test_plain tests.Is text = refl
-test_plain tests.Has text = refl
-test_plain tests.Lacks text = refl
+test_plain : (test : Test) → is_plain_word (test_name test) ≡ true
+test_plain tests.Is = refl
+test_plain tests.Has = refl
+test_plain tests.Lacks = refl
+test_plain tests.Begins = refl
+test_plain tests.Ends = refl
+test_plain tests.Like = refl
+test_plain tests.Under = refl
 
-field_plain : (field : Field) → are_writable (keyword (field_name field) ∷ name_words field) ≡ true
+field_plain : (field : Field) → are_writable (field_words field) ≡ true
 field_plain fields.Host = refl
 field_plain fields.Address = refl
 field_plain fields.Helo = refl
-field_plain fields.Sender = refl
-field_plain fields.Rcpt = refl
+field_plain (fields.Sender parts.Sent) = refl
+field_plain (fields.Sender parts.Address) = refl
+field_plain (fields.Sender parts.Domain) = refl
+field_plain (fields.Rcpt parts.Sent) = refl
+field_plain (fields.Rcpt parts.Address) = refl
+field_plain (fields.Rcpt parts.Domain) = refl
+field_plain (fields.Recipients parts.Sent) = refl
+field_plain (fields.Recipients parts.Address) = refl
+field_plain (fields.Recipients parts.Domain) = refl
 field_plain (fields.Header name) = refl
 field_plain fields.Body = refl
 field_plain (fields.Macro name) = refl
 
+not_plain : (negated : Bool) → are_writable (flag_words (codes "not") negated) ≡ true
+not_plain true = refl
+not_plain false = refl
+
+case_plain : (ignored : Bool) → are_writable (flag_words (codes "any-case") ignored) ≡ true
+case_plain true = refl
+case_plain false = refl
+
+texts_plain : (texts : List (List ℕ)) → are_writable (map quoted_word texts) ≡ true
+texts_plain [] = refl
+texts_plain (text ∷ texts) = texts_plain texts
+
+test_words_plain : (c : Condition) → are_writable (test_words c) ≡ true
+test_words_plain c =
+    let texts = map quoted_word c.texts in
+    let case = flag_words (codes "any-case") c.any_case in
+    and_from (is_plain_word (test_name c.test)) (are_writable (case ++ texts)) (test_plain c.test)
+    (both_writable case texts (case_plain c.any_case) (texts_plain c.texts))
+
 condition_plain : (c : Condition) → are_writable (condition_words c) ≡ true
 condition_plain c =
-    both_writable (keyword (field_name c.field) ∷ name_words c.field)
-    (keyword (test_name c.test) ∷ quoted_word c.text ∷ []) (field_plain c.field) (test_plain c.test c.text)
+    both_writable (flag_words (codes "not") c.negated) (field_words c.field ++ test_words c) (not_plain c.negated)
+    (both_writable (field_words c.field) (test_words c) (field_plain c.field) (test_words_plain c))
 
-conditions_plain : (joint : List ℕ) (conditions : List Condition) → is_plain_word joint ≡ true
-    → are_writable (joined joint conditions) ≡ true
-conditions_plain joint [] plain = refl
-conditions_plain joint (c ∷ conditions) plain =
-    let others = joined (codes "and") conditions in
-    and_from (is_plain_word joint) (are_writable (condition_words c ++ others)) plain
-    (both_writable (condition_words c) others (condition_plain c) (conditions_plain (codes "and") conditions refl))
+joint_plain : (first : Bool) (joint : Joint) → is_plain_word (joint_word first joint) ≡ true
+joint_plain true And = refl
+joint_plain false And = refl
+joint_plain true Or = refl
+joint_plain false Or = refl
+
+conditions_plain : (first : Bool) (conditions : List Condition) → are_writable (joined first conditions) ≡ true
+conditions_plain first [] = refl
+conditions_plain first (c ∷ conditions) =
+    let others = joined false conditions in
+    and_from (is_plain_word (joint_word first c.joint)) (are_writable (condition_words c ++ others)) (joint_plain first c.joint)
+    (both_writable (condition_words c) others (condition_plain c) (conditions_plain false conditions))
 
 index_plain : (index : ℕ) (fits : Bool) → (is_index index && fits) ≡ true → is_plain_word (decimal index) ≡ true
 index_plain index fits e =
@@ -281,7 +321,7 @@ rule_line stage rule fits =
     let action = keyword (codes "do") ∷ action_words rule.action in
     let words = conditions_words rule.conditions ++ action in
     let plain = both_writable (conditions_words rule.conditions) action
-    (conditions_plain (codes "when") rule.conditions refl) (action_plain rule.action fits) in
+    (conditions_plain true rule.conditions) (action_plain rule.action fits) in
     rw (stage_plain stage, plain) refl
 
 rules_line : (stage : Stage) (rules : List Rule) → are_lawful_at stage rules ≡ true
@@ -326,8 +366,12 @@ known_version set lawful =
     let le = leb-true set.options.version VERSION_MAX (and_parts (nat_le set.options.version VERSION_MAX) _ most).0 in
     omega (arith, le)
 
-all_lines : (set : RuleSet) → is_lawful set ≡ true → list_all is_line (rules_lines set) ≡ true
-all_lines set lawful =
+header_line : (form : Form) → list_all is_line (header_lines form) ≡ true
+header_line First = refl
+header_line Second = refl
+
+lines_of_body : (set : RuleSet) → is_lawful set ≡ true → list_all is_line (body_lines set) ≡ true
+lines_of_body set lawful =
     let o = set.options in
     let rules = (and_parts (wants_within o set.lists) (rules_lawful set.rules) lawful).1 in
     let lists = filter_map symbols_line set.lists in
@@ -342,6 +386,10 @@ all_lines set lawful =
     and_from (is_line (version_words o.version))
     (list_all is_line (actions_words o.actions.0 ∷ protocol_words o.protocol.0 ∷ others))
     (version_line o.version (known_version set lawful)) from_actions
+
+all_lines : (set : RuleSet) → is_lawful set ≡ true → list_all is_line (rules_lines set) ≡ true
+all_lines set lawful =
+    both_lines (header_lines (form_of set.rules)) (body_lines set) (header_line (form_of set.rules)) (lines_of_body set lawful)
 
 pub rules_have_words : (set : RuleSet) → is_lawful set ≡ true → All (All HasBytes) (rules_lines set)
     → AllZip HasWords (contents (rules_text set)) (rules_lines set)

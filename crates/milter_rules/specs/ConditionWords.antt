@@ -1,14 +1,17 @@
 -- The words of conditions, as a rule file has them: each word of them is written in one way only.
-use Rattle.std.specs.Prelude.{ℕ, List, [], ◌∷◌, ◌++◌, codes, true, Option, None, Some, if◌then◌else◌}
+use Rattle.std.specs.Prelude.{ℕ, Bool, true, false, List, [], ◌∷◌, ◌++◌, codes, map, Option, None, Some, if◌then◌else◌}
 use Rattle.std.specs.Option.{option_map}
 use Rattle.milter_wire_fields.specs.Bind.{◌>>=◌}
 use Rattle.milter_text.specs.declared.word.Word.{Word}
 use Rattle.milter_text.specs.WordValues.{is_keyword, keyword, text_of}
 use Rattle.milter_filter_rules.specs.declared.rule.Condition.{Condition}
 use Rattle.milter_filter_rules.specs.declared.rule.Field.{Field}
-use Rattle.milter_filter_rules.specs.declared.rule.Field.TheVariants.{Host, Address, Helo, Sender, Rcpt, Header, Body, Macro}
+use Rattle.milter_filter_rules.specs.declared.rule.Field.TheVariants.{Host, Address, Helo, Sender, Rcpt, Recipients, Header, Body, Macro}
+use Rattle.milter_filter_rules.specs.declared.rule.Joint.{Joint}
+use Rattle.milter_filter_rules.specs.declared.rule.Joint.TheVariants.{And, Or}
+use Rattle.milter_filter_rules.specs.declared.rule.PathPart.TheVariants as parts
 use Rattle.milter_filter_search.specs.declared.pattern.Test.{Test}
-use Rattle.milter_filter_search.specs.declared.pattern.Test.TheVariants.{Is, Has, Lacks}
+use Rattle.milter_filter_search.specs.declared.pattern.Test.TheVariants.{Is, Has, Lacks, Begins, Ends, Like, Under}
 use Rattle.milter_filter_rules.specs.RuleNames.{field_name}
 use Rattle.milter_filter_search.specs.Texts.{test_name}
 
@@ -23,32 +26,59 @@ name_words (Header name) = quoted_word name ∷ []
 name_words (Macro name) = quoted_word name ∷ []
 name_words other = []
 
--- `FIELD is TEXT`, `FIELD has TEXT` or `FIELD lacks TEXT`
+-- a keyword, or nothing
+abbrev pub flag_words : List ℕ → Bool → List Word
+flag_words text true = keyword text ∷ []
+flag_words text false = []
+
+-- the words after the field: the test, perhaps `any-case`, and the texts
+abbrev pub test_words : Condition → List Word
+test_words c = keyword (test_name c.test) ∷ (flag_words (codes "any-case") c.any_case ++ map quoted_word c.texts)
+
+abbrev pub field_words : Field → List Word
+field_words field = keyword (field_name field) ∷ name_words field
+
+-- `FIELD TEST TEXT ..`, perhaps with `not` before it, and with `any-case` after the test
 abbrev pub condition_words : Condition → List Word
-condition_words c =
-    keyword (field_name c.field) ∷ (name_words c.field ++ keyword (test_name c.test) ∷ quoted_word c.text ∷ [])
+condition_words c = flag_words (codes "not") c.negated ++ (field_words c.field ++ test_words c)
 
--- the conditions, the first after this word and each other after `and`
-abbrev pub joined : List ℕ → List Condition → List Word
-joined joint [] = []
-joined joint (condition ∷ conditions) =
-    keyword joint ∷ (condition_words condition ++ joined (codes "and") conditions)
+-- the word before a condition: the first has `when`
+abbrev pub joint_word : Bool → Joint → List ℕ
+joint_word true And = codes "when"
+joint_word false And = codes "and"
+joint_word first Or = codes "or"
 
--- `when COND and COND ..`, or nothing
+-- the conditions, each after its word; whether the first of them is the first of the rule
+abbrev pub joined : Bool → List Condition → List Word
+joined first [] = []
+joined first (c ∷ conditions) = keyword (joint_word first c.joint) ∷ (condition_words c ++ joined false conditions)
+
+-- `when COND and COND or COND ..`, or nothing
 abbrev pub conditions_words : List Condition → List Word
-conditions_words conditions = joined (codes "when") conditions
+conditions_words conditions = joined true conditions
 
 -- ---- how a condition is read: it, and the words after it
+
+abbrev pub path_field : Word → Option Field
+path_field word =
+    if is_keyword (codes "sender") word then Some (Sender parts.Sent)
+    else if is_keyword (codes "sender-address") word then Some (Sender parts.Address)
+    else if is_keyword (codes "sender-domain") word then Some (Sender parts.Domain)
+    else if is_keyword (codes "rcpt") word then Some (Rcpt parts.Sent)
+    else if is_keyword (codes "rcpt-address") word then Some (Rcpt parts.Address)
+    else if is_keyword (codes "rcpt-domain") word then Some (Rcpt parts.Domain)
+    else if is_keyword (codes "recipients") word then Some (Recipients parts.Sent)
+    else if is_keyword (codes "recipients-address") word then Some (Recipients parts.Address)
+    else if is_keyword (codes "recipients-domain") word then Some (Recipients parts.Domain)
+    else None
 
 abbrev pub lone_field : Word → Option Field
 lone_field word =
     if is_keyword (codes "host") word then Some Host
     else if is_keyword (codes "address") word then Some Address
     else if is_keyword (codes "helo") word then Some Helo
-    else if is_keyword (codes "sender") word then Some Sender
-    else if is_keyword (codes "rcpt") word then Some Rcpt
     else if is_keyword (codes "body") word then Some Body
-    else None
+    else path_field word
 
 abbrev pub named_field : Word → List ℕ → Option Field
 named_field word name =
@@ -74,19 +104,80 @@ test_in word =
     if is_keyword (codes "is") word then Some Is
     else if is_keyword (codes "has") word then Some Has
     else if is_keyword (codes "lacks") word then Some Lacks
+    else if is_keyword (codes "begins") word then Some Begins
+    else if is_keyword (codes "ends") word then Some Ends
+    else if is_keyword (codes "like") word then Some Like
+    else if is_keyword (codes "under") word then Some Under
     else None
-
-abbrev pub condition_on : Field → List Word → Option (Condition × List Word)
-condition_on field (test ∷ text ∷ rest) = do
-  test ← test_in test
-  text ← text_of text
-  Some (record { field = field; test = test; text = text }, rest)
-condition_on field _ = None
-
-abbrev pub condition_at : List Word → Option (Condition × List Word)
-condition_at words = field_at words >>= λ found. condition_on found.0 found.1
 
 -- the words after the keyword that they begin with
 abbrev pub words_after : List ℕ → List Word → Option (List Word)
 words_after text [] = None
 words_after text (word ∷ words) = if is_keyword text word then Some words else None
+
+-- whether the words begin with the keyword, and the words after it
+abbrev pub flag_by : Option (List Word) → List Word → Bool × List Word
+flag_by None words = (false, words)
+flag_by (Some rest) words = (true, rest)
+
+abbrev pub flag_at : List ℕ → List Word → Bool × List Word
+flag_at text words = flag_by (words_after text words) words
+
+-- the text that the words begin with, and the words after it
+abbrev pub first_text : List Word → Option (List ℕ × List Word)
+first_text [] = None
+first_text (word ∷ words) = option_map (λ text. (text, words)) (text_of word)
+
+-- the texts that the words begin with
+abbrev pub texts_with : Option (List ℕ) → Word → List (List ℕ) × List Word → List Word → List (List ℕ) × List Word
+texts_with (Some text) word found words = (text ∷ found.0, found.1)
+texts_with None word found words = ([], word ∷ words)
+
+abbrev pub texts_at : List Word → List (List ℕ) × List Word
+texts_at [] = ([], [])
+texts_at (word ∷ words) = texts_with (text_of word) word (texts_at words) words
+
+-- what stands before a test: how the condition is joined, whether it is negated, and its field
+pub record Subject : Type 0 where
+  pub joint : Joint
+  pub negated : Bool
+  pub field : Field
+
+abbrev pub condition_of : Subject → Test → Bool → List (List ℕ) → Condition
+condition_of s test any_case texts =
+    record {
+      joint = s.joint;
+      negated = s.negated;
+      field = s.field;
+      test = test;
+      any_case = any_case;
+      texts = texts;
+    }
+
+-- the condition with these texts and the words after them
+abbrev pub with_texts : Subject → Test → Bool → List (List ℕ) × List Word → Condition × List Word
+with_texts s test any_case texts = (condition_of s test any_case texts.0, texts.1)
+
+-- the condition with the texts after the test, or after `any-case`
+abbrev pub after_test : Subject → Test → Bool × List Word → Condition × List Word
+after_test s test flag = with_texts s test flag.0 (texts_at flag.1)
+
+abbrev pub condition_on : Subject → List Word → Option (Condition × List Word)
+condition_on s [] = None
+condition_on s (word ∷ rest) = option_map (λ test. after_test s test (flag_at (codes "any-case") rest)) (test_in word)
+
+abbrev pub after_not : Joint → Bool × List Word → Option (Condition × List Word)
+after_not joint flag =
+    field_at flag.1 >>= λ found. condition_on (record { joint = joint; negated = flag.0; field = found.0 }) found.1
+
+abbrev pub condition_at : Joint → List Word → Option (Condition × List Word)
+condition_at joint words = after_not joint (flag_at (codes "not") words)
+
+-- how the next condition is joined, and the words after that
+abbrev pub joint_by : Option (List Word) → Option (List Word) → Option (Joint × List Word)
+joint_by (Some rest) other = Some (And, rest)
+joint_by None (Some rest) = Some (Or, rest)
+joint_by None None = None
+
+abbrev pub joint_at : Bool → List Word → Option (Joint × List Word)
+joint_at first words = joint_by (words_after (joint_word first And) words) (words_after (codes "or") words)

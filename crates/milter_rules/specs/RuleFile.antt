@@ -1,5 +1,5 @@
 -- The form of a rule file: the lines that it has, in any order, and the rules that they give.
-use Rattle.std.specs.Prelude.{◌≡◌, ◌≤◌, ◌+◌, ℕ, ◌==◌, Bool, true, false, List, [], ◌∷◌, length, slice_get, Option, None, Some, if◌then◌else◌}
+use Rattle.std.specs.Prelude.{◌≡◌, ◌≤◌, ◌+◌, ℕ, ◌==◌, Bool, true, false, List, [], ◌∷◌, is_some, length, slice_get, Option, None, Some, if◌then◌else◌}
 use Rattle.std.specs.Int.RustNames.{bit_or}
 use Rattle.std.specs.List.{AllZip, filter, filter_map, flat_map, fold, list_any}
 use Rattle.std.specs.Option.{option_map, unwrap_or}
@@ -29,6 +29,8 @@ use Rattle.milter_rules.specs.declared.rule_line.RuleLine.TheVariants as lines
 use Rattle.milter_rules.specs.declared.rule_line.Setting.TheVariants as settings
 use Rattle.milter_filter_rules.specs.declared.rule_list.StageRules.{StageRules}
 use Rattle.milter_filter_rules.specs.ActionFits.{edits_weight}
+use Rattle.milter_rules.specs.declared.form.Form.{Form}
+use Rattle.milter_rules.specs.RuleForms.{FitsForm, HasForm}
 use Rattle.milter_rules.specs.RuleLines.{Gives}
 use Rattle.milter_filter_rules.specs.RuleSet.{RuleSet}
 use Rattle.milter_filter_rules.specs.StageRules.{by_stage, is_stage}
@@ -137,26 +139,39 @@ rules_of p = record { options = wanted p; lists = p.lists; rules = p.rules }
 
 -- ---- the file
 
--- the line is in words, and they give this
-pub record LineGives (line : List ℕ) (value : RuleLine) : Type 0 where
+-- the line is in words, and they give this, which a file of the form may have
+pub record LineGives (form : Form) (line : List ℕ) (value : RuleLine) : Type 0 where
   pub words : List Word
   pub has_words : HasWords line words
   pub gives : Gives words value
+  pub fits : FitsForm form value
 
 -- each of the lines gives this, in order
-abbrev pub AllGive : List (List ℕ) → List RuleLine → Type 0
-AllGive lines values = AllZip LineGives lines values
+abbrev pub AllGive : Form → List (List ℕ) → List RuleLine → Type 0
+AllGive form lines values = AllZip (LineGives form) lines values
 
 -- the lines can be a file's, and give these parts
-pub record FoundAll (all : List (List ℕ)) (parts : FileParts) : Type 0 where
+pub record FoundAll (form : Form) (all : List (List ℕ)) (parts : FileParts) : Type 0 where
   pub values : List RuleLine
-  pub give : AllGive all values
+  pub give : AllGive form all values
   pub can_be : CanBeFile values
   pub parts_are : parts ≡ parts_of values
 
--- the lines of the file that are not skipped give these rules
+-- the lines of the file that are not skipped, after the one that gives its form, give these rules
 pub record IsRuleFile (bytes : List ℕ) (set : RuleSet) : Type 0 where
+  pub form : Form
+  pub rest : List (List ℕ)
+  pub has_form : HasForm form (contents bytes) rest
   pub lines : List RuleLine
-  pub give : AllGive (contents bytes) lines
+  pub give : AllGive form rest lines
   pub can_be : CanBeFile lines
   pub rules_are : set ≡ rules_of (parts_of lines)
+
+-- the lines of the file state the protocol bits, or not
+pub record StatesProtocol (bytes : List ℕ) (is_stated : Bool) : Type 0 where
+  pub form : Form
+  pub rest : List (List ℕ)
+  pub has_form : HasForm form (contents bytes) rest
+  pub lines : List RuleLine
+  pub give : AllGive form rest lines
+  pub stated : is_stated ≡ is_some (parts_of lines).protocol

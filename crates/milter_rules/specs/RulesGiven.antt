@@ -1,5 +1,5 @@
 -- What the lines of rules that are written give.
-use Rattle.std.specs.Prelude.{◌<◌, ◌≤◌, ℕ, List, ◌∷◌, ◌++◌, All, length, map}
+use Rattle.std.specs.Prelude.{◌≡◌, ◌<◌, ◌≤◌, ℕ, true, List, ◌∷◌, ◌++◌, All, length, map}
 use Rattle.std.specs.List.{flat_map}
 use Rattle.milter_wire_options.specs.declared.symbol_lists.SymList.{SymList}
 use Rattle.milter_wire.specs.declared.stage.Stage.{Stage}
@@ -11,6 +11,7 @@ use Rattle.milter_rules.specs.declared.rule_line.Setting.TheVariants as settings
 use Rattle.milter_filter_rules.specs.declared.rule_list.StageRules.{StageRules}
 use Rattle.milter_rules.specs.RuleFile.{lists_of}
 use Rattle.milter_filter_rules.specs.RuleSet.{RuleSet}
+use Rattle.milter_rules.specs.RuleForms.{all_fit, form_of}
 use Rattle.milter_rules.specs.RulesText.{rules_lines}
 use Rattle.milter_filter_rules.specs.StageRules.{rules_at}
 use Rattle.milter_rules.specs.WordsText.{HasBytes}
@@ -33,8 +34,10 @@ rules_given set =
 abbrev pub stage_count : ℕ
 stage_count = 7
 
--- Each text is of bytes, and each symbol list of a stage, of which there is no other. There are not too many rules.
+-- The conditions are of the form in which they are written, each text is of bytes, and each symbol list of a stage, of
+-- which there is no other. There are not too many rules.
 pub record CanBeText (set : RuleSet) : Type 0 where
+  pub conditions : all_fit (form_of set.rules) set.rules ≡ true
   pub bytes : All (All HasBytes) (rules_lines set)
   pub stages : All (λ list. list.stage < stage_count) set.lists
   pub apart : (stage : ℕ) → length (lists_of stage set.lists) ≤ 1

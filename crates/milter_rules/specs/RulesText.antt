@@ -1,5 +1,5 @@
--- The canonical text of rules as a rule file: a line each for the version, the actions and the protocol, one for each
--- symbol list, and one for each rule, stage by stage.
+-- The canonical text of rules as a rule file: `rules 2` where they need it, a line each for the version, the actions
+-- and the protocol, one for each symbol list, and one for each rule, stage by stage.
 use Rattle.std.specs.Prelude.{ℕ, ◌==◌, List, [], ◌∷◌, ◌++◌, codes, decimal, find, map, Option, None, Some}
 use Rattle.std.specs.List.{filter_map, flat_map}
 use Rattle.std.specs.Option.{option_map}
@@ -17,6 +17,7 @@ use Rattle.milter_filter_rules.specs.declared.rule_list.StageRules.{StageRules}
 use Rattle.milter_rules.specs.ActionText.{action_words}
 use Rattle.milter_rules.specs.ConditionWords.{conditions_words, quoted_word}
 use Rattle.milter_filter_rules.specs.RuleSet.{RuleSet}
+use Rattle.milter_rules.specs.RuleForms.{form_of, header_lines}
 use Rattle.milter_filter_rules.specs.StageRules.{rules_at}
 use Rattle.milter_rules.specs.WordsText.{line_text}
 
@@ -83,13 +84,17 @@ symbols_line list = option_map (λ stage. symbols_words stage list.names) (macro
 abbrev pub stage_lines : StageRules → Stage → List (List Word)
 stage_lines rules stage = map (rule_words stage) (rules_at rules stage)
 
--- the words of each line
-abbrev pub rules_lines : RuleSet → List (List Word)
-rules_lines set =
+-- the words of each line after the first one of the form
+abbrev pub body_lines : RuleSet → List (List Word)
+body_lines set =
     version_words set.options.version
     ∷ actions_words set.options.actions.0
     ∷ protocol_words set.options.protocol.0
     ∷ (filter_map symbols_line set.lists ++ flat_map (stage_lines set.rules) all_stages)
+
+-- the words of each line
+abbrev pub rules_lines : RuleSet → List (List Word)
+rules_lines set = header_lines (form_of set.rules) ++ body_lines set
 
 unfoldable pub rules_text : RuleSet → List ℕ
 rules_text set = flat_map line_text (rules_lines set)

@@ -1,14 +1,14 @@
-//! The conditions in the words of a rule's line: `when COND and COND ..`, with `FIELD is TEXT`, `FIELD has TEXT` or
-//! `FIELD lacks TEXT` for each.
+//! The conditions in the words of a rule's line: `when COND and COND or COND ..`, with `FIELD TEST TEXT ..` for each,
+//! perhaps with `not` before it, and with `any-case` after the test.
 
 ghost use Rattle.std.specs.Prelude.{◌≡◌, ◌++◌, ◌∷◌, IfOk, IfSome, List, codes, option_map};
 ghost use Rattle.std.specs.Option.{IsSomeAnd};
 ghost use Rattle.milter_text.specs.declared.word.Word.{Word};
 ghost use Rattle.milter_text.specs.WordValues.{keyword};
 ghost use Rattle.milter_filter_rules.specs.declared.rule.Condition.{Condition};
-ghost use Rattle.milter_rules.specs.ConditionWords.{condition_at, condition_on, conditions_words, field_at, lone_field, named_field, test_in, words_after};
+ghost use Rattle.milter_rules.specs.ConditionWords.{condition_at, condition_on, conditions_words, field_at, first_text, flag_at, joint_at, lone_field, named_field, path_field, test_in, texts_at, words_after};
 
-use milter_filter_rules::{Condition, Conditions, Field, Test};
+use milter_filter_rules::{Condition, Conditions, Field, Joint, PathPart, Test, Texts};
 use milter_text::Word;
 use milter_wire::{NoMemory, Text};
 use std::alloc::Global;
@@ -27,19 +27,30 @@ pub(crate) fn conditions_in<'a>(
 {
     let mut conditions = Vec::new(alloc);
     let mut rest = words;
-    let mut joint: &[u8] = b"when";
-    while let Some(after) = words_after(joint, rest) {
-        let Some((condition, after)) = condition_in(alloc, after)? else {
+    let mut is_first = true;
+    while let Some((joint, after)) = joint_in(is_first, rest) {
+        let Some((condition, after)) = condition_in(alloc, joint, after)? else {
             return Ok(None);
         };
         conditions.push(condition)?;
         rest = after;
-        joint = b"and";
+        is_first = false;
     }
     match words_after(b"do", rest) {
         Some(action) => Ok(Some((Conditions::new(conditions), action))),
         None => Ok(None),
     }
+}
+
+/// How the next condition is joined by the word that the words begin with, and the words after it.
+fn joint_in(is_first: bool, words: &[Word]) -> Option<(Joint, &[Word])>
+    ensures { option_map (λ x. (x.0, x.1.now)) result ≡ joint_at is_first words.now }
+{
+    let and: &[u8] = if is_first { b"when" } else { b"and" };
+    if let Some(rest) = words_after(and, words) {
+        return Some((Joint::And, rest));
+    }
+    Some((Joint::Or, words_after(b"or", words)?))
 }
 
 /// The words after the keyword that they begin with; none where they begin with another word.
@@ -52,35 +63,101 @@ pub(crate) fn words_after<'a>(keyword: &[u8], words: &'a [Word]) -> Option<&'a [
     }
 }
 
-/// The condition that the words begin with, and the words after it.
+/// Whether the words begin with the keyword, and the words after it.
+fn flag_in<'a>(keyword: &[u8], words: &'a [Word]) -> (bool, &'a [Word])
+    ensures { (result.0, result.1.now) ≡ flag_at keyword.now words.now }
+{
+    match words_after(keyword, words) {
+        Some(rest) => (true, rest),
+        None => (false, words),
+    }
+}
+
+/// The condition that the words begin with, which is joined so, and the words after it.
 fn condition_in<'a>(
     alloc: Global,
+    joint: Joint,
     words: &'a [Word],
 ) -> Result<Option<(Condition, &'a [Word])>, NoMemory>
-    ensures { IfOk result (λ found. option_map (λ x. (x.0, x.1.now)) found ≡ condition_at words.now) }
+    ensures { IfOk result (λ found. option_map (λ x. (x.0, x.1.now)) found ≡ condition_at joint words.now) }
 {
-    match field_in(alloc, words)? {
-        Some((field, rest)) => condition_on(alloc, field, rest),
+    let (negated, rest) = flag_in(b"not", words);
+    match field_in(alloc, rest)? {
+        Some((field, rest)) => condition_on(
+            alloc,
+            Subject {
+                joint,
+                negated,
+                field,
+            },
+            rest,
+        ),
         None => Ok(None),
     }
 }
 
-/// The condition on this field whose test and text the words begin with, and the words after it.
+/// What stands before a test.
+#[derive(Drop)]
+struct Subject {
+    joint: Joint,
+    negated: bool,
+    field: Field,
+}
+
+/// The condition on this subject whose test and texts the words begin with, and the words after it.
 fn condition_on<'a>(
     alloc: Global,
-    field: Field,
+    subject: Subject,
     words: &'a [Word],
 ) -> Result<Option<(Condition, &'a [Word])>, NoMemory>
-    ensures { IfOk result (λ found. option_map (λ x. (x.0, x.1.now)) found ≡ condition_on field words.now) }
+    ensures { IfOk result (λ found. option_map (λ x. (x.0, x.1.now)) found
+        ≡ condition_on (record { joint = subject.joint; negated = subject.negated; field = subject.field }) words.now) }
 {
-    let [test, text, rest @ ..] = words else {
+    let [test, rest @ ..] = words else {
         return Ok(None);
     };
-    let (Some(test), Some(text)) = (test_in(test), text.quoted_text()) else {
+    let Some(test) = test_in(test) else {
         return Ok(None);
     };
-    let text = Text::copy_of(alloc, text.as_slice())?;
-    Ok(Some((Condition { field, test, text }, rest)))
+    let (any_case, rest) = flag_in(b"any-case", rest);
+    let (texts, rest) = texts_in(alloc, rest)?;
+    let Subject {
+        joint,
+        negated,
+        field,
+    } = subject;
+    let condition = Condition {
+        joint,
+        negated,
+        field,
+        test,
+        any_case,
+        texts,
+    };
+    Ok(Some((condition, rest)))
+}
+
+/// Copies of the texts that the words begin with, and the words after them.
+fn texts_in<'a>(alloc: Global, words: &'a [Word]) -> Result<(Texts, &'a [Word]), NoMemory>
+    ensures { IfOk result (λ found. (found.0, found.1.now) ≡ texts_at words.now) }
+{
+    let mut texts = Vec::new(alloc);
+    let mut rest = words;
+    while let Some((text, after)) = first_text(rest) {
+        texts.push(Text::copy_of(alloc, text.as_slice())?)?;
+        rest = after;
+    }
+    Ok((Texts::new(texts), rest))
+}
+
+/// The text that the words begin with, and the words after it.
+fn first_text(words: &[Word]) -> Option<(&Text, &[Word])>
+    ensures { option_map (λ x. (x.0.now, x.1.now)) result ≡ first_text words.now }
+{
+    match words {
+        [word, rest @ ..] => Some((word.quoted_text()?, rest)),
+        [] => None,
+    }
 }
 
 /// The field that the words begin with, and the words after it.
@@ -115,12 +192,35 @@ fn lone_field(word: &Word) -> Option<Field>
         Some(Field::Address)
     } else if word.is_keyword(b"helo") {
         Some(Field::Helo)
-    } else if word.is_keyword(b"sender") {
-        Some(Field::Sender)
-    } else if word.is_keyword(b"rcpt") {
-        Some(Field::Rcpt)
     } else if word.is_keyword(b"body") {
         Some(Field::Body)
+    } else {
+        path_field(word)
+    }
+}
+
+/// The field of this word, if it is a part of a sender or of recipients.
+fn path_field(word: &Word) -> Option<Field>
+    ensures { result ≡ path_field word.now }
+{
+    if word.is_keyword(b"sender") {
+        Some(Field::Sender(PathPart::Sent))
+    } else if word.is_keyword(b"sender-address") {
+        Some(Field::Sender(PathPart::Address))
+    } else if word.is_keyword(b"sender-domain") {
+        Some(Field::Sender(PathPart::Domain))
+    } else if word.is_keyword(b"rcpt") {
+        Some(Field::Rcpt(PathPart::Sent))
+    } else if word.is_keyword(b"rcpt-address") {
+        Some(Field::Rcpt(PathPart::Address))
+    } else if word.is_keyword(b"rcpt-domain") {
+        Some(Field::Rcpt(PathPart::Domain))
+    } else if word.is_keyword(b"recipients") {
+        Some(Field::Recipients(PathPart::Sent))
+    } else if word.is_keyword(b"recipients-address") {
+        Some(Field::Recipients(PathPart::Address))
+    } else if word.is_keyword(b"recipients-domain") {
+        Some(Field::Recipients(PathPart::Domain))
     } else {
         None
     }
@@ -149,6 +249,14 @@ fn test_in(word: &Word) -> Option<Test>
         Some(Test::Has)
     } else if word.is_keyword(b"lacks") {
         Some(Test::Lacks)
+    } else if word.is_keyword(b"begins") {
+        Some(Test::Begins)
+    } else if word.is_keyword(b"ends") {
+        Some(Test::Ends)
+    } else if word.is_keyword(b"like") {
+        Some(Test::Like)
+    } else if word.is_keyword(b"under") {
+        Some(Test::Under)
     } else {
         None
     }

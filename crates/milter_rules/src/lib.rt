@@ -4,6 +4,7 @@
 
 mod action_words;
 mod condition_words;
+mod form;
 mod laws;
 mod rule_builder;
 mod rule_fault;
@@ -14,7 +15,8 @@ mod words_text;
 
 pub use laws::{lines_of_written_words, rule_limit, words_of_actions, written_rules};
 pub use milter_filter_rules::{
-    Action, Condition, Conditions, Field, Rule, RuleList, Rules, StageRules, Test,
+    Action, Condition, Conditions, Field, Joint, PathPart, Rule, RuleList, Rules, StageRules, Test,
+    Texts,
 };
 pub use rule_builder::RULES_MAX;
 pub use rule_fault::RuleFault;

@@ -1,6 +1,6 @@
 //! The rules of a file, as far as it was read.
 
-ghost use Rattle.std.specs.Prelude.{◌≡◌, ◌+◌, ◌-◌, ◌^◌, ◌==◌, ◌++◌, ◌∷◌, IfErr, IsOk, None, OnErr, OnOk, [], Some, false, length, min, true};
+ghost use Rattle.std.specs.Prelude.{◌≡◌, ◌+◌, ◌-◌, ◌^◌, ◌==◌, ◌++◌, ◌∷◌, IfErr, IsOk, None, OnErr, OnOk, [], Some, false, is_some, length, min, true};
 ghost use Rattle.std.specs.List.{list_any};
 ghost use Rattle.milter_rules.specs.declared.rule_fault.RuleFault.TheVariants as faults;
 ghost use Rattle.milter_filter_rules.specs.ActionFits.{may_act};
@@ -8,8 +8,8 @@ ghost use Rattle.milter_rules.specs.RuleBuilder.{edits_weight_at, LineFits, Line
 ghost use Rattle.milter_rules.specs.RuleFault.{IsAt};
 ghost use Rattle.milter_rules.specs.RuleFile.{needed_actions, needed_for, needed_protocol, is_skip, parts_of, rules_of, wanted};
 ghost use Rattle.milter_filter_rules.specs.RuleSet.{is_lawful, list_fits};
-ghost use Rattle.milter_filter_rules.specs.RulesValue.{case_of, rule_set};
-ghost use Rattle.milter_filter_search.specs.declared.text_case.TextCase.TheVariants.{Exact};
+ghost use Rattle.milter_filter_rules.specs.RulesValue.{case_of, rule_set, states_protocol};
+ghost use Rattle.milter_glob.specs.declared.text_case.TextCase.TheVariants.{Exact};
 
 use crate::rule_fault::RuleFault;
 use crate::rule_line::{RuleLine, Setting};
@@ -155,9 +155,11 @@ impl Builder {
     pub(crate) fn into_rules(self) -> Rules
         ensures set { rule_set result ≡ rules_of self }
         ensures case { case_of result ≡ Exact }
+        ensures stated { states_protocol result ≡ is_some self.protocol }
     {
         let options = self.wanted();
-        Rules::from_parts(options, self.lists, self.rules)
+        let is_stated = self.protocol.is_some();
+        Rules::from_parts(options, self.lists, self.rules).with_protocol_stated(is_stated)
     }
 
     /// The options that the filter wants.

@@ -11,10 +11,12 @@ ghost use Rattle.milter_rules.specs.declared.rule_line.RuleLine.{RuleLine};
 ghost use Rattle.milter_filter_rules.specs.ActionFits.{may_act};
 ghost use Rattle.milter_rules.specs.ActionWords.{action_of};
 ghost use Rattle.milter_rules.specs.RuleFault.{IsAt};
+ghost use Rattle.milter_rules.specs.RuleForms.{FitsForm, are_conditions};
 ghost use Rattle.milter_rules.specs.RuleLines.{Gives, HasRule, IsNoText, actions_of, macro_stage_of, option_line, protocol_of, stage_at, symbols_line, symbols_of, version_of, setting_of};
 
 use crate::action_words::action_in;
 use crate::condition_words::{conditions_in, words_after};
+use crate::form::{Form, are_conditions};
 use crate::rule_fault::RuleFault;
 use milter_filter_core::VERSION_MAX;
 use milter_filter_rules::{Action, Rule, has_room, is_allowed_at, is_string};
@@ -45,18 +47,18 @@ pub(crate) enum RuleLine {
     At(Stage, Rule),
 }
 
-/// What the line gives. The fault is the first of these that is so: the first word isn't known, or the line of options
-/// or macros is bad; the stage isn't one; the conditions aren't any; the action isn't one; it may not be done at this
-/// stage; its packet would be too long.
-pub(crate) fn line_in(alloc: Global, line: &FileLine) -> Result<RuleLine, RuleFault>
-    ensures found { IfOk result (λ x. Gives line.now.words.items x) }
-    ensures only { (x : RuleLine) → Gives line.now.words.items x →
+/// What the line of a file of this form gives. The fault is the first of these that is so: the first word isn't known,
+/// or the line of options or macros is bad; the stage isn't one; the conditions aren't any; the action isn't one; it
+/// may not be done at this stage; its packet would be too long.
+pub(crate) fn line_in(alloc: Global, form: Form, line: &FileLine) -> Result<RuleLine, RuleFault>
+    ensures found { IfOk result (λ x. Gives line.now.words.items x × FitsForm form x) }
+    ensures only { (x : RuleLine) → Gives line.now.words.items x → FitsForm form x →
         MatchResult result (λ y. y ≡ x) (λ e. e ≡ faults.NoMemory) }
     ensures at { IfErr result (λ e. IsAt line.now.number e) }
 {
     let words = line.words.as_slice();
     if let Some(rest) = words_after(b"at", words) {
-        let (stage, rule) = rule_in(alloc, rest, line.number)?;
+        let (stage, rule) = rule_in(alloc, form, rest, line.number)?;
         return Ok(RuleLine::At(stage, rule));
     }
     match setting_in(alloc, words)? {
@@ -162,11 +164,13 @@ fn names_in(word: &Word) -> Option<&Text>
     if is_string(names) { Some(names) } else { None }
 }
 
-/// The stage and the rule of the line with this number, by its words after the first.
+/// The stage and the rule of the line with this number of a file of this form, by its words after the first.
 #[tactic(auto, using(crate::proofs::LineForms::stage_words, crate::proofs::LineForms::stage_read))]
-fn rule_in(alloc: Global, words: &[Word], line: u64) -> Result<(Stage, Rule), RuleFault>
-    ensures found { IfOk result (λ x. HasRule words.now x.0 x.1) }
+fn rule_in(alloc: Global, form: Form, words: &[Word], line: u64) -> Result<(Stage, Rule), RuleFault>
+    ensures found { IfOk result (λ x. HasRule words.now x.0 x.1
+        × (are_conditions form x.1.conditions ≡ true)) }
     ensures only { (stage : Stage) (rule : Rule) → HasRule words.now stage rule →
+        are_conditions form rule.conditions ≡ true →
         MatchResult result (λ x. x ≡ (stage, rule)) (λ e. e ≡ faults.NoMemory) }
     ensures at { IfErr result (λ e. IsAt line e) }
 {
@@ -176,6 +180,9 @@ fn rule_in(alloc: Global, words: &[Word], line: u64) -> Result<(Stage, Rule), Ru
     let Some((conditions, action)) = conditions_in(alloc, rest)? else {
         return Err(RuleFault::BadCondition(line));
     };
+    if !are_conditions(form, conditions.as_slice()) {
+        return Err(RuleFault::BadCondition(line));
+    }
     let action = action_at(alloc, action, stage, line)?;
     Ok((stage, Rule { conditions, action }))
 }

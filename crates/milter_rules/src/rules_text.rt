@@ -1,34 +1,36 @@
 //! Rules written as rule files.
 
-ghost use Rattle.std.specs.Prelude.{◌≡◌, ◌∷◌, OnErr, OnOk, option_map};
+ghost use Rattle.std.specs.Prelude.{◌≡◌, ◌∷◌, OnErr, OnOk, map, option_map};
 ghost use Rattle.std.specs.Io.KnownBytes.{Appends};
 ghost use Rattle.std.specs.List.{flat_map};
 ghost use Rattle.milter_text.specs.TextWriter.{Puts};
 ghost use Rattle.milter_text.specs.WordValues.{keyword};
 ghost use Rattle.milter_text.specs.WrittenText.{WritesPrefix};
 ghost use Rattle.milter_rules.specs.ActionText.{action_words, edit_words, indexed_words, texts_words};
-ghost use Rattle.milter_rules.specs.ConditionWords.{condition_words, conditions_words};
+ghost use Rattle.milter_rules.specs.ConditionWords.{condition_words, conditions_words, field_words, flag_words, joint_word, quoted_word};
+ghost use Rattle.milter_rules.specs.RuleForms.{header_lines};
 ghost use Rattle.milter_rules.specs.RulesText.{macro_stage_numbered, options_text, rule_text, rules_text};
 ghost use Rattle.milter_rules.specs.RulesText.{stages_text, symbols_text};
 ghost use Rattle.milter_filter_rules.specs.RulesValue.{rule_set};
-ghost use Rattle.milter_rules.specs.WordsText.{spaced};
+ghost use Rattle.milter_rules.specs.WordsText.{line_text, spaced};
 
+use crate::form::Form;
 use crate::words_text::{WordRef, put_line, put_words};
 use itoa::Buffer;
-use milter_filter_rules::{Action, Condition, Field, Rule, Rules};
+use milter_filter_rules::{Action, Condition, Field, Joint, Rule, Rules};
 use milter_message::Edit;
 use milter_text::{TextFault, TextWriter};
 use milter_wire::{Header, MacroStage, Options, Stage, SymList, Text, Verdict};
 use std::alloc::Global;
 use std::io::Write;
 
-/// Writes the rules as a rule file in canonical form: the lines `version`, `actions` and `protocol`, the latter two
-/// with the names of the bits joined by `|`, or `none`; `symbols` for each symbol list of a stage; and `at` for each
-/// rule, stage by stage in the order connect, helo, mail, rcpt, data, header, eoh, body, eob, and within a stage in the
-/// order in which they are looked at. Each line ends with LF, one blank is before each word but the first, keywords are
-/// plain, and texts are in quotes as [`quote`](milter_text::quote) writes them. A symbol list whose number is of no
-/// stage is left out; rules that were read from a file have none. The time is linear in the text. Memory is bounded by
-/// a small multiple of 65,536 bytes, and no rule is copied.
+/// Writes the rules as a rule file in canonical form: a line `rules 2` where they need it; the lines `version`,
+/// `actions` and `protocol`, the latter two with the names of the bits joined by `|`, or `none`; `symbols` for each
+/// symbol list of a stage; and `at` for each rule, stage by stage in the order connect, helo, mail, rcpt, data, header,
+/// eoh, body, eob, and within a stage in the order in which they are looked at. Each line ends with LF, one blank is
+/// before each word but the first, keywords are plain, and texts are in quotes as [`quote`](milter_text::quote) writes
+/// them. A symbol list whose number is of no stage is left out; rules that were read from a file have none. The time is
+/// linear in the text. Memory is bounded by a small multiple of 65,536 bytes, and no rule is copied.
 ///
 /// The error is `NoMemory` where memory is refused, and `Write` where a write fails, also one that is interrupted, or
 /// takes nothing. After either fault a prefix of the text is written, and nothing else.
@@ -52,9 +54,20 @@ fn put_rules<W: Write>(
 ) -> Result<(), TextFault>
     ensures { Puts W.contents (rules_text (rule_set rules.now)) output.old output.new result }
 {
+    put_form(output, Form::of_rules(rules))?;
     put_options(alloc, output, rules.options())?;
     put_symbols(output, rules.lists())?;
     put_stages(output, rules)
+}
+
+/// Puts the first line of a file of this form, if it has one.
+fn put_form<W: Write>(output: &mut TextWriter<'_, W>, form: Form) -> Result<(), TextFault>
+    ensures { Puts W.contents (flat_map line_text (header_lines form)) output.old output.new result }
+{
+    match form {
+        Form::First => Ok(()),
+        Form::Second => put_line(output, b"rules", &[WordRef::Plain(b"2")]),
+    }
 }
 
 /// Puts the lines of the version, of the actions and of the protocol.
@@ -153,39 +166,89 @@ fn put_rule<W: Write>(
     output.put(b"\n")
 }
 
-/// Puts the conditions, the first after `when` and each other after `and`.
+/// Puts the conditions, the first after `when` and each other after `and` or `or`.
 fn put_conditions<W: Write>(
     output: &mut TextWriter<'_, W>,
     conditions: &[Condition],
 ) -> Result<(), TextFault>
     ensures { Puts W.contents (spaced (conditions_words conditions.now)) output.old output.new result }
 {
-    let mut joint: &[u8] = b"when";
+    let mut is_first = true;
     for condition in conditions {
-        put_condition(output, joint, condition)?;
-        joint = b"and";
+        put_condition(output, is_first, condition)?;
+        is_first = false;
     }
     Ok(())
 }
 
-/// Puts a condition after this keyword.
+/// The word before a condition that is joined so.
+fn joint_word(is_first: bool, joint: Joint) -> &'static [u8]
+    ensures { result.now ≡ joint_word is_first joint }
+{
+    match joint {
+        Joint::And if is_first => b"when",
+        Joint::And => b"and",
+        Joint::Or => b"or",
+    }
+}
+
+/// Puts a condition after the word that joins it.
 fn put_condition<W: Write>(
     output: &mut TextWriter<'_, W>,
-    joint: &[u8],
+    is_first: bool,
     condition: &Condition,
 ) -> Result<(), TextFault>
-    ensures { Puts W.contents (spaced (keyword joint.now ∷ condition_words condition.now))
+    ensures { Puts W.contents
+        (spaced (keyword (joint_word is_first condition.now.joint) ∷ condition_words condition.now))
         output.old output.new result }
 {
-    let joint = WordRef::Plain(joint);
-    let field = WordRef::Plain(condition.field.name());
-    let test = WordRef::Plain(condition.test.name());
-    let text = WordRef::Quoted(&condition.text);
-    match &condition.field {
+    let joint = joint_word(is_first, condition.joint);
+    put_words(output, &[WordRef::Plain(joint)])?;
+    put_flag(output, b"not", condition.negated)?;
+    put_field(output, &condition.field)?;
+    put_words(output, &[WordRef::Plain(condition.test.name())])?;
+    put_flag(output, b"any-case", condition.any_case)?;
+    put_quoted_texts(output, condition.texts.as_slice())
+}
+
+/// Puts texts in quotes.
+fn put_quoted_texts<W: Write>(
+    output: &mut TextWriter<'_, W>,
+    texts: &[Text],
+) -> Result<(), TextFault>
+    ensures { Puts W.contents (spaced (map quoted_word texts.now)) output.old output.new result }
+{
+    for text in texts {
+        put_words(output, &[WordRef::Quoted(text)])?;
+    }
+    Ok(())
+}
+
+/// Puts the keyword, if it is there.
+fn put_flag<W: Write>(
+    output: &mut TextWriter<'_, W>,
+    keyword: &[u8],
+    is_there: bool,
+) -> Result<(), TextFault>
+    ensures { Puts W.contents (spaced (flag_words keyword.now is_there)) output.old output.new result }
+{
+    if is_there {
+        put_words(output, &[WordRef::Plain(keyword)])
+    } else {
+        Ok(())
+    }
+}
+
+/// Puts a field, with its name if it has one.
+fn put_field<W: Write>(output: &mut TextWriter<'_, W>, field: &Field) -> Result<(), TextFault>
+    ensures { Puts W.contents (spaced (field_words field.now)) output.old output.new result }
+{
+    let word = WordRef::Plain(field.name());
+    match field {
         Field::Header(name) | Field::Macro(name) => {
-            put_words(output, &[joint, field, WordRef::Quoted(name), test, text])
+            put_words(output, &[word, WordRef::Quoted(name)])
         }
-        _ => put_words(output, &[joint, field, test, text]),
+        _ => put_words(output, &[word]),
     }
 }
 

@@ -1,7 +1,10 @@
 //! What is said of the conditions of a rule.
 
+ghost use Rattle.std.specs.Prelude.{◌<◌, IfSome, length};
+
+use crate::compared::{finds_empty, is_met_unfound};
 use crate::sent_stages::bit_among;
-use milter_filter_rules::{Condition, Field, Test};
+use milter_filter_rules::{Condition, Field, Joint};
 use milter_protocol::rank_of;
 use milter_rules_faults::{Notes, Piece};
 use milter_wire::{NoMemory, Options, Protocol, Stage, Text};
@@ -16,48 +19,141 @@ enum Absence {
     NotYet,
 }
 
+/// The stage of a rule, and what its filter asks for.
+#[derive(Clone, Copy)]
+struct Place {
+    /// What the filter asks for.
+    options: Options,
+    /// The stage.
+    stage: Stage,
+}
+
+/// What becomes of conditions at a stage, as far as that is known from the fields that have no value there.
+#[derive(Clone, Copy, Debug, PartialEq, Eq)]
+enum Certainty {
+    /// They are never met.
+    Never,
+    /// They are always met.
+    Always,
+    /// It isn't known.
+    Open,
+}
+
+impl Certainty {
+    /// What becomes of two conditions of a group, both of which are to be met.
+    fn and(self, other: Self) -> Self {
+        match (self, other) {
+            (Certainty::Never, _) | (_, Certainty::Never) => Certainty::Never,
+            (Certainty::Always, Certainty::Always) => Certainty::Always,
+            _ => Certainty::Open,
+        }
+    }
+
+    /// What becomes of two groups, one of which is to be met.
+    fn or(self, other: Self) -> Self {
+        match (self, other) {
+            (Certainty::Always, _) | (_, Certainty::Always) => Certainty::Always,
+            (Certainty::Never, Certainty::Never) => Certainty::Never,
+            _ => Certainty::Open,
+        }
+    }
+}
+
 /// The stage from which on a field is known; none of a macro.
 pub(crate) fn first_stage(field: &Field) -> Option<Stage> {
     match field {
         Field::Host | Field::Address => Some(Stage::Connect),
         Field::Helo => Some(Stage::Helo),
-        Field::Sender => Some(Stage::Mail),
-        Field::Rcpt => Some(Stage::Rcpt),
+        Field::Sender(_) => Some(Stage::Mail),
+        Field::Rcpt(_) | Field::Recipients(_) => Some(Stage::Rcpt),
         Field::Header(_) => Some(Stage::Header),
         Field::Body => Some(Stage::Body),
         Field::Macro(_) => None,
     }
 }
 
-/// Says which condition of a rule of this stage never holds; or where none does which one always holds, though it looks
-/// at a field.
+/// Says of each group of conditions of a rule of this stage which one is never met; or where none is which one always
+/// is, though it looks at a field. Of several groups it says what becomes of the rule by that. Answers whether there is
+/// something to be said.
 pub(crate) fn say_conditions(
     alloc: Global,
     notes: &mut Notes<'_>,
     options: Options,
     stage: Stage,
     conditions: &[Condition],
-) -> Result<(), NoMemory> {
-    if let Some((condition, absence)) = first_absent(conditions, options, stage, false) {
-        return say_absent(alloc, notes, stage, condition, b" never holds: ", absence);
+) -> Result<bool, NoMemory> {
+    let place = Place { options, stage };
+    let mut certainty = Certainty::Never;
+    let mut is_said = false;
+    let mut rest = conditions;
+    while let Some((group, after)) = first_group(rest) {
+        is_said = say_group(alloc, notes, place, group)? || is_said;
+        certainty = certainty.or(certainty_of_group(place, group));
+        rest = after;
     }
-    if let Some((condition, absence)) = first_absent(conditions, options, stage, true) {
-        return say_absent(alloc, notes, stage, condition, b" always holds: ", absence);
+    if conditions
+        .iter()
+        .any(|condition| condition.joint == Joint::Or)
+    {
+        say_certainty(alloc, notes, certainty)?;
     }
-    Ok(())
+    Ok(is_said)
 }
 
-/// The first condition whose field has no value at this stage, of those that are for what a field lacks, or of the
-/// others.
+/// The first group of the conditions, and the conditions after it; none where there are no conditions.
+fn first_group(conditions: &[Condition]) -> Option<(&[Condition], &[Condition])>
+    ensures { IfSome result (λ x. length x.1.now < length conditions.now) }
+{
+    let [_, others @ ..] = conditions else {
+        return None;
+    };
+    match others.iter().position(|other| other.joint == Joint::Or) {
+        Some(end) => Some((&conditions[..end + 1], &others[end..])),
+        None => Some((conditions, &[])),
+    }
+}
+
+/// Says what becomes of a rule with several groups of conditions, where that is known.
+fn say_certainty(
+    alloc: Global,
+    notes: &mut Notes<'_>,
+    certainty: Certainty,
+) -> Result<(), NoMemory> {
+    let text: &[u8] = match certainty {
+        Certainty::Never =>
+            b"this rule never applies: each group of its conditions has one that never holds",
+        Certainty::Always => b"this rule always applies: the conditions of one group always hold",
+        Certainty::Open => return Ok(()),
+    };
+    notes.say(alloc, &[Piece::Plain(text)])
+}
+
+/// Says which condition of a group is never met, or where none is which one always is; answers whether there is one.
+fn say_group(
+    alloc: Global,
+    notes: &mut Notes<'_>,
+    place: Place,
+    group: &[Condition],
+) -> Result<bool, NoMemory> {
+    let never = first_absent(group, place, false);
+    match never.or_else(|| first_absent(group, place, true)) {
+        Some((condition, absence)) => {
+            say_absent(alloc, notes, place.stage, condition, absence)?;
+            Ok(true)
+        }
+        None => Ok(false),
+    }
+}
+
+/// The first condition whose field has no value at this place, of those that are met by that, or of the others.
 fn first_absent(
     conditions: &[Condition],
-    options: Options,
-    stage: Stage,
-    is_lacking: bool,
+    place: Place,
+    is_met: bool,
 ) -> Option<(&Condition, Absence)> {
     for condition in conditions {
-        if (condition.test == Test::Lacks) == is_lacking
-            && let Some(absence) = absence_of(condition, options, stage)
+        if is_met_unfound(condition.negated, condition.test) == is_met
+            && let Some(absence) = absence_of(condition, place)
         {
             return Some((condition, absence));
         }
@@ -65,17 +161,37 @@ fn first_absent(
     None
 }
 
-/// Why the field of the condition has no value at this stage; none where it may have one. A body that wasn't seen is
-/// empty, and is so found by an empty text.
-fn absence_of(condition: &Condition, options: Options, stage: Stage) -> Option<Absence> {
+/// What becomes of the conditions of a group at this place.
+fn certainty_of_group(place: Place, group: &[Condition]) -> Certainty {
+    group
+        .iter()
+        .fold(Certainty::Always, |certainty, condition| {
+            certainty.and(certainty_of(place, condition))
+        })
+}
+
+/// What becomes of the condition at this place.
+fn certainty_of(place: Place, condition: &Condition) -> Certainty {
+    if absence_of(condition, place).is_none() {
+        Certainty::Open
+    } else if is_met_unfound(condition.negated, condition.test) {
+        Certainty::Always
+    } else {
+        Certainty::Never
+    }
+}
+
+/// Why the field of the condition has no value at this place; none where it may have one. A body that wasn't seen is
+/// empty, and may so be found.
+fn absence_of(condition: &Condition, place: Place) -> Option<Absence> {
     let first = first_stage(&condition.field)?;
-    if first == Stage::Body && condition.text.as_slice().is_empty() {
+    if first == Stage::Body && finds_empty(condition) {
         return None;
     }
-    if let Some(bit) = bit_among(options, first.not_sent()) {
+    if let Some(bit) = bit_among(place.options, first.not_sent()) {
         return Some(Absence::NotSent(bit));
     }
-    if rank_of(first) > rank_of(stage) {
+    if rank_of(first) > rank_of(place.stage) {
         return Some(Absence::NotYet);
     }
     None
@@ -87,10 +203,14 @@ fn say_absent<'x>(
     notes: &mut Notes<'_>,
     stage: Stage,
     condition: &'x Condition,
-    holds: &'x [u8],
     absence: Absence,
 ) -> Result<(), NoMemory> {
     let condition_piece = Piece::Condition(condition);
+    let holds: &[u8] = if is_met_unfound(condition.negated, condition.test) {
+        b" always holds: "
+    } else {
+        b" never holds: "
+    };
     let holds = Piece::Plain(holds);
     let field = Piece::Plain(condition.field.name());
     match absence {

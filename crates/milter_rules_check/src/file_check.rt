@@ -2,12 +2,13 @@
 
 use crate::rule_findings::say_findings;
 use milter_rules::read_rules;
-use milter_rules_faults::{Notes, say_fault};
+use milter_rules_faults::{Notes, Severity, say_fault};
 use milter_text::{TextFault, write_text};
 use std::alloc::Global;
 use std::io::Write;
 
-/// Writes a line for each thing that is to be said of a rule file of this name; answers whether there was one.
+/// Writes a line for each thing that is to be said of a rule file of this name; answers with the highest severity of
+/// these lines, or none where there was none.
 ///
 /// A line is `NAME:LINE: TEXT`, in the order of the lines of the file; what is said of the file as a whole comes last,
 /// as `NAME: TEXT`. Of a file that has no rules its first fault is said, and nothing else. Long words of the file are
@@ -18,12 +19,12 @@ pub fn check_rules<W: Write>(
     name: &str,
     bytes: &[u8],
     writer: &mut W,
-) -> Result<bool, TextFault> {
+) -> Result<Option<Severity>, TextFault> {
     let mut notes = Notes::new(alloc, name);
     match read_rules(alloc, bytes) {
         Ok(rules) => say_findings(alloc, &mut notes, bytes, &rules)?,
         Err(fault) => say_fault(alloc, &mut notes, bytes, fault)?,
     }
     write_text(writer, notes.text())?;
-    Ok(!notes.text().is_empty())
+    Ok(notes.severity())
 }

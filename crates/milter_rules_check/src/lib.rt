@@ -5,11 +5,21 @@
 #![tactic(auto)]
 
 mod action_findings;
+mod address_findings;
+mod advice;
+mod checked_file;
+mod compared;
 mod condition_findings;
 mod file_check;
 mod file_findings;
+mod macro_findings;
+mod path_findings;
+mod reply_findings;
 mod rule_findings;
 mod sent_stages;
+mod text_findings;
+mod wildcards;
 
 pub use file_check::check_rules;
+pub use milter_rules_faults::Severity;
 pub use milter_text::TextFault;

@@ -1,12 +1,14 @@
 //! What is said of the rules of a file that is read.
 
 use crate::action_findings::say_action;
+use crate::checked_file::CheckedFile;
 use crate::condition_findings::{say_condition_names, say_conditions};
 use crate::file_findings::say_stages;
 use crate::sent_stages::{bit_among, has_stage};
+use crate::text_findings::say_texts;
 use milter_filter_rules::{Action, Rule, Rules};
 use milter_protocol::rank_of;
-use milter_rules_faults::{Notes, Piece, RuleLine, rule_lines};
+use milter_rules_faults::{Notes, Piece, RuleLine, form_of_file, rule_lines};
 use milter_wire::{NoMemory, Options, Stage};
 use std::alloc::Global;
 
@@ -26,6 +28,8 @@ pub(crate) fn say_findings(
     bytes: &[u8],
     rules: &Rules,
 ) -> Result<(), NoMemory> {
+    let form = form_of_file(alloc, bytes)?;
+    let file = CheckedFile { rules, form };
     let lines = rule_lines(alloc, bytes)?;
     // The stages by their ranks, of which none is 0.
     let mut stages = [Progress {
@@ -34,7 +38,7 @@ pub(crate) fn say_findings(
     }; 10];
     for line in &lines {
         let rank = usize::from(rank_of(line.stage));
-        stages[rank] = say_next(alloc, notes, rules, line, stages[rank])?;
+        stages[rank] = say_next(alloc, notes, file, line, stages[rank])?;
     }
     notes.go_to(None);
     say_stages(alloc, notes, rules)
@@ -44,22 +48,15 @@ pub(crate) fn say_findings(
 fn say_next(
     alloc: Global,
     notes: &mut Notes<'_>,
-    rules: &Rules,
+    file: CheckedFile<'_>,
     line: &RuleLine,
     progress: Progress,
 ) -> Result<Progress, NoMemory> {
-    let Some(rule) = rules.at(line.stage).get(progress.count) else {
+    let Some(rule) = file.rules.at(line.stage).get(progress.count) else {
         return Ok(progress);
     };
     notes.go_to(Some(line.number));
-    say_rule(
-        alloc,
-        notes,
-        rules.options(),
-        line.stage,
-        progress.last,
-        rule,
-    )?;
+    say_rule(alloc, notes, file, line.stage, progress.last, rule)?;
     let last = match progress.last {
         None if is_last(rule) => Some(line.number),
         last => last,
@@ -73,18 +70,22 @@ fn is_last(rule: &Rule) -> bool {
     rule.conditions.as_slice().is_empty() && matches!(rule.action, Action::Verdict(_))
 }
 
-/// Says what is to be said of a rule, before which the rule in line `last` is the last one that is looked at.
+/// Says what is to be said of a rule of the file, before which the rule in line `last` is the last one that is looked
+/// at.
 fn say_rule(
     alloc: Global,
     notes: &mut Notes<'_>,
-    options: Options,
+    file: CheckedFile<'_>,
     stage: Stage,
     last: Option<u64>,
     rule: &Rule,
 ) -> Result<(), NoMemory> {
+    let options = file.rules.options();
     let conditions = rule.conditions.as_slice();
-    if !say_lost(alloc, notes, options, stage, last)? {
-        say_conditions(alloc, notes, options, stage, conditions)?;
+    let is_said = say_lost(alloc, notes, options, stage, last)?
+        || say_conditions(alloc, notes, options, stage, conditions)?;
+    if !is_said {
+        say_texts(alloc, notes, file, conditions)?;
     }
     say_condition_names(alloc, notes, conditions)?;
     say_action(alloc, notes, options, &rule.action)

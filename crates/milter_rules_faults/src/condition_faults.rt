@@ -1,16 +1,53 @@
 //! What is said of a rule with a fault before its action.
 
-ghost use Rattle.std.specs.Prelude.{◌<◌, ◌≤◌, IfSome, length};
+ghost use Rattle.std.specs.Prelude.{◌<◌, IfSome, length};
 
+use crate::condition_words::{
+    ConditionWords, FieldWords, after_stage, condition_in, field_in, flag_in, words_after,
+};
+use crate::file_form::FileForm;
+use crate::form_faults::say_needs_form;
 use crate::known_words::{
-    ACTION, FIELD, FIRST_JOINT, Kind, LONE_FIELDS, NAMED_FIELDS, NEXT_JOINT, STAGE, TEST,
-    is_one_of, say_missing, say_unknown, say_unquoted,
+    ACTION, CANONICAL_FIELDS, DOMAIN_FIELDS, FIELD, FIRST_JOINT, Kind, NAMED_FIELDS, NEXT_JOINT,
+    STAGE, TEST, WIDE_FIELD, WIDE_FIELDS, WIDE_JOINT, WIDE_TEST, WIDE_TESTS, is_one_of,
+    say_missing, say_unknown, say_unquoted,
 };
 use crate::nearest::name_meant;
 use crate::notes::{Notes, Piece};
 use milter_text::Word;
 use milter_wire::NoMemory;
 use std::alloc::Global;
+
+/// What is said beside that `not` needs the second form.
+const WITHOUT_NOT: &[u8] = b"; lacks TEXT holds where has TEXT doesn't";
+
+/// What is said beside that groups of conditions, and several texts, need the second form.
+const WITHOUT_OR: &[u8] = b"; without it write two rules";
+
+/// Where a condition stands.
+#[derive(Clone, Copy)]
+struct Place {
+    /// The form of the file.
+    form: FileForm,
+    /// The word before it.
+    joint: &'static [u8],
+}
+
+/// The fields of files of this form.
+fn fields_of(form: FileForm) -> Kind<'static> {
+    match form {
+        FileForm::First => FIELD,
+        FileForm::Second => WIDE_FIELD,
+    }
+}
+
+/// The tests of files of this form.
+fn tests_of(form: FileForm) -> Kind<'static> {
+    match form {
+        FileForm::First => TEST,
+        FileForm::Second => WIDE_TEST,
+    }
+}
 
 /// Says what is wrong with the stage of a line of these words.
 pub(crate) fn say_bad_stage(
@@ -24,23 +61,27 @@ pub(crate) fn say_bad_stage(
     }
 }
 
-/// Says what is wrong with a line of these words after its stage and before its action.
+/// Says what is wrong with a line of these words, of a file of this form, after its stage and before its action.
 pub(crate) fn say_bad_conditions(
     alloc: Global,
     notes: &mut Notes<'_>,
+    form: FileForm,
     words: &[Word],
 ) -> Result<(), NoMemory> {
-    let mut joint: &[u8] = b"when";
+    let mut is_first = true;
     let mut rest = after_stage(words);
-    while let Some(condition) = words_after(joint, rest) {
-        let Some(after) = after_condition(condition) else {
-            return say_bad_condition(alloc, notes, joint, condition);
+    while let Some((joint, after)) = joint_in(form, is_first, rest) {
+        let Some(condition) = condition_in(after) else {
+            return say_bad_condition(alloc, notes, Place { form, joint }, after);
         };
-        rest = after;
-        joint = b"and";
+        if say_misfit(alloc, notes, form, condition)? {
+            return Ok(());
+        }
+        rest = condition.rest;
+        is_first = false;
     }
     match rest {
-        [word, ..] => say_bad_joint(alloc, notes, joint, word),
+        [word, ..] => say_bad_joint(alloc, notes, form, is_first, word),
         [] => {
             let text = b"do and an action are missing at the end of the line";
             notes.say(alloc, &[Piece::Plain(text)])
@@ -48,112 +89,275 @@ pub(crate) fn say_bad_conditions(
     }
 }
 
-/// The words after the first two.
-fn after_stage(words: &[Word]) -> &[Word] {
-    match words {
-        [_, _, rest @ ..] => rest,
-        _ => &[],
+/// The word before a condition that these begin with, and the words after it.
+fn joint_in(form: FileForm, is_first: bool, words: &[Word]) -> Option<(&'static [u8], &[Word])>
+    ensures { IfSome result (λ x. length x.1.now < length words.now) }
+{
+    let joint = joint_due(is_first);
+    if let Some(rest) = words_after(joint, words) {
+        return Some((joint, rest));
     }
+    if is_first || form == FileForm::First {
+        return None;
+    }
+    Some((b"or", words_after(b"or", words)?))
 }
 
-/// The words after the joint that these begin with.
-fn words_after<'a>(joint: &[u8], words: &'a [Word]) -> Option<&'a [Word]>
-    ensures { IfSome result (λ rest. length rest.now < length words.now) }
-{
-    match words {
-        [first, rest @ ..] if first.is_keyword(joint) => Some(rest),
-        _ => None,
-    }
-}
-
-/// The words after the condition that these begin with; none where they begin with none.
-fn after_condition(words: &[Word]) -> Option<&[Word]>
-    ensures { IfSome result (λ rest. length rest.now ≤ length words.now) }
-{
-    match after_field(words)?.1 {
-        [test, text, rest @ ..] if is_one_of(test, TEST.names) && text.quoted => Some(rest),
-        _ => None,
-    }
-}
-
-/// The last word of the field that these words begin with, and those after it; none where they begin with none.
-fn after_field(words: &[Word]) -> Option<(&Word, &[Word])>
-    ensures { IfSome result (λ x. length x.1.now ≤ length words.now) }
-{
-    match words {
-        [field, rest @ ..] if is_one_of(field, LONE_FIELDS) => Some((field, rest)),
-        [field, name, rest @ ..] if is_one_of(field, NAMED_FIELDS) && name.quoted => {
-            Some((name, rest))
-        }
-        _ => None,
-    }
+/// The word before a condition that is joined to those before it, if there are any.
+fn joint_due(is_first: bool) -> &'static [u8] {
+    if is_first { b"when" } else { b"and" }
 }
 
 /// Whether the word stands before a condition or an action.
 fn is_joint(word: &Word) -> bool {
-    is_one_of(word, "when|and|do")
+    is_one_of(word, "when|and|or|do")
 }
 
-/// Says what is wrong with the condition after this joint.
+/// Whether the word is meant to turn a condition into its opposite.
+fn is_not(word: &Word) -> bool {
+    is_one_of(word, "not|isn't|!=|!")
+}
+
+/// Says what of the condition files of this form don't have; answers whether there is such a thing.
+fn say_misfit(
+    alloc: Global,
+    notes: &mut Notes<'_>,
+    form: FileForm,
+    condition: ConditionWords<'_>,
+) -> Result<bool, NoMemory> {
+    match form {
+        FileForm::First => say_wide_word(alloc, notes, condition),
+        FileForm::Second if condition.test.is_keyword(b"under") => {
+            say_bad_under(alloc, notes, condition)
+        }
+        FileForm::Second if is_like_of_body(condition) => {
+            let text = b"body isn't compared with patterns; body has TEXT finds a text in it";
+            notes.say(alloc, &[Piece::Plain(text)])?;
+            Ok(true)
+        }
+        FileForm::Second if condition.any_case && is_one_of(condition.field, CANONICAL_FIELDS) => {
+            say_no_case(alloc, notes, condition.field)?;
+            Ok(true)
+        }
+        FileForm::Second => Ok(false),
+    }
+}
+
+/// Whether the condition compares the body with patterns.
+fn is_like_of_body(condition: ConditionWords<'_>) -> bool {
+    condition.test.is_keyword(b"like") && condition.field.is_keyword(b"body")
+}
+
+/// Says what of the condition needs the second form; answers whether there is such a thing.
+fn say_wide_word(
+    alloc: Global,
+    notes: &mut Notes<'_>,
+    condition: ConditionWords<'_>,
+) -> Result<bool, NoMemory> {
+    if condition.negated {
+        say_needs_form(alloc, notes, Piece::Plain(b"not"), WITHOUT_NOT)?;
+    } else if is_one_of(condition.field, WIDE_FIELDS) {
+        say_needs_form(alloc, notes, Piece::Word(condition.field), b"")?;
+    } else if is_one_of(condition.test, WIDE_TESTS) {
+        say_needs_form(alloc, notes, Piece::Word(condition.test), b"")?;
+    } else if condition.any_case {
+        say_needs_form(alloc, notes, Piece::Plain(b"any-case"), b"")?;
+    } else if condition.texts.len() > 1 {
+        say_needs_form(alloc, notes, Piece::Plain(b"a second text"), WITHOUT_OR)?;
+    } else {
+        return Ok(false);
+    }
+    Ok(true)
+}
+
+/// Says what is wrong with a condition whose test is `under`; answers whether there is such a thing.
+fn say_bad_under(
+    alloc: Global,
+    notes: &mut Notes<'_>,
+    condition: ConditionWords<'_>,
+) -> Result<bool, NoMemory> {
+    if condition.any_case {
+        say_no_case(alloc, notes, condition.test)?;
+        return Ok(true);
+    }
+    if !is_one_of(condition.field, DOMAIN_FIELDS) {
+        let begin = Piece::Plain(b"under is a test of host, helo and domains, and not of ");
+        notes.say(alloc, &[begin, Piece::Word(condition.field)])?;
+        return Ok(true);
+    }
+    match condition
+        .texts
+        .iter()
+        .find(|text| text.text.as_slice().starts_with(b"."))
+    {
+        Some(text) => {
+            let begin = Piece::Plain(b"a domain after under is due without a dot before it: ");
+            notes.say(alloc, &[begin, Piece::Word(text)])?;
+            Ok(true)
+        }
+        None => Ok(false),
+    }
+}
+
+/// Says that `any-case` doesn't go with this field or this test.
+fn say_no_case(alloc: Global, notes: &mut Notes<'_>, word: &Word) -> Result<(), NoMemory> {
+    let begin = Piece::Plain(b"any-case isn't written with ");
+    let end = Piece::Plain(b", where the case of letters never counts");
+    notes.say(alloc, &[begin, Piece::Word(word), end])
+}
+
+/// Says where `not` is due.
+fn say_not_place(alloc: Global, notes: &mut Notes<'_>, form: FileForm) -> Result<(), NoMemory> {
+    match form {
+        FileForm::First => {
+            let end = b", and is due before the field; lacks TEXT holds where has TEXT doesn't";
+            say_needs_form(alloc, notes, Piece::Plain(b"not"), end)
+        }
+        FileForm::Second => {
+            let text = b"not is due before the field: not FIELD TEST TEXT";
+            notes.say(alloc, &[Piece::Plain(text)])
+        }
+    }
+}
+
+/// Says where `any-case` is due.
+fn say_any_case_place(
+    alloc: Global,
+    notes: &mut Notes<'_>,
+    form: FileForm,
+) -> Result<(), NoMemory> {
+    match form {
+        FileForm::First => say_needs_form(alloc, notes, Piece::Plain(b"any-case"), b""),
+        FileForm::Second => {
+            let text = b"any-case is due after a test, before its texts";
+            notes.say(alloc, &[Piece::Plain(text)])
+        }
+    }
+}
+
+/// Says what is wrong with the condition at this place.
 fn say_bad_condition(
     alloc: Global,
     notes: &mut Notes<'_>,
-    joint: &[u8],
+    place: Place,
     words: &[Word],
 ) -> Result<(), NoMemory> {
-    if let Some((field, rest)) = after_field(words) {
-        return say_bad_test(alloc, notes, field, rest);
+    let (negated, rest) = flag_in(b"not", words);
+    if negated && place.form == FileForm::First {
+        return say_needs_form(alloc, notes, Piece::Plain(b"not"), WITHOUT_NOT);
     }
+    match field_in(rest) {
+        Some(found) => say_bad_test(alloc, notes, place.form, found),
+        None => {
+            let before: &[u8] = if negated { b"not" } else { place.joint };
+            say_bad_field(alloc, notes, place.form, before, rest)
+        }
+    }
+}
+
+/// Says what is wrong with the field after this word.
+fn say_bad_field(
+    alloc: Global,
+    notes: &mut Notes<'_>,
+    form: FileForm,
+    before: &[u8],
+    words: &[Word],
+) -> Result<(), NoMemory> {
     match words {
+        [word, ..] if is_not(word) => say_not_place(alloc, notes, form),
+        [word, ..] if word.is_keyword(b"any-case") => say_any_case_place(alloc, notes, form),
         [field, rest @ ..] if is_one_of(field, NAMED_FIELDS) => {
             say_unquoted(alloc, notes, b"a name", field, rest)
         }
-        [field, ..] if !is_joint(field) => say_unknown(alloc, notes, &FIELD, field),
-        _ => say_missing(alloc, notes, &FIELD, Piece::Plain(joint)),
+        [field, ..] if !is_joint(field) => say_unknown(alloc, notes, &fields_of(form), field),
+        _ => say_missing(alloc, notes, &fields_of(form), Piece::Plain(before)),
     }
 }
 
-/// Says what is wrong with the test or the text after this last word of a field.
+/// Says what is wrong with this field, or with the test or the texts after it.
 fn say_bad_test(
     alloc: Global,
     notes: &mut Notes<'_>,
-    field: &Word,
-    words: &[Word],
+    form: FileForm,
+    found: FieldWords<'_>,
 ) -> Result<(), NoMemory> {
-    match words {
-        [test, rest @ ..] if is_one_of(test, TEST.names) => {
-            say_unquoted(alloc, notes, b"a text", test, rest)
+    if form == FileForm::First && is_one_of(found.field, WIDE_FIELDS) {
+        return say_needs_form(alloc, notes, Piece::Word(found.field), b"");
+    }
+    match found.rest {
+        [word, ..] if is_not(word) => say_not_place(alloc, notes, form),
+        [word, ..] if word.is_keyword(b"any-case") => say_any_case_place(alloc, notes, form),
+        [test, rest @ ..] if is_one_of(test, WIDE_TEST.names) => {
+            say_bad_texts(alloc, notes, form, test, rest)
         }
-        [test, ..] if !is_joint(test) => say_unknown(alloc, notes, &TEST, test),
-        _ => say_missing(alloc, notes, &TEST, Piece::Word(field)),
+        [test, ..] if !is_joint(test) => say_unknown(alloc, notes, &tests_of(form), test),
+        _ => say_missing(alloc, notes, &tests_of(form), Piece::Word(found.last)),
     }
 }
 
-/// Says what is wrong with the word that stands in place of this joint or of `do`.
+/// Says what is wrong with this test, or with the texts after it.
+fn say_bad_texts(
+    alloc: Global,
+    notes: &mut Notes<'_>,
+    form: FileForm,
+    test: &Word,
+    words: &[Word],
+) -> Result<(), NoMemory> {
+    if form == FileForm::First && is_one_of(test, WIDE_TESTS) {
+        return say_needs_form(alloc, notes, Piece::Word(test), b"");
+    }
+    match words {
+        [word, ..] if is_not(word) => say_not_place(alloc, notes, form),
+        [any_case, rest @ ..] if any_case.is_keyword(b"any-case") => match form {
+            FileForm::First => say_any_case_place(alloc, notes, form),
+            FileForm::Second => say_unquoted(alloc, notes, b"a text", any_case, rest),
+        },
+        _ => say_unquoted(alloc, notes, b"a text", test, words),
+    }
+}
+
+/// Says what is wrong with the word that stands in place of a word before a condition, or of `do`.
 fn say_bad_joint<'x>(
     alloc: Global,
     notes: &mut Notes<'_>,
-    joint: &'x [u8],
+    form: FileForm,
+    is_first: bool,
     word: &'x Word,
 ) -> Result<(), NoMemory> {
     let quoted = Piece::Quoted(word.text.as_slice());
     if is_one_of(word, ACTION.names) {
         return notes.say(alloc, &[Piece::Plain(b"do is missing before "), quoted]);
     }
-    if is_one_of(word, FIELD.names) {
+    if is_one_of(word, WIDE_FIELD.names) {
         let middle = Piece::Plain(b" is missing before ");
-        return notes.say(alloc, &[Piece::Plain(joint), middle, quoted]);
+        return notes.say(alloc, &[Piece::Plain(joint_due(is_first)), middle, quoted]);
     }
-    let is_next = joint == b"and".as_slice();
-    if is_next && word.is_keyword(b"or") {
-        let text = b"conditions are joined by and; in place of or write two rules";
-        return notes.say(alloc, &[Piece::Plain(text)]);
+    if word.is_keyword(b"any-case") {
+        return say_any_case_place(alloc, notes, form);
     }
-    let kind = if is_next { &NEXT_JOINT } else { &FIRST_JOINT };
+    match form {
+        _ if is_first => say_no_joint(alloc, notes, &FIRST_JOINT, joint_due(is_first), word),
+        FileForm::First if word.is_keyword(b"or") => {
+            say_needs_form(alloc, notes, Piece::Plain(b"or"), WITHOUT_OR)
+        }
+        FileForm::First => say_no_joint(alloc, notes, &NEXT_JOINT, joint_due(is_first), word),
+        FileForm::Second => say_unknown(alloc, notes, &WIDE_JOINT, word),
+    }
+}
+
+/// Says that this joint or `do` is due in place of the word, or which word of this kind it is near to.
+fn say_no_joint<'x>(
+    alloc: Global,
+    notes: &mut Notes<'_>,
+    kind: &Kind<'x>,
+    joint: &'x [u8],
+    word: &'x Word,
+) -> Result<(), NoMemory> {
     if is_near(alloc, kind, word)? {
         return say_unknown(alloc, notes, kind, word);
     }
     let middle = Piece::Plain(b" or do is due in place of ");
+    let quoted = Piece::Quoted(word.text.as_slice());
     notes.say(alloc, &[Piece::Plain(joint), middle, quoted])
 }
 

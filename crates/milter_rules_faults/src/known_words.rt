@@ -21,7 +21,7 @@ pub(crate) struct Kind<'k> {
 pub(crate) const FIRST_WORD: Kind<'static> = Kind {
     called: b"first word",
     names: "at|version|actions|protocol|symbols",
-    others: &[],
+    others: &[("rules", "rules")],
 };
 
 /// The versions of the protocol.
@@ -59,24 +59,53 @@ pub(crate) const NEXT_JOINT: Kind<'static> = Kind {
     others: &[("&&", "and"), ("then", "do")],
 };
 
+/// The words before one more condition in a file of the second form, and before an action.
+pub(crate) const WIDE_JOINT: Kind<'static> = Kind {
+    called: b"word",
+    names: "and|or|do",
+    others: &[("&&", "and"), ("||", "or"), ("then", "do")],
+};
+
 /// The fields that have no name of their own.
 pub(crate) const LONE_FIELDS: &str = "host|address|helo|sender|rcpt|body";
 
+/// The fields that files of the second form alone have.
+pub(crate) const WIDE_FIELDS: &str = "sender-address|sender-domain|rcpt-address|rcpt-domain|\
+                                      recipients|recipients-address|recipients-domain";
+
+/// The fields whose values are domains.
+pub(crate) const DOMAIN_FIELDS: &str = "host|helo|sender-domain|rcpt-domain|recipients-domain";
+
+/// The fields whose values are in a form in which the case of letters doesn't count.
+pub(crate) const CANONICAL_FIELDS: &str = "sender-address|sender-domain|rcpt-address|rcpt-domain|\
+                                           recipients-address|recipients-domain";
+
 /// The fields that have a name of their own.
 pub(crate) const NAMED_FIELDS: &str = "header|macro";
+
+/// What is meant by words that are no fields here.
+const OTHER_FIELDS: &[(&str, &str)] = &[
+    ("from", "sender"),
+    ("mail", "sender"),
+    ("to", "rcpt"),
+    ("recipient", "rcpt"),
+    ("ip", "address"),
+    ("subject", "header"),
+];
 
 /// All fields.
 pub(crate) const FIELD: Kind<'static> = Kind {
     called: b"field",
     names: "host|address|helo|sender|rcpt|header|body|macro",
-    others: &[
-        ("from", "sender"),
-        ("mail", "sender"),
-        ("to", "rcpt"),
-        ("recipient", "rcpt"),
-        ("ip", "address"),
-        ("subject", "header"),
-    ],
+    others: OTHER_FIELDS,
+};
+
+/// All fields of files of the second form.
+pub(crate) const WIDE_FIELD: Kind<'static> = Kind {
+    called: b"field",
+    names: "host|address|helo|sender|sender-address|sender-domain|rcpt|rcpt-address|rcpt-domain|\
+            recipients|recipients-address|recipients-domain|header|body|macro",
+    others: OTHER_FIELDS,
 };
 
 /// The tests.
@@ -84,6 +113,21 @@ pub(crate) const TEST: Kind<'static> = Kind {
     called: b"test",
     names: "is|has|lacks",
     others: &[],
+};
+
+/// The tests that files of the second form alone have.
+pub(crate) const WIDE_TESTS: &str = "begins|ends|like|under";
+
+/// All tests of files of the second form.
+pub(crate) const WIDE_TEST: Kind<'static> = Kind {
+    called: b"test",
+    names: "is|has|lacks|begins|ends|like|under",
+    others: &[
+        ("contains", "has"),
+        ("equals", "is"),
+        ("matches", "like"),
+        ("starts", "begins"),
+    ],
 };
 
 /// The words of actions.
@@ -202,7 +246,7 @@ pub(crate) fn say_unquoted<'x>(
     let middle = Piece::Plain(b" in double quotes is due after ");
     let before = Piece::Word(before);
     match words {
-        [word, ..] if !is_one_of(word, "when|and|do|is|has|lacks") => {
+        [word, ..] if !is_one_of(word, "when|and|or|do|is|has|lacks") => {
             let word = Piece::Quoted(word.text.as_slice());
             notes.say(alloc, &[due, middle, before, Piece::Plain(b": "), word])
         }

@@ -4,7 +4,11 @@
 #![tactic(auto)]
 
 mod action_faults;
+mod compared;
 mod condition_faults;
+mod condition_words;
+mod file_form;
+mod form_faults;
 mod known_words;
 mod line_faults;
 mod nearest;
@@ -13,6 +17,8 @@ mod option_faults;
 mod rule_line;
 mod word_faults;
 
+pub use compared::Compared;
+pub use file_form::{FileForm, form_of_file};
 pub use line_faults::say_fault;
-pub use notes::{Notes, Piece};
+pub use notes::{Notes, Piece, Severity};
 pub use rule_line::{RuleLine, rule_lines};

@@ -1,5 +1,6 @@
 //! The lines that are said of a rule file.
 
+use crate::compared::Compared;
 use itoa::Buffer;
 use milter_filter_rules::{Condition, Field};
 use milter_text::{Word, quote};
@@ -8,6 +9,18 @@ use std::alloc::Global;
 
 /// The most bytes that are shown of a word of the file.
 const SHOWN_MAX: usize = 80;
+
+/// The most texts that are shown of a condition.
+const TEXTS_SHOWN_MAX: usize = 4;
+
+/// What a line that is said asks for.
+#[derive(Clone, Copy, Debug, PartialEq, Eq)]
+pub enum Severity {
+    /// Nothing that must be done: what is meant works, and can be got round or be written better.
+    Hint,
+    /// A change: a rule can't be read, or can't be meant so.
+    Warning,
+}
 
 /// A piece of a line that is said.
 #[derive(Clone, Copy)]
@@ -18,8 +31,10 @@ pub enum Piece<'a> {
     Quoted(&'a [u8]),
     /// A word as it stands in the file; of a long one its beginning, and two dots.
     Word(&'a Word),
-    /// A condition as it is written.
+    /// A condition as it is written; of many texts the first, and two dots.
     Condition(&'a Condition),
+    /// A condition with one text, as it is written.
+    Compared(Compared<'a>),
     /// The names in this text, which are joined by `|`, as a list.
     List(&'a str),
     /// The names of the actions.
@@ -39,6 +54,8 @@ pub struct Notes<'n> {
     line: Option<u64>,
     /// The lines that were said.
     text: Vec<u8>,
+    /// The highest severity of these lines; none where there are none.
+    severity: Option<Severity>,
 }
 
 impl<'n> Notes<'n> {
@@ -48,6 +65,7 @@ impl<'n> Notes<'n> {
             name,
             line: None,
             text: Vec::new(alloc),
+            severity: None,
         }
     }
 
@@ -61,8 +79,25 @@ impl<'n> Notes<'n> {
         self.text.as_slice()
     }
 
-    /// Says a line of these pieces.
+    /// The highest severity of the lines that were said; none where none was. Doesn't allocate.
+    pub fn severity(&self) -> Option<Severity> {
+        self.severity
+    }
+
+    /// Says a warning of these pieces, as a line.
     pub fn say(&mut self, alloc: Global, pieces: &[Piece<'_>]) -> Result<(), NoMemory> {
+        self.severity = Some(Severity::Warning);
+        self.put_line(alloc, pieces)
+    }
+
+    /// Says a hint of these pieces, as a line.
+    pub fn say_hint(&mut self, alloc: Global, pieces: &[Piece<'_>]) -> Result<(), NoMemory> {
+        self.severity = Some(self.severity.unwrap_or(Severity::Hint));
+        self.put_line(alloc, pieces)
+    }
+
+    /// Puts a line of these pieces.
+    fn put_line(&mut self, alloc: Global, pieces: &[Piece<'_>]) -> Result<(), NoMemory> {
         self.put_place()?;
         for piece in pieces {
             self.put(alloc, piece)?;
@@ -89,6 +124,7 @@ impl<'n> Notes<'n> {
             Piece::Quoted(bytes) => self.put_quoted(alloc, bytes),
             Piece::Word(word) => self.put_word(alloc, word),
             Piece::Condition(condition) => self.put_condition(alloc, condition),
+            Piece::Compared(compared) => self.put_compared(alloc, *compared),
             Piece::List(names) => self.put_list(names),
             Piece::Actions(actions) => actions.put_names(&mut self.text),
             Piece::Protocol(protocol) => protocol.put_names(&mut self.text),
@@ -128,15 +164,41 @@ impl<'n> Notes<'n> {
 
     /// Puts a condition as it is written.
     fn put_condition(&mut self, alloc: Global, condition: &Condition) -> Result<(), NoMemory> {
-        self.put_plain(condition.field.name())?;
-        if let Field::Header(name) | Field::Macro(name) = &condition.field {
+        let texts = condition.texts.as_slice();
+        self.put_subject(alloc, Compared::new(condition, b""))?;
+        for text in &texts[..texts.len().min(TEXTS_SHOWN_MAX)] {
+            self.put_plain(b" ")?;
+            self.put_quoted(alloc, text.as_slice())?;
+        }
+        if texts.len() > TEXTS_SHOWN_MAX {
+            self.put_plain(b" ..")?;
+        }
+        Ok(())
+    }
+
+    /// Puts a condition with one text as it is written.
+    fn put_compared(&mut self, alloc: Global, compared: Compared<'_>) -> Result<(), NoMemory> {
+        self.put_subject(alloc, compared)?;
+        self.put_plain(b" ")?;
+        self.put_quoted(alloc, compared.text)
+    }
+
+    /// Puts what stands before the texts of a condition.
+    fn put_subject(&mut self, alloc: Global, compared: Compared<'_>) -> Result<(), NoMemory> {
+        if compared.negated {
+            self.put_plain(b"not ")?;
+        }
+        self.put_plain(compared.field.name())?;
+        if let Field::Header(name) | Field::Macro(name) = compared.field {
             self.put_plain(b" ")?;
             self.put_quoted(alloc, name.as_slice())?;
         }
         self.put_plain(b" ")?;
-        self.put_plain(condition.test.name())?;
-        self.put_plain(b" ")?;
-        self.put_quoted(alloc, condition.text.as_slice())
+        self.put_plain(compared.test.name())?;
+        if compared.any_case {
+            self.put_plain(b" any-case")?;
+        }
+        Ok(())
     }
 
     /// Puts names as a list: a comma between two of them, but `and` before the last.

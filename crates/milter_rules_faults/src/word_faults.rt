@@ -59,9 +59,39 @@ pub(crate) fn say_no_words(
             Err(trouble) => return say_trouble(alloc, notes, line, start, index, trouble),
         };
     }
-    let text = after(line, start.saturating_add(1));
+    say_unclosed(alloc, notes, after(line, start.saturating_add(1)))
+}
+
+/// Says that these bytes are a text that isn't closed.
+fn say_unclosed(alloc: Global, notes: &mut Notes<'_>, text: &[u8]) -> Result<(), NoMemory> {
     let begin = Piece::Plain(b"a text isn't closed by a double quote; it begins with ");
-    notes.say(alloc, &[begin, Piece::Quoted(text)])
+    let end: &[u8] = if has_curly_quote(text) {
+        b"; a curly quote closes none"
+    } else {
+        b""
+    };
+    notes.say(alloc, &[begin, Piece::Quoted(text), Piece::Plain(end)])
+}
+
+/// Whether a curly quote is among the bytes, in UTF-8.
+fn has_curly_quote(bytes: &[u8]) -> bool {
+    bytes
+        .windows(3)
+        .any(|part| matches!(part, [0xe2, 0x80, 0x98..=0x9f]))
+}
+
+/// The start of a comment that comes after words in the line; none where there is none.
+pub(crate) fn comment_start(line: &[u8]) -> Option<usize> {
+    let mut place = Place::Between;
+    let mut has_word = false;
+    for (index, byte) in line.iter().enumerate() {
+        if place == Place::Between && has_word && *byte == b'#' {
+            return Some(index);
+        }
+        place = place_after(place, *byte).ok()?;
+        has_word = has_word || place != Place::Between;
+    }
+    None
 }
 
 /// What the byte after this one belongs to.
@@ -133,6 +163,10 @@ fn say_trouble(
         Trouble::Tab => {
             let text = b"a TAB stands outside of texts; words are separated by blanks";
             notes.say(alloc, &[Piece::Plain(text)])
+        }
+        Trouble::Byte if has_curly_quote(up_to_blank(after(line, start))) => {
+            let end = b" has curly quotes; a text is due in plain double quotes";
+            notes.say(alloc, &[word, Piece::Plain(end)])
         }
         Trouble::Byte => {
             let end =

@@ -2,8 +2,8 @@
 
 use milter_cli::{load_events, load_reports};
 use milter_cli_io::{
-    InputFile, ToolError, check_rule_file, load_rules, load_session, print_rules, print_session,
-    read_error, with_case_ignored,
+    InputFile, RuleUse, ToolError, check_rule_file, load_rules, load_session, print_rules,
+    print_session, read_error, used_rules,
 };
 use milter_mail::Session;
 use milter_rules::Rules;
@@ -51,19 +51,18 @@ pub(crate) fn check_rules_at<R: Files + Print + AllocGlobal>(
     check_rule_file(rt.alloc(), path, file, &mut io::writer(rt))
 }
 
-/// The rules of the file at this path, or none where there is no path. The case of letters counts in them unless it is
-/// ignored.
+/// The rules of the file at this path as they are used, or none where there is no path.
 pub(crate) fn rules_at<R: Files + AllocGlobal>(
     rt: &R,
     path: Option<&str>,
-    ignore_case: bool,
+    usage: RuleUse,
 ) -> Result<Rules, ToolError> {
     let Some(path) = path else {
         return Ok(Rules::new(rt.alloc()));
     };
     let file = open(rt, InputFile::Rules, path)?;
     match load_rules(rt.alloc(), file) {
-        Ok(rules) => Ok(with_case_ignored(rules, ignore_case)),
+        Ok(rules) => Ok(used_rules(rules, usage)),
         Err(error) => Err(ToolError::File(error)),
     }
 }

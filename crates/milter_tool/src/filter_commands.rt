@@ -2,7 +2,7 @@
 
 use crate::files::rules_at;
 use milter_cli::{Connections, answer_run, filter_run};
-use milter_cli_io::{ToolError, ended_as, listen_error, output_error};
+use milter_cli_io::{RuleUse, ToolError, ended_as, listen_error, output_error};
 use milter_cli_request::{Address, AnswerRequest, FilterRequest, UsageError};
 use milter_filter::{CommandOrder, serve_in_order};
 use milter_rules::Rules;
@@ -25,7 +25,11 @@ pub(crate) fn answer_mail_server<R: Input + Files + Print + AllocGlobal>(
     rt: &R,
     asked: AnswerRequest<'_>,
 ) -> Result<(), ToolError> {
-    let rules = rules_at(rt, asked.rules, asked.ignore_case)?;
+    let usage = RuleUse {
+        ignore_case: asked.ignore_case,
+        least_stages: asked.least_stages,
+    };
+    let rules = rules_at(rt, asked.rules, usage)?;
     let mut reader = rt.reader();
     let mut writer = io::writer(rt);
     let served = match order_of(asked.lenient) {
@@ -42,7 +46,11 @@ pub(crate) fn serve_in_turn<
     let Some(address) = Address::parse(asked.address) else {
         return Err(ToolError::Usage(UsageError::BadAddress));
     };
-    let rules = rules_at(rt, asked.rules, asked.ignore_case)?;
+    let usage = RuleUse {
+        ignore_case: asked.ignore_case,
+        least_stages: asked.least_stages,
+    };
+    let rules = rules_at(rt, asked.rules, usage)?;
     serve_at(rt, &rules, address, asked)
 }
 

@@ -1,7 +1,7 @@
 //! The subcommand `serve`.
 
 use bumpalo::Bump;
-use milter_cli_io::{ToolError, listen_error, service_error};
+use milter_cli_io::{RuleUse, ToolError, listen_error, service_error};
 use milter_cli_request::{Address, ServeRequest, UsageError, parse_mode};
 use milter_cli_serve::{DecisionLog, LoggedPolicy, RuleFile, RuleHost, RuleSource};
 use milter_filter_service::{Host, Limits, Listener, Service};
@@ -33,7 +33,11 @@ pub(crate) fn serve_many<
         Ok(mode) => mode,
         Err(error) => return Err(ToolError::Usage(error)),
     };
-    let mut source = RuleFile::new(rt, asked.rules, asked.ignore_case);
+    let usage = RuleUse {
+        ignore_case: asked.ignore_case,
+        least_stages: !asked.all_stages,
+    };
+    let mut source = RuleFile::new(rt, asked.rules, usage);
     let rules = first_rules(rt.alloc(), &mut source)?;
     serve_by_rules(rt, asked, mode, source, &rules, &DecisionLog::new(errors))
 }

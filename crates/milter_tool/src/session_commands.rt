@@ -2,7 +2,7 @@
 
 use crate::files::{events_at, expected_at, open, rules_at, session_at};
 use milter_cli::{TcpDial, UnixDial, WaitingDial, check_reports, mta_run, play_run, schedule_run};
-use milter_cli_io::{FileError, InputFile, ToolError, output_error};
+use milter_cli_io::{FileError, InputFile, RuleUse, ToolError, output_error};
 use milter_cli_request::{Address, MtaRequest, Offer, PlayRequest, Target};
 use milter_mail::Session;
 use milter_mta::Config;
@@ -111,7 +111,11 @@ pub(crate) fn play_in_memory<R: Files + Print + AllocGlobal>(
         Err(error) => return Err(ToolError::Usage(error)),
     };
     let config = Config::new(offer.actions, offer.protocol, asked.loss).unwrap();
-    let rules = rules_at(rt, asked.rules, asked.ignore_case)?;
+    let usage = RuleUse {
+        ignore_case: asked.ignore_case,
+        least_stages: asked.least_stages,
+    };
+    let rules = rules_at(rt, asked.rules, usage)?;
     play_with_rules(rt, config, asked, &rules)
 }
 

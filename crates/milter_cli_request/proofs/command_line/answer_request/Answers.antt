@@ -10,4 +10,5 @@ returns c =
       text_given found (codes "rules") c.get_str.result c.get_str.ensures,
       flag_given found (codes "lenient") c.get_str-2.result c.is_set.result c.get_str-2.ensures c.is_set.ensures,
       flag_given found (codes "ignore-case") c.get_str-3.result c.is_set-2.result c.get_str-3.ensures c.is_set-2.ensures,
+      flag_given found (codes "least-stages") c.get_str-4.result c.is_set-3.result c.get_str-4.ensures c.is_set-3.ensures,
     )

@@ -17,4 +17,5 @@ returns c =
       number_given COUNT_DEFAULT 1 COUNT_MAX found (codes "count") c.get_str-3.result c.number_or.result (omega arith) c.get_str-3.ensures c.number_or.ensures,
       flag_given found (codes "lenient") c.get_str-4.result c.is_set.result c.get_str-4.ensures c.is_set.ensures,
       flag_given found (codes "ignore-case") c.get_str-5.result c.is_set-2.result c.get_str-5.ensures c.is_set-2.ensures,
+      flag_given found (codes "least-stages") c.get_str-6.result c.is_set-3.result c.get_str-6.ensures c.is_set-3.ensures,
     )

@@ -19,4 +19,5 @@ returns c =
       number_given MODE_DEFAULT 1 MODE_MAX found (codes "mode") c.get_str-4.result c.number_or-3.result (omega arith) c.get_str-4.ensures c.number_or-3.ensures,
       flag_given found (codes "log") c.get_str-5.result c.is_set.result c.get_str-5.ensures c.is_set.ensures,
       flag_given found (codes "ignore-case") c.get_str-6.result c.is_set-2.result c.get_str-6.ensures c.is_set-2.ensures,
+      flag_given found (codes "all-stages") c.get_str-7.result c.is_set-3.result c.get_str-7.ensures c.is_set-3.ensures,
     )

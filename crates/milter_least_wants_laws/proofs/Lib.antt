@@ -1,0 +1,10 @@
+mod Places
+mod ShownFields
+mod Decided
+mod NegotiatedBits
+mod Thinned
+mod ThinnedDialogues
+mod ThinnedPlans
+mod RuledAlike
+mod SettledAlike
+mod RulesLeaveOut

@@ -1,0 +1,20 @@
+use Rattle.milter_filter_rules.specs.LeastWants.{least_wants}
+use Rattle.milter_least_wants_laws.proofs.NegotiatedBits.{as_it_is, least}
+use Rattle.milter_least_wants_laws.proofs.RulesLeaveOut.{decides, leaves}
+use Rattle.milter_least_wants_laws.proofs.SettledAlike.{connection-alike, dispositions-alike}
+use Rattle.milter_least_wants_laws.proofs.laws.least_wants_settle_alike.Goals as goal
+
+pub returns : goal.returns
+returns c = λ case set offer session messages.
+    record {
+      messages_alike = dispositions-alike set.options (least_wants set) set.lists (decides case set offer)
+          (as_it_is set offer) (least set offer) (leaves case set offer) session
+          (λ message. (c.plans_are_sent.ensures.plan (as_it_is set offer) session message).ends)
+          (λ dialogue left space message closed. c.closed_dialogues_rule.ensures.dialogue dialogue left space message closed)
+          messages;
+      connection_alike = connection-alike set.options (least_wants set) set.lists (decides case set offer)
+          (as_it_is set offer) (least set offer) (leaves case set offer) session
+          (λ message. (c.plans_are_sent.ensures.plan (as_it_is set offer) session message).ends)
+          (λ dialogue left space message closed. c.closed_dialogues_rule.ensures.dialogue dialogue left space message closed)
+          messages;
+    }

@@ -1,0 +1,127 @@
+-- The two forms of rule files: one whose first line is `rules 2` may have conditions of more kinds.
+use Rattle.std.specs.Prelude.{◌≡◌, ◌==◌, ℕ, Bool, true, false, not, nat_lt, ◌&&◌, List, [], ◌∷◌, codes, length, if◌then◌else◌}
+use Rattle.std.specs.List.{list_all}
+use Rattle.milter_text.specs.declared.word.Word.{Word}
+use Rattle.milter_text.specs.WordValues.{is_keyword, keyword}
+use Rattle.milter_text.specs.Words.{HasWords}
+use Rattle.milter_wire.specs.Stages.{all_stages}
+use Rattle.milter_filter_search.specs.declared.pattern.Test.{Test}
+use Rattle.milter_filter_search.specs.declared.pattern.Test.TheVariants.{Is, Has, Lacks, Like, Under}
+use Rattle.milter_filter_rules.specs.declared.rule.Condition.{Condition}
+use Rattle.milter_filter_rules.specs.declared.rule.Field.{Field}
+use Rattle.milter_filter_rules.specs.declared.rule.Field.TheVariants as fields
+use Rattle.milter_filter_rules.specs.declared.rule.Joint.{Joint}
+use Rattle.milter_filter_rules.specs.declared.rule.Joint.TheVariants.{And, Or}
+use Rattle.milter_filter_rules.specs.declared.rule.PathPart.TheVariants as parts
+use Rattle.milter_filter_rules.specs.declared.rule_list.StageRules.{StageRules}
+use Rattle.milter_filter_rules.specs.Conditions.{has_form}
+use Rattle.milter_filter_rules.specs.StageRules.{rules_at}
+use Rattle.milter_rules.specs.declared.form.Form.{Form}
+use Rattle.milter_rules.specs.declared.form.Form.TheVariants.{First, Second}
+use Rattle.milter_rules.specs.declared.rule_line.RuleLine.{RuleLine}
+use Rattle.milter_rules.specs.declared.rule_line.RuleLine.TheVariants as lines
+
+-- ---- conditions
+
+abbrev pub is_and : Joint → Bool
+is_and And = true
+is_and Or = false
+
+-- a field of the first form
+abbrev pub is_first_field : Field → Bool
+is_first_field (fields.Sender parts.Sent) = true
+is_first_field (fields.Sender part) = false
+is_first_field (fields.Rcpt parts.Sent) = true
+is_first_field (fields.Rcpt part) = false
+is_first_field (fields.Recipients part) = false
+is_first_field other = true
+
+-- a test of the first form
+abbrev pub is_first_test : Test → Bool
+is_first_test Is = true
+is_first_test Has = true
+is_first_test Lacks = true
+is_first_test other = false
+
+abbrev pub is_one : List (List ℕ) → Bool
+is_one texts = length texts == 1
+
+-- a condition of the first form: a field, a test and one text
+abbrev pub fits_first : Condition → Bool
+fits_first c =
+    is_and c.joint
+    && (not c.negated
+    && (is_first_field c.field && (is_first_test c.test && (not c.any_case && is_one c.texts))))
+
+-- a field whose values are domains
+abbrev pub is_domain : Field → Bool
+is_domain fields.Host = true
+is_domain fields.Helo = true
+is_domain (fields.Sender parts.Domain) = true
+is_domain (fields.Rcpt parts.Domain) = true
+is_domain (fields.Recipients parts.Domain) = true
+is_domain other = false
+
+abbrev pub begins_with_dot : List ℕ → Bool
+begins_with_dot [] = false
+begins_with_dot (byte ∷ bytes) = byte == 46
+
+-- `under` is of domains, and its texts name them without a dot before them; `like` isn't of a body, all of which it
+-- would go over at each chunk
+abbrev pub test_fits : Test → Field → List (List ℕ) → Bool
+test_fits Under field texts = is_domain field && list_all (λ text. not (begins_with_dot text)) texts
+test_fits Like fields.Body texts = false
+test_fits test field texts = true
+
+-- `any-case` is of texts that have no form of their own
+abbrev pub case_fits : Test → Field → Bool → Bool
+case_fits test field false = true
+case_fits Under field true = false
+case_fits test field true = not (has_form field)
+
+-- a condition of the second form: there is a text
+abbrev pub fits_second : Condition → Bool
+fits_second c =
+    nat_lt 0 (length c.texts) && (test_fits c.test c.field c.texts && case_fits c.test c.field c.any_case)
+
+abbrev pub begins_with_and : List Condition → Bool
+begins_with_and [] = true
+begins_with_and (c ∷ conditions) = is_and c.joint
+
+abbrev pub are_conditions : Form → List Condition → Bool
+are_conditions First conditions = list_all fits_first conditions
+are_conditions Second conditions = begins_with_and conditions && list_all fits_second conditions
+
+-- ---- lines
+
+abbrev pub FitsForm : Form → RuleLine → Type 0
+FitsForm form (lines.At stage rule) = are_conditions form rule.conditions ≡ true
+FitsForm form (lines.Setting setting) = Unit {0}
+
+-- ---- the first line
+
+-- `rules 2`
+abbrev pub header_words : List Word
+header_words = keyword (codes "rules") ∷ keyword (codes "2") ∷ []
+
+abbrev pub is_header : List Word → Bool
+is_header (first ∷ number ∷ []) = is_keyword (codes "rules") first && is_keyword (codes "2") number
+is_header words = false
+
+-- a file of this form has these lines, and then these others
+abbrev pub HasForm : Form → List (List ℕ) → List (List ℕ) → Type 0
+HasForm First lines rest = lines ≡ rest
+HasForm Second lines rest = (header : List ℕ) × (lines ≡ header ∷ rest) × HasWords header header_words
+
+-- ---- the form in which rules are written: the first, where they have it
+
+abbrev pub all_fit : Form → StageRules → Bool
+all_fit form rules =
+    list_all (λ stage. list_all (λ rule. are_conditions form rule.conditions) (rules_at rules stage)) all_stages
+
+abbrev pub form_of : StageRules → Form
+form_of rules = if all_fit First rules then First else Second
+
+abbrev pub header_lines : Form → List (List Word)
+header_lines First = []
+header_lines Second = header_words ∷ []

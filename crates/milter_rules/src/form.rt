@@ -1,0 +1,189 @@
+//! The two forms of rule files, and which conditions each may have.
+
+ghost use Rattle.std.specs.Prelude.{◌≡◌, not};
+ghost use Rattle.milter_rules.specs.RuleForms.{all_fit, are_conditions, begins_with_and, begins_with_dot, case_fits, fits_first, fits_second, form_of, is_domain, is_header, is_first_field, test_fits};
+ghost use Rattle.milter_rules.specs.declared.form.Form.TheVariants.{First};
+ghost use Rattle.milter_filter_rules.specs.Conditions.{has_form};
+ghost use Rattle.milter_filter_rules.specs.RulesValue.{rule_set};
+ghost use Rattle.std.specs.List.{list_all};
+
+use milter_filter_rules::{Condition, Field, Joint, PathPart, Rule, Rules, Test, Texts};
+use milter_text::Word;
+use milter_wire::{Stage, Text};
+
+/// The form of a rule file.
+#[derive(Clone, Copy, Debug, PartialEq, Eq)]
+pub(crate) enum Form {
+    /// The form of files without a first line `rules 2`.
+    First,
+    /// The wider form of files with it.
+    Second,
+}
+
+impl Form {
+    /// The form in which the rules are written: the first, where all of them have it.
+    pub(crate) fn of_rules(rules: &Rules) -> Self
+        ensures { result ≡ form_of (rule_set rules.now).rules }
+    {
+        if all_fit_first(rules) {
+            Form::First
+        } else {
+            Form::Second
+        }
+    }
+}
+
+/// Whether all conditions of all rules are of the first form.
+fn all_fit_first(rules: &Rules) -> bool
+    ensures { result ≡ all_fit First (rule_set rules.now).rules }
+{
+    for stage in &Stage::ALL {
+        if !rules_fit_first(rules.at(*stage)) {
+            return false;
+        }
+    }
+    true
+}
+
+/// Whether all conditions of the rules are of the first form.
+fn rules_fit_first(rules: &[Rule]) -> bool
+    ensures { result ≡ list_all (λ rule. list_all fits_first rule.conditions) rules.now }
+{
+    rules
+        .iter()
+        .all(|rule| conditions_fit_first(rule.conditions.as_slice()))
+}
+
+/// Whether all conditions are of the first form.
+fn conditions_fit_first(conditions: &[Condition]) -> bool
+    ensures { result ≡ list_all fits_first conditions.now }
+{
+    conditions.iter().all(|condition| fits_first(condition))
+}
+
+/// Whether all conditions are of the second form.
+fn conditions_fit_second(conditions: &[Condition]) -> bool
+    ensures { result ≡ list_all fits_second conditions.now }
+{
+    conditions.iter().all(|condition| fits_second(condition))
+}
+
+/// Whether the words are the first line of a file of the second form.
+pub(crate) fn is_header(words: &[Word]) -> bool
+    ensures { result ≡ is_header words.now }
+{
+    match words {
+        [first, number] => first.is_keyword(b"rules") && number.is_keyword(b"2"),
+        _ => false,
+    }
+}
+
+/// Whether a rule of a file of this form may have these conditions.
+pub(crate) fn are_conditions(form: Form, conditions: &[Condition]) -> bool
+    ensures { result ≡ are_conditions form conditions.now }
+{
+    match form {
+        Form::First => conditions_fit_first(conditions),
+        Form::Second => begins_with_and(conditions) && conditions_fit_second(conditions),
+    }
+}
+
+/// Whether the first condition, if there is one, is joined by And.
+fn begins_with_and(conditions: &[Condition]) -> bool
+    ensures { result ≡ begins_with_and conditions.now }
+{
+    match conditions {
+        [first, ..] => first.joint == Joint::And,
+        [] => true,
+    }
+}
+
+/// Whether the condition is of the first form: a field, a test and one text.
+fn fits_first(condition: &Condition) -> bool
+    ensures { result ≡ fits_first condition.now }
+{
+    condition.joint == Joint::And
+        && !condition.negated
+        && is_first_field(&condition.field)
+        && matches!(condition.test, Test::Is | Test::Has | Test::Lacks)
+        && !condition.any_case
+        && condition.texts.as_slice().len() == 1
+}
+
+/// Whether the field is of the first form.
+fn is_first_field(field: &Field) -> bool
+    ensures { result ≡ is_first_field field.now }
+{
+    match field {
+        Field::Sender(part) | Field::Rcpt(part) => *part == PathPart::Sent,
+        Field::Recipients(_) => false,
+        _ => true,
+    }
+}
+
+/// Whether the condition is of the second form.
+fn fits_second(condition: &Condition) -> bool
+    ensures { result ≡ fits_second condition.now }
+{
+    !condition.texts.as_slice().is_empty()
+        && test_fits(condition.test, &condition.field, &condition.texts)
+        && case_fits(condition.test, &condition.field, condition.any_case)
+}
+
+/// Whether the field has the test, with these texts.
+fn test_fits(test: Test, field: &Field, texts: &Texts) -> bool
+    ensures { result ≡ test_fits test field.now texts.now }
+{
+    match test {
+        Test::Under => is_domain(field) && have_no_first_dot(texts.as_slice()),
+        Test::Like => !matches!(field, Field::Body),
+        _ => true,
+    }
+}
+
+/// Whether no text begins with a dot.
+fn have_no_first_dot(texts: &[Text]) -> bool
+    ensures { result ≡ list_all (λ text. not (begins_with_dot text)) texts.now }
+{
+    texts.iter().all(|text| has_no_first_dot(text))
+}
+
+/// Whether the text doesn't begin with a dot.
+fn has_no_first_dot(text: &Text) -> bool
+    ensures { result ≡ not (begins_with_dot text.now) }
+{
+    match text.as_slice() {
+        [first, ..] => *first != b'.',
+        [] => true,
+    }
+}
+
+/// Whether the values of the field are domains.
+fn is_domain(field: &Field) -> bool
+    ensures { result ≡ is_domain field.now }
+{
+    match field {
+        Field::Host | Field::Helo => true,
+        Field::Sender(part) | Field::Rcpt(part) | Field::Recipients(part) => {
+            *part == PathPart::Domain
+        }
+        _ => false,
+    }
+}
+
+/// Whether the case of letters may be ignored, where it is.
+fn case_fits(test: Test, field: &Field, any_case: bool) -> bool
+    ensures { result ≡ case_fits test field.now any_case }
+{
+    !any_case || test != Test::Under && !has_form(field)
+}
+
+/// Whether the values of the field have a form of their own.
+fn has_form(field: &Field) -> bool
+    ensures { result ≡ has_form field.now }
+{
+    matches!(
+        field.path_part(),
+        Some(PathPart::Address | PathPart::Domain)
+    )
+}

@@ -1,0 +1,42 @@
+//! Conditions with one of their texts.
+
+use milter_filter_rules::{Condition, Field, Test};
+
+/// A condition with one of its texts.
+#[derive(Clone, Copy)]
+pub struct Compared<'a> {
+    /// Whether it is met where its test doesn't hold.
+    pub negated: bool,
+    /// What it looks at.
+    pub field: &'a Field,
+    /// How it compares.
+    pub test: Test,
+    /// Whether it says that the case of letters doesn't count.
+    pub any_case: bool,
+    /// The text that it looks for.
+    pub text: &'a [u8],
+}
+
+impl<'a> Compared<'a> {
+    /// The condition with this text. Doesn't allocate.
+    pub fn new(condition: &'a Condition, text: &'a [u8]) -> Self {
+        Compared {
+            negated: condition.negated,
+            field: &condition.field,
+            test: condition.test,
+            any_case: condition.any_case,
+            text,
+        }
+    }
+
+    /// The same with another text. Doesn't allocate.
+    pub fn with_text(self, text: &'a [u8]) -> Self {
+        Compared {
+            negated: self.negated,
+            field: self.field,
+            test: self.test,
+            any_case: self.any_case,
+            text,
+        }
+    }
+}

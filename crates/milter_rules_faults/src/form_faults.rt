@@ -1,0 +1,37 @@
+//! What is said of the line that gives a file its form, and of what takes such a line.
+
+use crate::file_form::{FileForm, is_form_line};
+use crate::notes::{Notes, Piece};
+use milter_text::Word;
+use milter_wire::NoMemory;
+use std::alloc::Global;
+
+/// What a word of the second form is said to need in a file of the first.
+const NEEDS_FORM: &[u8] = b" needs rules 2 as the first line of the file";
+
+/// Says what is wrong with a line that begins with `rules`, in a file of this form.
+pub(crate) fn say_bad_form_line(
+    alloc: Global,
+    notes: &mut Notes<'_>,
+    form: FileForm,
+    words: &[Word],
+) -> Result<(), NoMemory> {
+    let text: &[u8] = if !is_form_line(words) {
+        b"rules is followed by the number 2, and by nothing else"
+    } else if form == FileForm::Second {
+        b"rules is given a second time; it is given once in a file"
+    } else {
+        b"rules 2 is due before all other lines"
+    };
+    notes.say(alloc, &[Piece::Plain(text)])
+}
+
+/// Says that the word is known in files of the second form alone; `end` is what is said beside that.
+pub(crate) fn say_needs_form<'x>(
+    alloc: Global,
+    notes: &mut Notes<'_>,
+    word: Piece<'x>,
+    end: &'x [u8],
+) -> Result<(), NoMemory> {
+    notes.say(alloc, &[word, Piece::Plain(NEEDS_FORM), Piece::Plain(end)])
+}
