@@ -8,10 +8,17 @@ import struct
 import subprocess
 import sys
 
-FIELDS = ['host', 'address', 'helo', 'sender', 'rcpt', 'header "X"', 'body', 'macro "{x}"']
+FIELDS = [
+    'host', 'address', 'helo', 'sender', 'sender-address', 'sender-domain', 'rcpt', 'rcpt-address', 'rcpt-domain',
+    'recipients', 'recipients-address', 'recipients-domain', 'header "X"', 'body', 'macro "{x}"']
 # Conditions of which none ends a message: what is looked for isn't there, and where it has to be missing a second
 # condition isn't met.
-TESTS = {'is': 'is "nowhere"', 'has': 'has "nowhere"', 'lacks': 'lacks "nowhere" and sender is "nobody"'}
+TESTS = {
+    'is': 'is "nowhere"', 'has': 'has "nowhere" "never"', 'lacks': 'lacks "nowhere" and sender is "nobody"',
+    'begins': 'begins "nowhere" "never"', 'ends': 'ends "nowhere" "never"', 'like': 'like "*no?here*" "never*"',
+    'under': 'under "nowhere" "never"'}
+# The fields whose values are domains, which alone have the test under.
+DOMAINS = ['host', 'helo', 'sender-domain', 'rcpt-domain', 'recipients-domain']
 COUNTS = [1_000, 10_000, 100_000]
 SIZES = [1, 10, 100, 1_000, 10_000, 65_535]
 BODY = 1_000_000
@@ -55,6 +62,11 @@ def written(folder, name, content):
     return path
 
 
+def has_test(field, test):
+    """Whether a condition on the field may have the test."""
+    return not (test == 'under' and field not in DOMAINS or test == 'like' and field == 'body')
+
+
 def is_linear(times):
     """Whether each of these times, each of ten times as much as the one before, is at most so much of it."""
     return all(later <= MOST * max(time, LEAST) for time, later in zip(times, times[1:]))
@@ -65,19 +77,27 @@ def main(program, folder):
     for count in COUNTS:
         fields = b''.join(packet(b'LX\0 v%06d\0' % number) for number in range(count))
         given['header', count] = written(folder, 'header%d' % count, message(fields + packet(b'N')))
+        with_macros = b''.join(
+            packet(b'DL{y}\0%d\0' % number) + packet(b'LX\0 v%06d\0' % number) for number in range(count))
+        given['macros', count] = written(folder, 'macros%d' % count, message(with_macros + packet(b'N')))
         chunks = b''.join(packet(b'B' + b'x') for _ in range(count))
         given['body', count] = written(folder, 'body%d' % count, message(packet(b'N') + chunks))
     failed = False
-    for stage, what in [('header', 'header fields'), ('body', 'chunks of one byte')]:
+    kinds = [
+        ('header', 'header', 'header fields', FIELDS), ('body', 'body', 'chunks of one byte', FIELDS),
+        ('macros', 'header', 'header fields with macros before each', ['macro "{x}"', 'macro "{y}"'])]
+    for kind, stage, what, fields in kinds:
         print('seconds for %s %s:' % (', '.join('{:,}'.format(count) for count in COUNTS), what))
-        for field in FIELDS:
+        for field in fields:
             for test, condition in TESTS.items():
-                rule = 'at %s when %s %s do reject\n' % (stage, field, condition)
+                if not has_test(field, test):
+                    continue
+                rule = 'rules 2\nat %s when %s %s do reject\n' % (stage, field, condition)
                 rules = written(folder, 'rules', rule.encode())
-                times = [seconds(program, rules, given[stage, count]) for count in COUNTS]
+                times = [seconds(program, rules, given[kind, count]) for count in COUNTS]
                 is_right = is_linear(times)
                 failed |= not is_right
-                print('%-14s %-6s %s%s' % (
+                print('%-18s %-6s %s%s' % (
                     field, test, ' '.join('%8.3f' % time for time in times), '' if is_right else '  NOT LINEAR'))
     print('seconds for a body of {:,} bytes, by chunks of {} bytes:'.format(
         BODY, ', '.join('{:,}'.format(size) for size in SIZES)))
@@ -87,12 +107,14 @@ def main(program, folder):
         chunks = packet(b'B' + b'x' * size) * whole + (packet(b'B' + b'x' * rest) if rest else b'')
         paths.append(written(folder, 'size%d' % size, message(packet(b'N') + chunks)))
     for test, condition in TESTS.items():
-        rules = written(folder, 'rules', ('at body when body %s do reject\n' % condition).encode())
+        if not has_test('body', test):
+            continue
+        rules = written(folder, 'rules', ('rules 2\nat body when body %s do reject\n' % condition).encode())
         times = [seconds(program, rules, path) for path in paths]
         # A byte of its own costs a packet; more than that is a body that is gone over again.
         is_right = all(time <= MOST * max(times[0], LEAST) for time in times)
         failed |= not is_right
-        print('%-14s %-6s %s%s' % (
+        print('%-18s %-6s %s%s' % (
             'body', test, ' '.join('%8.3f' % time for time in times), '' if is_right else '  NOT LINEAR'))
     return 1 if failed else 0
 

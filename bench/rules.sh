@@ -1,9 +1,10 @@
 #!/usr/bin/env bash
 # Measures what rules cost that look at all header fields so far at each header field, and at the whole body so far at
-# each chunk of it, for each field and each test: one message of 1,000 to 100,000 header fields or chunks of one byte,
-# and a body of 1,000,000 bytes in chunks of 1 to 65,535 bytes, to `milter_tool answer`. It prints the processor time
-# of the fastest of three runs, and fails where ten times as much of a message costs more than twenty times as much. It
-# takes Python and a minute. The program is built first where it has to be; another one may be given.
+# each chunk of it, for each field and each test: one message of 1,000 to 100,000 header fields, with macros before each
+# and without, or of as many chunks of one byte; and a body of 1,000,000 bytes in chunks of 1 to 65,535 bytes, to
+# `milter_tool answer`. It prints the processor time of the fastest of three runs, and fails where ten times as much of a
+# message costs more than twenty times as much. It takes Python and some minutes. The program is built first where it has
+# to be; another one may be given.
 #
 #     bash bench/rules.sh [PROGRAM]
 set -eu
