@@ -51,11 +51,11 @@ v4_sound text number is = go (whole_value (read_ipv4 text)) refl is
     go None e is = absurd cc
     go (Some octets) e is =
         let (front, split, written) = read_ipv4_sound text octets [] (is_whole _ octets e) in
-        record
-            { octets = octets
-            ; written = subst (λ t. IsDotted t octets) (sym (split ∙ append-nil front)) written
-            ; value = cc
-            }
+        record {
+          octets = octets;
+          written = subst (λ t. IsDotted t octets) (sym (split ∙ append-nil front)) written;
+          value = cc;
+        }
 
 -- ---- IPv6
 
@@ -74,11 +74,11 @@ v6_sound text number is = go (whole_value (read_ipv6 text)) refl is
     go None e is = absurd cc
     go (Some segments) e is =
         let (front, split, written) = read_ipv6_sound text segments [] (is_whole _ segments e) in
-        record
-            { segments = segments
-            ; written = subst (λ t. IsColonHex t segments) (sym (split ∙ append-nil front)) written
-            ; value = cc
-            }
+        record {
+          segments = segments;
+          written = subst (λ t. IsColonHex t segments) (sym (split ∙ append-nil front)) written;
+          value = cc;
+        }
 
 pub zoned_complete : (text : List ℕ) (number : ℕ) → IsZonedText text number → zoned_in text ≡ Some number
 zoned_complete text number written = rw written.zone (v6_complete _ number written.address)
@@ -131,14 +131,14 @@ decimal_complete digits prefix is small =
 
 own_decimal : (prefix : ℕ) → prefix < 256 → IsDecimal (decimal prefix) prefix
 own_decimal prefix small =
-    record
-        { value = decimal_is_IsNumeral prefix (omega arith)
-        ; short = length-decimal-le 3 prefix (omega arith) (omega arith) (omega arith)
-        ; exact = λ zero. elim (cases_lt prefix 10) [
-          | inl one ↦ ap length (decimal_digit prefix one)
-          | inr more ↦ absurd (omega (arith, zero, first_decimal prefix (omega arith) (omega arith)))
-        ]
-        }
+    record {
+      value = decimal_is_IsNumeral prefix (omega arith);
+      short = length-decimal-le 3 prefix (omega arith) (omega arith) (omega arith);
+      exact = λ zero. elim (cases_lt prefix 10) [
+        | inl one ↦ ap length (decimal_digit prefix one)
+        | inr more ↦ absurd (omega (arith, zero, first_decimal prefix (omega arith) (omega arith)))
+      ];
+    }
 
 decimal_sound : (digits : List ℕ) (prefix : ℕ) → whole_value (read_octet digits) ≡ Some prefix → IsDecimal digits prefix
 decimal_sound digits prefix is =
@@ -168,6 +168,7 @@ prefix_sound (slash ∷ digits) bits prefix is = go (whole_value (read_octet dig
         let same : found ≡ prefix = cc in
         (subst (IsDecimal digits) same (decimal_sound digits found e), subst (λ p. p ≤ bits) same (leb-true found bits w))
     at_most found e false w is = absurd cc
+
     go : (found : Option ℕ) → whole_value (read_octet digits) ≡ found → option_and_then (if_at_most bits) found ≡ Some prefix
         → IsDecimal digits prefix × (prefix ≤ bits)
     go None e is = absurd cc
@@ -185,6 +186,7 @@ network_sound text address prefix is = go (address_in (before_first is_slash tex
   where
     rest : List ℕ
     rest = drop (position_or_len is_slash text) text
+
     fixed : (found : Address) → address_in (before_first is_slash text) ≡ Some found → (p : Option ℕ)
         → prefix_in rest (bits_of found) ≡ p → option_map {U = Address × ℕ} (λ n. (found, n)) p ≡ Some (address, prefix)
         → IsNetworkText text address prefix
@@ -192,11 +194,12 @@ network_sound text address prefix is = go (address_in (before_first is_slash tex
     fixed found e (Some n) f is =
         let same : found ≡ address = ap (λ (x : Option (Address × ℕ)). option_map_or (λ y. y.0) x found) is in
         let as_many : n ≡ prefix = ap (λ (x : Option (Address × ℕ)). option_map_or (λ y. y.1) x n) is in
-        record
-            { address_text = subst (λ a. IsAddressText (before_first is_slash text) a) same (address_sound _ found e)
-            ; prefix_text = subst (λ a. IsPrefixText rest (bits_of a) prefix) same
-                (subst (λ p. IsPrefixText rest (bits_of found) p) as_many (prefix_sound rest (bits_of found) n f))
-            }
+        record {
+          address_text = subst (λ a. IsAddressText (before_first is_slash text) a) same (address_sound _ found e);
+          prefix_text = subst (λ a. IsPrefixText rest (bits_of a) prefix) same
+              (subst (λ p. IsPrefixText rest (bits_of found) p) as_many (prefix_sound rest (bits_of found) n f));
+        }
+
     go : (found : Option Address) → address_in (before_first is_slash text) ≡ found
         → option_and_then (with_prefix rest) found ≡ Some (address, prefix) → IsNetworkText text address prefix
     go None e is = absurd cc
