@@ -152,21 +152,24 @@ def is_of_smtp(rules, row):
                for part, name in (('sender', '{mail_addr}'), ('recipients', '{rcpt_addr}')))
 
 
-def play_recipe(checks, server, title, rules, rows):
-    """The sessions of a recipe."""
+def play_recipe(checks, server, title, rules, rows, options=()):
+    """The sessions of a recipe, with a filter that has these options."""
     names = {name for row in rows for parts in (recipes.USUAL, row.given, row.released)
              for name, _ in parts.get('headers', [])}
-    with server.asking(rules):
+    with server.asking(rules, *options):
         for number, row in enumerate(rows, 1):
             if is_of_smtp(rules, row):
                 replies = played(server, row)
                 delivered = [parts_of(text, names) for text in server.arrived()]
-                checks.check('%s, session %d over SMTP' % (title, number), (replies, delivered, server.held()),
+                what = ' '.join(['%s, session %d over SMTP' % (title, number), *options])
+                checks.check(what, (replies, delivered, server.held()),
                              (replies_of(row), delivered_of(row), int('quarantine' in row.released)))
 
 
 def play(checks, program):
-    """The recipes of the document, each with its sessions."""
+    """The recipes of the document, each with its sessions: what comes of them is the same by the stages that the rules
+    need and by all stages."""
     with running(program) as server:
         for title, rules in recipes.rules().items():
-            play_recipe(checks, server, title, rules, recipes.RECIPES[title])
+            for options in [[], ['--all-stages']]:
+                play_recipe(checks, server, title, rules, recipes.RECIPES[title], options)

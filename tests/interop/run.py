@@ -57,7 +57,9 @@ def play(checks, program, name, address, client):
 
 def play_at_once(checks, program, address):
     """Plays several runs of the script of messages at once on a service, beside a connection that says nothing."""
-    with peers.Service(program, address, peers.rules_of('messages')) as served, peers.connected(address):
+    # The script sends each stage, and waits for its reply.
+    served_by = peers.Service(program, address, peers.rules_of('messages'), options=['--all-stages'])
+    with served_by as served, peers.connected(address):
         with concurrent.futures.ThreadPoolExecutor(AT_ONCE) as running:
             ends = list(running.map(lambda _: miltertest('messages', address), range(AT_ONCE)))
         checks.check('messages at once at ' + address, ends, AT_ONCE * [('', 0)])

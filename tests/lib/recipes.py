@@ -61,6 +61,11 @@ NO_REPLY = ('rcpt', '{rcpt_addr}', 'noreply@example.net')
 CEO = ('mail', '{mail_addr}', 'ceo@example.net')
 NO_DOMAIN = '550 5.7.1 No mail from this domain'
 HELD = {'quarantine': 'looked at by a person'}
+TOO_MANY = '550 5.5.3 Too many recipients'
+MANY = ['<list-%d@example.net>' % number for number in range(50)]
+TOO_LARGE = '552 5.3.4 Too large for this list'
+# 50,000 bytes in lines.
+LARGE = (48 * 'x' + r'\r\n') * 1000
 # Ways to write the address `noreply@example.net`, as a session file has them.
 WRITTEN = ['<noreply@example.net>', 'noreply@example.net', '<NoReply@Example.NET>', r'<\"noreply\"@example.net>',
            '<noreply@example.net.>', '<@other.example:noreply@example.net>']
@@ -116,6 +121,13 @@ RECIPES = {
         refused('eoh', SPAM, headers=fields(YES)),
         refused('eoh', SPAM, address='192.0.2.250', headers=fields(YES)),
         passes()],
+    'Let networks pass first': [
+        ends('connect', 'accept', 'released', address='198.51.100.7', headers=fields(YES)),
+        ends('connect', 'accept', 'released', address='198.51.100.255'),
+        refused('eoh', SPAM, headers=fields(YES)),
+        refused('eoh', SPAM, address='198.51.101.0', headers=fields(YES)),
+        refused('eoh', SPAM, address='198.51.99.255', headers=fields(YES)),
+        passes(address='198.51.10.7')],
     "An address for one's own people": [
         refused('rcpt', OUR_OWN, **STAFF),
         refused('rcpt', OUR_OWN, **{**STAFF, 'recipients': ['<Staff@Example.NET>']}),
@@ -171,6 +183,11 @@ RECIPES = {
         refused('rcpt', NO_MAIL, recipients=['tmp-1a2b@example.net']),
         passes(),
         passes(recipients=['<brook+test@example.net.example>', '<tmp-1a2@example.net>', '<x-tmp-1a2b@example.net>'])],
+    'Too many recipients': [
+        refused('data', TOO_MANY, recipients=MANY + ['<brook@example.net>']),
+        refused('data', TOO_MANY, recipients=MANY + ['<brook@example.net>', '<cleo@example.net>']),
+        passes(recipients=MANY),
+        passes()],
     'A reply of several lines': [
         refused('rcpt', r'550-5.1.6 This address has moved\r\n550 5.1.6 to example.com',
                 recipients=['<old@example.net>']),
@@ -202,6 +219,12 @@ RECIPES = {
         ends('eoh', 'discard', 'discarded', headers=fields(('X-Spam-Level', '*' * 12))),
         passes(),
         passes(headers=fields(('X-Spam-Level', '*' * 9)))],
+    'A large message to a list': [
+        refused('eob', TOO_LARGE, recipients=['<staff@example.net>'], body=LARGE + r'x\r\n'),
+        refused('eob', TOO_LARGE, recipients=['<brook@example.net>', '<Staff@example.net>'], body=LARGE + r'x\r\n'),
+        passes(recipients=['<staff@example.net>'], body=LARGE),
+        passes(recipients=['<staff@example.net>']),
+        passes(body=LARGE + r'x\r\n')],
     'A tag at the end of the body': [
         refused('eob', INTERNAL, body=r'The plan.\r\n[internal]\r\n'),
         refused('eob', INTERNAL, body=r'One.\r\n[internal]\r\n[internal]\r\n'),
@@ -255,6 +278,8 @@ OF_TABLES = {
         ends('mail', 'discard', 'discarded', sender='<ada@mail.example.org>'), passes(sender='<ada@example.com>')],
     'at connect when host under "example.org" do continue': [
         passes(), passes(host='example.org'), rejected('connect', host='mail.example.com')],
+    'at connect when address within "203.0.113.0/24" do reject': [
+        rejected('connect', address='203.0.113.255'), passes(address='203.0.112.255')],
     'at helo when helo is any-case "localhost" do reject': [
         rejected('helo', helo='LocalHost'), passes(helo='localhost.example')],
     'at eoh when header "Subject" has any-case "lottery" do reject': [
@@ -275,6 +300,8 @@ OF_TABLES = {
     'at rcpt when address is "192.0.2.25" do continue': [
         passes(address='192.0.2.25'), rejected('rcpt', address='192.0.2.250')],
     'at rcpt when address begins "192.0.2." do continue': [passes(), rejected('rcpt', address='192.0.20.1')],
+    'at rcpt when address within "192.0.2.0/26" do continue': [
+        passes(), passes(address='192.0.2.63'), rejected('rcpt', address='192.0.2.64')],
     'at rcpt when rcpt-address like "postmaster@*" "postmaster+*@*" do continue': [
         passes(recipients=['<Postmaster@example.net>']), passes(recipients=['<postmaster+mx@example.org>']),
         rejected('rcpt', recipients=['<postmasters@example.net>'])],
@@ -284,10 +311,14 @@ OF_TABLES = {
         rejected('mail', sender='<Eve@example.org.>'), passes(sender='<steve@example.org>')],
     'at mail when sender-domain is "example.org" "example.com" do reject': [
         rejected('mail'), rejected('mail', sender='<ada@example.com>'), passes(sender='<ada@mail.example.org>')],
+    'at mail when address within "203.0.113.7" "2001:db8::/32" do reject': [
+        rejected('mail', address='203.0.113.7'), passes(address='203.0.113.70')],
     'at data when recipients-address is "noreply@example.net" do reject': [
         rejected('data', recipients=TO_NO_REPLY), rejected('data', recipients=TO_NO_REPLY[::-1]), passes()],
     'at mail when sender-domain is "example.org" do reject': [
         rejected('mail'), passes(sender='<ada@mail.example.org>')],
+    'at mail when address within "203.0.113.0/25" do reject': [
+        rejected('mail', address='203.0.113.127'), passes(address='203.0.113.128')],
     'at rcpt when rcpt-address is "noreply@example.net" do reject': [
         rejected('rcpt', recipients=['<@mx.example:noreply@example.net>']), passes()],
     'at mail when macro "{auth_authen}" lacks "" and sender-address is "ceo@example.net" do reject': [

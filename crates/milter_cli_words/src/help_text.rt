@@ -121,10 +121,13 @@ Where the first line is rules 2, CONDITION is, with any of the texts:
                                  not of a body
   FIELD under TEXT ..            a domain, or one below it: of host, helo and domains
   FIELD lacks TEXT ..            no value contains any of the texts
+  address within TEXT ..         the client is in a network, as 192.0.2.0/24
+  size over NUMBER               the body has more bytes so far
+  rcpts over NUMBER              there are more recipients so far
 
 FIELD is also recipients, for all of them so far; and sender, rcpt and recipients may
 end with -address, for the address as mail servers compare it, however it is written,
-or with -domain. not before FIELD negates all of it, any-case after the test has the
+or with -domain. not before a condition negates it, any-case after the test has the
 case of letters not count, and or joins conditions less closely than and. ACTION is a
 verdict:
 

@@ -5,8 +5,8 @@ use Rattle.milter_wire.specs.declared.stage.Stage.{Stage}
 use Rattle.milter_wire.specs.declared.verdict.Verdict.TheVariants.{Reject}
 use Rattle.milter_protocol.specs.declared.action.Action.TheVariants as actions
 use Rattle.milter_filter_search.specs.declared.pattern.Test.TheVariants.{Is}
+use Rattle.milter_filter_rules.specs.declared.rule.Check.{Check}
 use Rattle.milter_filter_rules.specs.declared.rule.Check.TheVariants.{Text}
-use Rattle.milter_filter_rules.specs.declared.rule.Condition.{Condition}
 use Rattle.milter_filter_rules.specs.declared.rule.Field.{Field}
 use Rattle.milter_filter_rules.specs.declared.rule.Joint.TheVariants.{And}
 use Rattle.milter_filter_rules.specs.declared.rule_list.StageRules.{StageRules}
@@ -14,18 +14,18 @@ use Rattle.milter_filter_rules.specs.LeastWants.{least_protocol}
 use Rattle.milter_filter_rules.specs.StageRules.{no_rules, with_rule}
 
 -- the field is empty
-abbrev pub is_empty : Field → Condition
-is_empty field =
-    record {
-      joint = And;
-      negated = false;
-      check = Text (record { field = field; test = Is; any_case = false; texts = [] ∷ [] });
-    }
+abbrev pub is_empty : Field → Check
+is_empty field = Text (record { field = field; test = Is; any_case = false; texts = [] ∷ [] })
 
--- one rule, which looks at the field at the stage
-abbrev pub one_rule : Stage → Field → StageRules
-one_rule stage field =
-    with_rule stage (record { conditions = is_empty field ∷ []; action = actions.Verdict Reject }) no_rules
+-- one rule, which has this check at the stage
+abbrev pub one_rule : Stage → Check → StageRules
+one_rule stage check =
+    with_rule stage
+    (record {
+      conditions = record { joint = And; negated = false; check = check } ∷ [];
+      action = actions.Verdict Reject;
+    })
+    no_rules
 
 -- the names of the protocol bits that rules want which set none of their own
 abbrev pub least_names : StageRules → List ℕ

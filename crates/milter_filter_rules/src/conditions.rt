@@ -53,12 +53,7 @@ pub(crate) fn applies(
 }
 
 /// Whether the condition is met, and those of its group that came before it, where those before it are met or not.
-fn is_met_too(
-    asked: Asked<'_>,
-    before: bool,
-    places: Places,
-    seen: &Seen,
-) -> Result<bool, NoMemory>
+fn is_met_too(asked: Asked<'_>, before: bool, places: Places, seen: &Seen) -> Result<bool, NoMemory>
     ensures { IfOk result (λ met. met ≡ (group_met asked.entry.condition.now.joint before
         && is_met asked.entry.case seen.now.shown asked.entry.condition.now)) }
 {
@@ -119,7 +114,8 @@ fn measured(measure: Measure, seen: &Seen) -> usize
 
 /// Whether the test of the check holds; the places of its texts begin with these.
 fn test_holds(comparison: Comparison<'_>, places: Places, seen: &Seen) -> Result<bool, NoMemory>
-    ensures { IfOk result (λ holds. holds ≡ test_holds comparison.entry.case seen.now.shown comparison.entry.check.now) }
+    ensures { IfOk result (λ holds. holds ≡
+        test_holds comparison.entry.case seen.now.shown comparison.entry.check.now) }
 {
     let found = finds(comparison, places, seen)?;
     Ok(match comparison.check.test {

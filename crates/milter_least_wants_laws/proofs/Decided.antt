@@ -5,20 +5,14 @@ use Rattle.std.proofs.lemmas.Bool.{or_left, or_right}
 use Rattle.milter_wire.specs.declared.stage.Stage.{Stage}
 use Rattle.milter_protocol.specs.Seen.{Seen}
 use Rattle.milter_glob.specs.declared.text_case.TextCase.{TextCase}
+use Rattle.milter_filter_rules.specs.declared.rule.Check.{Check}
 use Rattle.milter_filter_rules.specs.declared.rule.Condition.{Condition}
-use Rattle.milter_filter_rules.specs.declared.rule.Field.{Field}
 use Rattle.milter_filter_rules.specs.declared.rule.Joint.{Joint}
 use Rattle.milter_filter_rules.specs.declared.rule.Joint.TheVariants.{And, Or}
 use Rattle.milter_filter_rules.specs.declared.rule.Rule.{Rule}
-use Rattle.milter_filter_rules.specs.Conditions.{after_joint, applies, finds_some, groups_of, is_met, passes, values_of, with_first}
+use Rattle.milter_filter_rules.specs.Conditions.{after_joint, applies, check_holds, groups_of, is_met, with_first}
 use Rattle.milter_filter_rules.specs.Decisions.{answer_by, decided}
-use Rattle.milter_filter_rules.specs.LeastWants.{is_shown_by, looks_at, shown_at}
-
--- whether a condition is met by the values of its field
-abbrev met_by : TextCase → Condition → List (List ℕ) → Bool
-met_by case c values =
-    let holds = passes c.test (list_any (finds_some case c) values) in
-    if c.negated then not holds else holds
+use Rattle.milter_filter_rules.specs.LeastWants.{is_shown_by, looked_at, looks_at}
 
 -- ---- the groups of conditions, of which each is met or not
 
@@ -51,18 +45,18 @@ any_of_groups : (test : List Condition → Bool) (groups : List (List Condition)
 any_of_groups test [] = refl
 any_of_groups test (group ∷ groups) = ap (λ (b : Bool). test group || b) (any_of_groups test groups)
 
--- the field is shown alike, if each stage that shows it has this property
+-- a check holds alike, if each stage that shows what it looks at has this property
 module _ (case : TextCase) (P : Stage → Type 0) (one other : Seen)
-    (alike : (field : Field) → ((stage : Stage) → is_shown_by (shown_at field) stage ≡ true → P stage)
-    → values_of field one ≡ values_of field other) where
+    (alike : (check : Check) → ((stage : Stage) → is_shown_by (looked_at check) stage ≡ true → P stage)
+    → check_holds case one check ≡ check_holds case other check) where
   abbrev looks : Stage → List Condition → Bool
-  looks stage conditions = list_any (λ condition. is_shown_by (shown_at condition.field) stage) conditions
+  looks stage conditions = list_any (λ condition. is_shown_by (looked_at condition.check) stage) conditions
 
   condition-alike : (condition : Condition)
-      → ((stage : Stage) → is_shown_by (shown_at condition.field) stage ≡ true → P stage)
+      → ((stage : Stage) → is_shown_by (looked_at condition.check) stage ≡ true → P stage)
       → is_met case one condition ≡ is_met case other condition
   condition-alike condition each =
-      ap (λ (values : List (List ℕ)). met_by case condition values) (alike condition.field each)
+      ap (λ (holds : Bool). if condition.negated then not holds else holds) (alike condition.check each)
 
   groups-alike : (conditions : List Condition) → ((stage : Stage) → looks stage conditions ≡ true → P stage)
       → map (list_all (is_met case one)) (groups_of conditions) ≡ map (list_all (is_met case other)) (groups_of conditions)
@@ -73,7 +67,7 @@ module _ (case : TextCase) (P : Stage → Type 0) (one other : Seen)
       (condition-alike condition (λ stage at. each stage (or_left _ (looks stage conditions) at)))
       ∙ ap (λ (groups : List Bool). after_bool condition.joint (with_bool (is_met case other condition) groups))
       (groups-alike conditions (λ stage at. each stage
-      (or_right (is_shown_by (shown_at condition.field) stage) _ at)))
+      (or_right (is_shown_by (looked_at condition.check) stage) _ at)))
       ∙ sym (first_of_groups (is_met case other) condition conditions)
 
   conditions-alike : (conditions : List Condition) → ((stage : Stage) → looks stage conditions ≡ true → P stage)

@@ -1,5 +1,5 @@
 -- A filter of rules that wants no more than its rules need leaves out nothing that changes an answer.
-use Rattle.std.proofs.Common.{◌≡◌, ◌≤◌, Bool, true, false, ◌&&◌, nat_le, List, [], ◌∷◌, filter, Some, refl, sym, ap, ◌∙◌, le-leb, if◌then◌else◌}
+use Rattle.std.proofs.Common.{◌≡◌, ◌≤◌, Bool, true, false, ◌&&◌, nat_le, List, [], ◌∷◌, filter, Option, Some, refl, sym, ap, ◌∙◌, le-leb, if◌then◌else◌}
 use Rattle.std.specs.List.{list_any}
 use Rattle.std.proofs.lemmas.Bool.{and_from, or_left, or_right, true≢false}
 use Rattle.milter_wire_options.specs.declared.options.Options.{Options}
@@ -16,17 +16,16 @@ use Rattle.milter_protocol.specs.Permitted.{permitted, permitted_verdict}
 use Rattle.milter_protocol.specs.Seen.{Seen, seen}
 use Rattle.milter_protocol.specs.StageOrder.{rank_of}
 use Rattle.milter_glob.specs.declared.text_case.TextCase.{TextCase}
-use Rattle.milter_filter_rules.specs.declared.rule.Field.{Field}
 use Rattle.milter_filter_rules.specs.declared.rule.Rule.{Rule}
 use Rattle.milter_filter_rules.specs.declared.rule_list.StageRules.{StageRules}
 use Rattle.milter_filter_rules.specs.Decisions.{decided}
-use Rattle.milter_filter_rules.specs.LeastWants.{has_rules, is_least_asked, is_least_sent, is_looked_at, is_looked_at_from, is_of_use, is_shown_by, looks_at, shown_at}
+use Rattle.milter_filter_rules.specs.LeastWants.{has_rules, is_least_asked, is_least_sent, is_looked_at, is_looked_at_from, is_of_use, is_shown_by, looked_at, looks_at}
 use Rattle.milter_filter_rules.specs.RuleSet.{RuleSet}
 use Rattle.milter_filter_rules.specs.StageRules.{rules_at}
 use Rattle.milter_least_wants_laws.proofs.Decided.{decided-alike}
 use Rattle.milter_least_wants_laws.proofs.NegotiatedBits.{answered_as_before, answered_before, as_it_is, least, sent_as_before, sent_before, skip_as_before, space_as_before}
 use Rattle.milter_least_wants_laws.proofs.Places.{AreUpTo, place_of, sends}
-use Rattle.milter_least_wants_laws.proofs.ShownFields.{HidesNone, values-alike}
+use Rattle.milter_least_wants_laws.proofs.ShownFields.{HidesNone, check-alike}
 use Rattle.milter_least_wants_laws.proofs.Thinned.{is_plain}
 use Rattle.milter_least_wants_laws.proofs.ThinnedDialogues.{LeavesOut}
 
@@ -124,19 +123,19 @@ module _ (case : TextCase) (set : RuleSet) (offer : Options) where
   abbrev IsKept : Stage → Stage → Type 0
   IsKept stage shown = rank_of shown ≤ rank_of stage → is_least_sent set.rules shown ≡ true
 
-  hides-none : (stage : Stage) (field : Field)
-      → ((shown : Stage) → is_shown_by (shown_at field) shown ≡ true → IsKept stage shown)
-      → (before : List Command) → AreUpTo as_wanted (rank_of stage) before → HidesNone (sends at_least) field before
-  hides-none stage field each [] up_to = tt
-  hides-none stage field each (command ∷ before) up_to = (
-    λ gone. by_shown (is_shown_by (shown_at field)
+  hides-none : (stage : Stage) (at : Option Stage)
+      → ((shown : Stage) → is_shown_by at shown ≡ true → IsKept stage shown)
+      → (before : List Command) → AreUpTo as_wanted (rank_of stage) before → HidesNone (sends at_least) at before
+  hides-none stage at each [] up_to = tt
+  hides-none stage at each (command ∷ before) up_to = (
+    λ gone. by_shown (is_shown_by at
         (place_of command)) refl gone,
-    hides-none stage field each before up_to.2,
+    hides-none stage at each before up_to.2,
   )
     where
-      by_shown : (shown : Bool) → is_shown_by (shown_at field) (place_of command) ≡ shown
+      by_shown : (shown : Bool) → is_shown_by at (place_of command) ≡ shown
           → sends at_least command ≡ false
-          → is_shown_by (shown_at field) (place_of command) ≡ false
+          → is_shown_by at (place_of command) ≡ false
       by_shown false e gone = e
       by_shown true e gone =
           absurd (true≢false (sym (sent_as_before set offer (place_of command) (each (place_of command) e up_to.0)
@@ -149,8 +148,8 @@ module _ (case : TextCase) (set : RuleSet) (offer : Options) where
       decided-alike case (IsKept stage)
       (seen (has_leading_space at_least) (command ∷ filter (sends at_least) before))
       (seen (has_leading_space as_wanted) (command ∷ before))
-      (λ field each. values-alike (sends at_least) (λ bytes. refl) command before (has_leading_space as_wanted)
-      (has_leading_space at_least) field (hides-none stage field each before up_to))
+      (λ check each. check-alike (sends at_least) (λ bytes. refl) command before (has_leading_space as_wanted)
+      (has_leading_space at_least) case check (hides-none stage (looked_at check) each before up_to))
       (rules_at set.rules stage) (λ shown looks less. looked_at-sent set.rules shown stage less looks)
 
   pub leaves : LeavesOut decides as_wanted at_least

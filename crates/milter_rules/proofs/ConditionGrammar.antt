@@ -1,21 +1,28 @@
 -- What is read of the words of a condition is the condition, and the other way round.
-use Rattle.std.specs.Prelude.{◌≡◌, ℕ, Bool, true, false, not, ◌&&◌, List, [], ◌∷◌, ◌++◌, codes, map, Option, None, Some, refl, if◌then◌else◌}
+use Rattle.std.specs.Prelude.{◌≡◌, ℕ, ◌^◌, nat_lt, Bool, true, false, not, ◌&&◌, List, [], ◌∷◌, ◌++◌, codes, decimal, map, Option, None, Some, refl, if◌then◌else◌}
 use Rattle.std.specs.Option.{option_map}
 use Rattle.std.specs.Str.{bytes_eq}
-use Rattle.std.proofs.Common.{ap, sym, subst, ◌∙◌}
+use Rattle.std.proofs.Common.{◌<◌, ap, arith, sym, subst, ◌∙◌}
+use Rattle.std.proofs.lemmas.Bool.{ltb-true}
+use Rattle.milter_rules.proofs.ActionRuns.{number_read}
 use Rattle.std.proofs.lemmas.Slice.Eq.{bytes_eq-Decides}
 use Rattle.milter_wire_fields.specs.Bind.{◌>>=◌}
 use Rattle.milter_text.specs.declared.word.Word.{Word}
-use Rattle.milter_text.specs.WordValues.{is_keyword, keyword, text_of}
+use Rattle.milter_text.specs.WordValues.{is_keyword, keyword, number_of, text_of}
+use Rattle.milter_filter_rules.specs.declared.rule.Check.{Check}
+use Rattle.milter_filter_rules.specs.declared.rule.Check.TheVariants.{Text, Within, Over}
 use Rattle.milter_filter_rules.specs.declared.rule.Condition.{Condition}
 use Rattle.milter_filter_rules.specs.declared.rule.Field.{Field}
 use Rattle.milter_filter_rules.specs.declared.rule.Field.TheVariants.{Host, Address, Helo, Sender, Rcpt, Recipients, Header, Body, Macro}
 use Rattle.milter_filter_rules.specs.declared.rule.Joint.{Joint}
+use Rattle.milter_filter_rules.specs.declared.rule.Measure.{Measure}
+use Rattle.milter_filter_rules.specs.declared.rule.Measure.TheVariants.{Size, Rcpts}
 use Rattle.milter_filter_rules.specs.declared.rule.PathPart.TheVariants as parts
+use Rattle.milter_filter_rules.specs.declared.rule.TextCheck.{TextCheck}
 use Rattle.milter_filter_search.specs.declared.pattern.Test.{Test}
 use Rattle.milter_filter_search.specs.declared.pattern.Test.TheVariants.{Is, Has, Lacks, Begins, Ends, Like, Under}
-use Rattle.milter_rules.specs.ConditionWords.{Subject, after_not, after_test, condition_at, condition_of, condition_on, condition_words, field_at, field_of, field_words, flag_at, flag_by, flag_words, lone_field, name_words, named_field, path_field, quoted_word, test_in, test_words, texts_at, texts_with, with_texts, words_after}
-use Rattle.milter_filter_rules.specs.RuleNames.{field_name}
+use Rattle.milter_rules.specs.ConditionWords.{after_not, after_test, check_at, check_by, check_on, check_words, condition_at, condition_of, condition_words, field_at, field_of, field_words, flag_at, flag_by, flag_words, has_limit, if_limit, limit_at, limit_of, lone_field, measure_in, name_words, named_field, networks_after, over_at, path_field, quoted_word, test_in, test_words, text_check, text_check_at, texts_at, texts_with, with_texts, within, words_after}
+use Rattle.milter_filter_rules.specs.RuleNames.{field_name, measure_name}
 use Rattle.milter_filter_search.specs.Texts.{test_name}
 
 -- ---- from a condition to its words and back
@@ -61,11 +68,26 @@ field_no_flag (Header name) rest = refl
 field_no_flag Body rest = refl
 field_no_flag (Macro name) rest = refl
 
-negated_read : (negated : Bool) (field : Field) (rest : List Word)
-    → flag_at (codes "not") (flag_words (codes "not") negated ++ (field_words field ++ rest))
-    ≡ (negated, field_words field ++ rest)
-negated_read true field rest = refl
-negated_read false field rest = field_no_flag field rest
+pub append_words : (a b c : List Word) → (a ++ b) ++ c ≡ a ++ (b ++ c)
+append_words [] b c = refl
+append_words (word ∷ a) b c = ap (λ words. word ∷ words) (append_words a b c)
+
+-- nor is the first word of a check
+check_no_flag : (check : Check) (rest : List Word)
+    → flag_at (codes "not") (check_words check ++ rest) ≡ (false, check_words check ++ rest)
+check_no_flag (Text c) rest =
+    ap (flag_at (codes "not")) (append_words (field_words c.field) (test_words c) rest)
+    ∙ field_no_flag c.field (test_words c ++ rest)
+    ∙ ap (λ (words : List Word). (false, words)) (sym (append_words (field_words c.field) (test_words c) rest))
+check_no_flag (Within networks) rest = refl
+check_no_flag (Over Size limit) rest = refl
+check_no_flag (Over Rcpts limit) rest = refl
+
+negated_read : (negated : Bool) (check : Check) (rest : List Word)
+    → flag_at (codes "not") (flag_words (codes "not") negated ++ (check_words check ++ rest))
+    ≡ (negated, check_words check ++ rest)
+negated_read true check rest = refl
+negated_read false check rest = check_no_flag check rest
 
 test_read : (test : Test) → test_in (keyword (test_name test)) ≡ Some test
 test_read Is = refl
@@ -89,47 +111,96 @@ case_read true texts rest ends = refl
 case_read false [] rest ends = ap (λ found. flag_by found rest) ends.no_flag
 case_read false (text ∷ texts) rest ends = refl
 
-on_read : (s : Subject) (test : Test) (ignored : Bool) (texts : List (List ℕ)) (rest : List Word) → EndsTexts rest
-    → condition_on s
+on_read : (field : Field) (test : Test) (ignored : Bool) (texts : List (List ℕ)) (rest : List Word) → EndsTexts rest
+    → check_on field
     (keyword (test_name test) ∷ (flag_words (codes "any-case") ignored ++ (map quoted_word texts ++ rest)))
-    ≡ Some (condition_of s test ignored texts, rest)
-on_read s test ignored texts rest ends =
+    ≡ Some (text_check field test ignored texts, rest)
+on_read field test ignored texts rest ends =
     let words = flag_words (codes "any-case") ignored ++ (map quoted_word texts ++ rest) in
-    ap (option_map (λ t. after_test s t (flag_at (codes "any-case") words))) (test_read test)
-    ∙ ap (λ flag. Some (after_test s test flag)) (case_read ignored texts rest ends)
-    ∙ ap (λ found. Some (with_texts s test ignored found)) (texts_read texts rest ends.no_text)
+    ap (option_map (λ t. after_test field t (flag_at (codes "any-case") words))) (test_read test)
+    ∙ ap (λ flag. Some (after_test field test flag)) (case_read ignored texts rest ends)
+    ∙ ap (λ found. Some (with_texts field test ignored found)) (texts_read texts rest ends.no_text)
 
-pub append_words : (a b c : List Word) → (a ++ b) ++ c ≡ a ++ (b ++ c)
-append_words [] b c = refl
-append_words (word ∷ a) b c = ap (λ words. word ∷ words) (append_words a b c)
-
--- the words of a condition and those after it
-words_in_order : (c : Condition) (rest : List Word)
-    → condition_words c ++ rest
-    ≡ flag_words (codes "not") c.negated
-    ++ (field_words c.field
+-- the words of a check of texts and those after it
+text_in_order : (c : TextCheck) (rest : List Word)
+    → (field_words c.field ++ test_words c) ++ rest
+    ≡ field_words c.field
     ++ (keyword (test_name c.test)
-    ∷ (flag_words (codes "any-case") c.any_case ++ (map quoted_word c.texts ++ rest))))
-words_in_order c rest =
-    append_words (flag_words (codes "not") c.negated) (field_words c.field ++ test_words c) rest
-    ∙ ap (λ words. flag_words (codes "not") c.negated ++ words)
-    (append_words (field_words c.field) (test_words c) rest
+    ∷ (flag_words (codes "any-case") c.any_case ++ (map quoted_word c.texts ++ rest)))
+text_in_order c rest =
+    append_words (field_words c.field) (test_words c) rest
     ∙ ap (λ words. field_words c.field ++ (keyword (test_name c.test) ∷ words))
-    (append_words (flag_words (codes "any-case") c.any_case) (map quoted_word c.texts) rest))
+    (append_words (flag_words (codes "any-case") c.any_case) (map quoted_word c.texts) rest)
 
-abbrev subject_of : Condition → Subject
-subject_of c = record { joint = c.joint; negated = c.negated; field = c.field }
+-- no test of texts is `within`
+test_no_within : (test : Test) (rest : List Word) → words_after (codes "within") (keyword (test_name test) ∷ rest) ≡ None
+test_no_within Is rest = refl
+test_no_within Has rest = refl
+test_no_within Lacks rest = refl
+test_no_within Begins rest = refl
+test_no_within Ends rest = refl
+test_no_within Like rest = refl
+test_no_within Under rest = refl
 
-pub condition_read : (c : Condition) (rest : List Word) → EndsTexts rest
+-- a field and a test are no other check
+field_read_first : (field : Field) (test : Test) (rest : List Word)
+    → check_at (field_words field ++ (keyword (test_name test) ∷ rest))
+    ≡ text_check_at (field_words field ++ (keyword (test_name test) ∷ rest))
+field_read_first Host test rest = refl
+field_read_first Address test rest =
+    let words = keyword (codes "address") ∷ keyword (test_name test) ∷ rest in
+    ap (λ networks. check_by None networks words (keyword (test_name test) ∷ rest)) (test_no_within test rest)
+field_read_first Helo test rest = refl
+field_read_first (Sender parts.Sent) test rest = refl
+field_read_first (Sender parts.Address) test rest = refl
+field_read_first (Sender parts.Domain) test rest = refl
+field_read_first (Rcpt parts.Sent) test rest = refl
+field_read_first (Rcpt parts.Address) test rest = refl
+field_read_first (Rcpt parts.Domain) test rest = refl
+field_read_first (Recipients parts.Sent) test rest = refl
+field_read_first (Recipients parts.Address) test rest = refl
+field_read_first (Recipients parts.Domain) test rest = refl
+field_read_first (Header name) test rest = refl
+field_read_first Body test rest = refl
+field_read_first (Macro name) test rest = refl
+
+text_read : (c : TextCheck) (rest : List Word) → EndsTexts rest
+    → check_at ((field_words c.field ++ test_words c) ++ rest) ≡ Some (Text c, rest)
+text_read c rest ends =
+    let more = flag_words (codes "any-case") c.any_case ++ (map quoted_word c.texts ++ rest) in
+    ap check_at (text_in_order c rest)
+    ∙ field_read_first c.field c.test more
+    ∙ ap (λ (found : Option (Field × List Word)). found >>= λ f. check_on f.0 f.1)
+    (field_read c.field (keyword (test_name c.test) ∷ more))
+    ∙ on_read c.field c.test c.any_case c.texts rest ends
+
+below_ten : (limit : ℕ) → limit < 2 ^ 32 → limit < 10 ^ 10
+below_ten limit small = omega arith
+
+limit_read : (limit : ℕ) → nat_lt limit (2 ^ 32) ≡ true → limit_of (keyword (decimal limit)) ≡ Some limit
+limit_read limit fits =
+    ap (λ (number : Option ℕ). number >>= if_limit (keyword (decimal limit))) (number_read limit (below_ten limit (ltb-true limit (2 ^ 32) fits)))
+    ∙ rw (fits, (bytes_eq-Decides (decimal limit) (decimal limit)).1 refl) refl
+
+over_read : (measure : Measure) (limit : ℕ) (rest : List Word) → nat_lt limit (2 ^ 32) ≡ true
+    → check_at (check_words (Over measure limit) ++ rest) ≡ Some (Over measure limit, rest)
+over_read Size limit rest fits =
+    ap (option_map (λ (n : ℕ). (Over Size n, rest))) (limit_read limit fits)
+over_read Rcpts limit rest fits =
+    ap (option_map (λ (n : ℕ). (Over Rcpts n, rest))) (limit_read limit fits)
+
+check_read : (check : Check) (rest : List Word) → EndsTexts rest → has_limit check ≡ true
+    → check_at (check_words check ++ rest) ≡ Some (check, rest)
+check_read (Text c) rest ends limit = text_read c rest ends
+check_read (Within networks) rest ends limit = ap (λ found. Some (within found)) (texts_read networks rest ends.no_text)
+check_read (Over measure number) rest ends limit = over_read measure number rest limit
+
+pub condition_read : (c : Condition) (rest : List Word) → EndsTexts rest → has_limit c.check ≡ true
     → condition_at c.joint (condition_words c ++ rest) ≡ Some (c, rest)
-condition_read c rest ends =
-    let after = keyword (test_name c.test)
-    ∷ (flag_words (codes "any-case") c.any_case ++ (map quoted_word c.texts ++ rest)) in
-    ap (condition_at c.joint) (words_in_order c rest)
-    ∙ ap (after_not c.joint) (negated_read c.negated c.field after)
-    ∙ ap (λ (found : Option (Field × List Word)). found >>= λ f. condition_on (record { joint = c.joint; negated = c.negated; field = f.0 }) f.1)
-    (field_read c.field after)
-    ∙ on_read (subject_of c) c.test c.any_case c.texts rest ends
+condition_read c rest ends limit =
+    ap (condition_at c.joint) (append_words (flag_words (codes "not") c.negated) (check_words c.check) rest)
+    ∙ ap (after_not c.joint) (negated_read c.negated c.check rest)
+    ∙ ap (option_map {U = Condition × List Word} (λ found. (condition_of c.joint c.negated found.0, found.1))) (check_read c.check rest ends limit)
 
 -- ---- from words to a condition and back
 
@@ -305,30 +376,98 @@ texts_are (word ∷ words) = go (text_of word) refl (texts_are words)
     go (Some text) e others =
         ap (λ w. w ∷ words) (text_is word text e) ∙ ap (λ w. quoted_word text ∷ w) others
 
--- what stands before the test, and the words from there on
-record IsOn (s : Subject) (words : List Word) (c : Condition) (rest : List Word) : Type 0 where
-  pub subject_is : s ≡ subject_of c
-  pub words_are : words ≡ test_words c ++ rest
+-- the words that a check is read from
+abbrev IsCheckAt : List Word → Check × List Word → Type 0
+IsCheckAt words found = words ≡ check_words found.0 ++ found.1
 
-on_found : (s : Subject) (words : List Word) (c : Condition) (rest : List Word)
-    → condition_on s words ≡ Some (c, rest) → IsOn s words c rest
-on_found s [] c rest e = absurd cc
-on_found s (word ∷ words) c rest e =
+on_found : (field : Field) (words : List Word) (found : Check × List Word) → check_on field words ≡ Some found
+    → field_words field ++ words ≡ check_words found.0 ++ found.1
+on_found field [] found e = absurd cc
+on_found field (word ∷ words) found e =
     let flag = flag_at (codes "any-case") words in
-    let tested = map_some (test_in word) (λ test. after_test s test flag) (c, rest) e in
+    let tested = map_some (test_in word) (λ test. after_test field test flag) found e in
     let texts = texts_at flag.1 in
-    let made : Condition = condition_of s tested.0 flag.0 texts.0 in
-    let pair : (made, texts.1) ≡ (c, rest) = tested.2 in
-    let same : made ≡ c = ap (λ p. p.0) pair in
+    let made : TextCheck = record { field = field; test = tested.0; any_case = flag.0; texts = texts.0 } in
     let after : words ≡ (flag_words (codes "any-case") flag.0 ++ map quoted_word texts.0) ++ texts.1 =
     flag_is (codes "any-case") words
     ∙ ap (λ w. flag_words (codes "any-case") flag.0 ++ w) (texts_are flag.1)
     ∙ sym (append_words (flag_words (codes "any-case") flag.0) (map quoted_word texts.0) texts.1) in
-    record {
-      subject_is = ap subject_of same;
-      words_are = subst (λ (p : Condition × List Word). word ∷ words ≡ test_words p.0 ++ p.1) pair
-          (ap (λ w. w ∷ words) (test_is word tested.0 tested.1) ∙ ap (λ w. keyword (test_name tested.0) ∷ w) after);
-    }
+    let tests : word ∷ words ≡ test_words made ++ texts.1 =
+    ap (λ w. w ∷ words) (test_is word tested.0 tested.1) ∙ ap (λ w. keyword (test_name tested.0) ∷ w) after in
+    subst (λ (p : Check × List Word). field_words field ++ (word ∷ words) ≡ check_words p.0 ++ p.1) tested.2
+    (ap (λ w. field_words field ++ w) tests ∙ sym (append_words (field_words field) (test_words made) texts.1))
+
+text_found : (words : List Word) (found : Check × List Word) → text_check_at words ≡ Some found → IsCheckAt words found
+text_found words found e =
+    let field = bind_some (field_at words) (λ f. check_on f.0 f.1) found e in
+    field_found words field.0.0 field.0.1 field.1 ∙ on_found field.0.0 field.0.1 found field.2
+
+limit_is : (word : Word) (limit : ℕ) → limit_of word ≡ Some limit → word ≡ keyword (decimal limit)
+limit_is word limit e =
+    let number = bind_some (number_of word) (if_limit word) limit e in
+    go number.0 (nat_lt number.0 (2 ^ 32)) (is_keyword (decimal number.0) word) refl number.2
+  where
+    go : (number : ℕ) (small written : Bool) → is_keyword (decimal number) word ≡ written
+        → (if small && written then Some number else None) ≡ Some limit → word ≡ keyword (decimal limit)
+    go number true true is e =
+        keyword_is (decimal number) word is ∙ ap (λ n. keyword (decimal n)) (some_same number limit e)
+    go number true false is e = absurd cc
+    go number false written is e = absurd cc
+
+measure_is : (word : Word) (measure : Measure) → measure_in word ≡ Some measure → word ≡ keyword (measure_name measure)
+measure_is word measure is =
+    from_case P (is_keyword (codes "size") word) Size _ measure is (λ k. keyword_is _ word k) (λ is.
+    from_case P (is_keyword (codes "rcpts") word) Rcpts _ measure is (λ k. keyword_is _ word k) (nothing P measure))
+  where
+    P : Measure → Type 0
+    P m = word ≡ keyword (measure_name m)
+
+limit_found : (measure : Measure) (words : List Word) (found : Check × List Word) → limit_at measure words ≡ Some found
+    → keyword (measure_name measure) ∷ keyword (codes "over") ∷ words ≡ check_words found.0 ++ found.1
+limit_found measure [] found e = absurd cc
+limit_found measure (word ∷ rest) found e =
+    let limit = map_some (limit_of word) (λ n. (Over measure n, rest)) found e in
+    subst (λ (p : Check × List Word). keyword (measure_name measure) ∷ keyword (codes "over") ∷ word ∷ rest ≡ check_words p.0 ++ p.1)
+    limit.2 (ap (λ w. keyword (measure_name measure) ∷ keyword (codes "over") ∷ w ∷ rest) (limit_is word limit.0 limit.1))
+
+over_found : (measure : Measure) (words : List Word) (found : Check × List Word) → over_at measure words ≡ Some found
+    → keyword (measure_name measure) ∷ words ≡ check_words found.0 ++ found.1
+over_found measure words found e =
+    let after = bind_some (words_after (codes "over") words) (limit_at measure) found e in
+    ap (λ w. keyword (measure_name measure) ∷ w) (after_keyword (codes "over") words after.0 after.1)
+    ∙ limit_found measure after.0 found after.2
+
+networks_are : (word : Word) (rest networks : List Word) → networks_after word rest ≡ Some networks
+    → word ∷ rest ≡ keyword (codes "address") ∷ keyword (codes "within") ∷ networks
+networks_are word rest networks e = go (is_keyword (codes "address") word) refl e
+  where
+    go : (is : Bool) → is_keyword (codes "address") word ≡ is
+        → (if is then words_after (codes "within") rest else None) ≡ Some networks
+        → word ∷ rest ≡ keyword (codes "address") ∷ keyword (codes "within") ∷ networks
+    go true is e =
+        ap (λ w. w ∷ rest) (keyword_is (codes "address") word is)
+        ∙ ap (λ w. keyword (codes "address") ∷ w) (after_keyword (codes "within") rest networks e)
+    go false is e = absurd cc
+
+within_found : (networks : List Word) (found : Check × List Word) → within (texts_at networks) ≡ found
+    → keyword (codes "address") ∷ keyword (codes "within") ∷ networks ≡ check_words found.0 ++ found.1
+within_found networks found e =
+    subst (λ (p : Check × List Word). keyword (codes "address") ∷ keyword (codes "within") ∷ networks ≡ check_words p.0 ++ p.1) e
+    (ap (λ w. keyword (codes "address") ∷ keyword (codes "within") ∷ w) (texts_are networks))
+
+check_found : (words : List Word) (found : Check × List Word) → check_at words ≡ Some found → IsCheckAt words found
+check_found [] found e = absurd cc
+check_found (word ∷ rest) found e = go (measure_in word) (networks_after word rest) refl refl e
+  where
+    go : (measure : Option Measure) (networks : Option (List Word)) → measure_in word ≡ measure
+        → networks_after word rest ≡ networks → check_by measure networks (word ∷ rest) rest ≡ Some found
+        → IsCheckAt (word ∷ rest) found
+    go (Some measure) networks m n e =
+        ap (λ w. w ∷ rest) (measure_is word measure m) ∙ over_found measure rest found e
+    go None (Some networks) m n e =
+        networks_are word rest networks n
+        ∙ within_found networks found (some_same (within (texts_at networks)) found e)
+    go None None m n e = text_found (word ∷ rest) found e
 
 -- the words that a condition is read from
 pub record IsConditionAt (joint : Joint) (words : List Word) (c : Condition) (rest : List Word) : Type 0 where
@@ -339,19 +478,15 @@ pub condition_found : (joint : Joint) (words : List Word) (c : Condition) (rest 
     → condition_at joint words ≡ Some (c, rest) → IsConditionAt joint words c rest
 condition_found joint words c rest e =
     let flag = flag_at (codes "not") words in
-    let found = bind_some (field_at flag.1) (λ f. condition_on (record { joint = joint; negated = flag.0; field = f.0 }) f.1) (c, rest) e in
-    let on = on_found (record { joint = joint; negated = flag.0; field = found.0.0 }) found.0.1 c rest found.2 in
-    let negated : flag.0 ≡ c.negated = ap (λ (s : Subject). s.negated) on.subject_is in
-    let field : found.0.0 ≡ c.field = ap (λ (s : Subject). s.field) on.subject_is in
+    let check = map_some (check_at flag.1) (λ f. (condition_of joint flag.0 f.0, f.1)) (c, rest) e in
+    let made = condition_of joint flag.0 check.0.0 in
+    let pair : (made, check.0.1) ≡ (c, rest) = check.2 in
     record {
-      joint_is = ap (λ (s : Subject). s.joint) on.subject_is;
-      words_are = flag_is (codes "not") words
-          ∙ ap (λ w. flag_words (codes "not") flag.0 ++ w) (field_found flag.1 found.0.0 found.0.1 found.1)
-          ∙ ap (λ n. flag_words (codes "not") n ++ (field_words found.0.0 ++ found.0.1)) negated
-          ∙ ap (λ f. flag_words (codes "not") c.negated ++ (field_words f ++ found.0.1)) field
-          ∙ ap (λ w. flag_words (codes "not") c.negated ++ (field_words c.field ++ w)) on.words_are
-          ∙ sym (append_words (flag_words (codes "not") c.negated) (field_words c.field ++ test_words c) rest
-          ∙ ap (λ w. flag_words (codes "not") c.negated ++ w) (append_words (field_words c.field) (test_words c) rest));
+      joint_is = ap (λ (p : Condition × List Word). p.0.joint) pair;
+      words_are = subst (λ (p : Condition × List Word). words ≡ condition_words p.0 ++ p.1) pair
+          (flag_is (codes "not") words
+          ∙ ap (λ w. flag_words (codes "not") flag.0 ++ w) (check_found flag.1 check.0 check.1)
+          ∙ sym (append_words (flag_words (codes "not") flag.0) (check_words check.0.0) check.0.1));
     }
 
 -- ---- conditions one after the other

@@ -1,12 +1,14 @@
 -- How far the conditions of a line were read.
 use Rattle.std.specs.Prelude.{◌≡◌, ℕ, Bool, true, false, List, [], ◌∷◌, ◌++◌, codes, Option, None, Some, refl}
+use Rattle.std.specs.List.{list_all}
+use Rattle.std.proofs.lemmas.Bool.{and_parts}
 use Rattle.std.proofs.Common.{◌<◌, ap, arith, length, length-append, sym, subst, ◌∙◌}
 use Rattle.milter_text.specs.declared.word.Word.{Word}
 use Rattle.milter_text.specs.WordValues.{keyword}
 use Rattle.milter_filter_rules.specs.declared.rule.Condition.{Condition}
 use Rattle.milter_filter_rules.specs.declared.rule.Joint.{Joint}
 use Rattle.milter_filter_rules.specs.declared.rule.Joint.TheVariants.{And, Or}
-use Rattle.milter_rules.specs.ConditionWords.{condition_at, condition_words, conditions_words, joined, joint_at, joint_by, joint_word, words_after}
+use Rattle.milter_rules.specs.ConditionWords.{condition_at, condition_words, conditions_words, has_limit, joined, joint_at, joint_by, joint_word, words_after}
 use Rattle.milter_rules.proofs.ConditionGrammar.{EndsTexts, after_keyword, append_words, condition_found, condition_read, keyword_after, some_same}
 
 abbrev do_word : List ℕ
@@ -22,11 +24,16 @@ FoundSoFar words first conditions rest =
     (more : List Condition) (action : List Word) → rest ≡ joined first more ++ done action
     → words ≡ conditions_words (conditions ++ more) ++ done action
 
+-- each limit of the conditions is a number that it has room for
+abbrev pub have_limits : List Condition → Bool
+have_limits conditions = list_all (λ c. has_limit c.check) conditions
+
 -- conditions that the line has begin with those that were read, and the words that are left have the others
 abbrev pub OnlySoFar : List Word → Bool → List Condition → List Word → Type 0
 OnlySoFar words first conditions rest =
-    (all : List Condition) (action : List Word) → words ≡ conditions_words all ++ done action
+    (all : List Condition) (action : List Word) → words ≡ conditions_words all ++ done action → have_limits all ≡ true
     → (more : List Condition) × (all ≡ conditions ++ more) × (rest ≡ joined first more ++ done action)
+    × (have_limits more ≡ true)
 
 -- one condition was read from the words that are left
 pub record ReadOne (first : Bool) (rest after left : List Word) (c : Condition) : Type 0 where
@@ -143,46 +150,53 @@ first_is first rest after joint d more action begun is =
 
 -- what is read of these words
 read_of : (joint : Joint) (after : List Word) (d : Condition) (more : List Condition) (action : List Word)
-    → IsFirst joint after d (joined false more ++ done action)
+    → IsFirst joint after d (joined false more ++ done action) → has_limit d.check ≡ true
     → condition_at joint after ≡ Some (d, joined false more ++ done action)
-read_of joint after d more action is =
+read_of joint after d more action is limit =
     let others = joined false more ++ done action in
     ap (condition_at joint) (sym is.words_are)
     ∙ ap (λ j. condition_at j (condition_words d ++ others)) (sym is.joint_is)
-    ∙ condition_read d others (ends_texts more action)
+    ∙ condition_read d others (ends_texts more action) limit
 
 pub only_more : (words : List Word) (first : Bool) (conditions pushed : List Condition) (rest after left : List Word)
     (c : Condition) → ReadOne first rest after left c → pushed ≡ conditions ++ c ∷ []
     → OnlySoFar words first conditions rest → OnlySoFar words false pushed left
-only_more words first conditions pushed rest after left c one is so_far all action e =
-    split (so_far all action e).0 (so_far all action e).1 (so_far all action e).2
+only_more words first conditions pushed rest after left c one is so_far all action e limits =
+    let begun = so_far all action e limits in
+    split begun.0 begun.1 begun.2 begun.3
   where
     split : (more : List Condition) → all ≡ conditions ++ more → rest ≡ joined first more ++ done action
-        → (m : List Condition) × (all ≡ pushed ++ m) × (left ≡ joined false m ++ done action)
-    split [] f g = absurd (is_joined first rest (one.joint, after) action one.begun g)
-    split (d ∷ more) f g =
+        → have_limits more ≡ true
+        → (m : List Condition) × (all ≡ pushed ++ m) × (left ≡ joined false m ++ done action) × (have_limits m ≡ true)
+    split [] f g h = absurd (is_joined first rest (one.joint, after) action one.begun g)
+    split (d ∷ more) f g h =
         let others = joined false more ++ done action in
-        let again = sym (read_of one.joint after d more action (first_is first rest after one.joint d more action one.begun g)) ∙ one.read in
+        let both = and_parts (has_limit d.check) (have_limits more) h in
+        let first_one = first_is first rest after one.joint d more action one.begun g in
+        let again = sym (read_of one.joint after d more action first_one both.0) ∙ one.read in
         let pair : (d, others) ≡ (c, left) = some_same (d, others) (c, left) again in
         let same : d ≡ c = ap (λ p. p.0) pair in (
           more,
           f ∙ append_conditions conditions d more
               ∙ ap (λ x. (conditions ++ x ∷ []) ++ more) same ∙ ap (λ l. l ++ more) (sym is),
           sym (ap (λ p. p.1) pair),
+          both.1,
         )
 
 -- a line has no conditions where none is read after the word that joins it
 pub no_condition : (words : List Word) (first : Bool) (conditions : List Condition) (rest after : List Word) (joint : Joint)
     → joint_at first rest ≡ Some (joint, after) → condition_at joint after ≡ None → OnlySoFar words first conditions rest
-    → (all : List Condition) (action : List Word) → words ≡ conditions_words all ++ done action → ⊥
-no_condition words first conditions rest after joint begun none so_far all action e =
-    split (so_far all action e).0 (so_far all action e).2
+    → (all : List Condition) (action : List Word) → words ≡ conditions_words all ++ done action → have_limits all ≡ true → ⊥
+no_condition words first conditions rest after joint begun none so_far all action e limits =
+    split (so_far all action e limits).0 (so_far all action e limits).2 (so_far all action e limits).3
   where
-    split : (more : List Condition) → rest ≡ joined first more ++ done action → ⊥
-    split [] g = is_joined first rest (joint, after) action begun g
-    split (d ∷ more) g =
+    split : (more : List Condition) → rest ≡ joined first more ++ done action → have_limits more ≡ true → ⊥
+    split [] g h = is_joined first rest (joint, after) action begun g
+    split (d ∷ more) g h =
         none_of (d, joined false more ++ done action)
-        (sym none ∙ read_of joint after d more action (first_is first rest after joint d more action begun g))
+        (sym none
+        ∙ read_of joint after d more action (first_is first rest after joint d more action begun g)
+        (and_parts (has_limit d.check) (have_limits more) h).0)
 
 -- ---- the end of the conditions
 
@@ -196,10 +210,10 @@ not_begun first rest d more action none e =
 pub all_read : (words : List Word) (first : Bool) (conditions : List Condition) (rest action : List Word)
     → joint_at first rest ≡ None → words_after (codes "do") rest ≡ Some action
     → OnlySoFar words first conditions rest
-    → (all : List Condition) (other : List Word) → words ≡ conditions_words all ++ done other
+    → (all : List Condition) (other : List Word) → words ≡ conditions_words all ++ done other → have_limits all ≡ true
     → (conditions ≡ all) × (action ≡ other)
-all_read words first conditions rest action none ends so_far all other e =
-    split (so_far all other e).0 (so_far all other e).1 (so_far all other e).2
+all_read words first conditions rest action none ends so_far all other e limits =
+    split (so_far all other e limits).0 (so_far all other e limits).1 (so_far all other e limits).2
   where
     split : (more : List Condition) → all ≡ conditions ++ more → rest ≡ joined first more ++ done other
         → (conditions ≡ all) × (action ≡ other)
@@ -211,9 +225,9 @@ all_read words first conditions rest action none ends so_far all other e =
 
 pub no_end : (words : List Word) (first : Bool) (conditions : List Condition) (rest : List Word)
     → joint_at first rest ≡ None → words_after (codes "do") rest ≡ None → OnlySoFar words first conditions rest
-    → (all : List Condition) (action : List Word) → words ≡ conditions_words all ++ done action → ⊥
-no_end words first conditions rest none ends so_far all action e =
-    split (so_far all action e).0 (so_far all action e).2
+    → (all : List Condition) (action : List Word) → words ≡ conditions_words all ++ done action → have_limits all ≡ true → ⊥
+no_end words first conditions rest none ends so_far all action e limits =
+    split (so_far all action e limits).0 (so_far all action e limits).2
   where
     split : (more : List Condition) → rest ≡ joined first more ++ done action → ⊥
     split [] g =

@@ -241,7 +241,7 @@ pub record Given (set : RuleSet) : Type 0 where
 pub rules_give : (set : RuleSet) → is_lawful set ≡ true → CanBeText set → Given set
 rules_give set lawful can =
     let form = form_of set.rules in
-    let after = after_header form (contents (rules_text set)) (body_lines set) (rules_have_words set lawful can.bytes) in
+    let after = after_header form (contents (rules_text set)) (body_lines set) (rules_have_words set lawful can.conditions can.bytes) in
     record {
       rest = after.rest;
       has_form = after.has_form;

@@ -7,6 +7,7 @@ pub mod FileParts
 pub mod FileForms
 pub mod FileLines
 pub mod FormLines
+pub mod Limits
 pub mod LineBounds
 pub mod WordRuns
 pub mod ActionRuns

@@ -28,10 +28,15 @@ use Rattle.milter_message.specs.declared.edit.Edit.TheVariants as edits
 use Rattle.milter_protocol.specs.declared.action.Action.{Action}
 use Rattle.milter_protocol.specs.declared.action.Action.TheVariants as actions
 use Rattle.milter_protocol.specs.declared.limits.TheConstants.{VERSION_MAX, VERSION_MIN}
+use Rattle.milter_filter_rules.specs.declared.rule.Check.{Check}
+use Rattle.milter_filter_rules.specs.declared.rule.Check.TheVariants as checks
 use Rattle.milter_filter_rules.specs.declared.rule.Condition.{Condition}
 use Rattle.milter_filter_rules.specs.declared.rule.Field.{Field}
 use Rattle.milter_filter_rules.specs.declared.rule.Field.TheVariants as fields
+use Rattle.milter_filter_rules.specs.declared.rule.Measure.{Measure}
+use Rattle.milter_filter_rules.specs.declared.rule.Measure.TheVariants.{Size, Rcpts}
 use Rattle.milter_filter_rules.specs.declared.rule.Rule.{Rule}
+use Rattle.milter_filter_rules.specs.declared.rule.TextCheck.{TextCheck}
 use Rattle.milter_filter_search.specs.declared.pattern.Test.{Test}
 use Rattle.milter_filter_search.specs.declared.pattern.Test.TheVariants as tests
 use Rattle.milter_filter_rules.specs.declared.rule_list.StageRules.{StageRules}
@@ -43,8 +48,10 @@ use Rattle.milter_filter_rules.specs.declared.rule.Joint.TheVariants.{And, Or}
 use Rattle.milter_filter_rules.specs.declared.rule.PathPart.TheVariants as parts
 use Rattle.milter_rules.specs.declared.form.Form.{Form}
 use Rattle.milter_rules.specs.declared.form.Form.TheVariants.{First, Second}
-use Rattle.milter_rules.specs.RuleForms.{form_of, header_lines}
-use Rattle.milter_rules.specs.ConditionWords.{condition_words, conditions_words, field_words, flag_words, joined, joint_word, quoted_word, test_words}
+use Rattle.milter_rules.specs.RuleForms.{all_fit, are_conditions, form_of, header_lines}
+use Rattle.milter_rules.proofs.ConditionRuns.{have_limits}
+use Rattle.milter_rules.proofs.Limits.{limits_fit}
+use Rattle.milter_rules.specs.ConditionWords.{check_words, condition_words, conditions_words, field_words, flag_words, has_limit, joined, joint_word, quoted_word, test_words}
 use Rattle.milter_rules.specs.ConditionWords.{quoted_word}
 use Rattle.milter_filter_search.specs.Texts.{test_name}
 use Rattle.milter_filter_rules.specs.RuleSet.{RuleSet, is_lawful, options_known, rules_lawful, wants_within}
@@ -260,17 +267,27 @@ texts_plain : (texts : List (List ℕ)) → are_writable (map quoted_word texts)
 texts_plain [] = refl
 texts_plain (text ∷ texts) = texts_plain texts
 
-test_words_plain : (c : Condition) → are_writable (test_words c) ≡ true
+test_words_plain : (c : TextCheck) → are_writable (test_words c) ≡ true
 test_words_plain c =
     let texts = map quoted_word c.texts in
     let case = flag_words (codes "any-case") c.any_case in
     and_from (is_plain_word (test_name c.test)) (are_writable (case ++ texts)) (test_plain c.test)
     (both_writable case texts (case_plain c.any_case) (texts_plain c.texts))
 
-condition_plain : (c : Condition) → are_writable (condition_words c) ≡ true
-condition_plain c =
-    both_writable (flag_words (codes "not") c.negated) (field_words c.field ++ test_words c) (not_plain c.negated)
-    (both_writable (field_words c.field) (test_words c) (field_plain c.field) (test_words_plain c))
+over_plain : (measure : Measure) (limit : ℕ) → nat_lt limit (2 ^ 32) ≡ true
+    → are_writable (check_words (checks.Over measure limit)) ≡ true
+over_plain Size limit fits = rw (plain_decimal limit (ltb-true limit (2 ^ 32) fits)) refl
+over_plain Rcpts limit fits = rw (plain_decimal limit (ltb-true limit (2 ^ 32) fits)) refl
+
+check_plain : (check : Check) → has_limit check ≡ true → are_writable (check_words check) ≡ true
+check_plain (checks.Text c) limit =
+    both_writable (field_words c.field) (test_words c) (field_plain c.field) (test_words_plain c)
+check_plain (checks.Within networks) limit = texts_plain networks
+check_plain (checks.Over measure number) limit = over_plain measure number limit
+
+condition_plain : (c : Condition) → has_limit c.check ≡ true → are_writable (condition_words c) ≡ true
+condition_plain c limit =
+    both_writable (flag_words (codes "not") c.negated) (check_words c.check) (not_plain c.negated) (check_plain c.check limit)
 
 joint_plain : (first : Bool) (joint : Joint) → is_plain_word (joint_word first joint) ≡ true
 joint_plain true And = refl
@@ -278,12 +295,14 @@ joint_plain false And = refl
 joint_plain true Or = refl
 joint_plain false Or = refl
 
-conditions_plain : (first : Bool) (conditions : List Condition) → are_writable (joined first conditions) ≡ true
-conditions_plain first [] = refl
-conditions_plain first (c ∷ conditions) =
+conditions_plain : (first : Bool) (conditions : List Condition) → have_limits conditions ≡ true
+    → are_writable (joined first conditions) ≡ true
+conditions_plain first [] limits = refl
+conditions_plain first (c ∷ conditions) limits =
     let others = joined false conditions in
+    let both = and_parts (has_limit c.check) (have_limits conditions) limits in
     and_from (is_plain_word (joint_word first c.joint)) (are_writable (condition_words c ++ others)) (joint_plain first c.joint)
-    (both_writable (condition_words c) others (condition_plain c) (conditions_plain false conditions))
+    (both_writable (condition_words c) others (condition_plain c both.0) (conditions_plain false conditions both.1))
 
 index_plain : (index : ℕ) (fits : Bool) → (is_index index && fits) ≡ true → is_plain_word (decimal index) ≡ true
 index_plain index fits e =
@@ -316,23 +335,26 @@ action_plain : (action : Action) → fields_fit action ≡ true → are_writable
 action_plain (actions.Edit edit) fits = edit_plain edit fits
 action_plain (actions.Verdict verdict) fits = verdict_plain verdict
 
-rule_line : (stage : Stage) (rule : Rule) → fields_fit rule.action ≡ true → is_line (rule_words stage rule) ≡ true
-rule_line stage rule fits =
+rule_line : (stage : Stage) (rule : Rule) → fields_fit rule.action ≡ true → have_limits rule.conditions ≡ true
+    → is_line (rule_words stage rule) ≡ true
+rule_line stage rule fits limits =
     let action = keyword (codes "do") ∷ action_words rule.action in
     let words = conditions_words rule.conditions ++ action in
     let plain = both_writable (conditions_words rule.conditions) action
-    (conditions_plain true rule.conditions) (action_plain rule.action fits) in
+    (conditions_plain true rule.conditions limits) (action_plain rule.action fits) in
     rw (stage_plain stage, plain) refl
 
-rules_line : (stage : Stage) (rules : List Rule) → are_lawful_at stage rules ≡ true
+rules_line : (form : Form) (stage : Stage) (rules : List Rule) → are_lawful_at stage rules ≡ true
+    → list_all (λ rule. are_conditions form rule.conditions) rules ≡ true
     → list_all is_line (map (rule_words stage) rules) ≡ true
-rules_line stage [] lawful = refl
-rules_line stage (rule ∷ rules) lawful =
+rules_line form stage [] lawful formed = refl
+rules_line form stage (rule ∷ rules) lawful formed =
+    let of_form = and_parts (are_conditions form rule.conditions) (list_all (λ r. are_conditions form r.conditions) rules) formed in
     let both = and_parts (may_act stage rule.action) (are_lawful_at stage rules) lawful in
     let may = and_parts (allowed_at stage rule.action) (fields_fit rule.action && has_room rule.action) both.0 in
     let fits = (and_parts (fields_fit rule.action) (has_room rule.action) may.1).0 in
     and_from (is_line (rule_words stage rule)) (list_all is_line (map (rule_words stage) rules))
-    (rule_line stage rule fits) (rules_line stage rules both.1)
+    (rule_line stage rule fits (limits_fit form rule.conditions of_form.0)) (rules_line form stage rules both.1 of_form.1)
 
 pub stage_lawful : (rules : StageRules) (stage : Stage) → EachFits rules → are_lawful_at stage (rules_at rules stage) ≡ true
 stage_lawful rules stages.Connect each = each.connect
@@ -349,12 +371,15 @@ both_lines : (a b : List (List Word)) → list_all is_line a ≡ true → list_a
     → list_all is_line (a ++ b) ≡ true
 both_lines a b p q = list_all-append is_line a b ∙ and_from (list_all is_line a) (list_all is_line b) p q
 
-stages_lines : (rules : StageRules) (all : List Stage) → EachFits rules
+stages_lines : (form : Form) (rules : StageRules) (all : List Stage) → EachFits rules
+    → list_all (λ stage. list_all (λ rule. are_conditions form rule.conditions) (rules_at rules stage)) all ≡ true
     → list_all is_line (flat_map (stage_lines rules) all) ≡ true
-stages_lines rules [] each = refl
-stages_lines rules (stage ∷ all) each =
+stages_lines form rules [] each formed = refl
+stages_lines form rules (stage ∷ all) each formed =
+    let of_form = and_parts (list_all (λ rule. are_conditions form rule.conditions) (rules_at rules stage)) _ formed in
     both_lines (stage_lines rules stage) (flat_map (stage_lines rules) all)
-    (rules_line stage (rules_at rules stage) (stage_lawful rules stage each)) (stages_lines rules all each)
+    (rules_line form stage (rules_at rules stage) (stage_lawful rules stage each) of_form.0)
+    (stages_lines form rules all each of_form.1)
 
 -- ---- all lines
 
@@ -370,15 +395,16 @@ header_line : (form : Form) → list_all is_line (header_lines form) ≡ true
 header_line First = refl
 header_line Second = refl
 
-lines_of_body : (set : RuleSet) → is_lawful set ≡ true → list_all is_line (body_lines set) ≡ true
-lines_of_body set lawful =
+lines_of_body : (set : RuleSet) → is_lawful set ≡ true → all_fit (form_of set.rules) set.rules ≡ true
+    → list_all is_line (body_lines set) ≡ true
+lines_of_body set lawful formed =
     let o = set.options in
     let rules = (and_parts (wants_within o set.lists) (rules_lawful set.rules) lawful).1 in
     let lists = filter_map symbols_line set.lists in
     let ruled = flat_map (stage_lines set.rules) all_stages in
     let others = lists ++ ruled in
     let from_lists = both_lines lists ruled (lists_lines set.lists)
-    (stages_lines set.rules all_stages (each_fits set.rules rules)) in
+    (stages_lines (form_of set.rules) set.rules all_stages (each_fits set.rules rules) formed) in
     let from_protocol = and_from (is_line (protocol_words o.protocol.0)) (list_all is_line others)
     (protocol_line o.protocol.0) from_lists in
     let from_actions = and_from (is_line (actions_words o.actions.0))
@@ -387,12 +413,15 @@ lines_of_body set lawful =
     (list_all is_line (actions_words o.actions.0 ∷ protocol_words o.protocol.0 ∷ others))
     (version_line o.version (known_version set lawful)) from_actions
 
-all_lines : (set : RuleSet) → is_lawful set ≡ true → list_all is_line (rules_lines set) ≡ true
-all_lines set lawful =
-    both_lines (header_lines (form_of set.rules)) (body_lines set) (header_line (form_of set.rules)) (lines_of_body set lawful)
+all_lines : (set : RuleSet) → is_lawful set ≡ true → all_fit (form_of set.rules) set.rules ≡ true
+    → list_all is_line (rules_lines set) ≡ true
+all_lines set lawful formed =
+    both_lines (header_lines (form_of set.rules)) (body_lines set) (header_line (form_of set.rules))
+    (lines_of_body set lawful formed)
 
-pub rules_have_words : (set : RuleSet) → is_lawful set ≡ true → All (All HasBytes) (rules_lines set)
+pub rules_have_words : (set : RuleSet) → is_lawful set ≡ true → all_fit (form_of set.rules) set.rules ≡ true
+    → All (All HasBytes) (rules_lines set)
     → AllZip HasWords (contents (rules_text set)) (rules_lines set)
 unfolding rules_text
-rules_have_words set lawful bytes =
-    lines_have_words (rules_lines set) (lines_can (rules_lines set) (all_lines set lawful) bytes)
+rules_have_words set lawful formed bytes =
+    lines_have_words (rules_lines set) (lines_can (rules_lines set) (all_lines set lawful formed) bytes)

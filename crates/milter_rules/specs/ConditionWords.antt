@@ -1,18 +1,23 @@
 -- The words of conditions, as a rule file has them: each word of them is written in one way only.
-use Rattle.std.specs.Prelude.{ℕ, Bool, true, false, List, [], ◌∷◌, ◌++◌, codes, map, Option, None, Some, if◌then◌else◌}
+use Rattle.std.specs.Prelude.{ℕ, ◌^◌, nat_lt, Bool, true, false, ◌&&◌, List, [], ◌∷◌, ◌++◌, codes, decimal, map, Option, None, Some, if◌then◌else◌}
 use Rattle.std.specs.Option.{option_map}
 use Rattle.milter_wire_fields.specs.Bind.{◌>>=◌}
 use Rattle.milter_text.specs.declared.word.Word.{Word}
-use Rattle.milter_text.specs.WordValues.{is_keyword, keyword, text_of}
+use Rattle.milter_text.specs.WordValues.{is_keyword, keyword, number_of, text_of}
+use Rattle.milter_filter_rules.specs.declared.rule.Check.{Check}
+use Rattle.milter_filter_rules.specs.declared.rule.Check.TheVariants.{Text, Within, Over}
 use Rattle.milter_filter_rules.specs.declared.rule.Condition.{Condition}
 use Rattle.milter_filter_rules.specs.declared.rule.Field.{Field}
 use Rattle.milter_filter_rules.specs.declared.rule.Field.TheVariants.{Host, Address, Helo, Sender, Rcpt, Recipients, Header, Body, Macro}
 use Rattle.milter_filter_rules.specs.declared.rule.Joint.{Joint}
 use Rattle.milter_filter_rules.specs.declared.rule.Joint.TheVariants.{And, Or}
+use Rattle.milter_filter_rules.specs.declared.rule.Measure.{Measure}
+use Rattle.milter_filter_rules.specs.declared.rule.Measure.TheVariants.{Size, Rcpts}
 use Rattle.milter_filter_rules.specs.declared.rule.PathPart.TheVariants as parts
+use Rattle.milter_filter_rules.specs.declared.rule.TextCheck.{TextCheck}
 use Rattle.milter_filter_search.specs.declared.pattern.Test.{Test}
 use Rattle.milter_filter_search.specs.declared.pattern.Test.TheVariants.{Is, Has, Lacks, Begins, Ends, Like, Under}
-use Rattle.milter_filter_rules.specs.RuleNames.{field_name}
+use Rattle.milter_filter_rules.specs.RuleNames.{field_name, measure_name}
 use Rattle.milter_filter_search.specs.Texts.{test_name}
 
 -- ---- how conditions are written
@@ -32,15 +37,27 @@ flag_words text true = keyword text ∷ []
 flag_words text false = []
 
 -- the words after the field: the test, perhaps `any-case`, and the texts
-abbrev pub test_words : Condition → List Word
+abbrev pub test_words : TextCheck → List Word
 test_words c = keyword (test_name c.test) ∷ (flag_words (codes "any-case") c.any_case ++ map quoted_word c.texts)
 
 abbrev pub field_words : Field → List Word
 field_words field = keyword (field_name field) ∷ name_words field
 
--- `FIELD TEST TEXT ..`, perhaps with `not` before it, and with `any-case` after the test
+-- `FIELD TEST TEXT ..`, perhaps with `any-case` after the test; `address within TEXT ..`; or `size over NUMBER`
+abbrev pub check_words : Check → List Word
+check_words (Text check) = field_words check.field ++ test_words check
+check_words (Within networks) = keyword (codes "address") ∷ keyword (codes "within") ∷ map quoted_word networks
+check_words (Over measure limit) =
+    keyword (measure_name measure) ∷ keyword (codes "over") ∷ keyword (decimal limit) ∷ []
+
+-- a check, perhaps with `not` before it
 abbrev pub condition_words : Condition → List Word
-condition_words c = flag_words (codes "not") c.negated ++ (field_words c.field ++ test_words c)
+condition_words c = flag_words (codes "not") c.negated ++ check_words c.check
+
+-- a number that a limit has room for
+abbrev pub has_limit : Check → Bool
+has_limit (Over measure limit) = nat_lt limit (2 ^ 32)
+has_limit check = true
 
 -- the word before a condition: the first has `when`
 abbrev pub joint_word : Bool → Joint → List ℕ
@@ -137,38 +154,71 @@ abbrev pub texts_at : List Word → List (List ℕ) × List Word
 texts_at [] = ([], [])
 texts_at (word ∷ words) = texts_with (text_of word) word (texts_at words) words
 
--- what stands before a test: how the condition is joined, whether it is negated, and its field
-pub record Subject : Type 0 where
-  pub joint : Joint
-  pub negated : Bool
-  pub field : Field
+-- the check of these parts
+abbrev pub text_check : Field → Test → Bool → List (List ℕ) → Check
+text_check field test any_case texts =
+    Text (record { field = field; test = test; any_case = any_case; texts = texts })
 
-abbrev pub condition_of : Subject → Test → Bool → List (List ℕ) → Condition
-condition_of s test any_case texts =
-    record {
-      joint = s.joint;
-      negated = s.negated;
-      field = s.field;
-      test = test;
-      any_case = any_case;
-      texts = texts;
-    }
+-- the check with these texts and the words after them
+abbrev pub with_texts : Field → Test → Bool → List (List ℕ) × List Word → Check × List Word
+with_texts field test any_case texts = (text_check field test any_case texts.0, texts.1)
 
--- the condition with these texts and the words after them
-abbrev pub with_texts : Subject → Test → Bool → List (List ℕ) × List Word → Condition × List Word
-with_texts s test any_case texts = (condition_of s test any_case texts.0, texts.1)
+-- the check with the texts after the test, or after `any-case`
+abbrev pub after_test : Field → Test → Bool × List Word → Check × List Word
+after_test field test flag = with_texts field test flag.0 (texts_at flag.1)
 
--- the condition with the texts after the test, or after `any-case`
-abbrev pub after_test : Subject → Test → Bool × List Word → Condition × List Word
-after_test s test flag = with_texts s test flag.0 (texts_at flag.1)
+abbrev pub check_on : Field → List Word → Option (Check × List Word)
+check_on field [] = None
+check_on field (word ∷ rest) =
+    option_map (λ test. after_test field test (flag_at (codes "any-case") rest)) (test_in word)
 
-abbrev pub condition_on : Subject → List Word → Option (Condition × List Word)
-condition_on s [] = None
-condition_on s (word ∷ rest) = option_map (λ test. after_test s test (flag_at (codes "any-case") rest)) (test_in word)
+abbrev pub text_check_at : List Word → Option (Check × List Word)
+text_check_at words = field_at words >>= λ found. check_on found.0 found.1
+
+-- the words after `address within`
+abbrev pub networks_after : Word → List Word → Option (List Word)
+networks_after word rest = if is_keyword (codes "address") word then words_after (codes "within") rest else None
+
+abbrev pub within : List (List ℕ) × List Word → Check × List Word
+within texts = (Within texts.0, texts.1)
+
+-- a limit is written without superfluous zeros
+abbrev pub if_limit : Word → ℕ → Option ℕ
+if_limit word limit = if nat_lt limit (2 ^ 32) && is_keyword (decimal limit) word then Some limit else None
+
+abbrev pub limit_of : Word → Option ℕ
+limit_of word = number_of word >>= if_limit word
+
+abbrev pub measure_in : Word → Option Measure
+measure_in word =
+    if is_keyword (codes "size") word then Some Size
+    else if is_keyword (codes "rcpts") word then Some Rcpts
+    else None
+
+-- the limit that words begin with
+abbrev pub limit_at : Measure → List Word → Option (Check × List Word)
+limit_at measure [] = None
+limit_at measure (word ∷ rest) = option_map (λ limit. (Over measure limit, rest)) (limit_of word)
+
+-- the check of the number, by the words after it
+abbrev pub over_at : Measure → List Word → Option (Check × List Word)
+over_at measure words = words_after (codes "over") words >>= limit_at measure
+
+abbrev pub check_by : Option Measure → Option (List Word) → List Word → List Word → Option (Check × List Word)
+check_by (Some measure) networks words rest = over_at measure rest
+check_by None (Some networks) words rest = Some (within (texts_at networks))
+check_by None None words rest = text_check_at words
+
+-- the check that the words begin with, and the words after it
+abbrev pub check_at : List Word → Option (Check × List Word)
+check_at [] = None
+check_at (word ∷ rest) = check_by (measure_in word) (networks_after word rest) (word ∷ rest) rest
+
+abbrev pub condition_of : Joint → Bool → Check → Condition
+condition_of joint negated check = record { joint = joint; negated = negated; check = check }
 
 abbrev pub after_not : Joint → Bool × List Word → Option (Condition × List Word)
-after_not joint flag =
-    field_at flag.1 >>= λ found. condition_on (record { joint = joint; negated = flag.0; field = found.0 }) found.1
+after_not joint flag = option_map (λ found. (condition_of joint flag.0 found.0, found.1)) (check_at flag.1)
 
 abbrev pub condition_at : Joint → List Word → Option (Condition × List Word)
 condition_at joint words = after_not joint (flag_at (codes "not") words)

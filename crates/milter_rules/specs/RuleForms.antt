@@ -1,5 +1,5 @@
 -- The two forms of rule files: one whose first line is `rules 2` may have conditions of more kinds.
-use Rattle.std.specs.Prelude.{◌≡◌, ◌==◌, ℕ, Bool, true, false, not, nat_lt, ◌&&◌, List, [], ◌∷◌, codes, length, if◌then◌else◌}
+use Rattle.std.specs.Prelude.{◌≡◌, ◌==◌, ℕ, Bool, true, false, not, nat_le, nat_lt, ◌^◌, ◌-◌, is_some, ◌&&◌, List, [], ◌∷◌, codes, length, if◌then◌else◌}
 use Rattle.std.specs.List.{list_all}
 use Rattle.milter_text.specs.declared.word.Word.{Word}
 use Rattle.milter_text.specs.WordValues.{is_keyword, keyword}
@@ -7,11 +7,17 @@ use Rattle.milter_text.specs.Words.{HasWords}
 use Rattle.milter_wire.specs.Stages.{all_stages}
 use Rattle.milter_filter_search.specs.declared.pattern.Test.{Test}
 use Rattle.milter_filter_search.specs.declared.pattern.Test.TheVariants.{Is, Has, Lacks, Like, Under}
+use Rattle.milter_message.specs.declared.message.TheConstants.{WEIGHT_MAX}
+use Rattle.milter_network.specs.ReadTexts.{network_in}
+use Rattle.milter_filter_rules.specs.declared.rule.Check.{Check}
+use Rattle.milter_filter_rules.specs.declared.rule.Check.TheVariants.{Text, Within, Over}
 use Rattle.milter_filter_rules.specs.declared.rule.Condition.{Condition}
 use Rattle.milter_filter_rules.specs.declared.rule.Field.{Field}
 use Rattle.milter_filter_rules.specs.declared.rule.Field.TheVariants as fields
 use Rattle.milter_filter_rules.specs.declared.rule.Joint.{Joint}
 use Rattle.milter_filter_rules.specs.declared.rule.Joint.TheVariants.{And, Or}
+use Rattle.milter_filter_rules.specs.declared.rule.Measure.{Measure}
+use Rattle.milter_filter_rules.specs.declared.rule.Measure.TheVariants.{Size, Rcpts}
 use Rattle.milter_filter_rules.specs.declared.rule.PathPart.TheVariants as parts
 use Rattle.milter_filter_rules.specs.declared.rule_list.StageRules.{StageRules}
 use Rattle.milter_filter_rules.specs.Conditions.{has_form}
@@ -46,12 +52,14 @@ is_first_test other = false
 abbrev pub is_one : List (List ℕ) → Bool
 is_one texts = length texts == 1
 
--- a condition of the first form: a field, a test and one text
+-- a check of the first form: a field, a test and one text
+abbrev pub is_first_check : Check → Bool
+is_first_check (Text c) = is_first_field c.field && (is_first_test c.test && (not c.any_case && is_one c.texts))
+is_first_check check = false
+
+-- a condition of the first form
 abbrev pub fits_first : Condition → Bool
-fits_first c =
-    is_and c.joint
-    && (not c.negated
-    && (is_first_field c.field && (is_first_test c.test && (not c.any_case && is_one c.texts))))
+fits_first c = is_and c.joint && (not c.negated && is_first_check c.check)
 
 -- a field whose values are domains
 abbrev pub is_domain : Field → Bool
@@ -79,10 +87,25 @@ case_fits test field false = true
 case_fits Under field true = false
 case_fits test field true = not (has_form field)
 
--- a condition of the second form: there is a text
-abbrev pub fits_second : Condition → Bool
-fits_second c =
+-- the text writes a network
+abbrev pub is_network : List ℕ → Bool
+is_network text = is_some (network_in text)
+
+-- A filter's end keeps no larger body, and a limit is a number of 32 bits.
+abbrev pub limit_max : Measure → ℕ
+limit_max Size = WEIGHT_MAX
+limit_max Rcpts = 2 ^ 32 - 1
+
+-- a check of the second form: there is a text, or a limit within bounds
+abbrev pub check_fits : Check → Bool
+check_fits (Text c) =
     nat_lt 0 (length c.texts) && (test_fits c.test c.field c.texts && case_fits c.test c.field c.any_case)
+check_fits (Within networks) = nat_lt 0 (length networks) && list_all is_network networks
+check_fits (Over measure limit) = nat_le limit (limit_max measure)
+
+-- a condition of the second form
+abbrev pub fits_second : Condition → Bool
+fits_second c = check_fits c.check
 
 abbrev pub begins_with_and : List Condition → Bool
 begins_with_and [] = true

@@ -1,14 +1,21 @@
-//! The conditions in the words of a rule's line: `when COND and COND or COND ..`, with `FIELD TEST TEXT ..` for each,
-//! perhaps with `not` before it, and with `any-case` after the test.
+//! The conditions in the words of a rule's line: `when COND and COND or COND ..`, with `FIELD TEST TEXT ..`, `address
+//! within TEXT ..` or `size over NUMBER` for each, perhaps with `not` before it, and with `any-case` after a test of
+//! texts.
 
-ghost use Rattle.std.specs.Prelude.{◌≡◌, ◌++◌, ◌∷◌, IfOk, IfSome, List, codes, option_map};
+ghost use Rattle.std.specs.Prelude.{◌≡◌, ◌++◌, ◌∷◌, IfOk, IfSome, List, codes, option_map, true};
+ghost use Rattle.std.specs.List.{list_all};
 ghost use Rattle.std.specs.Option.{IsSomeAnd};
 ghost use Rattle.milter_text.specs.declared.word.Word.{Word};
 ghost use Rattle.milter_text.specs.WordValues.{keyword};
 ghost use Rattle.milter_filter_rules.specs.declared.rule.Condition.{Condition};
-ghost use Rattle.milter_rules.specs.ConditionWords.{condition_at, condition_on, conditions_words, field_at, first_text, flag_at, joint_at, lone_field, named_field, path_field, test_in, texts_at, words_after};
+ghost use Rattle.milter_rules.specs.ConditionWords.{check_at, check_on, condition_at, conditions_words, field_at, first_text, flag_at};
+ghost use Rattle.milter_rules.specs.ConditionWords.{has_limit, joint_at, limit_of, lone_field, measure_in, named_field, networks_after};
+ghost use Rattle.milter_rules.specs.ConditionWords.{over_at, path_field, test_in, text_check_at, texts_at, words_after};
 
-use milter_filter_rules::{Condition, Conditions, Field, Joint, PathPart, Test, Texts};
+use itoa::Buffer;
+use milter_filter_rules::{
+    Check, Condition, Conditions, Field, Joint, Measure, PathPart, Test, TextCheck, Texts,
+};
 use milter_text::Word;
 use milter_wire::{NoMemory, Text};
 use std::alloc::Global;
@@ -23,6 +30,7 @@ pub(crate) fn conditions_in<'a>(
         words.now ≡ conditions_words x.0 ++ keyword (codes "do") ∷ x.1.now)) }
     ensures only { (conditions : List Condition) (rest : List Word) →
         words.now ≡ conditions_words conditions ++ keyword (codes "do") ∷ rest →
+        list_all (λ c. has_limit c.check) conditions ≡ true →
         IfOk result (λ found. IsSomeAnd found (λ x. (x.0 ≡ conditions) × (x.1.now ≡ rest))) }
 {
     let mut conditions = Vec::new(alloc);
@@ -82,36 +90,103 @@ fn condition_in<'a>(
     ensures { IfOk result (λ found. option_map (λ x. (x.0, x.1.now)) found ≡ condition_at joint words.now) }
 {
     let (negated, rest) = flag_in(b"not", words);
-    match field_in(alloc, rest)? {
-        Some((field, rest)) => condition_on(
-            alloc,
-            Subject {
-                joint,
-                negated,
-                field,
-            },
-            rest,
-        ),
+    let Some((check, rest)) = check_in(alloc, rest)? else {
+        return Ok(None);
+    };
+    let condition = Condition {
+        joint,
+        negated,
+        check,
+    };
+    Ok(Some((condition, rest)))
+}
+
+/// The check that the words begin with, and the words after it.
+fn check_in<'a>(alloc: Global, words: &'a [Word]) -> Result<Option<(Check, &'a [Word])>, NoMemory>
+    ensures { IfOk result (λ found. option_map (λ x. (x.0, x.1.now)) found ≡ check_at words.now) }
+{
+    let [first, rest @ ..] = words else {
+        return Ok(None);
+    };
+    if let Some(measure) = measure_in(first) {
+        return Ok(over_in(measure, rest));
+    }
+    match networks_after(first, rest) {
+        Some(networks) => {
+            let (networks, rest) = texts_in(alloc, networks)?;
+            Ok(Some((Check::Within(networks), rest)))
+        }
+        None => text_check_in(alloc, words),
+    }
+}
+
+/// The words after `address within`.
+fn networks_after<'a>(first: &Word, rest: &'a [Word]) -> Option<&'a [Word]>
+    ensures { option_map (λ networks. networks.now) result ≡ networks_after first.now rest.now }
+{
+    if first.is_keyword(b"address") {
+        words_after(b"within", rest)
+    } else {
+        None
+    }
+}
+
+/// The number of this word.
+fn measure_in(word: &Word) -> Option<Measure>
+    ensures { result ≡ measure_in word.now }
+{
+    if word.is_keyword(b"size") {
+        Some(Measure::Size)
+    } else if word.is_keyword(b"rcpts") {
+        Some(Measure::Rcpts)
+    } else {
+        None
+    }
+}
+
+/// The check of the number that the words after it begin with, and the words after that.
+fn over_in(measure: Measure, words: &[Word]) -> Option<(Check, &[Word])>
+    ensures { option_map (λ x. (x.0, x.1.now)) result ≡ over_at measure words.now }
+{
+    match words_after(b"over", words)? {
+        [limit, rest @ ..] => Some((Check::Over(measure, limit_in(limit)?), rest)),
+        [] => None,
+    }
+}
+
+/// The limit that the word is, which has no superfluous zeros.
+fn limit_in(word: &Word) -> Option<u32>
+    ensures { result ≡ limit_of word.now }
+{
+    let limit = u32::try_from(word.number()?).ok()?;
+    let mut digits = Buffer::new();
+    if word.is_keyword(digits.format(u64::from(limit)).as_bytes()) {
+        Some(limit)
+    } else {
+        None
+    }
+}
+
+/// The check of texts that the words begin with, and the words after it.
+fn text_check_in<'a>(
+    alloc: Global,
+    words: &'a [Word],
+) -> Result<Option<(Check, &'a [Word])>, NoMemory>
+    ensures { IfOk result (λ found. option_map (λ x. (x.0, x.1.now)) found ≡ text_check_at words.now) }
+{
+    match field_in(alloc, words)? {
+        Some((field, rest)) => check_on(alloc, field, rest),
         None => Ok(None),
     }
 }
 
-/// What stands before a test.
-#[derive(Drop)]
-struct Subject {
-    joint: Joint,
-    negated: bool,
-    field: Field,
-}
-
-/// The condition on this subject whose test and texts the words begin with, and the words after it.
-fn condition_on<'a>(
+/// The check of this field whose test and texts the words begin with, and the words after it.
+fn check_on<'a>(
     alloc: Global,
-    subject: Subject,
+    field: Field,
     words: &'a [Word],
-) -> Result<Option<(Condition, &'a [Word])>, NoMemory>
-    ensures { IfOk result (λ found. option_map (λ x. (x.0, x.1.now)) found
-        ≡ condition_on (record { joint = subject.joint; negated = subject.negated; field = subject.field }) words.now) }
+) -> Result<Option<(Check, &'a [Word])>, NoMemory>
+    ensures { IfOk result (λ found. option_map (λ x. (x.0, x.1.now)) found ≡ check_on field words.now) }
 {
     let [test, rest @ ..] = words else {
         return Ok(None);
@@ -121,20 +196,13 @@ fn condition_on<'a>(
     };
     let (any_case, rest) = flag_in(b"any-case", rest);
     let (texts, rest) = texts_in(alloc, rest)?;
-    let Subject {
-        joint,
-        negated,
-        field,
-    } = subject;
-    let condition = Condition {
-        joint,
-        negated,
+    let check = TextCheck {
         field,
         test,
         any_case,
         texts,
     };
-    Ok(Some((condition, rest)))
+    Ok(Some((Check::Text(check), rest)))
 }
 
 /// Copies of the texts that the words begin with, and the words after them.

@@ -1,13 +1,19 @@
 //! The two forms of rule files, and which conditions each may have.
 
 ghost use Rattle.std.specs.Prelude.{◌≡◌, not};
-ghost use Rattle.milter_rules.specs.RuleForms.{all_fit, are_conditions, begins_with_and, begins_with_dot, case_fits, fits_first, fits_second, form_of, is_domain, is_header, is_first_field, test_fits};
+ghost use Rattle.milter_rules.specs.RuleForms.{all_fit, are_conditions, begins_with_and, begins_with_dot, case_fits, check_fits, fits_first};
+ghost use Rattle.milter_rules.specs.RuleForms.{fits_second, form_of, is_domain, is_first_check, is_first_field, is_header, is_network};
+ghost use Rattle.milter_rules.specs.RuleForms.{limit_max, test_fits};
 ghost use Rattle.milter_rules.specs.declared.form.Form.TheVariants.{First};
 ghost use Rattle.milter_filter_rules.specs.Conditions.{has_form};
 ghost use Rattle.milter_filter_rules.specs.RulesValue.{rule_set};
 ghost use Rattle.std.specs.List.{list_all};
 
-use milter_filter_rules::{Condition, Field, Joint, PathPart, Rule, Rules, Test, Texts};
+use milter_filter_rules::{
+    Check, Condition, Field, Joint, Measure, PathPart, Rule, Rules, Test, Texts,
+};
+use milter_message::WEIGHT_MAX;
+use milter_network::Network;
 use milter_text::Word;
 use milter_wire::{Stage, Text};
 
@@ -98,16 +104,26 @@ fn begins_with_and(conditions: &[Condition]) -> bool
     }
 }
 
-/// Whether the condition is of the first form: a field, a test and one text.
+/// Whether the condition is of the first form.
 fn fits_first(condition: &Condition) -> bool
     ensures { result ≡ fits_first condition.now }
 {
-    condition.joint == Joint::And
-        && !condition.negated
-        && is_first_field(&condition.field)
-        && matches!(condition.test, Test::Is | Test::Has | Test::Lacks)
-        && !condition.any_case
-        && condition.texts.as_slice().len() == 1
+    condition.joint == Joint::And && !condition.negated && is_first_check(&condition.check)
+}
+
+/// Whether the check is of the first form: a field, a test and one text.
+fn is_first_check(check: &Check) -> bool
+    ensures { result ≡ is_first_check check.now }
+{
+    match check {
+        Check::Text(check) => {
+            is_first_field(&check.field)
+                && matches!(check.test, Test::Is | Test::Has | Test::Lacks)
+                && !check.any_case
+                && check.texts.as_slice().len() == 1
+        }
+        _ => false,
+    }
 }
 
 /// Whether the field is of the first form.
@@ -125,9 +141,49 @@ fn is_first_field(field: &Field) -> bool
 fn fits_second(condition: &Condition) -> bool
     ensures { result ≡ fits_second condition.now }
 {
-    !condition.texts.as_slice().is_empty()
-        && test_fits(condition.test, &condition.field, &condition.texts)
-        && case_fits(condition.test, &condition.field, condition.any_case)
+    check_fits(&condition.check)
+}
+
+/// Whether the check is of the second form.
+fn check_fits(check: &Check) -> bool
+    ensures { result ≡ check_fits check.now }
+{
+    match check {
+        Check::Text(check) => {
+            !check.texts.as_slice().is_empty()
+                && test_fits(check.test, &check.field, &check.texts)
+                && case_fits(check.test, &check.field, check.any_case)
+        }
+        Check::Within(networks) => {
+            !networks.as_slice().is_empty() && are_networks(networks.as_slice())
+        }
+        Check::Over(measure, limit) => *limit <= limit_max(*measure),
+    }
+}
+
+/// Whether each text writes a network.
+fn are_networks(texts: &[Text]) -> bool
+    ensures { result ≡ list_all is_network texts.now }
+{
+    texts.iter().all(|text| is_network(text.as_slice()))
+}
+
+/// Whether the text writes a network.
+fn is_network(text: &[u8]) -> bool
+    ensures { result ≡ is_network text.now }
+{
+    Network::parse(text).is_some()
+}
+
+/// The largest limit that a condition may have of the number: 16,777,216 bytes, since a filter's end keeps no larger
+/// body, and the largest number of 32 bits of recipients.
+pub fn limit_max(measure: Measure) -> u32
+    ensures { result ≡ limit_max measure }
+{
+    match measure {
+        Measure::Size => WEIGHT_MAX as u32,
+        Measure::Rcpts => u32::MAX,
+    }
 }
 
 /// Whether the field has the test, with these texts.

@@ -13,10 +13,11 @@ mod rule_line;
 mod rules_text;
 mod words_text;
 
+pub use form::limit_max;
 pub use laws::{lines_of_written_words, rule_limit, words_of_actions, written_rules};
 pub use milter_filter_rules::{
-    Action, Condition, Conditions, Field, Joint, PathPart, Rule, RuleList, Rules, StageRules, Test,
-    Texts,
+    Action, Check, Condition, Conditions, Field, Joint, Measure, PathPart, Rule, RuleList, Rules,
+    StageRules, Test, TextCheck, Texts,
 };
 pub use rule_builder::RULES_MAX;
 pub use rule_fault::RuleFault;

@@ -33,7 +33,11 @@ use std::alloc::Global;
 /// TEXT ..` with one text or more, any of which is to be found; `not` may stand before it, and `or` in place of `and`,
 /// which binds closer. The fields `sender`, `rcpt` and `recipients` may end with `-address` or `-domain`. Further tests
 /// are `begins`, `ends`, `like`, but not of `body`, and `under`, of `host`, `helo` and domains, with texts that don't
-/// begin with a dot. `any-case` may stand after a test but `under`, and not with an address or a domain.
+/// begin with a dot. `any-case` may stand after a test but `under`, and not with an address or a domain. Other
+/// conditions there are `address within TEXT ..`, whose texts write networks as
+/// [`Network::parse`](milter_network::Network::parse) reads them, `size over NUMBER`, of the bytes of the body, with a
+/// number of at most 16,777,216, and `rcpts over NUMBER`, of the recipients, with one of 32 bits. These numbers have no
+/// superfluous zeros.
 ///
 /// An ACTION is a verdict, `continue`, `accept`, `reject`, `tempfail`, `discard`, `skip` or `code TEXT`; or an edit,
 /// `add-header NAME VALUE`, `insert-header INDEX NAME VALUE`, `change-header INDEX NAME VALUE`, `add-rcpt TEXT`,

@@ -165,7 +165,7 @@ fn names_in(word: &Word) -> Option<&Text>
 }
 
 /// The stage and the rule of the line with this number of a file of this form, by its words after the first.
-#[tactic(auto, using(crate::proofs::LineForms::stage_words, crate::proofs::LineForms::stage_read))]
+#[tactic(auto, using(crate::proofs::LineForms::stage_read, crate::proofs::Limits::limits_fit))]
 fn rule_in(alloc: Global, form: Form, words: &[Word], line: u64) -> Result<(Stage, Rule), RuleFault>
     ensures found { IfOk result (λ x. HasRule words.now x.0 x.1
         × (are_conditions form x.1.conditions ≡ true)) }

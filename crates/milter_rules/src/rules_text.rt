@@ -1,13 +1,14 @@
 //! Rules written as rule files.
 
-ghost use Rattle.std.specs.Prelude.{◌≡◌, ◌∷◌, OnErr, OnOk, map, option_map};
+ghost use Rattle.std.specs.Prelude.{◌≡◌, ◌∷◌, ◌++◌, OnErr, OnOk, [], codes, decimal, map, option_map};
+ghost use Rattle.milter_filter_rules.specs.RuleNames.{measure_name};
 ghost use Rattle.std.specs.Io.KnownBytes.{Appends};
 ghost use Rattle.std.specs.List.{flat_map};
 ghost use Rattle.milter_text.specs.TextWriter.{Puts};
 ghost use Rattle.milter_text.specs.WordValues.{keyword};
 ghost use Rattle.milter_text.specs.WrittenText.{WritesPrefix};
 ghost use Rattle.milter_rules.specs.ActionText.{action_words, edit_words, indexed_words, texts_words};
-ghost use Rattle.milter_rules.specs.ConditionWords.{condition_words, conditions_words, field_words, flag_words, joint_word, quoted_word};
+ghost use Rattle.milter_rules.specs.ConditionWords.{check_words, condition_words, conditions_words, field_words, flag_words, joint_word, quoted_word, test_words};
 ghost use Rattle.milter_rules.specs.RuleForms.{header_lines};
 ghost use Rattle.milter_rules.specs.RulesText.{macro_stage_numbered, options_text, rule_text, rules_text};
 ghost use Rattle.milter_rules.specs.RulesText.{stages_text, symbols_text};
@@ -17,7 +18,9 @@ ghost use Rattle.milter_rules.specs.WordsText.{line_text, spaced};
 use crate::form::Form;
 use crate::words_text::{WordRef, put_line, put_words};
 use itoa::Buffer;
-use milter_filter_rules::{Action, Condition, Field, Joint, Rule, Rules};
+use milter_filter_rules::{
+    Action, Check, Condition, Field, Joint, Measure, Rule, Rules, TextCheck,
+};
 use milter_message::Edit;
 use milter_text::{TextFault, TextWriter};
 use milter_wire::{Header, MacroStage, Options, Stage, SymList, Text, Verdict};
@@ -205,10 +208,71 @@ fn put_condition<W: Write>(
     let joint = joint_word(is_first, condition.joint);
     put_words(output, &[WordRef::Plain(joint)])?;
     put_flag(output, b"not", condition.negated)?;
-    put_field(output, &condition.field)?;
-    put_words(output, &[WordRef::Plain(condition.test.name())])?;
-    put_flag(output, b"any-case", condition.any_case)?;
-    put_quoted_texts(output, condition.texts.as_slice())
+    put_check(output, &condition.check)
+}
+
+/// Puts a check.
+fn put_check<W: Write>(output: &mut TextWriter<'_, W>, check: &Check) -> Result<(), TextFault>
+    ensures { Puts W.contents (spaced (check_words check.now)) output.old output.new result }
+{
+    match check {
+        Check::Text(check) => put_text_check(output, check),
+        Check::Within(networks) => put_within(output, networks.as_slice()),
+        Check::Over(measure, limit) => put_over(output, *measure, *limit),
+    }
+}
+
+/// Puts a comparison of texts with a field.
+fn put_text_check<W: Write>(
+    output: &mut TextWriter<'_, W>,
+    check: &TextCheck,
+) -> Result<(), TextFault>
+    ensures { Puts W.contents
+        (spaced (field_words check.now.field ++ test_words check.now)) output.old output.new result }
+{
+    put_field(output, &check.field)?;
+    put_words(output, &[WordRef::Plain(check.test.name())])?;
+    put_flag(output, b"any-case", check.any_case)?;
+    put_quoted_texts(output, check.texts.as_slice())
+}
+
+/// Puts the networks that the client's address is to be within.
+fn put_within<W: Write>(output: &mut TextWriter<'_, W>, networks: &[Text]) -> Result<(), TextFault>
+    ensures { Puts W.contents
+        (spaced (keyword (codes "address") ∷ keyword (codes "within") ∷ map quoted_word networks.now))
+        output.old output.new result }
+{
+    put_words(
+        output,
+        &[WordRef::Plain(b"address"), WordRef::Plain(b"within")],
+    )?;
+    put_quoted_texts(output, networks)
+}
+
+/// Puts the limit that a number is to be above.
+fn put_over<W: Write>(
+    output: &mut TextWriter<'_, W>,
+    measure: Measure,
+    limit: u32,
+) -> Result<(), TextFault>
+    ensures { Puts W.contents
+        (spaced (keyword (measure_name measure) ∷ keyword (codes "over") ∷ keyword (decimal limit) ∷ []))
+        output.old output.new result }
+{
+    put_words(
+        output,
+        &[WordRef::Plain(measure.name()), WordRef::Plain(b"over")],
+    )?;
+    put_limit(output, limit)
+}
+
+/// Puts a limit in decimal.
+fn put_limit<W: Write>(output: &mut TextWriter<'_, W>, limit: u32) -> Result<(), TextFault>
+    ensures { Puts W.contents (spaced (keyword (decimal limit) ∷ [])) output.old output.new result }
+{
+    let mut digits = Buffer::new();
+    let limit = digits.format(u64::from(limit)).as_bytes();
+    put_words(output, &[WordRef::Plain(limit)])
 }
 
 /// Puts texts in quotes.

@@ -46,6 +46,15 @@ pub(crate) fn on_part<'a>(
     }
 }
 
+/// What comes before a network that is to be written in place of the text of this condition.
+pub(crate) fn within_instead(compared: Compared<'_>) -> Piece<'static> {
+    if compared.negated != (compared.test == Test::Lacks) {
+        Piece::Plain(b"not address within ")
+    } else {
+        Piece::Plain(b"address within ")
+    }
+}
+
 /// What comes after a condition that a file of this form is advised to have.
 pub(crate) fn advice_end(form: FileForm) -> Piece<'static> {
     match form {

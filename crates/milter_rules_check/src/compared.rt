@@ -1,6 +1,6 @@
 //! What becomes of conditions whose text isn't found.
 
-use milter_filter_rules::{Condition, Test};
+use milter_filter_rules::{Test, TextCheck};
 use milter_rules_faults::{Compared, Notes, Piece};
 use milter_wire::NoMemory;
 use std::alloc::Global;
@@ -54,6 +54,33 @@ pub(crate) fn say_unfound_instead<'x>(
     notes.say(alloc, &pieces)
 }
 
+/// Says of an empty text that is compared with a whole value that it isn't found where there is no value.
+pub(crate) fn say_empty(
+    alloc: Global,
+    notes: &mut Notes<'_>,
+    compared: Compared<'_>,
+) -> Result<(), NoMemory> {
+    let is_for_empty = matches!(compared.test, Test::Is | Test::Like | Test::Under);
+    if !compared.text.is_empty() || !is_for_empty || compared.negated {
+        return Ok(());
+    }
+    let name = Piece::Plain(compared.field.name());
+    let middle = Piece::Plain(b" doesn't hold where there is no ");
+    let end = Piece::Plain(b" lacks \"\" does");
+    let semicolon = Piece::Plain(b"; ");
+    notes.say(
+        alloc,
+        &[
+            Piece::Compared(compared),
+            middle,
+            name,
+            semicolon,
+            name,
+            end,
+        ],
+    )
+}
+
 /// The condition that finds this text in a part of a value.
 pub(crate) fn part_of<'a>(compared: Compared<'a>, text: &'a [u8]) -> Compared<'a> {
     let test = match compared.test {
@@ -69,9 +96,9 @@ pub(crate) fn part_of<'a>(compared: Compared<'a>, text: &'a [u8]) -> Compared<'a
     }
 }
 
-/// Whether an empty value is found by a text of the condition, whose test isn't `like`.
-pub(crate) fn finds_empty(condition: &Condition) -> bool {
-    condition
+/// Whether an empty value is found by a text of the check, whose test isn't `like`.
+pub(crate) fn finds_empty(check: &TextCheck) -> bool {
+    check
         .texts
         .as_slice()
         .iter()

@@ -4,7 +4,7 @@ ghost use Rattle.std.specs.Prelude.{◌<◌, IfSome, length};
 
 use crate::compared::{finds_empty, is_met_unfound};
 use crate::sent_stages::bit_among;
-use milter_filter_rules::{Condition, Field, Joint};
+use milter_filter_rules::{Check, Condition, Field, Joint, Measure};
 use milter_protocol::rank_of;
 use milter_rules_faults::{Notes, Piece};
 use milter_wire::{NoMemory, Options, Protocol, Stage, Text};
@@ -60,7 +60,7 @@ impl Certainty {
 }
 
 /// The stage from which on a field is known; none of a macro.
-pub(crate) fn first_stage(field: &Field) -> Option<Stage> {
+fn first_stage(field: &Field) -> Option<Stage> {
     match field {
         Field::Host | Field::Address => Some(Stage::Connect),
         Field::Helo => Some(Stage::Helo),
@@ -69,6 +69,41 @@ pub(crate) fn first_stage(field: &Field) -> Option<Stage> {
         Field::Header(_) => Some(Stage::Header),
         Field::Body => Some(Stage::Body),
         Field::Macro(_) => None,
+    }
+}
+
+/// The stage from which on what the check looks at is known; none of a macro.
+fn first_stage_of(check: &Check) -> Option<Stage> {
+    match check {
+        Check::Text(check) => first_stage(&check.field),
+        Check::Within(_) => Some(Stage::Connect),
+        Check::Over(Measure::Size, _) => Some(Stage::Body),
+        Check::Over(Measure::Rcpts, _) => Some(Stage::Rcpt),
+    }
+}
+
+/// The word of what the check looks at.
+fn name_of(check: &Check) -> &'static [u8] {
+    match check {
+        Check::Text(check) => check.field.name(),
+        Check::Within(_) => b"address",
+        Check::Over(measure, _) => measure.name(),
+    }
+}
+
+/// Whether the condition is met where what it looks at has no value.
+fn is_met_absent(condition: &Condition) -> bool {
+    match &condition.check {
+        Check::Text(check) => is_met_unfound(condition.negated, check.test),
+        Check::Within(_) | Check::Over(..) => condition.negated,
+    }
+}
+
+/// Whether the check is one that an empty body meets.
+fn finds_empty_body(check: &Check) -> bool {
+    match check {
+        Check::Text(check) => matches!(check.field, Field::Body) && finds_empty(check),
+        Check::Within(_) | Check::Over(..) => false,
     }
 }
 
@@ -152,7 +187,7 @@ fn first_absent(
     is_met: bool,
 ) -> Option<(&Condition, Absence)> {
     for condition in conditions {
-        if is_met_unfound(condition.negated, condition.test) == is_met
+        if is_met_absent(condition) == is_met
             && let Some(absence) = absence_of(condition, place)
         {
             return Some((condition, absence));
@@ -174,7 +209,7 @@ fn certainty_of_group(place: Place, group: &[Condition]) -> Certainty {
 fn certainty_of(place: Place, condition: &Condition) -> Certainty {
     if absence_of(condition, place).is_none() {
         Certainty::Open
-    } else if is_met_unfound(condition.negated, condition.test) {
+    } else if is_met_absent(condition) {
         Certainty::Always
     } else {
         Certainty::Never
@@ -184,8 +219,8 @@ fn certainty_of(place: Place, condition: &Condition) -> Certainty {
 /// Why the field of the condition has no value at this place; none where it may have one. A body that wasn't seen is
 /// empty, and may so be found.
 fn absence_of(condition: &Condition, place: Place) -> Option<Absence> {
-    let first = first_stage(&condition.field)?;
-    if first == Stage::Body && finds_empty(condition) {
+    let first = first_stage_of(&condition.check)?;
+    if finds_empty_body(&condition.check) {
         return None;
     }
     if let Some(bit) = bit_among(place.options, first.not_sent()) {
@@ -206,13 +241,13 @@ fn say_absent<'x>(
     absence: Absence,
 ) -> Result<(), NoMemory> {
     let condition_piece = Piece::Condition(condition);
-    let holds: &[u8] = if is_met_unfound(condition.negated, condition.test) {
+    let holds: &[u8] = if is_met_absent(condition) {
         b" always holds: "
     } else {
         b" never holds: "
     };
     let holds = Piece::Plain(holds);
-    let field = Piece::Plain(condition.field.name());
+    let field = Piece::Plain(name_of(&condition.check));
     match absence {
         Absence::NotSent(bit) => {
             let sent = Piece::Plain(b" isn't sent, by ");
@@ -235,7 +270,8 @@ pub(crate) fn say_condition_names(
     conditions: &[Condition],
 ) -> Result<(), NoMemory> {
     for condition in conditions {
-        if let Field::Header(name) = &condition.field
+        if let Check::Text(check) = &condition.check
+            && let Field::Header(name) = &check.field
             && !is_header_name(name)
         {
             return say_header_name(alloc, notes, name);

@@ -4,7 +4,7 @@ use crate::advice::{advice_end, end_of_path, macro_of, on_part, part_field, with
 use crate::checked_file::CheckedFile;
 use crate::compared::{outcome_unfound, part_of};
 use milter_address::{canonical_address, domain_of};
-use milter_filter_rules::{Condition, Field, PathPart, Rule, Rules, Test};
+use milter_filter_rules::{Check, Condition, Field, PathPart, Rule, Rules, Test, TextCheck};
 use milter_rules_faults::{Compared, FileForm, Notes, Piece};
 use milter_wire::{NoMemory, Stage};
 use std::alloc::Global;
@@ -215,28 +215,36 @@ fn conditions_compare(conditions: &[Condition], compared: Compared<'_>, address:
 
 /// Whether the condition does.
 fn condition_compares(condition: &Condition, compared: Compared<'_>, address: &[u8]) -> bool {
-    if condition.test != Test::Is {
+    match &condition.check {
+        Check::Text(check) => check_compares(check, compared, address),
+        Check::Within(_) | Check::Over(..) => false,
+    }
+}
+
+/// Whether the check does.
+fn check_compares(check: &TextCheck, compared: Compared<'_>, address: &[u8]) -> bool {
+    if check.test != Test::Is {
         return false;
     }
-    match &condition.field {
+    match &check.field {
         Field::Macro(name) => {
-            macro_of(compared.field) == Some(name.as_slice()) && has_address(condition, address)
+            macro_of(compared.field) == Some(name.as_slice()) && has_address(check, address)
         }
-        field if field == compared.field => condition
+        field if field == compared.field => check
             .texts
             .as_slice()
             .iter()
             .any(|text| is_in_brackets(text.as_slice(), compared.text)),
         field if field.path_part() == Some(PathPart::Address) => {
-            is_of_same_path(field, compared.field) && has_address(condition, address)
+            is_of_same_path(field, compared.field) && has_address(check, address)
         }
         _ => false,
     }
 }
 
-/// Whether the condition has the address as one of its texts. The case of letters doesn't count.
-fn has_address(condition: &Condition, address: &[u8]) -> bool {
-    condition
+/// Whether the check has the address as one of its texts. The case of letters doesn't count.
+fn has_address(check: &TextCheck, address: &[u8]) -> bool {
+    check
         .texts
         .as_slice()
         .iter()

@@ -1,7 +1,11 @@
 //! What is said of texts with wildcards, which most tests don't know.
 
-use crate::advice::{MAIL_ADDR, RCPT_ADDR, end_of_path, on_part, part_field, without_brackets};
+use crate::advice::{
+    MAIL_ADDR, RCPT_ADDR, advice_end, end_of_path, on_part, part_field, within_instead,
+    without_brackets,
+};
 use crate::compared::part_of;
+use crate::networks_meant::network_meant;
 use milter_filter_rules::{Field, PathPart, Test};
 use milter_rules_faults::{Compared, FileForm, Notes, Piece};
 use milter_wire::NoMemory;
@@ -21,11 +25,42 @@ pub(crate) fn say_wildcard(
     if !is_wildcard_meant(compared) {
         return Ok(false);
     }
+    if let Some(network) = network_of(alloc, compared)? {
+        say_network(alloc, notes, form, compared, network.as_slice())?;
+        return Ok(true);
+    }
     match form {
         FileForm::First => say_part_meant(alloc, notes, compared)?,
         FileForm::Second => say_test_meant(alloc, notes, compared)?,
     }
     Ok(true)
+}
+
+/// The network that is meant by a text that is compared with the address of a client, from its beginning on.
+fn network_of(alloc: Global, compared: Compared<'_>) -> Result<Option<Vec<u8>>, NoMemory> {
+    match (compared.field, compared.test) {
+        (Field::Address, Test::Is | Test::Begins) => network_meant(alloc, compared.text),
+        _ => Ok(None),
+    }
+}
+
+/// Says that the `*` stands for itself, and which condition finds the addresses of this network.
+fn say_network<'x>(
+    alloc: Global,
+    notes: &mut Notes<'_>,
+    form: FileForm,
+    compared: Compared<'x>,
+    network: &'x [u8],
+) -> Result<(), NoMemory> {
+    let pieces = [
+        Piece::Compared(compared),
+        Piece::Plain(FOR_ITSELF),
+        Piece::Plain(b"; write "),
+        within_instead(compared),
+        Piece::Quoted(network),
+        advice_end(form),
+    ];
+    notes.say(alloc, &pieces)
 }
 
 /// Says that the `*` stands for itself, and which part of a value is to be looked for instead, where there is one.

@@ -1,6 +1,6 @@
 //! Conditions with one of their texts.
 
-use milter_filter_rules::{Condition, Field, Test};
+use milter_filter_rules::{Field, Test, TextCheck};
 
 /// A condition with one of its texts.
 #[derive(Clone, Copy)]
@@ -18,13 +18,13 @@ pub struct Compared<'a> {
 }
 
 impl<'a> Compared<'a> {
-    /// The condition with this text. Doesn't allocate.
-    pub fn new(condition: &'a Condition, text: &'a [u8]) -> Self {
+    /// The condition with this check, negated or not, and this text of it. Doesn't allocate.
+    pub fn new(negated: bool, check: &'a TextCheck, text: &'a [u8]) -> Self {
         Compared {
-            negated: condition.negated,
-            field: &condition.field,
-            test: condition.test,
-            any_case: condition.any_case,
+            negated,
+            field: &check.field,
+            test: check.test,
+            any_case: check.any_case,
             text,
         }
     }

@@ -3,26 +3,23 @@
 ghost use Rattle.std.specs.Prelude.{◌<◌, IfSome, length};
 
 use crate::condition_words::{
-    ConditionWords, FieldWords, after_stage, condition_in, field_in, flag_in, words_after,
+    FieldWords, after_stage, condition_in, field_in, flag_in, words_after,
 };
 use crate::file_form::FileForm;
-use crate::form_faults::say_needs_form;
+use crate::flag_faults::{is_not, say_any_case_place, say_not_place};
+use crate::form_faults::{WITHOUT_NOT, WITHOUT_OR, say_needs_form};
 use crate::known_words::{
-    ACTION, CANONICAL_FIELDS, DOMAIN_FIELDS, FIELD, FIRST_JOINT, Kind, NAMED_FIELDS, NEXT_JOINT,
-    STAGE, TEST, WIDE_FIELD, WIDE_FIELDS, WIDE_JOINT, WIDE_TEST, WIDE_TESTS, is_one_of,
-    say_missing, say_unknown, say_unquoted,
+    ACTION, FIELD, FIRST_JOINT, Kind, NAMED_FIELDS, NEXT_JOINT, NUMBER_FIELDS, STAGE, TEST,
+    WIDE_FIELD, WIDE_FIELDS, WIDE_JOINT, WIDE_TEST, WIDE_TESTS, is_joint, is_one_of, say_missing,
+    say_unknown, say_unquoted,
 };
+use crate::misfits::{say_misfit, say_other_field};
 use crate::nearest::name_meant;
 use crate::notes::{Notes, Piece};
+use crate::number_faults::say_bad_over;
 use milter_text::Word;
 use milter_wire::NoMemory;
 use std::alloc::Global;
-
-/// What is said beside that `not` needs the second form.
-const WITHOUT_NOT: &[u8] = b"; lacks TEXT holds where has TEXT doesn't";
-
-/// What is said beside that groups of conditions, and several texts, need the second form.
-const WITHOUT_OR: &[u8] = b"; without it write two rules";
 
 /// Where a condition stands.
 #[derive(Clone, Copy)]
@@ -108,133 +105,6 @@ fn joint_due(is_first: bool) -> &'static [u8] {
     if is_first { b"when" } else { b"and" }
 }
 
-/// Whether the word stands before a condition or an action.
-fn is_joint(word: &Word) -> bool {
-    is_one_of(word, "when|and|or|do")
-}
-
-/// Whether the word is meant to turn a condition into its opposite.
-fn is_not(word: &Word) -> bool {
-    is_one_of(word, "not|isn't|!=|!")
-}
-
-/// Says what of the condition files of this form don't have; answers whether there is such a thing.
-fn say_misfit(
-    alloc: Global,
-    notes: &mut Notes<'_>,
-    form: FileForm,
-    condition: ConditionWords<'_>,
-) -> Result<bool, NoMemory> {
-    match form {
-        FileForm::First => say_wide_word(alloc, notes, condition),
-        FileForm::Second if condition.test.is_keyword(b"under") => {
-            say_bad_under(alloc, notes, condition)
-        }
-        FileForm::Second if is_like_of_body(condition) => {
-            let text = b"body isn't compared with patterns; body has TEXT finds a text in it";
-            notes.say(alloc, &[Piece::Plain(text)])?;
-            Ok(true)
-        }
-        FileForm::Second if condition.any_case && is_one_of(condition.field, CANONICAL_FIELDS) => {
-            say_no_case(alloc, notes, condition.field)?;
-            Ok(true)
-        }
-        FileForm::Second => Ok(false),
-    }
-}
-
-/// Whether the condition compares the body with patterns.
-fn is_like_of_body(condition: ConditionWords<'_>) -> bool {
-    condition.test.is_keyword(b"like") && condition.field.is_keyword(b"body")
-}
-
-/// Says what of the condition needs the second form; answers whether there is such a thing.
-fn say_wide_word(
-    alloc: Global,
-    notes: &mut Notes<'_>,
-    condition: ConditionWords<'_>,
-) -> Result<bool, NoMemory> {
-    if condition.negated {
-        say_needs_form(alloc, notes, Piece::Plain(b"not"), WITHOUT_NOT)?;
-    } else if is_one_of(condition.field, WIDE_FIELDS) {
-        say_needs_form(alloc, notes, Piece::Word(condition.field), b"")?;
-    } else if is_one_of(condition.test, WIDE_TESTS) {
-        say_needs_form(alloc, notes, Piece::Word(condition.test), b"")?;
-    } else if condition.any_case {
-        say_needs_form(alloc, notes, Piece::Plain(b"any-case"), b"")?;
-    } else if condition.texts.len() > 1 {
-        say_needs_form(alloc, notes, Piece::Plain(b"a second text"), WITHOUT_OR)?;
-    } else {
-        return Ok(false);
-    }
-    Ok(true)
-}
-
-/// Says what is wrong with a condition whose test is `under`; answers whether there is such a thing.
-fn say_bad_under(
-    alloc: Global,
-    notes: &mut Notes<'_>,
-    condition: ConditionWords<'_>,
-) -> Result<bool, NoMemory> {
-    if condition.any_case {
-        say_no_case(alloc, notes, condition.test)?;
-        return Ok(true);
-    }
-    if !is_one_of(condition.field, DOMAIN_FIELDS) {
-        let begin = Piece::Plain(b"under is a test of host, helo and domains, and not of ");
-        notes.say(alloc, &[begin, Piece::Word(condition.field)])?;
-        return Ok(true);
-    }
-    match condition
-        .texts
-        .iter()
-        .find(|text| text.text.as_slice().starts_with(b"."))
-    {
-        Some(text) => {
-            let begin = Piece::Plain(b"a domain after under is due without a dot before it: ");
-            notes.say(alloc, &[begin, Piece::Word(text)])?;
-            Ok(true)
-        }
-        None => Ok(false),
-    }
-}
-
-/// Says that `any-case` doesn't go with this field or this test.
-fn say_no_case(alloc: Global, notes: &mut Notes<'_>, word: &Word) -> Result<(), NoMemory> {
-    let begin = Piece::Plain(b"any-case isn't written with ");
-    let end = Piece::Plain(b", where the case of letters never counts");
-    notes.say(alloc, &[begin, Piece::Word(word), end])
-}
-
-/// Says where `not` is due.
-fn say_not_place(alloc: Global, notes: &mut Notes<'_>, form: FileForm) -> Result<(), NoMemory> {
-    match form {
-        FileForm::First => {
-            let end = b", and is due before the field; lacks TEXT holds where has TEXT doesn't";
-            say_needs_form(alloc, notes, Piece::Plain(b"not"), end)
-        }
-        FileForm::Second => {
-            let text = b"not is due before the field: not FIELD TEST TEXT";
-            notes.say(alloc, &[Piece::Plain(text)])
-        }
-    }
-}
-
-/// Says where `any-case` is due.
-fn say_any_case_place(
-    alloc: Global,
-    notes: &mut Notes<'_>,
-    form: FileForm,
-) -> Result<(), NoMemory> {
-    match form {
-        FileForm::First => say_needs_form(alloc, notes, Piece::Plain(b"any-case"), b""),
-        FileForm::Second => {
-            let text = b"any-case is due after a test, before its texts";
-            notes.say(alloc, &[Piece::Plain(text)])
-        }
-    }
-}
-
 /// Says what is wrong with the condition at this place.
 fn say_bad_condition(
     alloc: Global,
@@ -284,27 +154,34 @@ fn say_bad_test(
     if form == FileForm::First && is_one_of(found.field, WIDE_FIELDS) {
         return say_needs_form(alloc, notes, Piece::Word(found.field), b"");
     }
+    if is_one_of(found.field, NUMBER_FIELDS) {
+        return say_bad_over(alloc, notes, found);
+    }
     match found.rest {
         [word, ..] if is_not(word) => say_not_place(alloc, notes, form),
         [word, ..] if word.is_keyword(b"any-case") => say_any_case_place(alloc, notes, form),
         [test, rest @ ..] if is_one_of(test, WIDE_TEST.names) => {
-            say_bad_texts(alloc, notes, form, test, rest)
+            say_bad_texts(alloc, notes, form, found.field, test, rest)
         }
         [test, ..] if !is_joint(test) => say_unknown(alloc, notes, &tests_of(form), test),
         _ => say_missing(alloc, notes, &tests_of(form), Piece::Word(found.last)),
     }
 }
 
-/// Says what is wrong with this test, or with the texts after it.
+/// Says what is wrong with this test of the field, or with the texts after it.
 fn say_bad_texts(
     alloc: Global,
     notes: &mut Notes<'_>,
     form: FileForm,
+    field: &Word,
     test: &Word,
     words: &[Word],
 ) -> Result<(), NoMemory> {
     if form == FileForm::First && is_one_of(test, WIDE_TESTS) {
         return say_needs_form(alloc, notes, Piece::Word(test), b"");
+    }
+    if say_other_field(alloc, notes, field, test)? {
+        return Ok(());
     }
     match words {
         [word, ..] if is_not(word) => say_not_place(alloc, notes, form),
@@ -312,7 +189,16 @@ fn say_bad_texts(
             FileForm::First => say_any_case_place(alloc, notes, form),
             FileForm::Second => say_unquoted(alloc, notes, b"a text", any_case, rest),
         },
-        _ => say_unquoted(alloc, notes, b"a text", test, words),
+        _ => say_unquoted(alloc, notes, text_due(test), test, words),
+    }
+}
+
+/// What is due after this test.
+fn text_due(test: &Word) -> &'static [u8] {
+    if test.is_keyword(b"within") {
+        b"a network"
+    } else {
+        b"a text"
     }
 }
 

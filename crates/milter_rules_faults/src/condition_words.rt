@@ -2,7 +2,10 @@
 
 ghost use Rattle.std.specs.Prelude.{◌<◌, ◌≤◌, IfSome, length};
 
-use crate::known_words::{LONE_FIELDS, NAMED_FIELDS, WIDE_FIELDS, WIDE_TEST, is_one_of};
+use crate::known_words::{
+    LONE_FIELDS, NAMED_FIELDS, NUMBER_FIELDS, WIDE_FIELDS, WIDE_TEST, is_one_of,
+};
+use crate::number_words::is_number_for;
 use milter_text::Word;
 
 /// The field that words begin with.
@@ -27,7 +30,7 @@ pub(crate) struct ConditionWords<'a> {
     pub(crate) test: &'a Word,
     /// Whether `any-case` follows the test.
     pub(crate) any_case: bool,
-    /// Its texts, from one on.
+    /// Its texts, from one on; none where its field is a number.
     pub(crate) texts: &'a [Word],
     /// The words after it.
     pub(crate) rest: &'a [Word],
@@ -90,7 +93,45 @@ pub(crate) fn condition_in(words: &[Word]) -> Option<ConditionWords<'_>>
 {
     let (negated, words) = flag_in(b"not", words);
     let found = field_in(words)?;
-    let [test, after @ ..] = found.rest else {
+    if is_one_of(found.field, NUMBER_FIELDS) {
+        number_condition_in(negated, found.field, found.rest)
+    } else {
+        text_condition_in(negated, found.field, found.rest)
+    }
+}
+
+/// The condition on this field, which is a number, whose test these words begin with.
+fn number_condition_in<'a>(
+    negated: bool,
+    field: &'a Word,
+    words: &'a [Word],
+) -> Option<ConditionWords<'a>>
+    ensures { IfSome result (λ x. length x.rest.now ≤ length words.now) }
+{
+    match words {
+        [test, number, rest @ ..] if test.is_keyword(b"over") && is_number_for(field, number) => {
+            Some(ConditionWords {
+                negated,
+                field,
+                test,
+                any_case: false,
+                texts: &[],
+                rest,
+            })
+        }
+        _ => None,
+    }
+}
+
+/// The condition on this field, which is no number, whose test these words begin with.
+fn text_condition_in<'a>(
+    negated: bool,
+    field: &'a Word,
+    words: &'a [Word],
+) -> Option<ConditionWords<'a>>
+    ensures { IfSome result (λ x. length x.rest.now ≤ length words.now) }
+{
+    let [test, after @ ..] = words else {
         return None;
     };
     let (any_case, after) = flag_in(b"any-case", after);
@@ -100,7 +141,7 @@ pub(crate) fn condition_in(words: &[Word]) -> Option<ConditionWords<'_>>
     }
     Some(ConditionWords {
         negated,
-        field: found.field,
+        field,
         test,
         any_case,
         texts,

@@ -9,6 +9,12 @@ use std::alloc::Global;
 /// What a word of the second form is said to need in a file of the first.
 const NEEDS_FORM: &[u8] = b" needs rules 2 as the first line of the file";
 
+/// What is said beside that `not` needs the second form.
+pub(crate) const WITHOUT_NOT: &[u8] = b"; lacks TEXT holds where has TEXT doesn't";
+
+/// What is said beside that groups of conditions, and several texts, need the second form.
+pub(crate) const WITHOUT_OR: &[u8] = b"; without it write two rules";
+
 /// Says what is wrong with a line that begins with `rules`, in a file of this form.
 pub(crate) fn say_bad_form_line(
     alloc: Global,

@@ -71,7 +71,10 @@ pub(crate) const LONE_FIELDS: &str = "host|address|helo|sender|rcpt|body";
 
 /// The fields that files of the second form alone have.
 pub(crate) const WIDE_FIELDS: &str = "sender-address|sender-domain|rcpt-address|rcpt-domain|\
-                                      recipients|recipients-address|recipients-domain";
+                                      recipients|recipients-address|recipients-domain|size|rcpts";
+
+/// The fields that are numbers.
+pub(crate) const NUMBER_FIELDS: &str = "size|rcpts";
 
 /// The fields whose values are domains.
 pub(crate) const DOMAIN_FIELDS: &str = "host|helo|sender-domain|rcpt-domain|recipients-domain";
@@ -104,7 +107,7 @@ pub(crate) const FIELD: Kind<'static> = Kind {
 pub(crate) const WIDE_FIELD: Kind<'static> = Kind {
     called: b"field",
     names: "host|address|helo|sender|sender-address|sender-domain|rcpt|rcpt-address|rcpt-domain|\
-            recipients|recipients-address|recipients-domain|header|body|macro",
+            recipients|recipients-address|recipients-domain|header|body|macro|size|rcpts",
     others: OTHER_FIELDS,
 };
 
@@ -116,17 +119,18 @@ pub(crate) const TEST: Kind<'static> = Kind {
 };
 
 /// The tests that files of the second form alone have.
-pub(crate) const WIDE_TESTS: &str = "begins|ends|like|under";
+pub(crate) const WIDE_TESTS: &str = "begins|ends|like|under|within|over";
 
 /// All tests of files of the second form.
 pub(crate) const WIDE_TEST: Kind<'static> = Kind {
     called: b"test",
-    names: "is|has|lacks|begins|ends|like|under",
+    names: "is|has|lacks|begins|ends|like|under|within|over",
     others: &[
         ("contains", "has"),
         ("equals", "is"),
         ("matches", "like"),
         ("starts", "begins"),
+        ("in", "within"),
     ],
 };
 
@@ -156,6 +160,11 @@ pub(crate) fn is_one_of(word: &Word, names: &str) -> bool {
         Some(name) => has_name(names, name),
         None => false,
     }
+}
+
+/// Whether the word stands before a condition or an action.
+pub(crate) fn is_joint(word: &Word) -> bool {
+    is_one_of(word, "when|and|or|do")
 }
 
 /// Says that the word is none of its kind, and which one may be meant.

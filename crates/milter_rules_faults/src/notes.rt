@@ -2,9 +2,9 @@
 
 use crate::compared::Compared;
 use itoa::Buffer;
-use milter_filter_rules::{Condition, Field};
+use milter_filter_rules::{Check, Condition, Field};
 use milter_text::{Word, quote};
-use milter_wire::{Actions, NoMemory, Protocol};
+use milter_wire::{Actions, NoMemory, Protocol, Text};
 use std::alloc::Global;
 
 /// The most bytes that are shown of a word of the file.
@@ -164,14 +164,41 @@ impl<'n> Notes<'n> {
 
     /// Puts a condition as it is written.
     fn put_condition(&mut self, alloc: Global, condition: &Condition) -> Result<(), NoMemory> {
-        let texts = condition.texts.as_slice();
-        self.put_subject(alloc, Compared::new(condition, b""))?;
+        match &condition.check {
+            Check::Text(check) => {
+                self.put_subject(alloc, Compared::new(condition.negated, check, b""))?;
+                self.put_texts(alloc, check.texts.as_slice())
+            }
+            Check::Within(networks) => {
+                self.put_not(condition.negated)?;
+                self.put_plain(b"address within")?;
+                self.put_texts(alloc, networks.as_slice())
+            }
+            Check::Over(measure, limit) => {
+                self.put_not(condition.negated)?;
+                self.put_plain(measure.name())?;
+                self.put_plain(b" over ")?;
+                self.put_number(u64::from(*limit))
+            }
+        }
+    }
+
+    /// Puts the texts of a condition: of many the first, and two dots.
+    fn put_texts(&mut self, alloc: Global, texts: &[Text]) -> Result<(), NoMemory> {
         for text in &texts[..texts.len().min(TEXTS_SHOWN_MAX)] {
             self.put_plain(b" ")?;
             self.put_quoted(alloc, text.as_slice())?;
         }
         if texts.len() > TEXTS_SHOWN_MAX {
             self.put_plain(b" ..")?;
+        }
+        Ok(())
+    }
+
+    /// Puts what stands before a condition that is negated.
+    fn put_not(&mut self, negated: bool) -> Result<(), NoMemory> {
+        if negated {
+            self.put_plain(b"not ")?;
         }
         Ok(())
     }
@@ -185,9 +212,7 @@ impl<'n> Notes<'n> {
 
     /// Puts what stands before the texts of a condition.
     fn put_subject(&mut self, alloc: Global, compared: Compared<'_>) -> Result<(), NoMemory> {
-        if compared.negated {
-            self.put_plain(b"not ")?;
-        }
+        self.put_not(compared.negated)?;
         self.put_plain(compared.field.name())?;
         if let Field::Header(name) | Field::Macro(name) = compared.field {
             self.put_plain(b" ")?;

@@ -35,10 +35,10 @@ returns-in-Some-words_after-clause-found c =
     rw c.new.ensures found
 
 pub returns-in-Some-words_after-clause-only : goal.returns-in-Some-words_after-clause-only
-returns-in-Some-words_after-clause-only c = λ all other e.
+returns-in-Some-words_after-clause-only c = λ all other e limits.
     let read = all_read c.args.words.now c.loop-joint.is_first c.loop-joint.conditions.items c.loop-joint.rest.now
     c.in-Some-words_after.action.now (sym (rw c.in_default.is at c.joint_in.ensures))
-    (sym (rw c.in-Some-words_after.is at c.words_after.ensures)) c.loop-joint.invariant.only all other e in
+    (sym (rw c.in-Some-words_after.is at c.words_after.ensures)) c.loop-joint.invariant.only all other e limits in
     (c.new.ensures ∙ read.0, read.1)
 
 pub returns-clause-only : goal.returns-clause-only

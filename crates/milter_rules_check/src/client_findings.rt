@@ -1,0 +1,84 @@
+//! What is said of texts that are compared with the address of a client.
+
+use crate::advice::{advice_end, within_instead};
+use crate::compared::{outcome_unfound, say_empty};
+use crate::networks_meant::network_meant;
+use milter_filter_rules::Test;
+use milter_network::{Address, Network};
+use milter_rules_faults::{Compared, FileForm, Notes, Piece};
+use milter_wire::NoMemory;
+use std::alloc::Global;
+
+/// Says what is to be said of a text that is compared with the address of a client, in a file of this form.
+pub(crate) fn say_client_text(
+    alloc: Global,
+    notes: &mut Notes<'_>,
+    form: FileForm,
+    compared: Compared<'_>,
+) -> Result<(), NoMemory> {
+    let text = compared.text;
+    if text.is_empty() {
+        return say_empty(alloc, notes, compared);
+    }
+    if Address::parse(text).is_some() {
+        return Ok(());
+    }
+    if Network::parse(text).is_some() {
+        return say_network(alloc, notes, form, compared);
+    }
+    // What begins with a slash is the path of a Unix socket.
+    if compared.test == Test::Is && !text.starts_with(b"/") {
+        return say_no_address(alloc, notes, form, compared);
+    }
+    Ok(())
+}
+
+/// Says that no address of a client is this network, and which condition finds those within it.
+fn say_network(
+    alloc: Global,
+    notes: &mut Notes<'_>,
+    form: FileForm,
+    compared: Compared<'_>,
+) -> Result<(), NoMemory> {
+    let pieces = [
+        Piece::Compared(compared),
+        Piece::Plain(outcome_unfound(compared)),
+        Piece::Plain(b": the address of a client is no network; write "),
+        within_instead(compared),
+        Piece::Quoted(compared.text),
+        advice_end(form),
+    ];
+    notes.say(alloc, &pieces)
+}
+
+/// Says that the text is no address, and which condition finds those of the network that is meant, if one is.
+fn say_no_address(
+    alloc: Global,
+    notes: &mut Notes<'_>,
+    form: FileForm,
+    compared: Compared<'_>,
+) -> Result<(), NoMemory> {
+    let condition = Piece::Compared(compared);
+    let outcome = Piece::Plain(outcome_unfound(compared));
+    let colon = Piece::Plain(b": ");
+    let text = Piece::Quoted(compared.text);
+    match network_meant(alloc, compared.text)? {
+        Some(network) => {
+            let pieces = [
+                condition,
+                outcome,
+                colon,
+                text,
+                Piece::Plain(b" is no IP address; write "),
+                within_instead(compared),
+                Piece::Quoted(network.as_slice()),
+                advice_end(form),
+            ];
+            notes.say(alloc, &pieces)
+        }
+        None => {
+            let end = Piece::Plain(b" is no IP address, such as 192.0.2.1");
+            notes.say(alloc, &[condition, outcome, colon, text, end])
+        }
+    }
+}

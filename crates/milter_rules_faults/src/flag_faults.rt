@@ -1,0 +1,58 @@
+//! What is said of `not` and `any-case` where they can't stand.
+
+use crate::file_form::FileForm;
+use crate::form_faults::say_needs_form;
+use crate::known_words::is_one_of;
+use crate::notes::{Notes, Piece};
+use milter_text::Word;
+use milter_wire::NoMemory;
+use std::alloc::Global;
+
+/// Whether the word is meant to turn a condition into its opposite.
+pub(crate) fn is_not(word: &Word) -> bool {
+    is_one_of(word, "not|isn't|!=|!")
+}
+
+/// Says where `not` is due.
+pub(crate) fn say_not_place(
+    alloc: Global,
+    notes: &mut Notes<'_>,
+    form: FileForm,
+) -> Result<(), NoMemory> {
+    match form {
+        FileForm::First => {
+            let end = b", and is due before the field; lacks TEXT holds where has TEXT doesn't";
+            say_needs_form(alloc, notes, Piece::Plain(b"not"), end)
+        }
+        FileForm::Second => {
+            let text = b"not is due before the field: not FIELD TEST TEXT";
+            notes.say(alloc, &[Piece::Plain(text)])
+        }
+    }
+}
+
+/// Says where `any-case` is due.
+pub(crate) fn say_any_case_place(
+    alloc: Global,
+    notes: &mut Notes<'_>,
+    form: FileForm,
+) -> Result<(), NoMemory> {
+    match form {
+        FileForm::First => say_needs_form(alloc, notes, Piece::Plain(b"any-case"), b""),
+        FileForm::Second => {
+            let text = b"any-case is due after a test, before its texts";
+            notes.say(alloc, &[Piece::Plain(text)])
+        }
+    }
+}
+
+/// Says that `any-case` doesn't go with this field or this test.
+pub(crate) fn say_no_case(
+    alloc: Global,
+    notes: &mut Notes<'_>,
+    word: &Word,
+) -> Result<(), NoMemory> {
+    let begin = Piece::Plain(b"any-case isn't written with ");
+    let end = Piece::Plain(b", where the case of letters never counts");
+    notes.say(alloc, &[begin, Piece::Word(word), end])
+}

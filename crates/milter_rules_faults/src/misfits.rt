@@ -1,0 +1,139 @@
+//! What is said of a condition whose words are there, but don't go with each other or with the form of the file.
+
+use crate::condition_words::ConditionWords;
+use crate::file_form::FileForm;
+use crate::flag_faults::say_no_case;
+use crate::form_faults::{WITHOUT_NOT, WITHOUT_OR, say_needs_form};
+use crate::known_words::{
+    CANONICAL_FIELDS, DOMAIN_FIELDS, NUMBER_FIELDS, WIDE_FIELDS, WIDE_TESTS, is_one_of,
+};
+use crate::notes::{Notes, Piece};
+use milter_network::Network;
+use milter_text::Word;
+use milter_wire::NoMemory;
+use std::alloc::Global;
+
+/// Says what of the condition files of this form don't have; answers whether there is such a thing.
+pub(crate) fn say_misfit(
+    alloc: Global,
+    notes: &mut Notes<'_>,
+    form: FileForm,
+    condition: ConditionWords<'_>,
+) -> Result<bool, NoMemory> {
+    match form {
+        FileForm::First => say_wide_word(alloc, notes, condition),
+        FileForm::Second => {
+            let is_said = say_other_field(alloc, notes, condition.field, condition.test)?;
+            Ok(is_said || say_bad_texts(alloc, notes, condition)?)
+        }
+    }
+}
+
+/// Says what of the condition needs the second form; answers whether there is such a thing.
+fn say_wide_word(
+    alloc: Global,
+    notes: &mut Notes<'_>,
+    condition: ConditionWords<'_>,
+) -> Result<bool, NoMemory> {
+    if condition.negated {
+        say_needs_form(alloc, notes, Piece::Plain(b"not"), WITHOUT_NOT)?;
+    } else if is_one_of(condition.field, WIDE_FIELDS) {
+        say_needs_form(alloc, notes, Piece::Word(condition.field), b"")?;
+    } else if is_one_of(condition.test, WIDE_TESTS) {
+        say_needs_form(alloc, notes, Piece::Word(condition.test), b"")?;
+    } else if condition.any_case {
+        say_needs_form(alloc, notes, Piece::Plain(b"any-case"), b"")?;
+    } else if condition.texts.len() > 1 {
+        say_needs_form(alloc, notes, Piece::Plain(b"a second text"), WITHOUT_OR)?;
+    } else {
+        return Ok(false);
+    }
+    Ok(true)
+}
+
+/// Says which fields have the test, where this one doesn't; answers whether that is so.
+pub(crate) fn say_other_field<'x>(
+    alloc: Global,
+    notes: &mut Notes<'_>,
+    field: &'x Word,
+    test: &'x Word,
+) -> Result<bool, NoMemory> {
+    let fields: &[u8] = if test.is_keyword(b"over") && !is_one_of(field, NUMBER_FIELDS) {
+        b"size and rcpts"
+    } else if test.is_keyword(b"within") && !field.is_keyword(b"address") {
+        b"address"
+    } else if test.is_keyword(b"under") && !is_one_of(field, DOMAIN_FIELDS) {
+        b"host, helo and domains"
+    } else {
+        return Ok(false);
+    };
+    let pieces = [
+        Piece::Word(test),
+        Piece::Plain(b" is a test of "),
+        Piece::Plain(fields),
+        Piece::Plain(b", and not of "),
+        Piece::Word(field),
+    ];
+    notes.say(alloc, &pieces)?;
+    Ok(true)
+}
+
+/// Says what is wrong with the texts of a condition whose field has its test; answers whether there is such a thing.
+fn say_bad_texts(
+    alloc: Global,
+    notes: &mut Notes<'_>,
+    condition: ConditionWords<'_>,
+) -> Result<bool, NoMemory> {
+    if condition.any_case && is_one_of(condition.test, "under|within") {
+        say_no_case(alloc, notes, condition.test)?;
+        return Ok(true);
+    }
+    match condition.test.keyword() {
+        Some(b"under") => say_dotted_domain(alloc, notes, condition.texts),
+        Some(b"within") => say_no_network(alloc, notes, condition.texts),
+        Some(b"like") if condition.field.is_keyword(b"body") => {
+            let text = b"body isn't compared with patterns; body has TEXT finds a text in it";
+            notes.say(alloc, &[Piece::Plain(text)])?;
+            Ok(true)
+        }
+        _ if condition.any_case && is_one_of(condition.field, CANONICAL_FIELDS) => {
+            say_no_case(alloc, notes, condition.field)?;
+            Ok(true)
+        }
+        _ => Ok(false),
+    }
+}
+
+/// Says which of the texts is a domain with a dot before it; answers whether there is one.
+fn say_dotted_domain(
+    alloc: Global,
+    notes: &mut Notes<'_>,
+    texts: &[Word],
+) -> Result<bool, NoMemory> {
+    match texts
+        .iter()
+        .find(|text| text.text.as_slice().starts_with(b"."))
+    {
+        Some(text) => {
+            let begin = Piece::Plain(b"a domain after under is due without a dot before it: ");
+            notes.say(alloc, &[begin, Piece::Word(text)])?;
+            Ok(true)
+        }
+        None => Ok(false),
+    }
+}
+
+/// Says which of the texts is no network; answers whether there is one.
+fn say_no_network(alloc: Global, notes: &mut Notes<'_>, texts: &[Word]) -> Result<bool, NoMemory> {
+    match texts
+        .iter()
+        .find(|text| Network::parse(text.text.as_slice()).is_none())
+    {
+        Some(text) => {
+            let end = Piece::Plain(b" is no network, such as 192.0.2.0/24 or 2001:db8::/32");
+            notes.say(alloc, &[Piece::Word(text), end])?;
+            Ok(true)
+        }
+        None => Ok(false),
+    }
+}
