@@ -17,6 +17,11 @@ TESTS = {
     'is': 'is "nowhere"', 'has': 'has "nowhere" "never"', 'lacks': 'lacks "nowhere" and sender is "nobody"',
     'begins': 'begins "nowhere" "never"', 'ends': 'ends "nowhere" "never"', 'like': 'like "*no?here*" "never*"',
     'under': 'under "nowhere" "never"'}
+# Conditions of other kinds, of which none ends a message either: the client is in no such network, and no number is
+# above its limit.
+OTHERS = {
+    'address within': 'address within "10.0.0.0/8" "2001:db8::/32"', 'size over': 'size over 16777216',
+    'rcpts over': 'rcpts over 4294967295'}
 # The fields whose values are domains, which alone have the test under.
 DOMAINS = ['host', 'helo', 'sender-domain', 'rcpt-domain', 'recipients-domain']
 COUNTS = [1_000, 10_000, 100_000]
@@ -67,6 +72,13 @@ def has_test(field, test):
     return not (test == 'under' and field not in DOMAINS or test == 'like' and field == 'body')
 
 
+def conditions_on(fields):
+    """The conditions on these fields, with each test that they may have: the field, the test and the condition."""
+    return [
+        (field, test, '%s %s' % (field, condition))
+        for field in fields for test, condition in TESTS.items() if has_test(field, test)]
+
+
 def is_linear(times):
     """Whether each of these times, each of ten times as much as the one before, is at most so much of it."""
     return all(later <= MOST * max(time, LEAST) for time, later in zip(times, times[1:]))
@@ -83,22 +95,20 @@ def main(program, folder):
         chunks = b''.join(packet(b'B' + b'x') for _ in range(count))
         given['body', count] = written(folder, 'body%d' % count, message(packet(b'N') + chunks))
     failed = False
+    all_conditions = conditions_on(FIELDS) + [(*name.split(), condition) for name, condition in OTHERS.items()]
     kinds = [
-        ('header', 'header', 'header fields', FIELDS), ('body', 'body', 'chunks of one byte', FIELDS),
-        ('macros', 'header', 'header fields with macros before each', ['macro "{x}"', 'macro "{y}"'])]
-    for kind, stage, what, fields in kinds:
+        ('header', 'header', 'header fields', all_conditions), ('body', 'body', 'chunks of one byte', all_conditions),
+        ('macros', 'header', 'header fields with macros before each', conditions_on(['macro "{x}"', 'macro "{y}"']))]
+    for kind, stage, what, conditions in kinds:
         print('seconds for %s %s:' % (', '.join('{:,}'.format(count) for count in COUNTS), what))
-        for field in fields:
-            for test, condition in TESTS.items():
-                if not has_test(field, test):
-                    continue
-                rule = 'rules 2\nat %s when %s %s do reject\n' % (stage, field, condition)
-                rules = written(folder, 'rules', rule.encode())
-                times = [seconds(program, rules, given[kind, count]) for count in COUNTS]
-                is_right = is_linear(times)
-                failed |= not is_right
-                print('%-18s %-6s %s%s' % (
-                    field, test, ' '.join('%8.3f' % time for time in times), '' if is_right else '  NOT LINEAR'))
+        for field, test, condition in conditions:
+            rule = 'rules 2\nat %s when %s do reject\n' % (stage, condition)
+            rules = written(folder, 'rules', rule.encode())
+            times = [seconds(program, rules, given[kind, count]) for count in COUNTS]
+            is_right = is_linear(times)
+            failed |= not is_right
+            print('%-18s %-6s %s%s' % (
+                field, test, ' '.join('%8.3f' % time for time in times), '' if is_right else '  NOT LINEAR'))
     print('seconds for a body of {:,} bytes, by chunks of {} bytes:'.format(
         BODY, ', '.join('{:,}'.format(size) for size in SIZES)))
     paths = []
@@ -106,10 +116,8 @@ def main(program, folder):
         whole, rest = divmod(BODY, size)
         chunks = packet(b'B' + b'x' * size) * whole + (packet(b'B' + b'x' * rest) if rest else b'')
         paths.append(written(folder, 'size%d' % size, message(packet(b'N') + chunks)))
-    for test, condition in TESTS.items():
-        if not has_test('body', test):
-            continue
-        rules = written(folder, 'rules', ('rules 2\nat body when body %s do reject\n' % condition).encode())
+    for _, test, condition in conditions_on(['body']):
+        rules = written(folder, 'rules', ('rules 2\nat body when %s do reject\n' % condition).encode())
         times = [seconds(program, rules, path) for path in paths]
         # A byte of its own costs a packet; more than that is a body that is gone over again.
         is_right = all(time <= MOST * max(times[0], LEAST) for time in times)
