@@ -105,6 +105,7 @@ enum deiruska_result {
     DEIRUSKA_RULES_ACTION_NOT_HERE = 505,
     DEIRUSKA_RULES_TOO_LARGE = 506,
     DEIRUSKA_RULES_NO_MEMORY = 507,
+    DEIRUSKA_RULES_BAD_LIST = 508, /* the list of this line: a file with lists can't be read here */
 
     /* A call of a mail server's end is refused, and changes nothing. */
     DEIRUSKA_CALL_CLOSED = 601,       /* the connection has ended, or the filter was lost */
@@ -403,7 +404,7 @@ int32_t deiruska_answer_quarantine(deiruska_answer *answer, const uint8_t *at, s
 /* ---- rules ------------------------------------------------------------------------------------------------------- */
 
 /* Reads the rules of a rule file. A number from 501: the file has none, and *line is the line at fault, from 1; or 0
-   with DEIRUSKA_RULES_NO_MEMORY. */
+   with DEIRUSKA_RULES_NO_MEMORY. A file that names lists can't be read here, by DEIRUSKA_RULES_BAD_LIST. */
 int32_t deiruska_rules_read(deiruska_rules *rules, const uint8_t *at, size_t len, uint64_t *line);
 /* A connection of which nothing has come, of a filter that wants what the rules do. */
 int32_t deiruska_filter_new_by(deiruska_filter *filter, deiruska_rules *rules);

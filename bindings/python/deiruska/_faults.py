@@ -90,6 +90,7 @@ FAULTS: Dict[int, Tuple[Type[Fault], str]] = {
     505: (RulesFault, "the action may not be done at this stage"),
     506: (RulesFault, "a packet would be too long, or all edits, or there are too many rules"),
     507: (RulesFault, NO_MEMORY),
+    508: (RulesFault, "a file with lists can't be read without the files of these"),
     601: (CallFault, "the connection has ended, or the filter was lost"),
     602: (CallFault, "a packet is to be sent, or a reply is due"),
     603: (CallFault, "a command out of order"),

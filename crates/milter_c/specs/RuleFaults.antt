@@ -13,6 +13,7 @@ rule_fault_number (faults.BadAction line) = status.RULES_BAD_ACTION
 rule_fault_number (faults.ActionNotHere line) = status.RULES_ACTION_NOT_HERE
 rule_fault_number (faults.TooLarge line) = status.RULES_TOO_LARGE
 rule_fault_number faults.NoMemory = status.RULES_NO_MEMORY
+rule_fault_number (faults.BadList line) = status.RULES_BAD_LIST
 
 -- the number of a line, from 1
 abbrev pub IsLineOf : List ℕ → ℕ → Type 0

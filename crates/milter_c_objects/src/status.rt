@@ -83,6 +83,8 @@ pub const RULES_ACTION_NOT_HERE: i32 = 505;
 pub const RULES_TOO_LARGE: i32 = 506;
 /// The memory that was asked for was refused.
 pub const RULES_NO_MEMORY: i32 = 507;
+/// The list of this line has no file, or a line of its file is no entry, or it is too large.
+pub const RULES_BAD_LIST: i32 = 508;
 
 /// The connection has ended, or the filter was lost.
 pub const CALL_CLOSED: i32 = 601;

@@ -1,8 +1,16 @@
--- How the rules of a file are used.
-use Rattle.std.specs.Prelude.{Bool, ◌&&◌, not, if◌then◌else◌}
+-- The rules of a file whose lists have entries, and how rules are used.
+use Rattle.std.specs.Prelude.{ℕ, List, Bool, ◌&&◌, not, if◌then◌else◌}
 use Rattle.milter_filter_rules.specs.LeastWants.{with_least_wants}
 use Rattle.milter_filter_rules.specs.RuleSet.{RuleSet}
+use Rattle.milter_list_files.specs.declared.list_file.ListFile.{ListFile}
+use Rattle.milter_list_files.specs.ListFiles.{CanBeRead}
+use Rattle.milter_rules.specs.RuleFile.{IsRuleFile}
 use Rattle.milter_cli_io.specs.declared.rules_run.RuleUse.{RuleUse}
+
+-- the rule file gives these rules, and their lists can be read of these files
+pub record IsFileWith (files : List ListFile) (bytes : List ℕ) (set : RuleSet) : Type 0 where
+  pub is_file : IsRuleFile bytes set
+  pub can_be : CanBeRead files set.sources
 
 -- rules whose file states protocol bits keep these
 abbrev pub used_set : RuleUse → Bool → RuleSet → RuleSet

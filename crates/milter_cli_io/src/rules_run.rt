@@ -2,22 +2,25 @@
 
 ghost use Rattle.std.specs.Prelude.{◌≡◌, IfErr, IfOk, OnOk, false, true};
 ghost use Rattle.milter_rules.specs.RuleFile.{IsRuleFile, StatesProtocol};
-ghost use Rattle.milter_filter_rules.specs.RulesValue.{case_of, rule_set, states_protocol};
-ghost use Rattle.milter_cli_io.specs.UsedRules.{used_set};
+ghost use Rattle.milter_filter_rules.specs.RulesValue.{case_of, named_of, rule_set, states_protocol};
+ghost use Rattle.milter_list_files.specs.ListFiles.{AreRead};
+ghost use Rattle.milter_cli_io.specs.UsedRules.{IsFileWith, used_set};
 ghost use Rattle.milter_glob.specs.declared.text_case.TextCase.TheVariants.{Exact, Ignored};
 ghost use Rattle.milter_rules.specs.RulesText.{rules_text};
 ghost use Rattle.milter_cli_io.specs.FileRun.{Has, HasNone, IsFaultOrMemory, IsFileFault, IsOf, WritesCanonical};
 
 use crate::file_error::{FileError, InputFile, fault_error, text_error};
 use crate::file_input::read_file;
+use crate::list_check::check_lists;
 use crate::tool_error::{ToolError, output_error};
-use milter_rules::{Rules, read_rules, write_rules};
+use milter_rules::{ListFile, Rules, read_rule_lines, read_rules, write_rules};
 use milter_rules_check::{Severity, check_rules};
 use std::alloc::Global;
 use std::io::{Read, Write};
+use std::rt::Files;
 
-/// Reads a rule file to its end. Memory is bounded by a small multiple of the file's size, which is at most 134,217,728
-/// bytes.
+/// Reads a rule file to its end, but not its lists, which have no entries. Memory is bounded by a small multiple of the
+/// file's size, which is at most 134,217,728 bytes.
 pub fn load_rules<R: Read + Drop>(alloc: Global, reader: R) -> Result<Rules, FileError>
     ensures found { IfOk result (λ rules. Has IsRuleFile (R.remaining reader) (rule_set rules)) }
     // The case of letters counts in their texts.
@@ -30,22 +33,28 @@ pub fn load_rules<R: Read + Drop>(alloc: Global, reader: R) -> Result<Rules, Fil
     ensures fault { IfErr result (λ e. IsFileFault e → HasNone IsRuleFile (R.remaining reader)) }
 {
     let file = read_file(alloc, InputFile::Rules, reader)?;
-    rules_of(alloc, file.as_slice())
+    match read_rule_lines(alloc, file.as_slice()) {
+        Ok(rules) => Ok(rules),
+        Err(fault) => Err(fault_error(InputFile::Rules, fault.line(), fault.number())),
+    }
 }
 
-/// The rules of a file that has these bytes.
-pub fn rules_of(alloc: Global, bytes: &[u8]) -> Result<Rules, FileError>
+/// The rules of a file that has these bytes, with the entries of these files in their lists.
+pub fn rules_of(alloc: Global, bytes: &[u8], lists: &[ListFile]) -> Result<Rules, FileError>
     ensures found { IfOk result (λ rules. IsRuleFile bytes.now (rule_set rules)) }
+    // The lists have what their files have.
+    ensures lists { IfOk result (λ rules. AreRead lists.now (rule_set rules).sources (named_of rules)) }
     // The case of letters counts in their texts.
     ensures case { IfOk result (λ rules. case_of rules ≡ Exact) }
     // Their protocol bits are stated where a line states them.
     ensures stated { IfOk result (λ rules. StatesProtocol bytes.now (states_protocol rules)) }
-    // An error is a fault, which comes only of a file that has no rules, or refused memory.
-    ensures error { IfErr result (IsFaultOrMemory IsRuleFile bytes.now) }
+    // An error is a fault, which comes only of a file that has no rules, or whose lists can't be read of these files;
+    // or refused memory.
+    ensures error { IfErr result (IsFaultOrMemory (IsFileWith lists.now) bytes.now) }
     // An error names no other kind of file.
     ensures named { IfErr result (IsOf InputFile.Rules) }
 {
-    match read_rules(alloc, bytes) {
+    match read_rules(alloc, bytes, lists) {
         Ok(rules) => Ok(rules),
         Err(fault) => Err(fault_error(InputFile::Rules, fault.line(), fault.number())),
     }
@@ -54,6 +63,7 @@ pub fn rules_of(alloc: Global, bytes: &[u8]) -> Result<Rules, FileError>
 /// These rules, in the texts of whose conditions the case of ASCII letters doesn't count where it is ignored.
 fn with_case_ignored(rules: Rules, ignore_case: bool) -> Rules
     ensures set { rule_set result ≡ rule_set rules }
+    ensures named { named_of result ≡ named_of rules }
     ensures ignored { ignore_case ≡ true → case_of result ≡ Ignored }
     ensures kept { ignore_case ≡ false → result ≡ rules }
 {
@@ -76,6 +86,7 @@ pub struct RuleUse {
 /// These rules, as they are used.
 pub fn used_rules(rules: Rules, usage: RuleUse) -> Rules
     ensures set { rule_set result ≡ used_set usage (states_protocol rules) (rule_set rules) }
+    ensures named { named_of result ≡ named_of rules }
     ensures ignored { usage.ignore_case ≡ true → case_of result ≡ Ignored }
     ensures kept { usage.ignore_case ≡ false → case_of result ≡ case_of rules }
 {
@@ -109,11 +120,13 @@ pub fn print_rules<R: Read + Drop, W: Write>(
     }
 }
 
-/// Reads a rule file to its end, and writes a line for each thing that is to be said of it, as a file of this name;
-/// the error is `ToolError::Findings` where one of them is a warning, and not a hint.
-pub fn check_rule_file<R: Read + Drop, W: Write>(
+/// Reads the rule file at this path to its end, and writes a line for each thing that is to be said of it, and then for
+/// each of its lists that can't be used; the error is `ToolError::Findings` where one of them is a warning, and not a
+/// hint.
+pub fn check_rule_file<F: Files, R: Read + Drop, W: Write>(
+    files: &F,
     alloc: Global,
-    name: &str,
+    path: &str,
     reader: R,
     writer: &mut W,
 ) -> Result<(), ToolError> {
@@ -121,9 +134,17 @@ pub fn check_rule_file<R: Read + Drop, W: Write>(
         Ok(file) => file,
         Err(error) => return Err(ToolError::File(error)),
     };
-    match check_rules(alloc, name, file.as_slice(), writer) {
-        Ok(None | Some(Severity::Hint)) => Ok(()),
-        Ok(Some(Severity::Warning)) => Err(ToolError::Findings),
-        Err(fault) => Err(output_error(fault)),
+    let severity = match check_rules(alloc, path, file.as_slice(), writer) {
+        Ok(severity) => severity,
+        Err(fault) => return Err(output_error(fault)),
+    };
+    let has_bad_lists = match check_lists(files, alloc, path, file.as_slice(), writer) {
+        Ok(has_bad_lists) => has_bad_lists,
+        Err(fault) => return Err(output_error(fault)),
+    };
+    if has_bad_lists || severity == Some(Severity::Warning) {
+        Err(ToolError::Findings)
+    } else {
+        Ok(())
     }
 }

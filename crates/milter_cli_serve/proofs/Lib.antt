@@ -1,1 +1,2 @@
 pub mod KnownFileLaws
+pub mod SameFiles

@@ -1,61 +1,64 @@
--- What is known of a rule file, and how what is read of it changes that.
-use Rattle.std.specs.Prelude.{◌≡◌, ◌≢◌, ◌⊎◌, ℕ, Bool, List, Option, None, Some, Result, Ok, Err, if◌then◌else◌}
+-- What is known of a rule file and its lists, and how what is read of them changes that.
+use Rattle.std.specs.Prelude.{◌≡◌, ◌≢◌, ◌⊎◌, Bool, List, Option, None, Some, Result, Ok, Err, if◌then◌else◌}
 use Rattle.milter_glob.specs.declared.text_case.TextCase.{TextCase}
 use Rattle.milter_glob.specs.declared.text_case.TextCase.TheVariants.{Exact, Ignored}
 use Rattle.milter_filter_rules.specs.declared.rules.Rules.{Rules}
 use Rattle.milter_filter_rules.specs.RuleSet.{RuleSet}
-use Rattle.milter_filter_rules.specs.RulesValue.{case_of, rule_set}
+use Rattle.milter_filter_rules.specs.RulesValue.{case_of, named_of, rule_set}
+use Rattle.milter_list_files.specs.ListFiles.{AreRead}
 use Rattle.milter_rules.specs.RuleFile.{IsRuleFile, StatesProtocol}
 use Rattle.milter_cli_io.specs.declared.file_error.FileError.{FileError}
 use Rattle.milter_cli_io.specs.declared.file_error.FileError.TheVariants.{Fault, NoMemory}
 use Rattle.milter_cli_serve.specs.declared.file_stamp.FileStamp.{FileStamp}
 use Rattle.milter_cli_serve.specs.declared.known_file.ReadFile.{ReadFile}
+use Rattle.milter_cli_serve.specs.declared.known_file.RuleBytes.{RuleBytes}
 use Rattle.milter_cli_io.specs.FileRun.{HasNone}
-use Rattle.milter_cli_io.specs.UsedRules.{used_set}
+use Rattle.milter_cli_io.specs.UsedRules.{IsFileWith, used_set}
 use Rattle.milter_cli_io.specs.declared.rules_run.RuleUse.{RuleUse}
 
--- the bytes that it had when it was last taken, and the stamp by which it has them still
+-- what the file and its lists had when they were last taken, and the stamps by which they have it still
 pub record Known : Type 0 where
-  pub bytes : Option (List ℕ)
-  pub stamp : Option FileStamp
+  pub bytes : Option RuleBytes
+  pub stamps : Option (List (Option FileStamp))
 
 abbrev pub nothing_known : Known
-nothing_known = record { bytes = None; stamp = None }
+nothing_known = record { bytes = None; stamps = None }
 
 abbrev pub known : ReadFile → Known
-known file = record { bytes = Some file.bytes.items; stamp = file.stamp }
+known file = record { bytes = Some file.bytes; stamps = file.stamps }
 
--- it is read again, and its bytes are compared with those that it had
+-- they are read again, and what they have is compared with what they had
 abbrev pub read_again : Known → Known
-read_again k = record { bytes = k.bytes; stamp = None }
+read_again k = record { bytes = k.bytes; stamps = None }
 
 abbrev pub case_by : Bool → TextCase
 case_by ignore_case = if ignore_case then Ignored else Exact
 
--- the rules of the file that has these bytes, as they are used
-pub record AreUsed (usage : RuleUse) (bytes : List ℕ) (rules : Rules) : Type 0 where
+-- the rules of the file that has these bytes, as they are used, with the entries of its lists
+pub record AreUsed (usage : RuleUse) (bytes : RuleBytes) (rules : Rules) : Type 0 where
   pub set : RuleSet
   pub is_stated : Bool
-  pub of_file : IsRuleFile bytes set
-  pub states : StatesProtocol bytes is_stated
+  pub of_file : IsRuleFile bytes.file set
+  pub states : StatesProtocol bytes.file is_stated
+  pub of_lists : AreRead bytes.lists set.sources (named_of rules)
   pub rules_are : rule_set rules ≡ used_set usage is_stated set
   pub case_is : case_of rules ≡ case_by usage.ignore_case
 
--- What other bytes give: their rules, or the fault for which they have none, and they are known then; refused memory
--- leaves the file to be read again.
+-- What other bytes give: their rules, or the fault for which they have none, or none whose lists can be read; and they
+-- are known then. Refused memory leaves the files to be read again.
 abbrev pub TakesOther : RuleUse → ReadFile → Known → Result Rules FileError → Known → Type 0
 TakesOther usage file old (Ok rules) new =
-    AreUsed usage file.bytes.items rules × (new ≡ known file)
+    AreUsed usage file.bytes rules × (new ≡ known file)
 TakesOther usage file old (Err (Fault kind line number)) new =
-    HasNone IsRuleFile (Some file.bytes.items) × (new ≡ known file)
+    HasNone (IsFileWith file.bytes.lists) (Some file.bytes.file) × (new ≡ known file)
 TakesOther usage file old (Err NoMemory) new = new ≡ read_again old
 TakesOther usage file old (Err _) new = ⊥
 
--- where a file was read, nothing is answered if it has the bytes that are known
+-- where a file was read, nothing is answered if it and its lists have what is known
 abbrev pub TakesBytes : RuleUse → ReadFile → Known → Option (Result Rules FileError) → Known → Type 0
-TakesBytes usage file old None new = (old.bytes ≡ Some file.bytes.items) × (new ≡ known file)
+TakesBytes usage file old None new = (old.bytes ≡ Some file.bytes) × (new ≡ known file)
 TakesBytes usage file old (Some answer) new =
-    (old.bytes ≢ Some file.bytes.items) × TakesOther usage file old answer new
+    (old.bytes ≢ Some file.bytes) × TakesOther usage file old answer new
 
 -- where it wasn't read, that is answered, and it is read again
 abbrev pub TakesFile : RuleUse → Result ReadFile FileError → Known → Option (Result Rules FileError) → Known → Type 0

@@ -3,13 +3,13 @@ use Rattle.std.specs.Prelude.{◌≡◌, ◌-◌, ◌++◌, ◌⊎◌, List, [],
 use Rattle.std.specs.Prelude.{slice_get, unwrap_or}
 use Rattle.milter_protocol.specs.Behavior.{Behavior}
 use Rattle.milter_filter_rules.specs.RuleSet.{behavior_of}
-use Rattle.milter_filter_rules.specs.RulesValue.{case_of, rule_set}
+use Rattle.milter_filter_rules.specs.RulesValue.{matching_of, rule_set}
 use Rattle.milter_filter_rules.specs.declared.rules.Rules.{Rules}
 use Rattle.milter_cli_io.specs.declared.file_error.FileError.{FileError}
 
 -- what a filter does that goes by these rules
 abbrev pub behavior_by : Rules → Behavior
-behavior_by rules = behavior_of (case_of rules) (rule_set rules)
+behavior_by rules = behavior_of (matching_of rules) (rule_set rules)
 
 -- the last of those that came later, or else the first
 abbrev pub latest : {P : Type 0} → P → List P → P

@@ -1,41 +1,53 @@
-//! What is known of a rule file between two looks at it.
+//! What is known of a rule file and its lists between two looks at them.
 
 ghost use Rattle.std.specs.Prelude.{◌≡◌, ◌↔◌, IsTrue, None, Some};
 ghost use Rattle.milter_cli_serve.specs.KnownFiles.{TakesFile, TakesOther, known, nothing_known};
 
 use crate::file_stamp::FileStamp;
 use milter_cli_io::{FileError, RuleUse, rules_of, used_rules};
-use milter_rules::Rules;
+use milter_rules::{ListFile, Rules};
+use milter_wire::{List, Text};
 use std::alloc::Global;
 use std::marker::Model;
 
-/// A file that was read.
-#[derive(Drop)]
-pub struct ReadFile {
-    /// Its bytes.
-    pub bytes: Vec<u8>,
-    /// Its stamp, where that is trusted.
-    pub stamp: Option<FileStamp>,
+/// What a rule file and its lists have.
+#[derive(Debug, Drop)]
+pub struct RuleBytes {
+    /// The bytes of the rule file.
+    pub file: Text,
+    /// The files of its lists, but those that can't be read.
+    pub lists: List<ListFile>,
 }
 
-/// What is known of a rule file: the bytes that it had when it was last taken, and the stamp by which it still has
-/// them. What was read of it and couldn't be taken is not known, so that it is read again.
+/// The stamps of a rule file and of the files of its lists, in this order; none of a file that isn't there.
+pub type FileStamps = List<Option<FileStamp>>;
+
+/// A rule file that was read, and its lists.
+#[derive(Drop)]
+pub struct ReadFile {
+    /// What they have.
+    pub bytes: RuleBytes,
+    /// Their stamps, where these are trusted.
+    pub stamps: Option<FileStamps>,
+}
+
+/// What is known of a rule file and its lists: what they had when they were last taken, and the stamps by which they
+/// still have it. What was read of them and couldn't be taken is not known, so that it is read again.
 #[derive(Drop)]
 pub struct KnownFile {
-    bytes: Option<Vec<u8>>,
-    // None where the file is to be read again.
-    stamp: Option<FileStamp>,
+    bytes: Option<RuleBytes>,
+    // None where the files are to be read again.
+    stamps: Option<FileStamps>,
 }
 
 impl Model for KnownFile {
-    ghost use Rattle.std.specs.Prelude.{option_map};
     ghost use Rattle.milter_cli_serve.specs.KnownFiles.{Known};
 
     ghost Value = { Known };
 
     ghost view = { λ k. record {
-      bytes = option_map (λ bytes. bytes.items) k.bytes;
-      stamp = k.stamp;
+      bytes = k.bytes;
+      stamps = k.stamps;
     } };
 }
 
@@ -46,26 +58,29 @@ impl KnownFile {
     {
         KnownFile {
             bytes: None,
-            stamp: None,
+            stamps: None,
         }
     }
 
-    /// Whether a file that has this stamp need not be read again. Doesn't allocate.
-    pub fn is_current(&self, stamp: FileStamp) -> bool
-        ensures { IsTrue result ↔ (self.now.stamp ≡ Some stamp) }
+    /// Whether files that have these stamps need not be read again. Doesn't allocate.
+    pub fn is_current(&self, stamps: &FileStamps) -> bool
+        ensures { IsTrue result ↔ (self.now.stamps ≡ Some stamps.now) }
     {
-        self.stamp == Some(stamp)
+        match &self.stamps {
+            Some(known) => have_same_stamps(known.as_slice(), stamps.as_slice()),
+            None => false,
+        }
     }
 
-    /// Forgets the file: its rules are given again at the next look, also where it has the same bytes.
+    /// Forgets the file: its rules are given again at the next look, also where it and its lists have the same bytes.
     pub fn forget(&mut self)
         ensures { self.new ≡ nothing_known }
     {
         *self = KnownFile::new();
     }
 
-    /// Takes what was read of the file, or why it wasn't read: `None` where its bytes are those that are known, else
-    /// its rules as they are used, or why they can't be given.
+    /// Takes what was read of the file and its lists, or why it wasn't read: `None` where it is what is known, else the
+    /// rules as they are used, or why they can't be given.
     pub fn take(
         &mut self,
         alloc: Global,
@@ -74,19 +89,19 @@ impl KnownFile {
     ) -> Option<Result<Rules, FileError>>
         ensures { TakesFile usage read self.old result self.new }
     {
-        self.stamp = None;
+        self.stamps = None;
         let file = match read {
             Ok(file) => file,
             Err(error) => return Some(Err(error)),
         };
-        if self.has(file.bytes.as_slice()) {
-            self.stamp = file.stamp;
+        if self.has(&file.bytes) {
+            self.stamps = file.stamps;
             return None;
         }
         Some(self.take_other(alloc, file, usage))
     }
 
-    /// Takes a file that has other bytes than those that are known.
+    /// Takes a file that has other bytes than those that are known, or whose lists do.
     #[tactic(auto, using(crate::proofs::KnownFileLaws::memory_refused))]
     fn take_other(
         &mut self,
@@ -94,10 +109,14 @@ impl KnownFile {
         file: ReadFile,
         usage: RuleUse,
     ) -> Result<Rules, FileError>
-        requires { self.old.stamp ≡ None }
+        requires { self.old.stamps ≡ None }
         ensures { TakesOther usage file self.old result self.new }
     {
-        match rules_of(alloc, file.bytes.as_slice()) {
+        match rules_of(
+            alloc,
+            file.bytes.file.as_slice(),
+            file.bytes.lists.as_slice(),
+        ) {
             Ok(rules) => {
                 self.learn(file);
                 Ok(used_rules(rules, usage))
@@ -110,21 +129,43 @@ impl KnownFile {
         }
     }
 
-    /// Takes the bytes and the stamp of a file as those that are known.
+    /// Takes what was read, and its stamps, as what is known.
     fn learn(&mut self, file: ReadFile)
         ensures { self.new ≡ known file }
     {
         self.bytes = Some(file.bytes);
-        self.stamp = file.stamp;
+        self.stamps = file.stamps;
     }
 
     /// Whether these are the bytes that are known.
-    fn has(&self, bytes: &[u8]) -> bool
+    fn has(&self, bytes: &RuleBytes) -> bool
         ensures { IsTrue result ↔ (self.now.bytes ≡ Some bytes.now) }
     {
         match &self.bytes {
-            Some(known) => known.as_slice() == bytes,
+            Some(known) => are_same_bytes(known, bytes),
             None => false,
         }
     }
+}
+
+/// Whether a rule file and its lists that have the first bytes have the second.
+fn are_same_bytes(first: &RuleBytes, second: &RuleBytes) -> bool
+    ensures { IsTrue result ↔ (first.now ≡ second.now) }
+{
+    first.file.as_slice() == second.file.as_slice()
+        && are_same_lists(first.lists.as_slice(), second.lists.as_slice())
+}
+
+/// Whether the first files are the second ones.
+fn are_same_lists(first: &[ListFile], second: &[ListFile]) -> bool
+    ensures { IsTrue result ↔ (first.now ≡ second.now) }
+{
+    first == second
+}
+
+/// Whether the first stamps are the second ones.
+fn have_same_stamps(first: &[Option<FileStamp>], second: &[Option<FileStamp>]) -> bool
+    ensures { IsTrue result ↔ (first.now ≡ second.now) }
+{
+    first == second
 }

@@ -1,11 +1,16 @@
-//! Rule files that may change while their rules are in use.
+//! Rule files that may change, and their lists, while their rules are in use.
 
-use crate::file_stamp::{FileStamp, current_second};
-use crate::known_file::{KnownFile, ReadFile};
-use milter_cli_io::{FILE_MAX, FileError, InputFile, RuleUse, read_error, read_file};
-use milter_rules::Rules;
+use crate::file_stamp::current_second;
+use crate::known_file::{KnownFile, ReadFile, RuleBytes};
+use crate::read_stamps::{ReadStamps, stamp_of, stamps_at};
+use milter_cli_io::{
+    FILE_MAX, FileError, InputFile, ListPath, RuleUse, list_paths, open_list, read_error,
+    read_file, read_list,
+};
+use milter_rules::{ListFile, Rules};
+use milter_wire::{List, NoMemory, Text};
 use std::alloc::Global;
-use std::fs::{self, OpenFile};
+use std::fs;
 use std::marker::Model;
 use std::rt::{Clock, Files};
 
@@ -34,7 +39,7 @@ pub trait RuleSource {
         ensures { looks_again self.new };
 }
 
-/// A rule file.
+/// A rule file, and its lists.
 #[derive(Drop)]
 pub struct RuleFile<'r, R: Files + Clock> {
     files: &'r R,
@@ -42,6 +47,8 @@ pub struct RuleFile<'r, R: Files + Clock> {
     path: Option<&'r str>,
     usage: RuleUse,
     known: KnownFile,
+    // Where the lists are that the file named when it was last read.
+    lists: Vec<ListPath>,
 }
 
 impl<'r, R: Files + Clock> Model for RuleFile<'r, R> {
@@ -61,7 +68,7 @@ impl<'r, R: Files + Clock> RuleFile<'r, R> {
 
     /// The file at this path, of which nothing is known yet, and how its rules are used; without a path there are no
     /// rules.
-    pub fn new(files: &'r R, path: Option<&'r str>, usage: RuleUse) -> Self
+    pub fn new(files: &'r R, alloc: Global, path: Option<&'r str>, usage: RuleUse) -> Self
         ensures { result ≡ new_source usage }
     {
         RuleFile {
@@ -69,6 +76,7 @@ impl<'r, R: Files + Clock> RuleFile<'r, R> {
             path,
             usage,
             known: KnownFile::new(),
+            lists: Vec::new(alloc),
         }
     }
 }
@@ -80,16 +88,16 @@ impl<'r, R: Files + Clock> RuleSource for RuleFile<'r, R> {
 
     ghost answers = { LooksAt };
 
-    ghost looks_again = { λ source. source.known.stamp ≡ None };
+    ghost looks_again = { λ source. source.known.stamps ≡ None };
 
     fn changed(&mut self, alloc: Global) -> Option<Result<Rules, FileError>> {
         let path = self.path?;
-        if let Some(stamp) = stamp_at(self.files, path) {
-            if self.known.is_current(stamp) {
+        if let Ok(stamps) = stamps_at(self.files, alloc, path, self.lists.as_slice()) {
+            if self.known.is_current(&stamps) {
                 return None;
             }
         }
-        let read = read_rule_file(self.files, path, alloc);
+        let read = read_files(self.files, alloc, path, &mut self.lists);
         self.known.take(alloc, read, self.usage)
     }
 
@@ -98,42 +106,83 @@ impl<'r, R: Files + Clock> RuleSource for RuleFile<'r, R> {
     }
 }
 
-/// The stamp of the file at this path; `None` where the system doesn't say it.
-fn stamp_at<R: Files>(files: &R, path: &str) -> Option<FileStamp> {
-    let found = fs::metadata(files, path).ok()?;
-    Some(FileStamp::of(&found))
+/// Reads the rule file at this path, and its lists, the paths of whose files take the place of those in `lists`.
+fn read_files<R: Files + Clock>(
+    files: &R,
+    alloc: Global,
+    path: &str,
+    lists: &mut Vec<ListPath>,
+) -> Result<ReadFile, FileError> {
+    let mut stamps = ReadStamps::new(alloc, current_second(files));
+    let file = read_rule_file(files, alloc, path, &mut stamps)?;
+    let Ok(paths) = list_paths(alloc, path, file.as_slice()) else {
+        return Err(FileError::NoMemory);
+    };
+    let Ok(found) = read_lists(files, alloc, paths.as_slice(), &mut stamps) else {
+        return Err(FileError::NoMemory);
+    };
+    *lists = paths;
+    Ok(ReadFile {
+        bytes: RuleBytes {
+            file: Text::new(file),
+            lists: found,
+        },
+        stamps: stamps.into_trusted(),
+    })
 }
 
-/// Reads the file at this path. Its stamp is that of the file that was opened, and is trusted where it is older than
-/// the second before that. Of a file that is too large nothing is read, since it is looked at again at each look.
-fn read_rule_file<R: Files + Clock>(
+/// Reads the rule file at this path, without its lists. Of a file that is too large nothing is read, since it is looked
+/// at again at each look.
+fn read_rule_file<R: Files>(
     files: &R,
-    path: &str,
     alloc: Global,
-) -> Result<ReadFile, FileError> {
-    let second = current_second(files);
+    path: &str,
+    stamps: &mut ReadStamps,
+) -> Result<Vec<u8>, FileError> {
     let file = match fs::open(files, path) {
         Ok(file) => file,
         Err(error) => return Err(read_error(InputFile::Rules, error.kind())),
     };
-    let found = stamp_of(&file);
-    if found.is_some_and(|stamp| stamp.size > FILE_MAX) {
+    let stamp = stamp_of(&file);
+    if stamp.is_some_and(|stamp| stamp.size > FILE_MAX) {
         return Err(FileError::Read(InputFile::Rules));
     }
-    let stamp = trusted_stamp(found, second);
-    match read_file(alloc, InputFile::Rules, file) {
-        Ok(bytes) => Ok(ReadFile { bytes, stamp }),
-        Err(error) => Err(error),
+    match stamps.push_read(stamp) {
+        Ok(()) => read_file(alloc, InputFile::Rules, file),
+        Err(_) => Err(FileError::NoMemory),
     }
 }
 
-/// The stamp of this open file; `None` where the system doesn't say it.
-fn stamp_of<F: OpenFile>(file: &F) -> Option<FileStamp> {
-    let found = file.metadata().ok()?;
-    Some(FileStamp::of(&found))
+/// Reads the lists at these paths, but those that can't be read.
+fn read_lists<R: Files>(
+    files: &R,
+    alloc: Global,
+    paths: &[ListPath],
+    stamps: &mut ReadStamps,
+) -> Result<List<ListFile>, NoMemory> {
+    let mut lists = List::new(Vec::new(alloc));
+    for path in paths {
+        if let Some(bytes) = read_list_at(files, alloc, path, stamps)? {
+            lists.push(ListFile {
+                name: Text::copy_of(alloc, path.name.as_slice())?,
+                bytes: Text::new(bytes),
+            })?;
+        }
+    }
+    Ok(lists)
 }
 
-/// This stamp, where it is trusted at this second.
-fn trusted_stamp(found: Option<FileStamp>, second: Option<u64>) -> Option<FileStamp> {
-    found?.trusted_at(second?)
+/// Reads the list at this path; none where it can't be read.
+fn read_list_at<R: Files>(
+    files: &R,
+    alloc: Global,
+    path: &ListPath,
+    stamps: &mut ReadStamps,
+) -> Result<Option<Vec<u8>>, NoMemory> {
+    let Some(file) = open_list(files, path.path.as_path())? else {
+        stamps.push_missing()?;
+        return Ok(None);
+    };
+    stamps.push_read(stamp_of(&file))?;
+    read_list(alloc, file)
 }

@@ -124,12 +124,24 @@ Where the first line is rules 2, CONDITION is, with any of the texts:
   address within TEXT ..         the client is in a network, as 192.0.2.0/24
   size over NUMBER               the body has more bytes so far
   rcpts over NUMBER              there are more recipients so far
+  FIELD in NAME                  a value of the field is in the list of this name
 
 FIELD is also recipients, for all of them so far; and sender, rcpt and recipients may
 end with -address, for the address as mail servers compare it, however it is written,
 or with -domain. not before a condition negates it, any-case after the test has the
-case of letters not count, and or joins conditions less closely than and. ACTION is a
-verdict:
+case of letters not count, and or joins conditions less closely than and. Lists are
+files. Right behind that first line each has a line list NAME KIND FILE, with its path
+as a TEXT, and KIND is one of
+
+  addresses                      for sender-address, rcpt-address, recipients-address
+  domains                        for host, helo and domains: example.org is this one
+                                 alone, and .example.org all below it
+  networks                       for address
+  texts                          for the other fields, host and address, but not for
+                                 header and body; the case of letters doesn't count
+
+The file of a list has an entry a line, at most 1,000,000; blank lines, and lines that
+begin with #, are skipped. ACTION is a verdict:
 
   continue, accept, reject, tempfail, discard, skip, code TEXT
 
@@ -147,8 +159,8 @@ the first that is a verdict: the edits before it and that verdict are the answer
 or the edits and continue.
 
 TEXT is in double quotes, with the escapes \\\" \\\\ \\n \\r \\t and \\xHH. Blank lines, and
-lines that begin with #, are skipped. A file has at most 134,217,728 bytes and
-10,000 rules. As:
+lines that begin with #, are skipped. A file has at most 134,217,728 bytes, 10,000
+rules and 100 lists. As:
 
   rules 2
   at rcpt when rcpt-address is \"old@example.net\" do code \"550 5.1.1 Moved\"
@@ -162,16 +174,20 @@ there is one, but for hints: of what works, and can be written better. Without i
 first fault is printed on standard error, with the number N of its line, from 1:
 
   rules line N: fault 1          an unknown line, or a bad or repeated one of
-                                 version, actions, protocol or symbols
+                                 version, actions, protocol, symbols or list
   rules line N: fault 2          no stage, or an unknown one
   rules line N: fault 3          a bad condition, or no do
   rules line N: fault 4          a bad action, or a NUL in its text
   rules line N: fault 5          an action that can't be at this stage
   rules line N: fault 6          a text is too large for a packet, the edits have
-                                 more than 16,777,216 bytes, or too many rules
+                                 more than 16,777,216 bytes, or too many rules or
+                                 lists
   cannot read rules              the file was not read, or is too large
   write fault                    standard output was not written
   out of memory                  memory was refused
+
+Where rules are used, fault 8 is that of a list whose file isn't read, is too large or
+has a bad entry. Here lists are read with --check alone, which says what is wrong.
 
 Status: 0 after all rules were printed, or no more than hints were to be given, 1
 after a fault or what else was said, 2 after a wrong use of the command line.";
@@ -271,8 +287,9 @@ A line is printed for each connection as it ends, with its number, as by filter:
 milter_tool help filter has their forms. One that was idle for too long is closed,
 and its line says read fault.
 
-A rule file that changes holds for the connections that come then. Where it has a
-fault, the line of that is printed on standard error, and the rules before stay.
+A rule file that changes, or the file of a list of it, holds for the connections that
+come then. Where it has a fault, the line of that is printed on standard error, and
+the rules before stay.
 
 With --log a line is printed on standard error for each decision that isn't to go
 on, at a stage about a message, as the mail server names that by the macro i:

@@ -7,9 +7,9 @@ use Rattle.milter_message.specs.declared.edit.Edit.{Edit}
 use Rattle.milter_protocol.specs.declared.action.Action.TheVariants as actions
 use Rattle.milter_protocol.specs.Seen.{Seen}
 use Rattle.milter_filter_rules.specs.declared.rule.Rule.{Rule}
-use Rattle.milter_glob.specs.declared.text_case.TextCase.{TextCase}
 use Rattle.milter_filter_rules.specs.Conditions.{applies}
 use Rattle.milter_filter_rules.specs.Decisions.{actions_of, answer_by, decided, with_edits}
+use Rattle.milter_filter_rules.specs.ListedValues.{Matching}
 
 -- the actions where the first rule applies, and where it doesn't
 first_action : (does : Bool) (rule : Rule) (others : List Rule) → does ≡ true
@@ -23,19 +23,19 @@ no_action : (does : Bool) (rule : Rule) (others : List Rule) → does ≡ false
 no_action true rule others e = absurd cc
 no_action false rule others e = refl
 
-pub decided_skip : (case : TextCase) (rule : Rule) (rules : List Rule) (seen : Seen) → applies case seen rule ≡ false
-    → decided case (rule ∷ rules) seen ≡ decided case rules seen
-decided_skip case rule rules seen e = ap answer_by (no_action (applies case seen rule) rule (filter (applies case seen) rules) e)
+pub decided_skip : (m : Matching) (rule : Rule) (rules : List Rule) (seen : Seen) → applies m seen rule ≡ false
+    → decided m (rule ∷ rules) seen ≡ decided m rules seen
+decided_skip m rule rules seen e = ap answer_by (no_action (applies m seen rule) rule (filter (applies m seen) rules) e)
 
-pub decided_edit : (case : TextCase) (rule : Rule) (rules : List Rule) (seen : Seen) (edit : Edit) → applies case seen rule ≡ true
-    → rule.action ≡ actions.Edit edit → decided case (rule ∷ rules) seen ≡ with_edits (edit ∷ []) (decided case rules seen)
-decided_edit case rule rules seen edit e is =
-    ap answer_by (first_action (applies case seen rule) rule (filter (applies case seen) rules) e)
-    ∙ ap (λ action. answer_by (action ∷ actions_of case seen rules)) is
+pub decided_edit : (m : Matching) (rule : Rule) (rules : List Rule) (seen : Seen) (edit : Edit) → applies m seen rule ≡ true
+    → rule.action ≡ actions.Edit edit → decided m (rule ∷ rules) seen ≡ with_edits (edit ∷ []) (decided m rules seen)
+decided_edit m rule rules seen edit e is =
+    ap answer_by (first_action (applies m seen rule) rule (filter (applies m seen) rules) e)
+    ∙ ap (λ action. answer_by (action ∷ actions_of m seen rules)) is
 
-pub decided_verdict : (case : TextCase) (rule : Rule) (rules : List Rule) (seen : Seen) (verdict : Verdict) → applies case seen rule ≡ true
+pub decided_verdict : (m : Matching) (rule : Rule) (rules : List Rule) (seen : Seen) (verdict : Verdict) → applies m seen rule ≡ true
     → rule.action ≡ actions.Verdict verdict
-    → decided case (rule ∷ rules) seen ≡ record { edits = []; verdict = verdict }
-decided_verdict case rule rules seen verdict e is =
-    ap answer_by (first_action (applies case seen rule) rule (filter (applies case seen) rules) e)
-    ∙ ap (λ action. answer_by (action ∷ actions_of case seen rules)) is
+    → decided m (rule ∷ rules) seen ≡ record { edits = []; verdict = verdict }
+decided_verdict m rule rules seen verdict e is =
+    ap answer_by (first_action (applies m seen rule) rule (filter (applies m seen) rules) e)
+    ∙ ap (λ action. answer_by (action ∷ actions_of m seen rules)) is

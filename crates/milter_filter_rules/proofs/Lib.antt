@@ -1,4 +1,5 @@
 pub mod TextValues
+pub mod ListedHeaders
 pub mod ConditionGroups
 pub mod Decisions
 pub mod ActionFields

@@ -16,7 +16,7 @@ or_swap false true false d = refl
 or_swap false false true d = refl
 or_swap false false false d = refl
 
-none_any : {X : Type 0} (xs : List X) → list_any (λ (x : X). false) xs ≡ false
+pub none_any : {X : Type 0} (xs : List X) → list_any (λ (x : X). false) xs ≡ false
 none_any [] = refl
 none_any (x ∷ xs) = none_any xs
 

@@ -10,7 +10,7 @@ use Rattle.milter_wire_fields.specs.declared.path.Path.{Path}
 use Rattle.milter_protocol.specs.Seen.{Seen, value_in}
 use Rattle.milter_network.specs.ReadTexts.{is_text_within}
 use Rattle.milter_filter_rules.specs.declared.rule.Check.{Check}
-use Rattle.milter_filter_rules.specs.declared.rule.Check.TheVariants.{Text, Within, Over}
+use Rattle.milter_filter_rules.specs.declared.rule.Check.TheVariants.{Text, Within, Over, In}
 use Rattle.milter_filter_rules.specs.declared.rule.Condition.{Condition}
 use Rattle.milter_filter_rules.specs.declared.rule.Field.{Field}
 use Rattle.milter_filter_rules.specs.declared.rule.Field.TheVariants as fields
@@ -22,6 +22,7 @@ use Rattle.milter_filter_rules.specs.declared.rule.PathPart.{PathPart}
 use Rattle.milter_filter_rules.specs.declared.rule.PathPart.TheVariants as parts
 use Rattle.milter_filter_rules.specs.declared.rule.Rule.{Rule}
 use Rattle.milter_filter_rules.specs.declared.rule.TextCheck.{TextCheck}
+use Rattle.milter_filter_rules.specs.ListedValues.{Matching}
 use Rattle.milter_filter_rules.specs.RuleNames.{path_part}
 use Rattle.milter_filter_search.specs.declared.pattern.Test.{Test}
 use Rattle.milter_filter_search.specs.declared.pattern.Test.TheVariants.{Is, Lacks, Under}
@@ -130,13 +131,14 @@ abbrev pub measured : Measure → Seen → ℕ
 measured Size seen = length seen.body
 measured Rcpts seen = length seen.recipients
 
-abbrev pub check_holds : TextCase → Seen → Check → Bool
-check_holds case seen (Text check) = test_holds case seen check
-check_holds case seen (Within networks) = list_any (is_within_some networks) (client_address seen)
-check_holds case seen (Over measure limit) = nat_lt limit (measured measure seen)
+abbrev pub check_holds : Matching → Seen → Check → Bool
+check_holds m seen (Text check) = test_holds m.case seen check
+check_holds m seen (Within networks) = list_any (is_within_some networks) (client_address seen)
+check_holds m seen (Over measure limit) = nat_lt limit (measured measure seen)
+check_holds m seen (In field name) = list_any (m.listed name) (values_of field seen)
 
-abbrev pub is_met : TextCase → Seen → Condition → Bool
-is_met case seen c = if c.negated then not (check_holds case seen c.check) else check_holds case seen c.check
+abbrev pub is_met : Matching → Seen → Condition → Bool
+is_met m seen c = if c.negated then not (check_holds m seen c.check) else check_holds m seen c.check
 
 -- ---- rules
 
@@ -160,5 +162,5 @@ group_met And before = before
 group_met Or before = true
 
 -- all conditions of some group are met
-abbrev pub applies : TextCase → Seen → Rule → Bool
-applies case seen rule = list_any (list_all (is_met case seen)) (groups_of rule.conditions)
+abbrev pub applies : Matching → Seen → Rule → Bool
+applies m seen rule = list_any (list_all (is_met m seen)) (groups_of rule.conditions)

@@ -10,8 +10,8 @@ use Rattle.milter_protocol.specs.declared.action.Action.TheVariants as actions
 use Rattle.milter_protocol.specs.Seen.{Seen}
 use Rattle.milter_protocol.specs.declared.answer.Answer.{Answer}
 use Rattle.milter_filter_rules.specs.declared.rule.Rule.{Rule}
-use Rattle.milter_glob.specs.declared.text_case.TextCase.{TextCase}
 use Rattle.milter_filter_rules.specs.Conditions.{applies}
+use Rattle.milter_filter_rules.specs.ListedValues.{Matching}
 
 -- an answer that asks for these edits first
 abbrev pub with_edits : List Edit → Answer → Answer
@@ -23,8 +23,8 @@ answer_by [] = record { edits = []; verdict = Continue }
 answer_by (actions.Edit edit ∷ more) = with_edits (edit ∷ []) (answer_by more)
 answer_by (actions.Verdict verdict ∷ more) = record { edits = []; verdict = verdict }
 
-abbrev pub actions_of : TextCase → Seen → List Rule → List Action
-actions_of case seen rules = map (λ rule. rule.action) (filter (applies case seen) rules)
+abbrev pub actions_of : Matching → Seen → List Rule → List Action
+actions_of m seen rules = map (λ rule. rule.action) (filter (applies m seen) rules)
 
-abbrev pub decided : TextCase → List Rule → Seen → Answer
-decided case rules seen = answer_by (actions_of case seen rules)
+abbrev pub decided : Matching → List Rule → Seen → Answer
+decided m rules seen = answer_by (actions_of m seen rules)

@@ -11,7 +11,7 @@ use Rattle.milter_wire.specs.declared.stage.Stage.TheVariants.{Connect, Helo, Ma
 use Rattle.milter_wire.specs.Stages.{all_stages, macro_stage_of, not_answered_of, not_sent_of}
 use Rattle.milter_protocol.specs.StageOrder.{rank_of}
 use Rattle.milter_filter_rules.specs.declared.rule.Check.{Check}
-use Rattle.milter_filter_rules.specs.declared.rule.Check.TheVariants.{Text, Within, Over}
+use Rattle.milter_filter_rules.specs.declared.rule.Check.TheVariants.{Text, Within, Over, In}
 use Rattle.milter_filter_rules.specs.declared.rule.Field.{Field}
 use Rattle.milter_filter_rules.specs.declared.rule.Field.TheVariants as fields
 use Rattle.milter_filter_rules.specs.declared.rule.Measure.TheVariants.{Size, Rcpts}
@@ -40,6 +40,7 @@ looked_at (Text check) = shown_at check.field
 looked_at (Within networks) = Some Connect
 looked_at (Over Size limit) = Some Body
 looked_at (Over Rcpts limit) = Some Rcpt
+looked_at (In field name) = shown_at field
 
 abbrev pub is_shown_by : Option Stage → Stage → Bool
 is_shown_by (Some at) stage = is_stage at stage

@@ -1,5 +1,6 @@
 pub mod RuleNames
 pub mod StageRules
+pub mod ListedValues
 pub mod Conditions
 pub mod Decisions
 pub mod ActionFits

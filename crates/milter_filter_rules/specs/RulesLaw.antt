@@ -33,10 +33,10 @@ use Rattle.milter_protocol.specs.LawfulParts.{continue_fits}
 use Rattle.milter_filter_rules.specs.declared.rule.Condition.{Condition}
 use Rattle.milter_filter_rules.specs.declared.rule.Rule.{Rule}
 use Rattle.milter_filter_rules.specs.declared.rule_list.StageRules.{StageRules}
-use Rattle.milter_glob.specs.declared.text_case.TextCase.{TextCase}
 use Rattle.milter_filter_rules.specs.ActionFits.{allowed_at, are_lawful_at, edit_fits, edit_in, edits_weight, fields_fit, has_room, is_string, is_string_or_none, may_act, reply_of, verdict_fits}
 use Rattle.milter_filter_rules.specs.Conditions.{applies}
 use Rattle.milter_filter_rules.specs.Decisions.{answer_by, decided}
+use Rattle.milter_filter_rules.specs.ListedValues.{Matching}
 use Rattle.milter_filter_rules.specs.RuleSet.{RuleSet, behavior_of, is_lawful, list_fits, lists_wanted, no_rule_set, options_known, rules_lawful, wants_within}
 use Rattle.milter_wire_stream.specs.Number.{number}
 use Rattle.milter_filter_rules.specs.StageRules.{rules_at}
@@ -204,13 +204,13 @@ either_fits stage true rule rules others may fits =
 either_fits stage false rule rules others may fits =
     passed_over stage rule rules (answer_by (map (λ other. other.action) others)) fits
 
-decided_fits : (case : TextCase) (stage : Stage) (rules : List Rule) (seen : Seen) → are_lawful_at stage rules ≡ true
-    → FitsAmong stage rules (decided case rules seen)
-decided_fits case stage [] seen lawful = no_answer_fits stage
-decided_fits case stage (rule ∷ rules) seen lawful =
+decided_fits : (m : Matching) (stage : Stage) (rules : List Rule) (seen : Seen) → are_lawful_at stage rules ≡ true
+    → FitsAmong stage rules (decided m rules seen)
+decided_fits m stage [] seen lawful = no_answer_fits stage
+decided_fits m stage (rule ∷ rules) seen lawful =
     let both = and_parts (may_act stage rule.action) (are_lawful_at stage rules) lawful in
-    either_fits stage (applies case seen rule) rule rules (filter (applies case seen) rules) both.0
-    (decided_fits case stage rules seen both.1)
+    either_fits stage (applies m seen rule) rule rules (filter (applies m seen) rules) both.0
+    (decided_fits m stage rules seen both.1)
 
 -- ---- the rules of each stage
 
@@ -274,25 +274,25 @@ at_end rules answer within fits =
       weight = omega (arith, within, fits.weight);
     }
 
-answers_fit : (case : TextCase) (r : StageRules) (stage : Stage) (seen : Seen) → EachFits r
-    → AnswerFits stage (decided case (rules_at r stage) seen)
-answers_fit case r stages.Connect seen each =
-    before_end stages.Connect r.connect _ (λ e. cc) (decided_fits case stages.Connect r.connect seen each.connect)
-answers_fit case r stages.Helo seen each =
-    before_end stages.Helo r.helo _ (λ e. cc) (decided_fits case stages.Helo r.helo seen each.helo)
-answers_fit case r stages.Mail seen each =
-    before_end stages.Mail r.mail _ (λ e. cc) (decided_fits case stages.Mail r.mail seen each.mail)
-answers_fit case r stages.Rcpt seen each =
-    before_end stages.Rcpt r.rcpt _ (λ e. cc) (decided_fits case stages.Rcpt r.rcpt seen each.rcpt)
-answers_fit case r stages.DataCmd seen each =
-    before_end stages.DataCmd r.data_cmd _ (λ e. cc) (decided_fits case stages.DataCmd r.data_cmd seen each.data_cmd)
-answers_fit case r stages.Header seen each =
-    before_end stages.Header r.header _ (λ e. cc) (decided_fits case stages.Header r.header seen each.header)
-answers_fit case r stages.Eoh seen each =
-    before_end stages.Eoh r.eoh _ (λ e. cc) (decided_fits case stages.Eoh r.eoh seen each.eoh)
-answers_fit case r stages.Body seen each =
-    before_end stages.Body r.body _ (λ e. cc) (decided_fits case stages.Body r.body seen each.body)
-answers_fit case r stages.Eob seen each = at_end r.eob _ each.weight (decided_fits case stages.Eob r.eob seen each.eob)
+answers_fit : (m : Matching) (r : StageRules) (stage : Stage) (seen : Seen) → EachFits r
+    → AnswerFits stage (decided m (rules_at r stage) seen)
+answers_fit m r stages.Connect seen each =
+    before_end stages.Connect r.connect _ (λ e. cc) (decided_fits m stages.Connect r.connect seen each.connect)
+answers_fit m r stages.Helo seen each =
+    before_end stages.Helo r.helo _ (λ e. cc) (decided_fits m stages.Helo r.helo seen each.helo)
+answers_fit m r stages.Mail seen each =
+    before_end stages.Mail r.mail _ (λ e. cc) (decided_fits m stages.Mail r.mail seen each.mail)
+answers_fit m r stages.Rcpt seen each =
+    before_end stages.Rcpt r.rcpt _ (λ e. cc) (decided_fits m stages.Rcpt r.rcpt seen each.rcpt)
+answers_fit m r stages.DataCmd seen each =
+    before_end stages.DataCmd r.data_cmd _ (λ e. cc) (decided_fits m stages.DataCmd r.data_cmd seen each.data_cmd)
+answers_fit m r stages.Header seen each =
+    before_end stages.Header r.header _ (λ e. cc) (decided_fits m stages.Header r.header seen each.header)
+answers_fit m r stages.Eoh seen each =
+    before_end stages.Eoh r.eoh _ (λ e. cc) (decided_fits m stages.Eoh r.eoh seen each.eoh)
+answers_fit m r stages.Body seen each =
+    before_end stages.Body r.body _ (λ e. cc) (decided_fits m stages.Body r.body seen each.body)
+answers_fit m r stages.Eob seen each = at_end r.eob _ each.weight (decided_fits m stages.Eob r.eob seen each.eob)
 
 -- ---- what is wanted
 
@@ -309,9 +309,9 @@ some_lists : (actions : ℕ) (lists : List SymList) → lists_wanted actions lis
 some_lists actions [] test some = absurd (some refl)
 some_lists actions (list ∷ lists) test some = test
 
-wants_fit : (case : TextCase) (set : RuleSet) → wants_within set.options set.lists ≡ true
-    → WantsWithin (behavior_of case set)
-wants_fit case set test =
+wants_fit : (m : Matching) (set : RuleSet) → wants_within set.options set.lists ≡ true
+    → WantsWithin (behavior_of m set)
+wants_fit m set test =
     let p1 = and_parts (options_known set.options) _ test in
     let known = and_parts _ _ p1.0 in
     let below = and_parts _ _ known.1 in
@@ -345,10 +345,10 @@ pub no_rules_lawful : is_lawful no_rule_set ≡ true
 unfolding number
 no_rules_lawful = refl
 
-pub lawful_rules : (case : TextCase) (set : RuleSet) → is_lawful set ≡ true → IsLawful (behavior_of case set)
-lawful_rules case set test =
+pub lawful_rules : (m : Matching) (set : RuleSet) → is_lawful set ≡ true → IsLawful (behavior_of m set)
+lawful_rules m set test =
     let both = and_parts (wants_within set.options set.lists) (rules_lawful set.rules) test in
     record {
-      wants = wants_fit case set both.0;
-      answers = λ stage seen. answers_fit case set.rules stage seen (each_fits set.rules both.1);
+      wants = wants_fit m set both.0;
+      answers = λ stage seen. answers_fit m set.rules stage seen (each_fits set.rules both.1);
     }

@@ -7,7 +7,7 @@ ghost use Rattle.milter_filter_rules.specs.Conditions.{case_in, finds_some, has_
 
 use crate::rule::{Field, PathPart, TextCheck};
 use milter_address::{canonical_address, canonical_domain};
-use milter_filter_core::{Pattern, Test, TextCase};
+use milter_filter_policy::{Pattern, Test, TextCase};
 use milter_wire::{NoMemory, Text};
 use std::alloc::Global;
 

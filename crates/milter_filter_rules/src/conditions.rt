@@ -1,39 +1,39 @@
 //! Whether the conditions of a rule are met by what a filter is shown.
 
-ghost use Rattle.std.specs.Prelude.{◌≡◌, ◌&&◌, IfOk, map, option_map};
+ghost use Rattle.std.specs.Prelude.{◌≡◌, ◌&&◌, IfOk, map};
 ghost use Rattle.std.specs.List.{list_any};
-ghost use Rattle.std.specs.Option.{option_to_list};
 ghost use Rattle.milter_filter_search.specs.Texts.{finds, finds_named};
-ghost use Rattle.milter_filter_rules.specs.Conditions.{address_of, applies, case_in, check_holds, client_address, finds_some, group_met, is_met};
-ghost use Rattle.milter_filter_rules.specs.Conditions.{is_within_some, lone_values, measured, part_of, test_holds, values_of};
+ghost use Rattle.milter_filter_rules.specs.Conditions.{applies, case_in, check_holds, client_address, finds_some, group_met, is_met};
+ghost use Rattle.milter_filter_rules.specs.Conditions.{is_within_some, measured, part_of, test_holds, values_of};
+ghost use Rattle.milter_filter_rules.specs.ListedValues.{matched_by};
 
 use crate::comparison::Comparison;
+use crate::context::Context;
+use crate::listed::{Lookup, is_some_listed};
 use crate::networks::is_within_some;
 use crate::places::Places;
 use crate::rule::{Check, Condition, Field, Joint, Measure, PathPart, Rule};
+use crate::values::{client_address, lone_value};
 use milter_address::{canonical_address, domain_of};
-use milter_filter_core::{Seen, Test, TextCase};
-use milter_wire::{NoMemory, Origin, Path, Text};
-use std::alloc::Global;
+use milter_filter_policy::{Seen, Test};
+use milter_wire::{NoMemory, Path, Text};
 
 /// A condition that is compared with what is shown.
 #[derive(Clone, Copy)]
 struct Asked<'a> {
-    alloc: Global,
-    /// Whether the case of letters counts in texts.
-    case: TextCase,
+    context: Context<'a>,
     condition: &'a Condition,
 }
 
 /// Whether all conditions of a group of the rule are met; the places of its texts begin with these.
 pub(crate) fn applies(
-    alloc: Global,
-    case: TextCase,
+    context: Context<'_>,
     places: Places,
     rule: &Rule,
     seen: &Seen,
 ) -> Result<bool, NoMemory>
-    ensures { IfOk result (λ does. does ≡ applies case seen.now.shown rule.now) }
+    ensures { IfOk result (λ does. does ≡ applies (matched_by context.entry.case context.entry.lists.now)
+        seen.now.shown rule.now) }
 {
     let mut places = places;
     let mut met = true;
@@ -41,11 +41,7 @@ pub(crate) fn applies(
         if met && condition.joint == Joint::Or {
             return Ok(true);
         }
-        let asked = Asked {
-            alloc,
-            case,
-            condition,
-        };
+        let asked = Asked { context, condition };
         met = is_met_too(asked, met, places, seen)?;
         places = places.after(&condition.check);
     }
@@ -55,7 +51,8 @@ pub(crate) fn applies(
 /// Whether the condition is met, and those of its group that came before it, where those before it are met or not.
 fn is_met_too(asked: Asked<'_>, before: bool, places: Places, seen: &Seen) -> Result<bool, NoMemory>
     ensures { IfOk result (λ met. met ≡ (group_met asked.entry.condition.now.joint before
-        && is_met asked.entry.case seen.now.shown asked.entry.condition.now)) }
+        && is_met (matched_by asked.entry.context.case asked.entry.context.lists.now) seen.now.shown
+        asked.entry.condition.now)) }
 {
     let group = before || asked.condition.joint == Joint::Or;
     Ok(group && is_met(asked, places, seen)?)
@@ -63,7 +60,8 @@ fn is_met_too(asked: Asked<'_>, before: bool, places: Places, seen: &Seen) -> Re
 
 /// Whether the condition is met; the places of its texts begin with these.
 fn is_met(asked: Asked<'_>, places: Places, seen: &Seen) -> Result<bool, NoMemory>
-    ensures { IfOk result (λ met. met ≡ is_met asked.entry.case seen.now.shown asked.entry.condition.now) }
+    ensures { IfOk result (λ met. met ≡ is_met (matched_by asked.entry.context.case asked.entry.context.lists.now)
+        seen.now.shown asked.entry.condition.now) }
 {
     let holds = holds(asked, places, seen)?;
     Ok(if asked.condition.negated {
@@ -76,19 +74,28 @@ fn is_met(asked: Asked<'_>, places: Places, seen: &Seen) -> Result<bool, NoMemor
 /// Whether the check of the condition holds; the places of its texts begin with these.
 fn holds(asked: Asked<'_>, places: Places, seen: &Seen) -> Result<bool, NoMemory>
     ensures { IfOk result (λ holds. holds ≡
-        check_holds asked.entry.case seen.now.shown asked.entry.condition.now.check) }
+        check_holds (matched_by asked.entry.context.case asked.entry.context.lists.now) seen.now.shown
+        asked.entry.condition.now.check) }
 {
     match &asked.condition.check {
         Check::Text(check) => {
             let comparison = Comparison {
-                alloc: asked.alloc,
-                case: asked.case,
+                alloc: asked.context.alloc,
+                case: asked.context.case,
                 check,
             };
             test_holds(comparison, places, seen)
         }
         Check::Within(networks) => Ok(is_client_within(networks.as_slice(), seen)),
         Check::Over(measure, limit) => Ok(measured(*measure, seen) > *limit as usize),
+        Check::In(field, name) => {
+            let lookup = Lookup {
+                context: asked.context,
+                field,
+                place: places.in_macros,
+            };
+            is_some_listed(lookup, name.as_slice(), seen)
+        }
     }
 }
 
@@ -150,38 +157,6 @@ fn finds(comparison: Comparison<'_>, places: Places, seen: &Seen) -> Result<bool
             Some(value) => comparison.finds_in(value),
             None => Ok(false),
         },
-    }
-}
-
-/// The value of a field that has one at most and needs no memory for it; a macro is searched for in this place.
-fn lone_value<'a>(field: &'a Field, place: usize, seen: &'a Seen) -> Option<&'a [u8]>
-    ensures { option_to_list (option_map (λ value. value.now) result) ≡ lone_values field.now seen.now.shown }
-{
-    match field {
-        Field::Host => Some(seen.client()?.host.as_slice()),
-        Field::Address => client_address(seen),
-        Field::Helo => seen.helo(),
-        Field::Macro(name) => seen.macro_value_at(place, name.as_slice()),
-        _ => None,
-    }
-}
-
-/// The address of the client, if it is known and has one.
-fn client_address(seen: &Seen) -> Option<&[u8]>
-    ensures { option_to_list (option_map (λ address. address.now) result) ≡ client_address seen.now.shown }
-{
-    origin_address(&seen.client()?.origin)
-}
-
-/// The address of a client, if it has one.
-fn origin_address(origin: &Origin) -> Option<&[u8]>
-    ensures { option_map (λ address. address.now) result ≡ address_of origin.now }
-{
-    match origin {
-        Origin::Unknown => None,
-        Origin::Unix { address, .. }
-        | Origin::Inet { address, .. }
-        | Origin::Inet6 { address, .. } => Some(address.as_slice()),
     }
 }
 

@@ -2,46 +2,44 @@
 
 ghost use Rattle.std.specs.Prelude.{◌≡◌, IfOk};
 ghost use Rattle.milter_filter_rules.specs.Decisions.{decided};
+ghost use Rattle.milter_filter_rules.specs.ListedValues.{matched_by};
 
 use crate::conditions::applies;
+use crate::context::Context;
 use crate::places::Places;
 use crate::rule::Rule;
-use milter_filter_core::{Answer, Edits, Seen, TextCase};
-use milter_protocol::Action;
+use milter_filter_policy::Seen;
+use milter_protocol::{Action, Answer, Edits};
 use milter_wire::{NoMemory, Verdict};
-use std::alloc::Global;
 
 /// The answer of a stage's rules to what is shown. Most stages have none.
 #[inline(always)]
 pub(crate) fn decide_by(
-    alloc: Global,
-    case: TextCase,
+    context: Context<'_>,
     rules: &[Rule],
     seen: &Seen,
 ) -> Result<Answer, NoMemory>
-    ensures { IfOk result (λ answer. answer ≡ decided case rules.now seen.now.shown) }
+    ensures { IfOk result (λ answer. answer ≡ decided (matched_by context.entry.case context.entry.lists.now)
+        rules.now seen.now.shown) }
 {
     if rules.is_empty() {
-        return Ok(Answer::of_verdict(alloc, Verdict::Continue));
+        return Ok(Answer::of_verdict(context.alloc, Verdict::Continue));
     }
-    decide_in_turn(alloc, case, rules, seen)
+    decide_in_turn(context, rules, seen)
 }
 
 /// The answer of rules, which are looked at in their order.
-fn decide_in_turn(
-    alloc: Global,
-    case: TextCase,
-    rules: &[Rule],
-    seen: &Seen,
-) -> Result<Answer, NoMemory>
-    ensures { IfOk result (λ answer. answer ≡ decided case rules.now seen.now.shown) }
+fn decide_in_turn(context: Context<'_>, rules: &[Rule], seen: &Seen) -> Result<Answer, NoMemory>
+    ensures { IfOk result (λ answer. answer ≡ decided (matched_by context.entry.case context.entry.lists.now)
+        rules.now seen.now.shown) }
 {
+    let alloc = context.alloc;
     let mut edits = Vec::new(alloc);
     let mut places = Places::first();
     for rule in rules {
         let at = places;
         places = places.after_all(rule.conditions.as_slice());
-        if !applies(alloc, case, at, rule, seen)? {
+        if !applies(context, at, rule, seen)? {
             continue;
         }
         match &rule.action {

@@ -124,6 +124,7 @@ fn looked_at(check: &Check) -> Option<Stage>
         Check::Within(_) => Some(Stage::Connect),
         Check::Over(Measure::Size, _) => Some(Stage::Body),
         Check::Over(Measure::Rcpts, _) => Some(Stage::Rcpt),
+        Check::In(field, _) => shown_at(field),
     }
 }
 

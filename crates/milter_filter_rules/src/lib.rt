@@ -1,13 +1,16 @@
 //! Rules: a filter's policy as conditions on what the filter is shown, and what is done where they are met. [`Rules`]
-//! is a [`Policy`](milter_filter_core::Policy).
+//! is a [`Policy`](milter_filter_policy::Policy).
 #![tactic(auto)]
 
 mod action_fits;
 mod comparison;
 mod conditions;
+mod context;
 mod decision;
 mod laws;
 mod least_wants;
+mod listed;
+mod named_list;
 mod networks;
 mod places;
 mod rows;
@@ -15,11 +18,15 @@ mod rule;
 mod rule_list;
 mod rules;
 mod searches;
+mod values;
 
 pub use action_fits::{fields_fit, has_room, is_allowed_at, is_string};
 pub use laws::answers_of_actions;
-pub use milter_filter_core::{Test, TextCase};
+pub use milter_filter_policy::{Test, TextCase};
+pub use milter_list_lines::{ListSource, ListSources};
+pub use milter_lists::{ListFault, ListKind, TextList};
 pub use milter_protocol::Action;
+pub use named_list::{NamedList, NamedLists};
 pub use rule::{
     Check, Condition, Conditions, Field, Joint, Measure, PathPart, Rule, TextCheck, Texts,
 };

@@ -22,17 +22,29 @@ impl Places {
 
     /// The places of the next condition after one with this check.
     pub(crate) fn after(self, check: &Check) -> Self {
-        let Check::Text(check) = check else {
-            return self;
-        };
+        match check {
+            Check::Text(check) => self.after_texts(&check.field, check.texts.as_slice().len()),
+            Check::In(Field::Macro(_), _) => self.after_macro(),
+            _ => self,
+        }
+    }
+
+    /// The places after those of a field with so many texts.
+    fn after_texts(self, field: &Field, texts: usize) -> Self {
         let mut places = self;
-        let texts = check.texts.as_slice().len();
-        match check.field {
+        match field {
             Field::Header(_) => places.in_headers = places.in_headers.wrapping_add(texts),
             Field::Body => places.in_body = places.in_body.wrapping_add(texts),
-            Field::Macro(_) => places.in_macros = places.in_macros.wrapping_add(1),
+            Field::Macro(_) => return self.after_macro(),
             _ => {}
         }
+        places
+    }
+
+    /// The places after that of a macro.
+    fn after_macro(self) -> Self {
+        let mut places = self;
+        places.in_macros = places.in_macros.wrapping_add(1);
         places
     }
 

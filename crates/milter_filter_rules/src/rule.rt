@@ -3,7 +3,7 @@
 ghost use Rattle.std.specs.Prelude.{◌≡◌};
 ghost use Rattle.milter_filter_rules.specs.RuleNames.{field_name, measure_name, path_part};
 
-use milter_filter_core::Test;
+use milter_filter_policy::Test;
 use milter_protocol::Action;
 use milter_wire::{List, Text};
 
@@ -130,6 +130,8 @@ pub enum Check {
     Within(Texts),
     /// The number is above this one.
     Over(Measure, u32),
+    /// Some value of the field is in the list of this name.
+    In(Field, Text),
 }
 
 /// A condition of a rule.

@@ -1,14 +1,18 @@
 //! Rules as a policy.
 
 ghost use Rattle.std.specs.Prelude.{◌≡◌, true};
+ghost use Rattle.milter_filter_rules.specs.ListedValues.{sources_of};
 ghost use Rattle.milter_filter_rules.specs.RuleSet.{is_lawful};
 
+use crate::context::Context;
 use crate::decision::decide_by;
 use crate::least_wants::least_protocol;
+use crate::named_list::{NamedList, NamedLists};
 use crate::rule::Rule;
 use crate::rule_list::StageRules;
 use crate::searches::search_by;
-use milter_filter_core::{Answer, Policy, Seen, TextCase, VERSION_MAX};
+use milter_filter_policy::{Policy, Seen, TextCase};
+use milter_protocol::{Answer, VERSION_MAX};
 use milter_wire::{Actions, NoMemory, Options, Protocol, Stage, SymList, SymLists};
 use std::alloc::Global;
 
@@ -22,24 +26,28 @@ pub struct Rules {
     options: Options,
     lists: SymLists,
     rules: StageRules,
+    named: NamedLists,
     case: TextCase,
     /// Whether who made the rules stated their protocol bits.
     is_protocol_stated: bool,
-    pub ghost lawful: { is_lawful (record { options = options; lists = lists; rules = rules }) ≡ true },
+    pub ghost lawful: { is_lawful
+        (record { options = options; lists = lists; rules = rules; sources = sources_of named }) ≡ true },
 }
 
 impl Rules {
-    ghost use Rattle.std.specs.Prelude.{◌≡◌, false};
+    ghost use Rattle.std.specs.Prelude.{◌≡◌, [], false};
     ghost use Rattle.milter_filter_rules.specs.LeastWants.{least_wants, with_least_wants};
     ghost use Rattle.milter_filter_rules.specs.RuleSet.{no_rule_set};
-    ghost use Rattle.milter_filter_rules.specs.RulesValue.{case_of, rule_set, states_protocol};
+    ghost use Rattle.milter_filter_rules.specs.ListedValues.{sources_of};
+    ghost use Rattle.milter_filter_rules.specs.RulesValue.{case_of, named_of, rule_set, states_protocol};
     ghost use Rattle.milter_glob.specs.declared.text_case.TextCase.TheVariants.{Exact, Ignored};
     ghost use Rattle.milter_filter_rules.specs.StageRules.{rules_at};
 
     /// No rules: the filter wants version 6 without any bit, and answers `Continue` to all, as
-    /// [`Pass`](milter_filter_core::Pass) does. Doesn't allocate.
+    /// [`Pass`](milter_filter_policy::Pass) does. Doesn't allocate.
     pub fn new(alloc: Global) -> Self
         ensures set { rule_set result ≡ no_rule_set }
+        ensures named { named_of result ≡ [] }
         ensures case { case_of result ≡ Exact }
         ensures stated { states_protocol result ≡ false }
     {
@@ -51,18 +59,27 @@ impl Rules {
             },
             lists: SymLists::new(Vec::new(alloc)),
             rules: StageRules::new(alloc),
+            named: NamedLists::new(Vec::new(alloc)),
             case: TextCase::Exact,
             is_protocol_stated: false,
         }
     }
 
-    /// These rules, with what the filter wants. They are lawful: of a known version and known bits, with symbol lists
-    /// only where [`Actions::SETSYMLIST`] is among the actions; the reply with all of it fits a packet; each rule may
-    /// do what it does at its stage; and the packets of all edits have at most 16,777,216 bytes. Neither copies nor
-    /// allocates.
-    pub fn from_parts(options: Options, lists: SymLists, rules: StageRules) -> Self
-        requires { is_lawful (record { options = options; lists = lists; rules = rules }) ≡ true }
-        ensures set { rule_set result ≡ record { options = options; lists = lists; rules = rules } }
+    /// These rules, with what the filter wants and the lists that they refer to. They are lawful: of a known version
+    /// and known bits, with symbol lists only where [`Actions::SETSYMLIST`] is among the actions; the reply with all of
+    /// it fits a packet; each rule may do what it does at its stage; and the packets of all edits have at most
+    /// 16,777,216 bytes. Neither copies nor allocates.
+    pub fn from_parts(
+        options: Options,
+        lists: SymLists,
+        rules: StageRules,
+        named: NamedLists,
+    ) -> Self
+        requires { is_lawful
+            (record { options = options; lists = lists; rules = rules; sources = sources_of named }) ≡ true }
+        ensures set { rule_set result
+            ≡ record { options = options; lists = lists; rules = rules; sources = sources_of named } }
+        ensures named { named_of result ≡ named }
         ensures case { case_of result ≡ Exact }
         ensures stated { states_protocol result ≡ false }
     {
@@ -70,14 +87,33 @@ impl Rules {
             options,
             lists,
             rules,
+            named,
             case: TextCase::Exact,
             is_protocol_stated: false,
+        }
+    }
+
+    /// These rules, with these lists in place of their own. Neither copies nor allocates.
+    pub fn with_named_lists(self, named: NamedLists) -> Self
+        ensures set { rule_set result ≡ record (rule_set self) { sources = sources_of named } }
+        ensures named { named_of result ≡ named }
+        ensures case { case_of result ≡ case_of self }
+        ensures stated { states_protocol result ≡ states_protocol self }
+    {
+        Rules {
+            options: self.options,
+            lists: self.lists,
+            rules: self.rules,
+            named,
+            case: self.case,
+            is_protocol_stated: self.is_protocol_stated,
         }
     }
 
     /// These rules, in the texts of whose conditions the case of ASCII letters doesn't count.
     pub fn ignoring_case(self) -> Self
         ensures set { rule_set result ≡ rule_set self }
+        ensures named { named_of result ≡ named_of self }
         ensures case { case_of result ≡ Ignored }
         ensures stated { states_protocol result ≡ states_protocol self }
     {
@@ -85,6 +121,7 @@ impl Rules {
             options: self.options,
             lists: self.lists,
             rules: self.rules,
+            named: self.named,
             case: TextCase::Ignored,
             is_protocol_stated: self.is_protocol_stated,
         }
@@ -108,6 +145,7 @@ impl Rules {
     /// copies nor allocates.
     pub fn with_least_wants(self) -> Self
         ensures set { rule_set result ≡ with_least_wants (rule_set self) }
+        ensures named { named_of result ≡ named_of self }
         ensures case { case_of result ≡ case_of self }
         ensures stated { states_protocol result ≡ states_protocol self }
     {
@@ -115,6 +153,7 @@ impl Rules {
             options: self.least_wants(),
             lists: self.lists,
             rules: self.rules,
+            named: self.named,
             case: self.case,
             is_protocol_stated: self.is_protocol_stated,
         }
@@ -123,6 +162,7 @@ impl Rules {
     /// These rules, whose protocol bits who made them stated, or not: as they are, or by what the rules do.
     pub fn with_protocol_stated(self, is_stated: bool) -> Self
         ensures set { rule_set result ≡ rule_set self }
+        ensures named { named_of result ≡ named_of self }
         ensures case { case_of result ≡ case_of self }
         ensures stated { states_protocol result ≡ is_stated }
     {
@@ -130,6 +170,7 @@ impl Rules {
             options: self.options,
             lists: self.lists,
             rules: self.rules,
+            named: self.named,
             case: self.case,
             is_protocol_stated: is_stated,
         }
@@ -163,6 +204,13 @@ impl Rules {
         self.lists.as_slice()
     }
 
+    /// The lists that conditions refer to, in order. Doesn't allocate.
+    pub fn named_lists(&self) -> &[NamedList]
+        ensures { result.now ≡ named_of self.now }
+    {
+        self.named.as_slice()
+    }
+
     /// The rules of the stage, in the order in which they are looked at. Doesn't allocate.
     pub fn at(&self, stage: Stage) -> &[Rule]
         ensures { result.now ≡ rules_at (rule_set self.now).rules stage }
@@ -174,11 +222,11 @@ impl Rules {
 impl Policy for Rules {
     ghost use Rattle.milter_filter_rules.specs.RuleSet.{behavior_of};
     ghost use Rattle.milter_filter_rules.specs.RulesLaw.{lawful_rules};
-    ghost use Rattle.milter_filter_rules.specs.RulesValue.{case_of, rule_set};
+    ghost use Rattle.milter_filter_rules.specs.RulesValue.{matching_of, rule_set};
 
-    ghost behavior = { λ rules. behavior_of (case_of rules) (rule_set rules) };
+    ghost behavior = { λ rules. behavior_of (matching_of rules) (rule_set rules) };
 
-    ghost lawful = { λ rules. lawful_rules (case_of rules) (rule_set rules) rules.lawful };
+    ghost lawful = { λ rules. lawful_rules (matching_of rules) (rule_set rules) rules.lawful };
 
     fn wants(&self) -> Options {
         self.options
@@ -197,6 +245,11 @@ impl Policy for Rules {
 
     #[inline(always)]
     fn decide(&self, alloc: Global, at: Stage, seen: &Seen) -> Result<Answer, NoMemory> {
-        decide_by(alloc, self.case, self.rules.at(at), seen)
+        let context = Context {
+            alloc,
+            case: self.case,
+            lists: self.named.as_slice(),
+        };
+        decide_by(context, self.rules.at(at), seen)
     }
 }

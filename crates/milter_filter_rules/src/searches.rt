@@ -5,7 +5,7 @@ ghost use Rattle.std.specs.Prelude.{◌≡◌};
 use crate::comparison::Comparison;
 use crate::places::Places;
 use crate::rule::{Check, Field, Rule};
-use milter_filter_core::{Seen, TextCase};
+use milter_filter_policy::{Seen, TextCase};
 use std::alloc::Global;
 
 /// Has what is shown searched for what the conditions of a stage's rules look for in header fields, in the body and
@@ -27,9 +27,15 @@ fn search_by_rule(alloc: Global, case: TextCase, places: Places, rule: &Rule, se
 {
     let mut places = places;
     for condition in rule.conditions.as_slice() {
-        if let Check::Text(check) = &condition.check {
-            let comparison = Comparison { alloc, case, check };
-            search_by_check(comparison, places, seen);
+        match &condition.check {
+            Check::Text(check) => {
+                let comparison = Comparison { alloc, case, check };
+                search_by_check(comparison, places, seen);
+            }
+            Check::In(Field::Macro(name), _) => {
+                seen.search_macro(alloc, places.in_macros, name.as_slice());
+            }
+            _ => {}
         }
         places = places.after(&condition.check);
     }

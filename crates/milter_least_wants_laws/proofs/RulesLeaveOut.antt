@@ -15,7 +15,7 @@ use Rattle.milter_protocol.specs.declared.answer.Answer.{Answer}
 use Rattle.milter_protocol.specs.Permitted.{permitted, permitted_verdict}
 use Rattle.milter_protocol.specs.Seen.{Seen, seen}
 use Rattle.milter_protocol.specs.StageOrder.{rank_of}
-use Rattle.milter_glob.specs.declared.text_case.TextCase.{TextCase}
+use Rattle.milter_filter_rules.specs.ListedValues.{Matching}
 use Rattle.milter_filter_rules.specs.declared.rule.Rule.{Rule}
 use Rattle.milter_filter_rules.specs.declared.rule_list.StageRules.{StageRules}
 use Rattle.milter_filter_rules.specs.Decisions.{decided}
@@ -83,7 +83,7 @@ module _ (rules : StageRules) where
   unasked-none Eoh e = no_rules rules.eoh e
   unasked-none Body e = no_rules rules.body e
 
-module _ (case : TextCase) (set : RuleSet) (offer : Options) where
+module _ (m : Matching) (set : RuleSet) (offer : Options) where
   abbrev as_wanted : Negotiated
   as_wanted = as_it_is set offer
 
@@ -91,7 +91,7 @@ module _ (case : TextCase) (set : RuleSet) (offer : Options) where
   at_least = least set offer
 
   abbrev pub decides : Stage → Seen → Answer
-  decides = λ stage shown. decided case (rules_at set.rules stage) shown
+  decides = λ stage shown. decided m (rules_at set.rules stage) shown
 
   -- ---- what is left out changes nothing
 
@@ -116,7 +116,7 @@ module _ (case : TextCase) (set : RuleSet) (offer : Options) where
           (sent_as_before set offer stage (asked-sent set.rules stage e) ∙ sent)
           (answered_as_before set offer stage e ∙ answered)) ∙ none))
       by_asked false e =
-          ap (λ (l : List Rule). is_plain (Some (permitted as_wanted (decided case l shown))))
+          ap (λ (l : List Rule). is_plain (Some (permitted as_wanted (decided m l shown))))
           (unasked-none set.rules stage e)
 
   -- each stage that shows what a rule of this stage looks at is sent as before
@@ -145,11 +145,11 @@ module _ (case : TextCase) (set : RuleSet) (offer : Options) where
       → decides stage (seen (has_leading_space at_least) (command ∷ filter (sends at_least) before))
       ≡ decides stage (seen (has_leading_space as_wanted) (command ∷ before))
   decides-alike stage command before up_to =
-      decided-alike case (IsKept stage)
+      decided-alike m (IsKept stage)
       (seen (has_leading_space at_least) (command ∷ filter (sends at_least) before))
       (seen (has_leading_space as_wanted) (command ∷ before))
       (λ check each. check-alike (sends at_least) (λ bytes. refl) command before (has_leading_space as_wanted)
-      (has_leading_space at_least) case check (hides-none stage (looked_at check) each before up_to))
+      (has_leading_space at_least) m check (hides-none stage (looked_at check) each before up_to))
       (rules_at set.rules stage) (λ shown looks less. looked_at-sent set.rules shown stage less looks)
 
   pub leaves : LeavesOut decides as_wanted at_least

@@ -21,7 +21,7 @@ use Rattle.milter_filter_rules.specs.declared.rule.Field.{Field}
 use Rattle.milter_filter_rules.specs.declared.rule.Field.TheVariants as fields
 use Rattle.milter_filter_rules.specs.declared.rule.Measure.TheVariants.{Size, Rcpts}
 use Rattle.milter_filter_rules.specs.Conditions.{check_holds, client_address, finds_some, is_within_some, last_recipient, part_of, passes, values_of}
-use Rattle.milter_glob.specs.declared.text_case.TextCase.{TextCase}
+use Rattle.milter_filter_rules.specs.ListedValues.{Matching}
 use Rattle.milter_filter_rules.specs.LeastWants.{is_shown_by, looked_at, shown_at}
 use Rattle.milter_filter_search.specs.Texts.{values_named}
 use Rattle.milter_filter_rules.specs.StageRules.{is_stage}
@@ -155,16 +155,18 @@ module _ (keeps : Command → Bool) (ends : (bytes : List ℕ) → keeps (comman
       ∙ sym (flat_map-cons pairs_in command before))
 
   -- what a check looks at is shown alike
-  pub check-alike : (case : TextCase) (check : Check) → HidesNone keeps (looked_at check) before
-      → check_holds case some check ≡ check_holds case all check
-  check-alike case (checks.Text c) hides =
-      ap (λ (values : List (List ℕ)). passes c.test (list_any (finds_some case c) values)) (values-alike c.field hides)
-  check-alike case (checks.Within networks) hides =
+  pub check-alike : (m : Matching) (check : Check) → HidesNone keeps (looked_at check) before
+      → check_holds m some check ≡ check_holds m all check
+  check-alike m (checks.Text c) hides =
+      ap (λ (values : List (List ℕ)). passes c.test (list_any (finds_some m.case c) values)) (values-alike c.field hides)
+  check-alike m (checks.Within networks) hides =
       ap (λ (c : Option Client). list_any (is_within_some networks) (client_address (record some { client = c }))) (client-alike hides)
-  check-alike case (checks.Over Size limit) hides =
+  check-alike m (checks.Over Size limit) hides =
       ap (λ (l : List (List ℕ)). nat_lt limit (length (concat (reverse l))))
       (with_command chunk_in (parts-alike keeps (Some stages.Body) chunk_in (no_chunk keeps ends) before hides))
-  check-alike case (checks.Over Rcpts limit) hides =
+  check-alike m (checks.Over Rcpts limit) hides =
       ap (λ (l : List Path). nat_lt limit (length (reverse l)))
       (with_command recipient_in
       (parts-alike keeps (Some stages.Rcpt) recipient_in (λ c gone. no_recipient c) before hides))
+  check-alike m (checks.In field name) hides =
+      ap (λ (values : List (List ℕ)). list_any (m.listed name) values) (values-alike field hides)

@@ -4,7 +4,7 @@ ghost use Rattle.std.specs.Prelude.{List};
 ghost use Rattle.milter_wire_options.specs.declared.options.Options.{Options};
 ghost use Rattle.milter_message.specs.MailObject.{MailObject};
 ghost use Rattle.milter_mail.specs.MailSession.{MailSession};
-ghost use Rattle.milter_glob.specs.declared.text_case.TextCase.{TextCase};
+ghost use Rattle.milter_filter_rules.specs.ListedValues.{Matching};
 ghost use Rattle.milter_filter_rules.specs.LeastWants.{with_least_wants};
 ghost use Rattle.milter_filter_rules.specs.RuleSet.{RuleSet, behavior_of};
 ghost use Rattle.milter_least_wants_laws.specs.SettledAlike.{SettlesAlike};
@@ -14,9 +14,9 @@ use milter_mta_laws::{closed_dialogues_rule, plans_are_sent};
 /// Where a filter of rules wants no more than its rules need, each message of a session comes to the same, by the same
 /// cause, and so does the connection. Only the verdicts that were acted on are fewer: fewer stages are asked about.
 pub fn least_wants_settle_alike()
-    ensures { (case : TextCase) (set : RuleSet) (offer : Options) (session : MailSession)
+    ensures { (m : Matching) (set : RuleSet) (offer : Options) (session : MailSession)
         (messages : List MailObject) →
-        SettlesAlike (behavior_of case set) (behavior_of case (with_least_wants set)) offer session messages }
+        SettlesAlike (behavior_of m set) (behavior_of m (with_least_wants set)) offer session messages }
 {
     closed_dialogues_rule();
     plans_are_sent();

@@ -31,6 +31,7 @@ use Rattle.milter_protocol.specs.declared.action.Action.TheVariants as actions
 use Rattle.milter_protocol.specs.declared.limits.TheConstants.{ACTIONS_MAX, PROTOCOL_MAX, VERSION_MAX, VERSION_MIN}
 use Rattle.milter_filter_rules.specs.declared.rule.Rule.{Rule}
 use Rattle.milter_rules.specs.declared.rule_builder.TheConstants.{RULES_MAX}
+use Rattle.milter_list_lines.specs.declared.list_source.ListSource.{ListSource}
 use Rattle.milter_filter_rules.specs.declared.rule_list.StageRules.{StageRules}
 use Rattle.milter_filter_rules.specs.ActionFits.{are_lawful_at, edit_in, edits_weight, may_act}
 use Rattle.milter_rules.specs.RuleBuilder.{PartsFit, RuleFollows, edits_weight_at, with_rule_at}
@@ -255,8 +256,8 @@ room_for o lists room = le-leb _ PAYLOAD_MAX (omega (arith, reply_len o lists, r
 
 -- ---- all together
 
-pub parts_lawful : (p : FileParts) → PartsFit p → is_lawful (rules_of p) ≡ true
-parts_lawful p fit =
+pub parts_lawful : (sources : List ListSource) (p : FileParts) → PartsFit p → is_lawful (rules_of sources p) ≡ true
+parts_lawful sources p fit =
     let known = wanted_known p fit in
     let lists : lists_wanted (wanted p).actions.0 p.lists ≡ true = wanted_lists p.lists _ in
     let room = room_for (wanted p) p.lists fit.room in

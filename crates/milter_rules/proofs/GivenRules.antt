@@ -1,7 +1,7 @@
 -- The lines of rules that are written give these rules.
-use Rattle.std.proofs.Common.{◌≡◌, ◌<◌, ◌^◌, ◌==◌, ◌&&◌, ℕ, zero, suc, true, List, [], ◌∷◌, ◌++◌}
+use Rattle.std.proofs.Common.{◌≡◌, ◌<◌, ◌^◌, ◌==◌, ◌&&◌, ℕ, zero, suc, Bool, true, false, List, [], ◌∷◌, ◌++◌}
 use Rattle.std.proofs.Common.{All, Some, map, ap, arith, refl, ◌∙◌}
-use Rattle.std.specs.Prelude.{codes, nat_le, nat_lt}
+use Rattle.std.specs.Prelude.{codes, nat_le, nat_lt, if◌then◌else◌}
 use Rattle.std.specs.List.{AllZip, filter_map, flat_map, list_all}
 use Rattle.std.specs.Int.RustNames.{bit_and}
 use Rattle.std.proofs.lemmas.Bool.{and_parts, eqb-true, leb-true}
@@ -29,11 +29,14 @@ use Rattle.milter_rules.specs.ActionText.{action_words}
 use Rattle.milter_rules.specs.RuleFile.{AllGive}
 use Rattle.milter_rules.specs.declared.form.Form.{Form}
 use Rattle.milter_rules.specs.declared.form.Form.TheVariants.{First, Second}
-use Rattle.milter_rules.specs.RuleForms.{FitsForm, HasForm, all_fit, are_conditions, form_of, header_lines}
+use Rattle.milter_rules.specs.RuleForms.{FitsForm, HasForm, all_fit, are_conditions, form_of, header_lines, is_of_first}
+use Rattle.milter_list_lines.specs.declared.list_source.ListSource.{ListSource}
+use Rattle.milter_list_lines.specs.ListLines.{HasSources, IsSourceLine, source_words}
+use Rattle.milter_list_lines.proofs.ListGrammar.{source_read}
 use Rattle.milter_rules.specs.RuleLines.{Gives, setting_of}
 use Rattle.milter_filter_rules.specs.RuleSet.{RuleSet, is_lawful, list_fits, lists_wanted, options_have_room, options_known}
 use Rattle.milter_filter_rules.specs.RuleSet.{rules_lawful, wants_within}
-use Rattle.milter_rules.specs.RulesGiven.{CanBeText, list_given, rules_given, stage_count, stage_given}
+use Rattle.milter_rules.specs.RulesGiven.{CanBeText, CanFollow, list_given, rules_given, stage_count, stage_given}
 use Rattle.milter_filter_rules.specs.RulesLaw.{EachFits, each_fits}
 use Rattle.milter_rules.specs.RulesText.{body_lines, macro_stage_numbered, rule_words, rules_text}
 use Rattle.milter_rules.specs.RulesText.{rules_text, stage_lines, symbols_line, symbols_words, version_words}
@@ -106,11 +109,38 @@ record AfterHeader (form : Form) (all : List (List ℕ)) (words : List (List Wor
   pub has_form : HasForm form all rest
   pub have_words : AllZip HasWords rest words
 
-after_header : (form : Form) (all : List (List ℕ)) (words : List (List Word))
-    → AllZip HasWords all (header_lines form ++ words) → AfterHeader form all words
-after_header First all words have = record { rest = all; has_form = refl; have_words = have }
-after_header Second [] words have = absurd have
-after_header Second (line ∷ all) words have = record { rest = all; has_form = (line, refl, have.0); have_words = have.1 }
+-- the lines after those of the lists
+record AfterLists (before sources : List ListSource) (all : List (List ℕ)) (words : List (List Word)) : Type 0 where
+  pub rest : List (List ℕ)
+  pub lists : HasSources before sources all rest
+  pub have_words : AllZip HasWords rest words
+
+after_lists : (before sources : List ListSource) (all : List (List ℕ)) (words : List (List Word)) → CanFollow before sources
+    → AllZip HasWords all (map source_words sources ++ words) → AfterLists before sources all words
+after_lists before [] all words can have = record { rest = all; lists = refl; have_words = have }
+after_lists before (source ∷ sources) [] words can have = absurd have
+after_lists before (source ∷ sources) (line ∷ all) words can have =
+    let after = after_lists (before ++ source ∷ []) sources all words can.2 have.1 in
+    let gives : IsSourceLine line source =
+    record { words = source_words source; has_words = have.0; gives = source_read source can.0 } in
+    record {
+      rest = after.rest;
+      lists = (line, all, refl, gives, can.1, after.lists);
+      have_words = after.have_words;
+    }
+
+after_header : (set : RuleSet) (first : Bool) (all : List (List ℕ)) (words : List (List Word)) → CanFollow [] set.sources
+    → AllZip HasWords all (header_lines (if first then First else Second set.sources) ++ words)
+    → AfterHeader (if first then First else Second set.sources) all words
+after_header set true all words can have = record { rest = all; has_form = refl; have_words = have }
+after_header set false [] words can have = absurd have
+after_header set false (line ∷ all) words can have =
+    let after = after_lists [] set.sources all words can have.1 in
+    record {
+      rest = after.rest;
+      has_form = record { header = line; others = all; first = refl; has_words = have.0; lists = after.lists };
+      have_words = after.have_words;
+    }
 
 -- ---- options
 
@@ -235,13 +265,14 @@ all_given set lawful can =
 -- the lines of the text give these rules
 pub record Given (set : RuleSet) : Type 0 where
   pub rest : List (List ℕ)
-  pub has_form : HasForm (form_of set.rules) (contents (rules_text set)) rest
-  pub give : AllGive (form_of set.rules) rest (rules_given set)
+  pub has_form : HasForm (form_of set) (contents (rules_text set)) rest
+  pub give : AllGive (form_of set) rest (rules_given set)
 
 pub rules_give : (set : RuleSet) → is_lawful set ≡ true → CanBeText set → Given set
 rules_give set lawful can =
-    let form = form_of set.rules in
-    let after = after_header form (contents (rules_text set)) (body_lines set) (rules_have_words set lawful can.conditions can.bytes) in
+    let form = form_of set in
+    let after = after_header set (is_of_first set) (contents (rules_text set)) (body_lines set) can.lists
+    (rules_have_words set lawful can.lists can.conditions can.bytes) in
     record {
       rest = after.rest;
       has_form = after.has_form;

@@ -1,3 +1,4 @@
+pub mod ConditionReads
 pub mod ConditionGrammar
 pub mod TextRuns
 pub mod ConditionRuns
@@ -7,7 +8,8 @@ pub mod FileParts
 pub mod FileForms
 pub mod FileLines
 pub mod FormLines
-pub mod Limits
+pub mod PlainWords
+mod ListRules
 pub mod LineBounds
 pub mod WordRuns
 pub mod ActionRuns

@@ -2,7 +2,7 @@
 use Rattle.std.proofs.Common.{◌≡◌, ◌≤◌, ◌<◌, ◌+◌, ◌%◌, ◌^◌, ◌==◌, ◌&&◌, ◌||◌, ℕ, Bool, true, false, not, List, []}
 use Rattle.std.proofs.Common.{◌∷◌, ◌++◌, All, Option, None, Some, length, map, arith, refl, ◌∙◌, inl}
 use Rattle.std.proofs.Common.{inr}
-use Rattle.std.specs.Prelude.{codes, decimal, nat_le, nat_lt}
+use Rattle.std.specs.Prelude.{codes, decimal, nat_le, nat_lt, if◌then◌else◌}
 use Rattle.std.specs.List.{AllZip, filter, filter_map, flat_map, join_with_byte, list_all}
 use Rattle.std.specs.Int.RustNames.{bit_and}
 use Rattle.std.proofs.lemmas.Bool.{and_from, and_parts, cases_Bool, le-leb, leb-true, lt-ltb, ltb-true, ne_eqb}
@@ -48,10 +48,17 @@ use Rattle.milter_filter_rules.specs.declared.rule.Joint.TheVariants.{And, Or}
 use Rattle.milter_filter_rules.specs.declared.rule.PathPart.TheVariants as parts
 use Rattle.milter_rules.specs.declared.form.Form.{Form}
 use Rattle.milter_rules.specs.declared.form.Form.TheVariants.{First, Second}
-use Rattle.milter_rules.specs.RuleForms.{all_fit, are_conditions, form_of, header_lines}
-use Rattle.milter_rules.proofs.ConditionRuns.{have_limits}
-use Rattle.milter_rules.proofs.Limits.{limits_fit}
-use Rattle.milter_rules.specs.ConditionWords.{check_words, condition_words, conditions_words, field_words, flag_words, has_limit, joined, joint_word, quoted_word, test_words}
+use Rattle.milter_rules.specs.RuleForms.{all_fit, are_conditions, form_of, header_lines, is_of_first}
+use Rattle.milter_rules.specs.RulesGiven.{CanFollow}
+use Rattle.milter_lists.specs.ListKinds.{kind_name}
+use Rattle.milter_lists.specs.declared.list_kind.ListKind.{ListKind}
+use Rattle.milter_lists.specs.declared.list_kind.ListKind.TheVariants.{Addresses, Domains, Networks, Texts}
+use Rattle.milter_list_lines.specs.declared.list_source.ListSource.{ListSource}
+use Rattle.milter_list_lines.specs.ListLines.{is_list_name, source_words}
+use Rattle.milter_list_lines.proofs.ListGrammar.{name_plain}
+use Rattle.milter_rules.proofs.ConditionRuns.{have_plain_words}
+use Rattle.milter_rules.proofs.PlainWords.{plain_words}
+use Rattle.milter_rules.specs.ConditionWords.{check_words, condition_words, conditions_words, field_words, flag_words, has_plain_words, joined, joint_word, quoted_word, test_words}
 use Rattle.milter_rules.specs.ConditionWords.{quoted_word}
 use Rattle.milter_filter_search.specs.Texts.{test_name}
 use Rattle.milter_filter_rules.specs.RuleSet.{RuleSet, is_lawful, options_known, rules_lawful, wants_within}
@@ -279,13 +286,16 @@ over_plain : (measure : Measure) (limit : ℕ) → nat_lt limit (2 ^ 32) ≡ tru
 over_plain Size limit fits = rw (plain_decimal limit (ltb-true limit (2 ^ 32) fits)) refl
 over_plain Rcpts limit fits = rw (plain_decimal limit (ltb-true limit (2 ^ 32) fits)) refl
 
-check_plain : (check : Check) → has_limit check ≡ true → are_writable (check_words check) ≡ true
+check_plain : (check : Check) → has_plain_words check ≡ true → are_writable (check_words check) ≡ true
 check_plain (checks.Text c) limit =
     both_writable (field_words c.field) (test_words c) (field_plain c.field) (test_words_plain c)
 check_plain (checks.Within networks) limit = texts_plain networks
 check_plain (checks.Over measure number) limit = over_plain measure number limit
+check_plain (checks.In field name) limit =
+    both_writable (field_words field) (keyword (codes "in") ∷ keyword name ∷ []) (field_plain field)
+    (and_from (is_plain_word name) true (name_plain name limit) refl)
 
-condition_plain : (c : Condition) → has_limit c.check ≡ true → are_writable (condition_words c) ≡ true
+condition_plain : (c : Condition) → has_plain_words c.check ≡ true → are_writable (condition_words c) ≡ true
 condition_plain c limit =
     both_writable (flag_words (codes "not") c.negated) (check_words c.check) (not_plain c.negated) (check_plain c.check limit)
 
@@ -295,12 +305,12 @@ joint_plain false And = refl
 joint_plain true Or = refl
 joint_plain false Or = refl
 
-conditions_plain : (first : Bool) (conditions : List Condition) → have_limits conditions ≡ true
+conditions_plain : (first : Bool) (conditions : List Condition) → have_plain_words conditions ≡ true
     → are_writable (joined first conditions) ≡ true
 conditions_plain first [] limits = refl
 conditions_plain first (c ∷ conditions) limits =
     let others = joined false conditions in
-    let both = and_parts (has_limit c.check) (have_limits conditions) limits in
+    let both = and_parts (has_plain_words c.check) (have_plain_words conditions) limits in
     and_from (is_plain_word (joint_word first c.joint)) (are_writable (condition_words c ++ others)) (joint_plain first c.joint)
     (both_writable (condition_words c) others (condition_plain c both.0) (conditions_plain false conditions both.1))
 
@@ -335,7 +345,7 @@ action_plain : (action : Action) → fields_fit action ≡ true → are_writable
 action_plain (actions.Edit edit) fits = edit_plain edit fits
 action_plain (actions.Verdict verdict) fits = verdict_plain verdict
 
-rule_line : (stage : Stage) (rule : Rule) → fields_fit rule.action ≡ true → have_limits rule.conditions ≡ true
+rule_line : (stage : Stage) (rule : Rule) → fields_fit rule.action ≡ true → have_plain_words rule.conditions ≡ true
     → is_line (rule_words stage rule) ≡ true
 rule_line stage rule fits limits =
     let action = keyword (codes "do") ∷ action_words rule.action in
@@ -354,7 +364,7 @@ rules_line form stage (rule ∷ rules) lawful formed =
     let may = and_parts (allowed_at stage rule.action) (fields_fit rule.action && has_room rule.action) both.0 in
     let fits = (and_parts (fields_fit rule.action) (has_room rule.action) may.1).0 in
     and_from (is_line (rule_words stage rule)) (list_all is_line (map (rule_words stage) rules))
-    (rule_line stage rule fits (limits_fit form rule.conditions of_form.0)) (rules_line form stage rules both.1 of_form.1)
+    (rule_line stage rule fits (plain_words form rule.conditions of_form.0)) (rules_line form stage rules both.1 of_form.1)
 
 pub stage_lawful : (rules : StageRules) (stage : Stage) → EachFits rules → are_lawful_at stage (rules_at rules stage) ≡ true
 stage_lawful rules stages.Connect each = each.connect
@@ -391,11 +401,30 @@ known_version set lawful =
     let le = leb-true set.options.version VERSION_MAX (and_parts (nat_le set.options.version VERSION_MAX) _ most).0 in
     omega (arith, le)
 
-header_line : (form : Form) → list_all is_line (header_lines form) ≡ true
-header_line First = refl
-header_line Second = refl
+kind_plain : (kind : ListKind) → is_plain_word (kind_name kind) ≡ true
+kind_plain Addresses = refl
+kind_plain Domains = refl
+kind_plain Networks = refl
+kind_plain Texts = refl
 
-lines_of_body : (set : RuleSet) → is_lawful set ≡ true → all_fit (form_of set.rules) set.rules ≡ true
+source_line : (source : ListSource) → is_list_name source.name ≡ true → is_line (source_words source) ≡ true
+source_line source is = rw (name_plain source.name is, kind_plain source.kind) refl
+
+sources_line : (before sources : List ListSource) → CanFollow before sources → list_all is_line (map source_words sources) ≡ true
+sources_line before [] can = refl
+sources_line before (source ∷ sources) can =
+    and_from (is_line (source_words source)) (list_all is_line (map source_words sources)) (source_line source can.0)
+    (sources_line (before ++ source ∷ []) sources can.2)
+
+-- the first line and those of the lists, of the form in which rules are written
+header_line : (set : RuleSet) → CanFollow [] set.sources → list_all is_line (header_lines (form_of set)) ≡ true
+header_line set can = by_form (is_of_first set)
+  where
+    by_form : (first : Bool) → list_all is_line (header_lines (if first then First else Second set.sources)) ≡ true
+    by_form true = refl
+    by_form false = sources_line [] set.sources can
+
+lines_of_body : (set : RuleSet) → is_lawful set ≡ true → all_fit (form_of set) set.rules ≡ true
     → list_all is_line (body_lines set) ≡ true
 lines_of_body set lawful formed =
     let o = set.options in
@@ -404,7 +433,7 @@ lines_of_body set lawful formed =
     let ruled = flat_map (stage_lines set.rules) all_stages in
     let others = lists ++ ruled in
     let from_lists = both_lines lists ruled (lists_lines set.lists)
-    (stages_lines (form_of set.rules) set.rules all_stages (each_fits set.rules rules) formed) in
+    (stages_lines (form_of set) set.rules all_stages (each_fits set.rules rules) formed) in
     let from_protocol = and_from (is_line (protocol_words o.protocol.0)) (list_all is_line others)
     (protocol_line o.protocol.0) from_lists in
     let from_actions = and_from (is_line (actions_words o.actions.0))
@@ -413,15 +442,16 @@ lines_of_body set lawful formed =
     (list_all is_line (actions_words o.actions.0 ∷ protocol_words o.protocol.0 ∷ others))
     (version_line o.version (known_version set lawful)) from_actions
 
-all_lines : (set : RuleSet) → is_lawful set ≡ true → all_fit (form_of set.rules) set.rules ≡ true
+all_lines : (set : RuleSet) → is_lawful set ≡ true → CanFollow [] set.sources → all_fit (form_of set) set.rules ≡ true
     → list_all is_line (rules_lines set) ≡ true
-all_lines set lawful formed =
-    both_lines (header_lines (form_of set.rules)) (body_lines set) (header_line (form_of set.rules))
+all_lines set lawful can formed =
+    both_lines (header_lines (form_of set)) (body_lines set) (header_line set can)
     (lines_of_body set lawful formed)
 
-pub rules_have_words : (set : RuleSet) → is_lawful set ≡ true → all_fit (form_of set.rules) set.rules ≡ true
+pub rules_have_words : (set : RuleSet) → is_lawful set ≡ true → CanFollow [] set.sources
+    → all_fit (form_of set) set.rules ≡ true
     → All (All HasBytes) (rules_lines set)
     → AllZip HasWords (contents (rules_text set)) (rules_lines set)
 unfolding rules_text
-rules_have_words set lawful formed bytes =
-    lines_have_words (rules_lines set) (lines_can (rules_lines set) (all_lines set lawful formed) bytes)
+rules_have_words set lawful can formed bytes =
+    lines_have_words (rules_lines set) (lines_can (rules_lines set) (all_lines set lawful can formed) bytes)

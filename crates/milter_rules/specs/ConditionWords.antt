@@ -3,9 +3,10 @@ use Rattle.std.specs.Prelude.{ℕ, ◌^◌, nat_lt, Bool, true, false, ◌&&◌,
 use Rattle.std.specs.Option.{option_map}
 use Rattle.milter_wire_fields.specs.Bind.{◌>>=◌}
 use Rattle.milter_text.specs.declared.word.Word.{Word}
-use Rattle.milter_text.specs.WordValues.{is_keyword, keyword, number_of, text_of}
+use Rattle.milter_text.specs.WordValues.{is_keyword, keyword, number_of, plain_text, text_of}
+use Rattle.milter_list_lines.specs.ListLines.{is_list_name}
 use Rattle.milter_filter_rules.specs.declared.rule.Check.{Check}
-use Rattle.milter_filter_rules.specs.declared.rule.Check.TheVariants.{Text, Within, Over}
+use Rattle.milter_filter_rules.specs.declared.rule.Check.TheVariants.{Text, Within, Over, In}
 use Rattle.milter_filter_rules.specs.declared.rule.Condition.{Condition}
 use Rattle.milter_filter_rules.specs.declared.rule.Field.{Field}
 use Rattle.milter_filter_rules.specs.declared.rule.Field.TheVariants.{Host, Address, Helo, Sender, Rcpt, Recipients, Header, Body, Macro}
@@ -43,21 +44,24 @@ test_words c = keyword (test_name c.test) ∷ (flag_words (codes "any-case") c.a
 abbrev pub field_words : Field → List Word
 field_words field = keyword (field_name field) ∷ name_words field
 
--- `FIELD TEST TEXT ..`, perhaps with `any-case` after the test; `address within TEXT ..`; or `size over NUMBER`
+-- `FIELD TEST TEXT ..`, perhaps with `any-case` after the test; `address within TEXT ..`; `size over NUMBER`; or
+-- `FIELD in NAME`
 abbrev pub check_words : Check → List Word
 check_words (Text check) = field_words check.field ++ test_words check
 check_words (Within networks) = keyword (codes "address") ∷ keyword (codes "within") ∷ map quoted_word networks
 check_words (Over measure limit) =
     keyword (measure_name measure) ∷ keyword (codes "over") ∷ keyword (decimal limit) ∷ []
+check_words (In field name) = field_words field ++ keyword (codes "in") ∷ keyword name ∷ []
 
 -- a check, perhaps with `not` before it
 abbrev pub condition_words : Condition → List Word
 condition_words c = flag_words (codes "not") c.negated ++ check_words c.check
 
--- a number that a limit has room for
-abbrev pub has_limit : Check → Bool
-has_limit (Over measure limit) = nat_lt limit (2 ^ 32)
-has_limit check = true
+-- a limit is a number that there is room for, and the name of a list is one
+abbrev pub has_plain_words : Check → Bool
+has_plain_words (Over measure limit) = nat_lt limit (2 ^ 32)
+has_plain_words (In field name) = is_list_name name
+has_plain_words check = true
 
 -- the word before a condition: the first has `when`
 abbrev pub joint_word : Bool → Joint → List ℕ
@@ -167,13 +171,21 @@ with_texts field test any_case texts = (text_check field test any_case texts.0, 
 abbrev pub after_test : Field → Test → Bool × List Word → Check × List Word
 after_test field test flag = with_texts field test flag.0 (texts_at flag.1)
 
-abbrev pub check_on : Field → List Word → Option (Check × List Word)
-check_on field [] = None
-check_on field (word ∷ rest) =
+-- the check with the name of a list that words begin with
+abbrev pub in_list : Field → List Word → Option (Check × List Word)
+in_list field [] = None
+in_list field (word ∷ rest) = option_map (λ name. (In field name, rest)) (plain_text word)
+
+abbrev pub test_on : Field → Word → List Word → Option (Check × List Word)
+test_on field word rest =
     option_map (λ test. after_test field test (flag_at (codes "any-case") rest)) (test_in word)
 
-abbrev pub text_check_at : List Word → Option (Check × List Word)
-text_check_at words = field_at words >>= λ found. check_on found.0 found.1
+abbrev pub check_on : Field → List Word → Option (Check × List Word)
+check_on field [] = None
+check_on field (word ∷ rest) = if is_keyword (codes "in") word then in_list field rest else test_on field word rest
+
+abbrev pub field_check_at : List Word → Option (Check × List Word)
+field_check_at words = field_at words >>= λ found. check_on found.0 found.1
 
 -- the words after `address within`
 abbrev pub networks_after : Word → List Word → Option (List Word)
@@ -207,7 +219,7 @@ over_at measure words = words_after (codes "over") words >>= limit_at measure
 abbrev pub check_by : Option Measure → Option (List Word) → List Word → List Word → Option (Check × List Word)
 check_by (Some measure) networks words rest = over_at measure rest
 check_by None (Some networks) words rest = Some (within (texts_at networks))
-check_by None None words rest = text_check_at words
+check_by None None words rest = field_check_at words
 
 -- the check that the words begin with, and the words after it
 abbrev pub check_at : List Word → Option (Check × List Word)

@@ -29,8 +29,9 @@ use Rattle.milter_rules.specs.declared.rule_line.RuleLine.TheVariants as lines
 use Rattle.milter_rules.specs.declared.rule_line.Setting.TheVariants as settings
 use Rattle.milter_filter_rules.specs.declared.rule_list.StageRules.{StageRules}
 use Rattle.milter_filter_rules.specs.ActionFits.{edits_weight}
+use Rattle.milter_list_lines.specs.declared.list_source.ListSource.{ListSource}
 use Rattle.milter_rules.specs.declared.form.Form.{Form}
-use Rattle.milter_rules.specs.RuleForms.{FitsForm, HasForm}
+use Rattle.milter_rules.specs.RuleForms.{FitsForm, HasForm, form_sources}
 use Rattle.milter_rules.specs.RuleLines.{Gives}
 use Rattle.milter_filter_rules.specs.RuleSet.{RuleSet}
 use Rattle.milter_filter_rules.specs.StageRules.{by_stage, is_stage}
@@ -134,8 +135,8 @@ wanted p =
       protocol = record { 0 = unwrap_or (option_map (λ b. b.0) p.protocol) (needed_protocol p.rules.body) };
     }
 
-abbrev pub rules_of : FileParts → RuleSet
-rules_of p = record { options = wanted p; lists = p.lists; rules = p.rules }
+abbrev pub rules_of : List ListSource → FileParts → RuleSet
+rules_of sources p = record { options = wanted p; lists = p.lists; rules = p.rules; sources = sources }
 
 -- ---- the file
 
@@ -165,7 +166,7 @@ pub record IsRuleFile (bytes : List ℕ) (set : RuleSet) : Type 0 where
   pub lines : List RuleLine
   pub give : AllGive form rest lines
   pub can_be : CanBeFile lines
-  pub rules_are : set ≡ rules_of (parts_of lines)
+  pub rules_are : set ≡ rules_of (form_sources form) (parts_of lines)
 
 -- the lines of the file state the protocol bits, or not
 pub record StatesProtocol (bytes : List ℕ) (is_stated : Bool) : Type 0 where

@@ -1,5 +1,5 @@
--- The two forms of rule files: one whose first line is `rules 2` may have conditions of more kinds.
-use Rattle.std.specs.Prelude.{◌≡◌, ◌==◌, ℕ, Bool, true, false, not, nat_le, nat_lt, ◌^◌, ◌-◌, is_some, ◌&&◌, List, [], ◌∷◌, codes, length, if◌then◌else◌}
+-- The two forms of rule files: one whose first line is `rules 2` may have lists, and conditions of more kinds.
+use Rattle.std.specs.Prelude.{◌≡◌, ◌==◌, ℕ, Bool, true, false, not, nat_le, nat_lt, ◌^◌, ◌-◌, is_some, ◌&&◌, List, [], ◌∷◌, codes, length, map, Option, None, Some, if◌then◌else◌}
 use Rattle.std.specs.List.{list_all}
 use Rattle.milter_text.specs.declared.word.Word.{Word}
 use Rattle.milter_text.specs.WordValues.{is_keyword, keyword}
@@ -9,8 +9,12 @@ use Rattle.milter_filter_search.specs.declared.pattern.Test.{Test}
 use Rattle.milter_filter_search.specs.declared.pattern.Test.TheVariants.{Is, Has, Lacks, Like, Under}
 use Rattle.milter_message.specs.declared.message.TheConstants.{WEIGHT_MAX}
 use Rattle.milter_network.specs.ReadTexts.{network_in}
+use Rattle.milter_lists.specs.declared.list_kind.ListKind.{ListKind}
+use Rattle.milter_lists.specs.declared.list_kind.ListKind.TheVariants.{Addresses, Domains, Networks, Texts}
+use Rattle.milter_list_lines.specs.declared.list_source.ListSource.{ListSource}
+use Rattle.milter_list_lines.specs.ListLines.{HasSources, is_list_name, source_named, source_words}
 use Rattle.milter_filter_rules.specs.declared.rule.Check.{Check}
-use Rattle.milter_filter_rules.specs.declared.rule.Check.TheVariants.{Text, Within, Over}
+use Rattle.milter_filter_rules.specs.declared.rule.Check.TheVariants.{Text, Within, Over, In}
 use Rattle.milter_filter_rules.specs.declared.rule.Condition.{Condition}
 use Rattle.milter_filter_rules.specs.declared.rule.Field.{Field}
 use Rattle.milter_filter_rules.specs.declared.rule.Field.TheVariants as fields
@@ -21,6 +25,7 @@ use Rattle.milter_filter_rules.specs.declared.rule.Measure.TheVariants.{Size, Rc
 use Rattle.milter_filter_rules.specs.declared.rule.PathPart.TheVariants as parts
 use Rattle.milter_filter_rules.specs.declared.rule_list.StageRules.{StageRules}
 use Rattle.milter_filter_rules.specs.Conditions.{has_form}
+use Rattle.milter_filter_rules.specs.RuleSet.{RuleSet}
 use Rattle.milter_filter_rules.specs.StageRules.{rules_at}
 use Rattle.milter_rules.specs.declared.form.Form.{Form}
 use Rattle.milter_rules.specs.declared.form.Form.TheVariants.{First, Second}
@@ -96,16 +101,36 @@ abbrev pub limit_max : Measure → ℕ
 limit_max Size = WEIGHT_MAX
 limit_max Rcpts = 2 ^ 32 - 1
 
--- a check of the second form: there is a text, or a limit within bounds
-abbrev pub check_fits : Check → Bool
-check_fits (Text c) =
+-- which lists a field may be in: header fields and the body in none, since all of them would be gone over at each
+-- question
+abbrev pub kind_fits : ListKind → Field → Bool
+kind_fits Addresses (fields.Sender parts.Address) = true
+kind_fits Addresses (fields.Rcpt parts.Address) = true
+kind_fits Addresses (fields.Recipients parts.Address) = true
+kind_fits Addresses other = false
+kind_fits Domains field = is_domain field
+kind_fits Networks fields.Address = true
+kind_fits Networks other = false
+kind_fits Texts (fields.Header name) = false
+kind_fits Texts fields.Body = false
+kind_fits Texts field = not (has_form field)
+
+-- there is a list, of a kind that fits the field
+abbrev pub source_fits : Option ListSource → Field → Bool
+source_fits None field = false
+source_fits (Some source) field = kind_fits source.kind field
+
+-- a check of the second form, where there are these lists: there is a text, a limit within bounds, or a list that fits
+abbrev pub check_fits : List ListSource → Check → Bool
+check_fits sources (Text c) =
     nat_lt 0 (length c.texts) && (test_fits c.test c.field c.texts && case_fits c.test c.field c.any_case)
-check_fits (Within networks) = nat_lt 0 (length networks) && list_all is_network networks
-check_fits (Over measure limit) = nat_le limit (limit_max measure)
+check_fits sources (Within networks) = nat_lt 0 (length networks) && list_all is_network networks
+check_fits sources (Over measure limit) = nat_le limit (limit_max measure)
+check_fits sources (In field name) = is_list_name name && source_fits (source_named sources name) field
 
 -- a condition of the second form
-abbrev pub fits_second : Condition → Bool
-fits_second c = check_fits c.check
+abbrev pub fits_second : List ListSource → Condition → Bool
+fits_second sources c = check_fits sources c.check
 
 abbrev pub begins_with_and : List Condition → Bool
 begins_with_and [] = true
@@ -113,7 +138,7 @@ begins_with_and (c ∷ conditions) = is_and c.joint
 
 abbrev pub are_conditions : Form → List Condition → Bool
 are_conditions First conditions = list_all fits_first conditions
-are_conditions Second conditions = begins_with_and conditions && list_all fits_second conditions
+are_conditions (Second sources) conditions = begins_with_and conditions && list_all (fits_second sources) conditions
 
 -- ---- lines
 
@@ -131,20 +156,40 @@ abbrev pub is_header : List Word → Bool
 is_header (first ∷ number ∷ []) = is_keyword (codes "rules") first && is_keyword (codes "2") number
 is_header words = false
 
+-- a file whose first line is `rules 2`, with lines of these lists behind it, has these lines, and then these others
+pub record IsHeaded (sources : List ListSource) (all rest : List (List ℕ)) : Type 0 where
+  pub header : List ℕ
+  pub others : List (List ℕ)
+  pub first : all ≡ header ∷ others
+  pub has_words : HasWords header header_words
+  pub lists : HasSources [] sources others rest
+
 -- a file of this form has these lines, and then these others
 abbrev pub HasForm : Form → List (List ℕ) → List (List ℕ) → Type 0
 HasForm First lines rest = lines ≡ rest
-HasForm Second lines rest = (header : List ℕ) × (lines ≡ header ∷ rest) × HasWords header header_words
+HasForm (Second sources) lines rest = IsHeaded sources lines rest
 
--- ---- the form in which rules are written: the first, where they have it
+-- ---- the form in which rules are written: the first, where they have it and refer to no lists
 
 abbrev pub all_fit : Form → StageRules → Bool
 all_fit form rules =
     list_all (λ stage. list_all (λ rule. are_conditions form rule.conditions) (rules_at rules stage)) all_stages
 
-abbrev pub form_of : StageRules → Form
-form_of rules = if all_fit First rules then First else Second
+abbrev pub has_none : List ListSource → Bool
+has_none [] = true
+has_none (source ∷ sources) = false
+
+abbrev pub is_of_first : RuleSet → Bool
+is_of_first set = has_none set.sources && all_fit First set.rules
+
+abbrev pub form_of : RuleSet → Form
+form_of set = if is_of_first set then First else Second set.sources
 
 abbrev pub header_lines : Form → List (List Word)
 header_lines First = []
-header_lines Second = header_words ∷ []
+header_lines (Second sources) = header_words ∷ map source_words sources
+
+-- the lists that a file of this form has
+abbrev pub form_sources : Form → List ListSource
+form_sources First = []
+form_sources (Second sources) = sources

@@ -1,7 +1,9 @@
 -- What the lines of rules that are written give.
-use Rattle.std.specs.Prelude.{◌≡◌, ◌<◌, ◌≤◌, ℕ, true, List, ◌∷◌, ◌++◌, All, length, map}
+use Rattle.std.specs.Prelude.{◌≡◌, ◌<◌, ◌≤◌, ℕ, true, List, [], ◌∷◌, ◌++◌, All, length, map}
 use Rattle.std.specs.List.{flat_map}
 use Rattle.milter_wire_options.specs.declared.symbol_lists.SymList.{SymList}
+use Rattle.milter_list_lines.specs.declared.list_source.ListSource.{ListSource}
+use Rattle.milter_list_lines.specs.ListLines.{is_source, may_follow}
 use Rattle.milter_wire.specs.declared.stage.Stage.{Stage}
 use Rattle.milter_wire.specs.Stages.{all_stages}
 use Rattle.milter_rules.specs.declared.rule_builder.TheConstants.{RULES_MAX}
@@ -34,10 +36,17 @@ rules_given set =
 abbrev pub stage_count : ℕ
 stage_count = 7
 
--- The conditions are of the form in which they are written, each text is of bytes, and each symbol list of a stage, of
--- which there is no other. There are not too many rules.
+-- each of the lists has a name that none before it has, and there are not too many
+abbrev pub CanFollow : List ListSource → List ListSource → Type 0
+CanFollow before [] = Unit {0}
+CanFollow before (source ∷ sources) =
+    (is_source source ≡ true) × (may_follow before source ≡ true) × CanFollow (before ++ source ∷ []) sources
+
+-- The conditions are of the form in which they are written, each text is of bytes, the lists can follow each other, and
+-- each symbol list is of a stage, of which there is no other. There are not too many rules.
 pub record CanBeText (set : RuleSet) : Type 0 where
-  pub conditions : all_fit (form_of set.rules) set.rules ≡ true
+  pub conditions : all_fit (form_of set) set.rules ≡ true
+  pub lists : CanFollow [] set.sources
   pub bytes : All (All HasBytes) (rules_lines set)
   pub stages : All (λ list. list.stage < stage_count) set.lists
   pub apart : (stage : ℕ) → length (lists_of stage set.lists) ≤ 1

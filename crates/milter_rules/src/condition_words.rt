@@ -1,6 +1,6 @@
 //! The conditions in the words of a rule's line: `when COND and COND or COND ..`, with `FIELD TEST TEXT ..`, `address
-//! within TEXT ..` or `size over NUMBER` for each, perhaps with `not` before it, and with `any-case` after a test of
-//! texts.
+//! within TEXT ..`, `size over NUMBER` or `FIELD in NAME` for each, perhaps with `not` before it, and with `any-case`
+//! after a test of texts.
 
 ghost use Rattle.std.specs.Prelude.{◌≡◌, ◌++◌, ◌∷◌, IfOk, IfSome, List, codes, option_map, true};
 ghost use Rattle.std.specs.List.{list_all};
@@ -9,8 +9,8 @@ ghost use Rattle.milter_text.specs.declared.word.Word.{Word};
 ghost use Rattle.milter_text.specs.WordValues.{keyword};
 ghost use Rattle.milter_filter_rules.specs.declared.rule.Condition.{Condition};
 ghost use Rattle.milter_rules.specs.ConditionWords.{check_at, check_on, condition_at, conditions_words, field_at, first_text, flag_at};
-ghost use Rattle.milter_rules.specs.ConditionWords.{has_limit, joint_at, limit_of, lone_field, measure_in, named_field, networks_after};
-ghost use Rattle.milter_rules.specs.ConditionWords.{over_at, path_field, test_in, text_check_at, texts_at, words_after};
+ghost use Rattle.milter_rules.specs.ConditionWords.{field_check_at, has_plain_words, in_list, joint_at, limit_of, lone_field, measure_in, named_field, networks_after};
+ghost use Rattle.milter_rules.specs.ConditionWords.{over_at, path_field, test_in, test_on, texts_at, words_after};
 
 use itoa::Buffer;
 use milter_filter_rules::{
@@ -30,7 +30,7 @@ pub(crate) fn conditions_in<'a>(
         words.now ≡ conditions_words x.0 ++ keyword (codes "do") ∷ x.1.now)) }
     ensures only { (conditions : List Condition) (rest : List Word) →
         words.now ≡ conditions_words conditions ++ keyword (codes "do") ∷ rest →
-        list_all (λ c. has_limit c.check) conditions ≡ true →
+        list_all (λ c. has_plain_words c.check) conditions ≡ true →
         IfOk result (λ found. IsSomeAnd found (λ x. (x.0 ≡ conditions) × (x.1.now ≡ rest))) }
 {
     let mut conditions = Vec::new(alloc);
@@ -116,7 +116,7 @@ fn check_in<'a>(alloc: Global, words: &'a [Word]) -> Result<Option<(Check, &'a [
             let (networks, rest) = texts_in(alloc, networks)?;
             Ok(Some((Check::Within(networks), rest)))
         }
-        None => text_check_in(alloc, words),
+        None => field_check_in(alloc, words),
     }
 }
 
@@ -167,12 +167,12 @@ fn limit_in(word: &Word) -> Option<u32>
     }
 }
 
-/// The check of texts that the words begin with, and the words after it.
-fn text_check_in<'a>(
+/// The check of a field that the words begin with, and the words after it.
+fn field_check_in<'a>(
     alloc: Global,
     words: &'a [Word],
 ) -> Result<Option<(Check, &'a [Word])>, NoMemory>
-    ensures { IfOk result (λ found. option_map (λ x. (x.0, x.1.now)) found ≡ text_check_at words.now) }
+    ensures { IfOk result (λ found. option_map (λ x. (x.0, x.1.now)) found ≡ field_check_at words.now) }
 {
     match field_in(alloc, words)? {
         Some((field, rest)) => check_on(alloc, field, rest),
@@ -180,7 +180,7 @@ fn text_check_in<'a>(
     }
 }
 
-/// The check of this field whose test and texts the words begin with, and the words after it.
+/// The check of this field that the words begin with, and the words after it.
 fn check_on<'a>(
     alloc: Global,
     field: Field,
@@ -191,6 +191,40 @@ fn check_on<'a>(
     let [test, rest @ ..] = words else {
         return Ok(None);
     };
+    if test.is_keyword(b"in") {
+        in_list(alloc, field, rest)
+    } else {
+        test_on(alloc, field, test, rest)
+    }
+}
+
+/// The check of this field with the name of a list that the words begin with, and the words after it.
+fn in_list<'a>(
+    alloc: Global,
+    field: Field,
+    words: &'a [Word],
+) -> Result<Option<(Check, &'a [Word])>, NoMemory>
+    ensures { IfOk result (λ found. option_map (λ x. (x.0, x.1.now)) found ≡ in_list field words.now) }
+{
+    let [name, rest @ ..] = words else {
+        return Ok(None);
+    };
+    let Some(name) = name.keyword() else {
+        return Ok(None);
+    };
+    let name = Text::copy_of(alloc, name)?;
+    Ok(Some((Check::In(field, name), rest)))
+}
+
+/// The check of this field by the word of a test and the texts that the words begin with, and the words after them.
+fn test_on<'a>(
+    alloc: Global,
+    field: Field,
+    test: &Word,
+    rest: &'a [Word],
+) -> Result<Option<(Check, &'a [Word])>, NoMemory>
+    ensures { IfOk result (λ found. option_map (λ x. (x.0, x.1.now)) found ≡ test_on field test.now rest.now) }
+{
     let Some(test) = test_in(test) else {
         return Ok(None);
     };

@@ -2,41 +2,51 @@
 
 ghost use Rattle.std.specs.Prelude.{◌≡◌, not};
 ghost use Rattle.milter_rules.specs.RuleForms.{all_fit, are_conditions, begins_with_and, begins_with_dot, case_fits, check_fits, fits_first};
-ghost use Rattle.milter_rules.specs.RuleForms.{fits_second, form_of, is_domain, is_first_check, is_first_field, is_header, is_network};
-ghost use Rattle.milter_rules.specs.RuleForms.{limit_max, test_fits};
+ghost use Rattle.milter_rules.specs.RuleForms.{fits_second, is_domain, is_first_check, is_first_field, is_header, is_network, is_of_first};
+ghost use Rattle.milter_rules.specs.RuleForms.{form_sources, kind_fits, limit_max, source_fits, test_fits};
+ghost use Rattle.milter_list_lines.specs.ListLines.{is_list_name, source_named};
 ghost use Rattle.milter_rules.specs.declared.form.Form.TheVariants.{First};
 ghost use Rattle.milter_filter_rules.specs.Conditions.{has_form};
 ghost use Rattle.milter_filter_rules.specs.RulesValue.{rule_set};
 ghost use Rattle.std.specs.List.{list_all};
 
 use milter_filter_rules::{
-    Check, Condition, Field, Joint, Measure, PathPart, Rule, Rules, Test, Texts,
+    Check, Condition, Field, Joint, ListKind, ListSource, ListSources, Measure, PathPart, Rule,
+    Rules, Test, Texts,
 };
+use milter_list_lines::{is_list_name, source_named};
 use milter_message::WEIGHT_MAX;
 use milter_network::Network;
 use milter_text::Word;
 use milter_wire::{Stage, Text};
+use std::alloc::Global;
 
 /// The form of a rule file.
-#[derive(Clone, Copy, Debug, PartialEq, Eq)]
+#[derive(Debug, Drop)]
 pub(crate) enum Form {
     /// The form of files without a first line `rules 2`.
     First,
-    /// The wider form of files with it.
-    Second,
+    /// The wider form of files with it, whose conditions may refer to these lists.
+    Second(ListSources),
 }
 
 impl Form {
-    /// The form in which the rules are written: the first, where all of them have it.
-    pub(crate) fn of_rules(rules: &Rules) -> Self
-        ensures { result ≡ form_of (rule_set rules.now).rules }
+    /// The lists of a file of this form.
+    pub(crate) fn into_sources(self, alloc: Global) -> ListSources
+        ensures { result ≡ form_sources self }
     {
-        if all_fit_first(rules) {
-            Form::First
-        } else {
-            Form::Second
+        match self {
+            Form::First => ListSources::new(Vec::new(alloc)),
+            Form::Second(sources) => sources,
         }
     }
+}
+
+/// Whether the rules are written in the first form: all of them have it, and they refer to no lists.
+pub(crate) fn is_of_first(rules: &Rules) -> bool
+    ensures { result ≡ is_of_first (rule_set rules.now) }
+{
+    rules.named_lists().is_empty() && all_fit_first(rules)
 }
 
 /// Whether all conditions of all rules are of the first form.
@@ -67,11 +77,13 @@ fn conditions_fit_first(conditions: &[Condition]) -> bool
     conditions.iter().all(|condition| fits_first(condition))
 }
 
-/// Whether all conditions are of the second form.
-fn conditions_fit_second(conditions: &[Condition]) -> bool
-    ensures { result ≡ list_all fits_second conditions.now }
+/// Whether all conditions are of the second form, where there are these lists.
+fn conditions_fit_second(sources: &[ListSource], conditions: &[Condition]) -> bool
+    ensures { result ≡ list_all (fits_second sources.now) conditions.now }
 {
-    conditions.iter().all(|condition| fits_second(condition))
+    conditions
+        .iter()
+        .all(|condition| fits_second(sources, condition))
 }
 
 /// Whether the words are the first line of a file of the second form.
@@ -85,12 +97,14 @@ pub(crate) fn is_header(words: &[Word]) -> bool
 }
 
 /// Whether a rule of a file of this form may have these conditions.
-pub(crate) fn are_conditions(form: Form, conditions: &[Condition]) -> bool
-    ensures { result ≡ are_conditions form conditions.now }
+pub(crate) fn are_conditions(form: &Form, conditions: &[Condition]) -> bool
+    ensures { result ≡ are_conditions form.now conditions.now }
 {
     match form {
         Form::First => conditions_fit_first(conditions),
-        Form::Second => begins_with_and(conditions) && conditions_fit_second(conditions),
+        Form::Second(sources) => {
+            begins_with_and(conditions) && conditions_fit_second(sources.as_slice(), conditions)
+        }
     }
 }
 
@@ -137,16 +151,16 @@ fn is_first_field(field: &Field) -> bool
     }
 }
 
-/// Whether the condition is of the second form.
-fn fits_second(condition: &Condition) -> bool
-    ensures { result ≡ fits_second condition.now }
+/// Whether the condition is of the second form, where there are these lists.
+fn fits_second(sources: &[ListSource], condition: &Condition) -> bool
+    ensures { result ≡ fits_second sources.now condition.now }
 {
-    check_fits(&condition.check)
+    check_fits(sources, &condition.check)
 }
 
-/// Whether the check is of the second form.
-fn check_fits(check: &Check) -> bool
-    ensures { result ≡ check_fits check.now }
+/// Whether the check is of the second form, where there are these lists.
+fn check_fits(sources: &[ListSource], check: &Check) -> bool
+    ensures { result ≡ check_fits sources.now check.now }
 {
     match check {
         Check::Text(check) => {
@@ -158,6 +172,31 @@ fn check_fits(check: &Check) -> bool
             !networks.as_slice().is_empty() && are_networks(networks.as_slice())
         }
         Check::Over(measure, limit) => *limit <= limit_max(*measure),
+        Check::In(field, name) => {
+            is_list_name(name.as_slice()) && source_fits(sources, name.as_slice(), field)
+        }
+    }
+}
+
+/// Whether there is a list of this name, of a kind that fits the field.
+fn source_fits(sources: &[ListSource], name: &[u8], field: &Field) -> bool
+    ensures { result ≡ source_fits (source_named sources.now name.now) field.now }
+{
+    match source_named(sources, name) {
+        Some(source) => kind_fits(source.kind, field),
+        None => false,
+    }
+}
+
+/// Whether the field may be in a list of this kind.
+pub fn kind_fits(kind: ListKind, field: &Field) -> bool
+    ensures { result ≡ kind_fits kind field.now }
+{
+    match kind {
+        ListKind::Addresses => matches!(field.path_part(), Some(PathPart::Address)),
+        ListKind::Domains => is_domain(field),
+        ListKind::Networks => matches!(field, Field::Address),
+        ListKind::Texts => !matches!(field, Field::Header(_) | Field::Body) && !has_form(field),
     }
 }
 

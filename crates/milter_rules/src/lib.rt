@@ -1,11 +1,12 @@
 //! Rule files: a filter's policy in lines of words. [`read_rules`] reads the rules of a file, which are a
-//! [`Policy`](milter_filter_core::Policy), and [`write_rules`] writes rules in canonical form.
+//! [`Policy`](milter_filter_policy::Policy), and [`write_rules`] writes rules in canonical form.
 #![tactic(auto)]
 
 mod action_words;
 mod condition_words;
 mod form;
 mod laws;
+mod list_lines;
 mod rule_builder;
 mod rule_fault;
 mod rule_file;
@@ -13,13 +14,16 @@ mod rule_line;
 mod rules_text;
 mod words_text;
 
-pub use form::limit_max;
+pub use form::{kind_fits, limit_max};
 pub use laws::{lines_of_written_words, rule_limit, words_of_actions, written_rules};
 pub use milter_filter_rules::{
-    Action, Check, Condition, Conditions, Field, Joint, Measure, PathPart, Rule, RuleList, Rules,
-    StageRules, Test, TextCheck, Texts,
+    Action, Check, Condition, Conditions, Field, Joint, ListKind, ListSource, ListSources, Measure,
+    NamedList, NamedLists, PathPart, Rule, RuleList, Rules, StageRules, Test, TextCheck, TextList,
+    Texts,
 };
+pub use milter_list_files::ListFile;
+pub use milter_list_lines::LISTS_MAX;
 pub use rule_builder::RULES_MAX;
 pub use rule_fault::RuleFault;
-pub use rule_file::read_rules;
+pub use rule_file::{list_sources, read_rule_lines, read_rules};
 pub use rules_text::write_rules;

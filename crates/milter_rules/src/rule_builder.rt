@@ -8,14 +8,15 @@ ghost use Rattle.milter_rules.specs.RuleBuilder.{edits_weight_at, LineFits, Line
 ghost use Rattle.milter_rules.specs.RuleFault.{IsAt};
 ghost use Rattle.milter_rules.specs.RuleFile.{needed_actions, needed_for, needed_protocol, is_skip, parts_of, rules_of, wanted};
 ghost use Rattle.milter_filter_rules.specs.RuleSet.{is_lawful, list_fits};
-ghost use Rattle.milter_filter_rules.specs.RulesValue.{case_of, rule_set, states_protocol};
+ghost use Rattle.milter_filter_rules.specs.RulesValue.{case_of, named_of, rule_set, states_protocol};
+ghost use Rattle.milter_filter_rules.specs.ListedValues.{sources_of};
 ghost use Rattle.milter_glob.specs.declared.text_case.TextCase.TheVariants.{Exact};
 
 use crate::rule_fault::RuleFault;
 use crate::rule_line::{RuleLine, Setting};
-use milter_filter_core::VERSION_MAX;
-use milter_filter_rules::{Action, Rule, Rules, StageRules};
+use milter_filter_rules::{Action, NamedLists, Rule, Rules, StageRules};
 use milter_message::WEIGHT_MAX;
+use milter_protocol::VERSION_MAX;
 use milter_wire::{Actions, Options, PAYLOAD_MAX, Protocol, Stage, SymList, SymLists, Verdict};
 use milter_wire_options::{OPTIONS_LEN, sym_list_len, sym_lists_len};
 use std::alloc::Global;
@@ -151,15 +152,16 @@ impl Builder {
         Ok(())
     }
 
-    /// The rules, with the options that the lines ask for; else those that the rules need.
-    pub(crate) fn into_rules(self) -> Rules
-        ensures set { rule_set result ≡ rules_of self }
+    /// The rules, with the options that the lines ask for, else those that the rules need, and with these lists.
+    pub(crate) fn into_rules(self, named: NamedLists) -> Rules
+        ensures set { rule_set result ≡ rules_of (sources_of named) self }
+        ensures named { named_of result ≡ named }
         ensures case { case_of result ≡ Exact }
         ensures stated { states_protocol result ≡ is_some self.protocol }
     {
         let options = self.wanted();
         let is_stated = self.protocol.is_some();
-        Rules::from_parts(options, self.lists, self.rules).with_protocol_stated(is_stated)
+        Rules::from_parts(options, self.lists, self.rules, named).with_protocol_stated(is_stated)
     }
 
     /// The options that the filter wants.

@@ -2,8 +2,9 @@
 
 ghost use Rattle.std.specs.Prelude.{◌≡◌};
 ghost use Rattle.milter_text.specs.declared.line_fault.LineFault.{LineFault};
-ghost use Rattle.milter_rules.specs.RuleFault.{of_line_fault, rule_fault_line, rule_fault_number};
+ghost use Rattle.milter_rules.specs.RuleFault.{of_line_fault, of_source_fault, rule_fault_line, rule_fault_number};
 
+use milter_list_lines::SourceFault;
 use milter_text::LineFault;
 use thiserror::Error;
 
@@ -32,10 +33,13 @@ pub enum RuleFault {
     /// The memory that was asked for was refused.
     #[error("out of memory")]
     NoMemory,
+    /// The list of this line is missing, or a line of its file isn't an entry of its kind, or it is too large.
+    #[error("line {0}: bad list")]
+    BadList(u64),
 }
 
 impl RuleFault {
-    /// The fault's number, from 1 for `UnknownWord` to 7 for `NoMemory`.
+    /// The fault's number, from 1 for `UnknownWord` to 8 for `BadList`.
     pub fn number(&self) -> u8
         ensures { result ≡ rule_fault_number self.now }
     {
@@ -47,6 +51,7 @@ impl RuleFault {
             RuleFault::ActionNotHere(_) => 5,
             RuleFault::TooLarge(_) => 6,
             RuleFault::NoMemory => 7,
+            RuleFault::BadList(_) => 8,
         }
     }
 
@@ -60,7 +65,8 @@ impl RuleFault {
             | RuleFault::BadCondition(line)
             | RuleFault::BadAction(line)
             | RuleFault::ActionNotHere(line)
-            | RuleFault::TooLarge(line) => Some(*line),
+            | RuleFault::TooLarge(line)
+            | RuleFault::BadList(line) => Some(*line),
             RuleFault::NoMemory => None,
         }
     }
@@ -74,5 +80,16 @@ impl<E: Into<LineFault>> From<E> for RuleFault {
             LineFault::NotInWords(line) => RuleFault::UnknownWord(line),
             LineFault::NoMemory => RuleFault::NoMemory,
         }
+    }
+}
+
+/// The same fault of a line of a list.
+pub(crate) fn of_source_fault(fault: SourceFault) -> RuleFault
+    ensures { result ≡ of_source_fault fault }
+{
+    match fault {
+        SourceFault::UnknownWord(line) => RuleFault::UnknownWord(line),
+        SourceFault::TooLarge(line) => RuleFault::TooLarge(line),
+        SourceFault::NoMemory => RuleFault::NoMemory,
     }
 }

@@ -1,7 +1,11 @@
 //! Rule files.
 
-ghost use Rattle.std.specs.Prelude.{◌≡◌, ◌≤◌, IfErr, IfOk, List, MatchResult, ℕ, length};
+ghost use Rattle.std.specs.Prelude.{◌≡◌, ◌≤◌, [], IfErr, IfOk, List, MatchResult, codes, length, ℕ};
+ghost use Rattle.milter_text.specs.LineCursor.{HasNoNext, NextHasWords};
 ghost use Rattle.milter_text.specs.Lines.{lines_of};
+ghost use Rattle.milter_list_files.specs.ListFiles.{AreRead, CanBeRead};
+ghost use Rattle.milter_list_lines.specs.ListLines.{HasSources};
+ghost use Rattle.milter_list_lines.specs.declared.list_source.ListSource.{ListSource};
 ghost use Rattle.milter_rules.specs.declared.rule_fault.RuleFault.TheVariants as RuleFault;
 ghost use Rattle.milter_rules.specs.declared.rule_line.RuleLine.{RuleLine};
 ghost use Rattle.milter_rules.specs.RuleFault.{IsBefore, IsWithin};
@@ -9,18 +13,21 @@ ghost use Rattle.milter_rules.specs.declared.form.Form.{Form as FormValue};
 ghost use Rattle.milter_rules.specs.RuleFile.{AllGive, CanBeFile, FoundAll, IsRuleFile, StatesProtocol, parts_of};
 ghost use Rattle.milter_rules.specs.RuleForms.{HasForm};
 ghost use Rattle.milter_filter_rules.specs.RuleSet.{RuleSet};
-ghost use Rattle.milter_filter_rules.specs.RulesValue.{case_of, rule_set, states_protocol};
+ghost use Rattle.milter_filter_rules.specs.RulesValue.{case_of, named_of, rule_set, states_protocol};
 ghost use Rattle.milter_glob.specs.declared.text_case.TextCase.TheVariants.{Exact};
 
 use crate::form::{Form, is_header};
+use crate::list_lines::read_lists;
 use crate::rule_builder::Builder;
-use crate::rule_fault::RuleFault;
+use crate::rule_fault::{RuleFault, of_source_fault};
 use crate::rule_line::line_in;
-use milter_filter_rules::Rules;
+use milter_filter_rules::{ListSources, Rules};
+use milter_list_files::{ListFile, lists_without_entries};
+use milter_list_lines::sources_in;
 use milter_text::LineCursor;
 use std::alloc::Global;
 
-/// The rules of a file.
+/// The rules of a file, whose lists have no entries yet.
 ///
 /// Its lines are words, in any order. `version N` with N from 2 to 6, `actions NAMES` and `protocol NAMES`, each at
 /// most once, are what the filter wants; NAMES are joined by `|`, or the word `none`. Without them it wants version 6,
@@ -39,6 +46,11 @@ use std::alloc::Global;
 /// number of at most 16,777,216, and `rcpts over NUMBER`, of the recipients, with one of 32 bits. These numbers have no
 /// superfluous zeros.
 ///
+/// Such a file may have lists, at most 100, each by a line `list NAME KIND FILE` right behind its first line; FILE is
+/// for who reads its file. A condition `FIELD in NAME` refers to a list whose KIND is `addresses`, for fields with
+/// `-address`; `domains`, for `host`, `helo` and fields with `-domain`; `networks`, for `address`; or `texts`, for
+/// `host`, `address`, `helo`, `sender`, `rcpt`, `recipients` and `macro NAME`.
+///
 /// An ACTION is a verdict, `continue`, `accept`, `reject`, `tempfail`, `discard`, `skip` or `code TEXT`; or an edit,
 /// `add-header NAME VALUE`, `insert-header INDEX NAME VALUE`, `change-header INDEX NAME VALUE`, `add-rcpt TEXT`,
 /// `add-rcpt-par TEXT [TEXT]`, `del-rcpt TEXT`, `change-from TEXT [TEXT]`, `replace-body TEXT`, `quarantine TEXT` or
@@ -46,7 +58,7 @@ use std::alloc::Global;
 ///
 /// The fault is at the first line that isn't of this form, or by which the rules would be none: out of memory aside,
 /// there is one exactly where the file has no rules. Beside the rules, the words of one line at a time are allocated.
-pub fn read_rules(alloc: Global, bytes: &[u8]) -> Result<Rules, RuleFault>
+pub fn read_rule_lines(alloc: Global, bytes: &[u8]) -> Result<Rules, RuleFault>
     // What is read is what the file gives.
     ensures found { IfOk result (λ rules. IsRuleFile bytes.now (rule_set rules)) }
     // The case of letters counts in their texts.
@@ -61,11 +73,53 @@ pub fn read_rules(alloc: Global, bytes: &[u8]) -> Result<Rules, RuleFault>
 {
     let mut lines = LineCursor::new(bytes);
     let form = form_in(alloc, &mut lines)?;
-    let builder = read_lines(alloc, form, &mut lines)?;
-    Ok(builder.into_rules())
+    let builder = read_lines(alloc, &form, &mut lines)?;
+    let sources = form.into_sources(alloc);
+    let named = lists_without_entries(alloc, sources.as_slice())?;
+    Ok(builder.into_rules(named))
 }
 
-/// The form of the file with these lines, behind whose first line the cursor moves where that gives the form.
+/// The rules of a file, as [`read_rule_lines`] reads it, and its lists, each with the entries of the first of these
+/// files that has its name.
+///
+/// The fault is as of `read_rule_lines`; else at the first list that has no file, or whose file has a line that is no
+/// entry, or that is too large.
+pub fn read_rules(alloc: Global, bytes: &[u8], files: &[ListFile]) -> Result<Rules, RuleFault>
+    // What is read is what the file gives.
+    ensures found { IfOk result (λ rules. IsRuleFile bytes.now (rule_set rules)) }
+    // The lists have what their files have.
+    ensures lists { IfOk result (λ rules. AreRead files.now (rule_set rules).sources (named_of rules)) }
+    // The case of letters counts in their texts.
+    ensures case { IfOk result (λ rules. case_of rules ≡ Exact) }
+    // Its protocol bits are stated where a line states them.
+    ensures stated { IfOk result (λ rules. StatesProtocol bytes.now (states_protocol rules)) }
+    // What the file gives is read, unless memory is refused.
+    ensures only { (set : RuleSet) → IsRuleFile bytes.now set → CanBeRead files.now set.sources →
+        MatchResult result (λ rules. rule_set rules ≡ set) (λ e. e ≡ RuleFault.NoMemory) }
+    // The line of a fault is one of the file.
+    ensures line { IfErr result (IsWithin (length (lines_of bytes.now))) }
+{
+    let rules = read_rule_lines(alloc, bytes)?;
+    let named = read_lists(alloc, bytes, rules.named_lists(), files)?;
+    Ok(rules.with_named_lists(named))
+}
+
+/// The lists that a rule file names, in the order of its lines, so that a caller knows which files to read for
+/// [`read_rules`]. Only the lines of the lists and those before them are read; the fault is as of `read_rules`.
+pub fn list_sources(alloc: Global, bytes: &[u8]) -> Result<ListSources, RuleFault>
+    // They are those of the rules of the file.
+    ensures only { (set : RuleSet) → IsRuleFile bytes.now set →
+        MatchResult result (λ sources. sources ≡ set.sources) (λ e. e ≡ RuleFault.NoMemory) }
+    // The line of a fault is one of the file.
+    ensures line { IfErr result (IsWithin (length (lines_of bytes.now))) }
+{
+    let mut lines = LineCursor::new(bytes);
+    let form = form_in(alloc, &mut lines)?;
+    Ok(form.into_sources(alloc))
+}
+
+/// The form of the file with these lines, behind whose first line and whose lists the cursor moves where the first line
+/// gives the form.
 fn form_in(alloc: Global, lines: &mut LineCursor<'_>) -> Result<Form, RuleFault>
     ensures found { IfOk result (λ form. HasForm form lines.old.lines lines.new.lines) }
     ensures only { (form : FormValue) (rest : List (List ℕ)) (values : List RuleLine) →
@@ -77,17 +131,32 @@ fn form_in(alloc: Global, lines: &mut LineCursor<'_>) -> Result<Form, RuleFault>
     let Some(line) = lines.next_if(alloc, b"rules")? else {
         return Ok(Form::First);
     };
-    if is_header(line.words.as_slice()) {
-        Ok(Form::Second)
-    } else {
-        Err(RuleFault::UnknownWord(line.number))
+    if !is_header(line.words.as_slice()) {
+        return Err(RuleFault::UnknownWord(line.number));
+    }
+    let sources = lists_in(alloc, lines)?;
+    Ok(Form::Second(sources))
+}
+
+/// The lists whose lines are at the cursor, behind which it moves.
+fn lists_in(alloc: Global, lines: &mut LineCursor<'_>) -> Result<ListSources, RuleFault>
+    ensures found { IfOk result (λ sources. HasSources [] sources lines.old.lines lines.new.lines) }
+    ensures only { (sources : List ListSource) (rest : List (List ℕ)) →
+        HasSources [] sources lines.old.lines rest → NextHasWords rest → HasNoNext (codes "list") rest →
+        MatchResult result (λ s. (s ≡ sources) × (lines.new.lines ≡ rest)) (λ e. e ≡ RuleFault.NoMemory) }
+    ensures end { lines.new.end ≤ lines.old.end }
+    ensures within { IfErr result (IsBefore lines.old.end) }
+{
+    match sources_in(alloc, lines) {
+        Ok(sources) => Ok(sources),
+        Err(fault) => Err(of_source_fault(fault)),
     }
 }
 
 /// What the lines of a file of this form give together.
-fn read_lines(alloc: Global, form: Form, lines: &mut LineCursor<'_>) -> Result<Builder, RuleFault>
-    ensures found { IfOk result (λ builder. FoundAll form lines.old.lines builder) }
-    ensures only { (values : List RuleLine) → AllGive form lines.old.lines values → CanBeFile values →
+fn read_lines(alloc: Global, form: &Form, lines: &mut LineCursor<'_>) -> Result<Builder, RuleFault>
+    ensures found { IfOk result (λ builder. FoundAll form.now lines.old.lines builder) }
+    ensures only { (values : List RuleLine) → AllGive form.now lines.old.lines values → CanBeFile values →
         MatchResult result (λ builder. builder ≡ parts_of values) (λ e. e ≡ RuleFault.NoMemory) }
     ensures within { IfErr result (IsBefore lines.old.end) }
 {

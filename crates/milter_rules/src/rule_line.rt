@@ -18,9 +18,8 @@ use crate::action_words::action_in;
 use crate::condition_words::{conditions_in, words_after};
 use crate::form::{Form, are_conditions};
 use crate::rule_fault::RuleFault;
-use milter_filter_core::VERSION_MAX;
 use milter_filter_rules::{Action, Rule, has_room, is_allowed_at, is_string};
-use milter_protocol::VERSION_MIN;
+use milter_protocol::{VERSION_MAX, VERSION_MIN};
 use milter_text::{FileLine, Word};
 use milter_wire::{Actions, MacroStage, NoMemory, Protocol, Stage, SymList, Text};
 use std::alloc::Global;
@@ -50,9 +49,9 @@ pub(crate) enum RuleLine {
 /// What the line of a file of this form gives. The fault is the first of these that is so: the first word isn't known,
 /// or the line of options or macros is bad; the stage isn't one; the conditions aren't any; the action isn't one; it
 /// may not be done at this stage; its packet would be too long.
-pub(crate) fn line_in(alloc: Global, form: Form, line: &FileLine) -> Result<RuleLine, RuleFault>
-    ensures found { IfOk result (λ x. Gives line.now.words.items x × FitsForm form x) }
-    ensures only { (x : RuleLine) → Gives line.now.words.items x → FitsForm form x →
+pub(crate) fn line_in(alloc: Global, form: &Form, line: &FileLine) -> Result<RuleLine, RuleFault>
+    ensures found { IfOk result (λ x. Gives line.now.words.items x × FitsForm form.now x) }
+    ensures only { (x : RuleLine) → Gives line.now.words.items x → FitsForm form.now x →
         MatchResult result (λ y. y ≡ x) (λ e. e ≡ faults.NoMemory) }
     ensures at { IfErr result (λ e. IsAt line.now.number e) }
 {
@@ -165,12 +164,17 @@ fn names_in(word: &Word) -> Option<&Text>
 }
 
 /// The stage and the rule of the line with this number of a file of this form, by its words after the first.
-#[tactic(auto, using(crate::proofs::LineForms::stage_read, crate::proofs::Limits::limits_fit))]
-fn rule_in(alloc: Global, form: Form, words: &[Word], line: u64) -> Result<(Stage, Rule), RuleFault>
+#[tactic(auto, using(crate::proofs::LineForms::stage_read, crate::proofs::PlainWords::plain_words))]
+fn rule_in(
+    alloc: Global,
+    form: &Form,
+    words: &[Word],
+    line: u64,
+) -> Result<(Stage, Rule), RuleFault>
     ensures found { IfOk result (λ x. HasRule words.now x.0 x.1
-        × (are_conditions form x.1.conditions ≡ true)) }
+        × (are_conditions form.now x.1.conditions ≡ true)) }
     ensures only { (stage : Stage) (rule : Rule) → HasRule words.now stage rule →
-        are_conditions form rule.conditions ≡ true →
+        are_conditions form.now rule.conditions ≡ true →
         MatchResult result (λ x. x ≡ (stage, rule)) (λ e. e ≡ faults.NoMemory) }
     ensures at { IfErr result (λ e. IsAt line e) }
 {

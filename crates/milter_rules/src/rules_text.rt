@@ -9,17 +9,18 @@ ghost use Rattle.milter_text.specs.WordValues.{keyword};
 ghost use Rattle.milter_text.specs.WrittenText.{WritesPrefix};
 ghost use Rattle.milter_rules.specs.ActionText.{action_words, edit_words, indexed_words, texts_words};
 ghost use Rattle.milter_rules.specs.ConditionWords.{check_words, condition_words, conditions_words, field_words, flag_words, joint_word, quoted_word, test_words};
-ghost use Rattle.milter_rules.specs.RuleForms.{header_lines};
+ghost use Rattle.milter_filter_rules.specs.ListedValues.{sources_of};
+ghost use Rattle.milter_rules.specs.RuleForms.{form_of, header_lines};
 ghost use Rattle.milter_rules.specs.RulesText.{macro_stage_numbered, options_text, rule_text, rules_text};
-ghost use Rattle.milter_rules.specs.RulesText.{stages_text, symbols_text};
+ghost use Rattle.milter_rules.specs.RulesText.{source_text, stages_text, symbols_text};
 ghost use Rattle.milter_filter_rules.specs.RulesValue.{rule_set};
 ghost use Rattle.milter_rules.specs.WordsText.{line_text, spaced};
 
-use crate::form::Form;
+use crate::form::is_of_first;
 use crate::words_text::{WordRef, put_line, put_words};
 use itoa::Buffer;
 use milter_filter_rules::{
-    Action, Check, Condition, Field, Joint, Measure, Rule, Rules, TextCheck,
+    Action, Check, Condition, Field, Joint, ListSource, Measure, NamedList, Rule, Rules, TextCheck,
 };
 use milter_message::Edit;
 use milter_text::{TextFault, TextWriter};
@@ -27,13 +28,14 @@ use milter_wire::{Header, MacroStage, Options, Stage, SymList, Text, Verdict};
 use std::alloc::Global;
 use std::io::Write;
 
-/// Writes the rules as a rule file in canonical form: a line `rules 2` where they need it; the lines `version`,
-/// `actions` and `protocol`, the latter two with the names of the bits joined by `|`, or `none`; `symbols` for each
-/// symbol list of a stage; and `at` for each rule, stage by stage in the order connect, helo, mail, rcpt, data, header,
-/// eoh, body, eob, and within a stage in the order in which they are looked at. Each line ends with LF, one blank is
-/// before each word but the first, keywords are plain, and texts are in quotes as [`quote`](milter_text::quote) writes
-/// them. A symbol list whose number is of no stage is left out; rules that were read from a file have none. The time is
-/// linear in the text. Memory is bounded by a small multiple of 65,536 bytes, and no rule is copied.
+/// Writes the rules as a rule file in canonical form: a line `rules 2` where they need it, with a line `list` for each
+/// list; the lines `version`, `actions` and `protocol`, the latter two with the names of the bits joined by `|`, or
+/// `none`; `symbols` for each symbol list of a stage; and `at` for each rule, stage by stage in the order connect,
+/// helo, mail, rcpt, data, header, eoh, body, eob, and within a stage in the order in which they are looked at. Each
+/// line ends with LF, one blank is before each word but the first, keywords are plain, and texts are in quotes as
+/// [`quote`](milter_text::quote) writes them. A symbol list whose number is of no stage is left out; rules that were
+/// read from a file have none. The time is linear in the text. Memory is bounded by a small multiple of 65,536 bytes,
+/// and no rule is copied.
 ///
 /// The error is `NoMemory` where memory is refused, and `Write` where a write fails, also one that is interrupted, or
 /// takes nothing. After either fault a prefix of the text is written, and nothing else.
@@ -57,20 +59,53 @@ fn put_rules<W: Write>(
 ) -> Result<(), TextFault>
     ensures { Puts W.contents (rules_text (rule_set rules.now)) output.old output.new result }
 {
-    put_form(output, Form::of_rules(rules))?;
+    put_header(output, rules)?;
     put_options(alloc, output, rules.options())?;
     put_symbols(output, rules.lists())?;
     put_stages(output, rules)
 }
 
-/// Puts the first line of a file of this form, if it has one.
-fn put_form<W: Write>(output: &mut TextWriter<'_, W>, form: Form) -> Result<(), TextFault>
-    ensures { Puts W.contents (flat_map line_text (header_lines form)) output.old output.new result }
+/// Puts the first line of a file of the second form and the lines of its lists, where the rules need that form.
+fn put_header<W: Write>(output: &mut TextWriter<'_, W>, rules: &Rules) -> Result<(), TextFault>
+    ensures { Puts W.contents (flat_map line_text (header_lines (form_of (rule_set rules.now))))
+        output.old output.new result }
 {
-    match form {
-        Form::First => Ok(()),
-        Form::Second => put_line(output, b"rules", &[WordRef::Plain(b"2")]),
+    if is_of_first(rules) {
+        return Ok(());
     }
+    put_line(output, b"rules", &[WordRef::Plain(b"2")])?;
+    put_sources(output, rules.named_lists())
+}
+
+/// Puts the line of each list.
+fn put_sources<W: Write>(
+    output: &mut TextWriter<'_, W>,
+    lists: &[NamedList],
+) -> Result<(), TextFault>
+    ensures { Puts W.contents (flat_map source_text (sources_of lists.now)) output.old output.new result }
+{
+    for list in lists {
+        put_source(output, &list.source)?;
+    }
+    Ok(())
+}
+
+/// Puts the line of a list.
+fn put_source<W: Write>(
+    output: &mut TextWriter<'_, W>,
+    source: &ListSource,
+) -> Result<(), TextFault>
+    ensures { Puts W.contents (source_text source.now) output.old output.new result }
+{
+    put_line(
+        output,
+        b"list",
+        &[
+            WordRef::Plain(source.name.as_slice()),
+            WordRef::Plain(source.kind.name()),
+            WordRef::Quoted(&source.file),
+        ],
+    )
 }
 
 /// Puts the lines of the version, of the actions and of the protocol.
@@ -219,6 +254,7 @@ fn put_check<W: Write>(output: &mut TextWriter<'_, W>, check: &Check) -> Result<
         Check::Text(check) => put_text_check(output, check),
         Check::Within(networks) => put_within(output, networks.as_slice()),
         Check::Over(measure, limit) => put_over(output, *measure, *limit),
+        Check::In(field, name) => put_in(output, field, name),
     }
 }
 
@@ -264,6 +300,23 @@ fn put_over<W: Write>(
         &[WordRef::Plain(measure.name()), WordRef::Plain(b"over")],
     )?;
     put_limit(output, limit)
+}
+
+/// Puts the list that a value of a field is to be in.
+fn put_in<W: Write>(
+    output: &mut TextWriter<'_, W>,
+    field: &Field,
+    name: &Text,
+) -> Result<(), TextFault>
+    ensures { Puts W.contents
+        (spaced (field_words field.now ++ keyword (codes "in") ∷ keyword name.now ∷ []))
+        output.old output.new result }
+{
+    put_field(output, field)?;
+    put_words(
+        output,
+        &[WordRef::Plain(b"in"), WordRef::Plain(name.as_slice())],
+    )
 }
 
 /// Puts a limit in decimal.

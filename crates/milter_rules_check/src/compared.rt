@@ -12,7 +12,12 @@ pub(crate) fn is_met_unfound(negated: bool, test: Test) -> bool {
 
 /// What becomes of the condition where its text is never found.
 pub(crate) fn outcome_unfound(compared: Compared<'_>) -> &'static [u8] {
-    if is_met_unfound(compared.negated, compared.test) {
+    outcome_by(is_met_unfound(compared.negated, compared.test))
+}
+
+/// What becomes of a condition that is always met, or never.
+pub(crate) fn outcome_by(is_met: bool) -> &'static [u8] {
+    if is_met {
         b" always holds"
     } else {
         b" never holds"

@@ -79,6 +79,7 @@ fn first_stage_of(check: &Check) -> Option<Stage> {
         Check::Within(_) => Some(Stage::Connect),
         Check::Over(Measure::Size, _) => Some(Stage::Body),
         Check::Over(Measure::Rcpts, _) => Some(Stage::Rcpt),
+        Check::In(field, _) => first_stage(field),
     }
 }
 
@@ -88,6 +89,7 @@ fn name_of(check: &Check) -> &'static [u8] {
         Check::Text(check) => check.field.name(),
         Check::Within(_) => b"address",
         Check::Over(measure, _) => measure.name(),
+        Check::In(field, _) => field.name(),
     }
 }
 
@@ -95,7 +97,7 @@ fn name_of(check: &Check) -> &'static [u8] {
 fn is_met_absent(condition: &Condition) -> bool {
     match &condition.check {
         Check::Text(check) => is_met_unfound(condition.negated, check.test),
-        Check::Within(_) | Check::Over(..) => condition.negated,
+        Check::Within(_) | Check::Over(..) | Check::In(..) => condition.negated,
     }
 }
 
@@ -103,7 +105,7 @@ fn is_met_absent(condition: &Condition) -> bool {
 fn finds_empty_body(check: &Check) -> bool {
     match check {
         Check::Text(check) => matches!(check.field, Field::Body) && finds_empty(check),
-        Check::Within(_) | Check::Over(..) => false,
+        Check::Within(_) | Check::Over(..) | Check::In(..) => false,
     }
 }
 

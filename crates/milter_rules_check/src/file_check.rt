@@ -1,7 +1,7 @@
 //! The check of a rule file.
 
 use crate::rule_findings::say_findings;
-use milter_rules::read_rules;
+use milter_rules::read_rule_lines;
 use milter_rules_faults::{Notes, Severity, say_fault};
 use milter_text::{TextFault, write_text};
 use std::alloc::Global;
@@ -21,7 +21,7 @@ pub fn check_rules<W: Write>(
     writer: &mut W,
 ) -> Result<Option<Severity>, TextFault> {
     let mut notes = Notes::new(alloc, name);
-    match read_rules(alloc, bytes) {
+    match read_rule_lines(alloc, bytes) {
         Ok(rules) => say_findings(alloc, &mut notes, bytes, &rules)?,
         Err(fault) => say_fault(alloc, &mut notes, bytes, fault)?,
     }

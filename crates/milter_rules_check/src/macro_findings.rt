@@ -2,7 +2,8 @@
 
 use crate::advice::{MAIL_ADDR, RCPT_ADDR, without, without_brackets};
 use crate::checked_file::CheckedFile;
-use crate::compared::{outcome_unfound, say_unfound, say_unfound_instead};
+use crate::compared::{outcome_by, outcome_unfound, say_unfound_instead};
+use milter_filter_rules::Condition;
 use milter_rules_faults::{Compared, FileForm, Notes, Piece};
 use milter_wire::{MacroStage, NoMemory, SymList};
 use std::alloc::Global;
@@ -31,6 +32,15 @@ const ADDRESS_MACROS: [AddressMacro; 2] = [
     },
 ];
 
+/// A condition on a macro that is never sent.
+#[derive(Clone, Copy)]
+struct MacroCondition<'a> {
+    /// The condition, as it is shown.
+    shown: Piece<'a>,
+    /// What becomes of it without a value.
+    outcome: &'static [u8],
+}
+
 /// Says what is to be said of the name of a macro in a condition of the file, or else of the text that it is compared
 /// with.
 pub(crate) fn say_macro_text(
@@ -40,12 +50,49 @@ pub(crate) fn say_macro_text(
     compared: Compared<'_>,
     name: &[u8],
 ) -> Result<(), NoMemory> {
-    let lists = file.rules.lists();
+    let condition = MacroCondition {
+        shown: Piece::Compared(compared),
+        outcome: outcome_unfound(compared),
+    };
+    if say_macro_name(alloc, notes, file.rules.lists(), condition, name)? {
+        return Ok(());
+    }
+    if ADDRESS_MACROS.iter().any(|found| found.name == name) {
+        return say_address_text(alloc, notes, file.form, compared);
+    }
+    Ok(())
+}
+
+/// Says what is to be said of the name of a macro that the condition looks for in a list.
+pub(crate) fn say_listed_macro(
+    alloc: Global,
+    notes: &mut Notes<'_>,
+    file: CheckedFile<'_>,
+    condition: &Condition,
+    name: &[u8],
+) -> Result<(), NoMemory> {
+    let shown = MacroCondition {
+        shown: Piece::Condition(condition),
+        outcome: outcome_by(condition.negated),
+    };
+    say_macro_name(alloc, notes, file.rules.lists(), shown, name)?;
+    Ok(())
+}
+
+/// Says why no macro of the name is sent, where these are the symbol lists of the file; answers whether that is so.
+fn say_macro_name(
+    alloc: Global,
+    notes: &mut Notes<'_>,
+    lists: &[SymList],
+    condition: MacroCondition<'_>,
+    name: &[u8],
+) -> Result<bool, NoMemory> {
     let bare = without(name, b'{', b'}');
     let is_braced = matches!(name, [b'{', .., b'}']);
     if bare.len() == 1 && name.len() > 1 {
         let reason = b"Postfix and Sendmail send names of one character without braces, as ";
-        return say_name(alloc, notes, compared, reason, bare);
+        say_name(alloc, notes, condition, reason, bare)?;
+        return Ok(true);
     }
     if bare.len() > 1 && !is_braced {
         let mut due = Vec::new(alloc);
@@ -53,14 +100,15 @@ pub(crate) fn say_macro_text(
         due.extend_from_slice(bare)?;
         due.push(b'}')?;
         let reason = b"Postfix and Sendmail send names of more than one character in braces, as ";
-        return say_name(alloc, notes, compared, reason, due.as_slice());
+        say_name(alloc, notes, condition, reason, due.as_slice())?;
+        return Ok(true);
     }
     match ADDRESS_MACROS.iter().find(|found| found.name == name) {
         Some(found) if has_list(lists, found.stage) && !is_asked_for(lists, name) => {
-            say_unfound(alloc, notes, compared, found.not_asked_for)
+            say_absent(alloc, notes, condition, found.not_asked_for)?;
+            Ok(true)
         }
-        Some(_) => say_address_text(alloc, notes, file.form, compared),
-        None => Ok(()),
+        _ => Ok(false),
     }
 }
 
@@ -87,18 +135,33 @@ fn has_name(names: &[u8], name: &[u8]) -> bool {
 fn say_name<'x>(
     alloc: Global,
     notes: &mut Notes<'_>,
-    compared: Compared<'x>,
+    condition: MacroCondition<'x>,
     reason: &'x [u8],
     due: &'x [u8],
 ) -> Result<(), NoMemory> {
     let pieces = [
-        Piece::Compared(compared),
-        Piece::Plain(outcome_unfound(compared)),
+        condition.shown,
+        Piece::Plain(condition.outcome),
         Piece::Plain(b": "),
         Piece::Plain(reason),
         Piece::Quoted(due),
     ];
     notes.say(alloc, &pieces)
+}
+
+/// Says that the macro isn't sent, for this reason.
+fn say_absent<'x>(
+    alloc: Global,
+    notes: &mut Notes<'_>,
+    condition: MacroCondition<'x>,
+    reason: &'x [u8],
+) -> Result<(), NoMemory> {
+    let outcome = Piece::Plain(condition.outcome);
+    let reason = Piece::Plain(reason);
+    notes.say(
+        alloc,
+        &[condition.shown, outcome, Piece::Plain(b": "), reason],
+    )
 }
 
 /// Says what is to be said of a text that is compared with an address as a mail server reads it, in a file of this

@@ -217,7 +217,7 @@ fn conditions_compare(conditions: &[Condition], compared: Compared<'_>, address:
 fn condition_compares(condition: &Condition, compared: Compared<'_>, address: &[u8]) -> bool {
     match &condition.check {
         Check::Text(check) => check_compares(check, compared, address),
-        Check::Within(_) | Check::Over(..) => false,
+        Check::Within(_) | Check::Over(..) | Check::In(..) => false,
     }
 }
 

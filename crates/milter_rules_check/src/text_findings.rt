@@ -4,7 +4,7 @@ use crate::address_findings::say_part_text;
 use crate::checked_file::CheckedFile;
 use crate::client_findings::say_client_text;
 use crate::compared::{say_empty, say_unfound};
-use crate::macro_findings::say_macro_text;
+use crate::macro_findings::{say_listed_macro, say_macro_text};
 use crate::path_findings::say_path_text;
 use crate::wildcards::say_wildcard;
 use milter_filter_rules::{Check, Condition, Field, PathPart, TextCheck};
@@ -12,7 +12,7 @@ use milter_rules_faults::{Compared, Notes};
 use milter_wire::NoMemory;
 use std::alloc::Global;
 
-/// Says what is to be said of the texts of these conditions of the file.
+/// Says what is to be said of the texts of these conditions of the file, and of their macros in lists.
 pub(crate) fn say_texts(
     alloc: Global,
     notes: &mut Notes<'_>,
@@ -20,8 +20,12 @@ pub(crate) fn say_texts(
     conditions: &[Condition],
 ) -> Result<(), NoMemory> {
     for condition in conditions {
-        if let Check::Text(check) = &condition.check {
-            say_texts_of(alloc, notes, file, condition.negated, check)?;
+        match &condition.check {
+            Check::Text(check) => say_texts_of(alloc, notes, file, condition.negated, check)?,
+            Check::In(Field::Macro(name), _) => {
+                say_listed_macro(alloc, notes, file, condition, name.as_slice())?;
+            }
+            Check::Within(_) | Check::Over(..) | Check::In(..) => {}
         }
     }
     Ok(())

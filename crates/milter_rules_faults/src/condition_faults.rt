@@ -6,6 +6,7 @@ use crate::condition_words::{
     FieldWords, after_stage, condition_in, field_in, flag_in, words_after,
 };
 use crate::file_form::FileForm;
+use crate::file_head::FileHead;
 use crate::flag_faults::{is_not, say_any_case_place, say_not_place};
 use crate::form_faults::{WITHOUT_NOT, WITHOUT_OR, say_needs_form};
 use crate::known_words::{
@@ -17,15 +18,16 @@ use crate::misfits::{say_misfit, say_other_field};
 use crate::nearest::name_meant;
 use crate::notes::{Notes, Piece};
 use crate::number_faults::say_bad_over;
+use crate::reference_faults::say_no_name;
 use milter_text::Word;
 use milter_wire::NoMemory;
 use std::alloc::Global;
 
 /// Where a condition stands.
 #[derive(Clone, Copy)]
-struct Place {
-    /// The form of the file.
-    form: FileForm,
+struct Place<'a> {
+    /// What the first lines of the file give.
+    head: FileHead<'a>,
     /// The word before it.
     joint: &'static [u8],
 }
@@ -58,27 +60,27 @@ pub(crate) fn say_bad_stage(
     }
 }
 
-/// Says what is wrong with a line of these words, of a file of this form, after its stage and before its action.
+/// Says what is wrong with a line of these words, of a file that begins so, after its stage and before its action.
 pub(crate) fn say_bad_conditions(
     alloc: Global,
     notes: &mut Notes<'_>,
-    form: FileForm,
+    head: FileHead<'_>,
     words: &[Word],
 ) -> Result<(), NoMemory> {
     let mut is_first = true;
     let mut rest = after_stage(words);
-    while let Some((joint, after)) = joint_in(form, is_first, rest) {
+    while let Some((joint, after)) = joint_in(head.form, is_first, rest) {
         let Some(condition) = condition_in(after) else {
-            return say_bad_condition(alloc, notes, Place { form, joint }, after);
+            return say_bad_condition(alloc, notes, Place { head, joint }, after);
         };
-        if say_misfit(alloc, notes, form, condition)? {
+        if say_misfit(alloc, notes, head, condition)? {
             return Ok(());
         }
         rest = condition.rest;
         is_first = false;
     }
     match rest {
-        [word, ..] => say_bad_joint(alloc, notes, form, is_first, word),
+        [word, ..] => say_bad_joint(alloc, notes, head.form, is_first, word),
         [] => {
             let text = b"do and an action are missing at the end of the line";
             notes.say(alloc, &[Piece::Plain(text)])
@@ -109,18 +111,18 @@ fn joint_due(is_first: bool) -> &'static [u8] {
 fn say_bad_condition(
     alloc: Global,
     notes: &mut Notes<'_>,
-    place: Place,
+    place: Place<'_>,
     words: &[Word],
 ) -> Result<(), NoMemory> {
     let (negated, rest) = flag_in(b"not", words);
-    if negated && place.form == FileForm::First {
+    if negated && place.head.form == FileForm::First {
         return say_needs_form(alloc, notes, Piece::Plain(b"not"), WITHOUT_NOT);
     }
     match field_in(rest) {
-        Some(found) => say_bad_test(alloc, notes, place.form, found),
+        Some(found) => say_bad_test(alloc, notes, place.head, found),
         None => {
             let before: &[u8] = if negated { b"not" } else { place.joint };
-            say_bad_field(alloc, notes, place.form, before, rest)
+            say_bad_field(alloc, notes, place.head.form, before, rest)
         }
     }
 }
@@ -148,9 +150,10 @@ fn say_bad_field(
 fn say_bad_test(
     alloc: Global,
     notes: &mut Notes<'_>,
-    form: FileForm,
+    head: FileHead<'_>,
     found: FieldWords<'_>,
 ) -> Result<(), NoMemory> {
+    let form = head.form;
     if form == FileForm::First && is_one_of(found.field, WIDE_FIELDS) {
         return say_needs_form(alloc, notes, Piece::Word(found.field), b"");
     }
@@ -161,7 +164,7 @@ fn say_bad_test(
         [word, ..] if is_not(word) => say_not_place(alloc, notes, form),
         [word, ..] if word.is_keyword(b"any-case") => say_any_case_place(alloc, notes, form),
         [test, rest @ ..] if is_one_of(test, WIDE_TEST.names) => {
-            say_bad_texts(alloc, notes, form, found.field, test, rest)
+            say_bad_texts(alloc, notes, head, found.field, test, rest)
         }
         [test, ..] if !is_joint(test) => say_unknown(alloc, notes, &tests_of(form), test),
         _ => say_missing(alloc, notes, &tests_of(form), Piece::Word(found.last)),
@@ -172,11 +175,12 @@ fn say_bad_test(
 fn say_bad_texts(
     alloc: Global,
     notes: &mut Notes<'_>,
-    form: FileForm,
+    head: FileHead<'_>,
     field: &Word,
     test: &Word,
     words: &[Word],
 ) -> Result<(), NoMemory> {
+    let form = head.form;
     if form == FileForm::First && is_one_of(test, WIDE_TESTS) {
         return say_needs_form(alloc, notes, Piece::Word(test), b"");
     }
@@ -185,6 +189,7 @@ fn say_bad_texts(
     }
     match words {
         [word, ..] if is_not(word) => say_not_place(alloc, notes, form),
+        _ if test.is_keyword(b"in") => say_no_name(alloc, notes, head, field, words),
         [any_case, rest @ ..] if any_case.is_keyword(b"any-case") => match form {
             FileForm::First => say_any_case_place(alloc, notes, form),
             FileForm::Second => say_unquoted(alloc, notes, b"a text", any_case, rest),

@@ -30,7 +30,7 @@ pub(crate) struct ConditionWords<'a> {
     pub(crate) test: &'a Word,
     /// Whether `any-case` follows the test.
     pub(crate) any_case: bool,
-    /// Its texts, from one on; none where its field is a number.
+    /// Its texts, from one on, or the name of its list; none where its field is a number.
     pub(crate) texts: &'a [Word],
     /// The words after it.
     pub(crate) rest: &'a [Word],
@@ -134,6 +134,9 @@ fn text_condition_in<'a>(
     let [test, after @ ..] = words else {
         return None;
     };
+    if test.is_keyword(b"in") {
+        return list_condition_in(negated, field, test, after);
+    }
     let (any_case, after) = flag_in(b"any-case", after);
     let (texts, rest) = texts_in(after);
     if texts.is_empty() || !is_one_of(test, WIDE_TEST.names) {
@@ -147,6 +150,28 @@ fn text_condition_in<'a>(
         texts,
         rest,
     })
+}
+
+/// The condition on this field with `in`, after which a plain word is due as the name of a list.
+fn list_condition_in<'a>(
+    negated: bool,
+    field: &'a Word,
+    test: &'a Word,
+    words: &'a [Word],
+) -> Option<ConditionWords<'a>>
+    ensures { IfSome result (λ x. length x.rest.now ≤ length words.now) }
+{
+    match words {
+        [name, rest @ ..] if !name.quoted => Some(ConditionWords {
+            negated,
+            field,
+            test,
+            any_case: false,
+            texts: &words[..1],
+            rest,
+        }),
+        _ => None,
+    }
 }
 
 /// The texts that these words begin with, and the words after them.

@@ -21,7 +21,7 @@ pub(crate) struct Kind<'k> {
 pub(crate) const FIRST_WORD: Kind<'static> = Kind {
     called: b"first word",
     names: "at|version|actions|protocol|symbols",
-    others: &[("rules", "rules")],
+    others: &[("rules", "rules"), ("list", "list")],
 };
 
 /// The versions of the protocol.
@@ -119,18 +119,17 @@ pub(crate) const TEST: Kind<'static> = Kind {
 };
 
 /// The tests that files of the second form alone have.
-pub(crate) const WIDE_TESTS: &str = "begins|ends|like|under|within|over";
+pub(crate) const WIDE_TESTS: &str = "begins|ends|like|under|within|over|in";
 
 /// All tests of files of the second form.
 pub(crate) const WIDE_TEST: Kind<'static> = Kind {
     called: b"test",
-    names: "is|has|lacks|begins|ends|like|under|within|over",
+    names: "is|has|lacks|begins|ends|like|under|within|over|in",
     others: &[
         ("contains", "has"),
         ("equals", "is"),
         ("matches", "like"),
         ("starts", "begins"),
-        ("in", "within"),
     ],
 };
 

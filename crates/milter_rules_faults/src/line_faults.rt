@@ -2,14 +2,16 @@
 
 use crate::action_faults::{say_action_not_here, say_bad_action};
 use crate::condition_faults::{say_bad_conditions, say_bad_stage};
-use crate::file_form::{FileForm, form_of_file};
+use crate::file_form::form_of_file;
+use crate::file_head::{FileHead, lists_of_file};
 use crate::form_faults::say_bad_form_line;
+use crate::list_faults::say_bad_list_line;
 use crate::notes::{Notes, Piece};
 use crate::option_faults::say_bad_option;
 use crate::rule_line::rule_lines;
 use crate::word_faults::{comment_start, say_no_words};
 use memchr::memchr;
-use milter_rules::{RULES_MAX, RuleFault, read_rules};
+use milter_rules::{RULES_MAX, RuleFault, read_rule_lines};
 use milter_text::{Word, WordFault, line_content, words};
 use milter_wire::NoMemory;
 use std::alloc::Global;
@@ -17,8 +19,8 @@ use std::alloc::Global;
 /// A line that is at fault.
 #[derive(Clone, Copy)]
 struct FaultyLine<'a> {
-    /// The form of its file.
-    form: FileForm,
+    /// What the first lines of its file give.
+    head: FileHead<'a>,
     /// The content of the line.
     bytes: &'a [u8],
     /// Its words.
@@ -38,23 +40,29 @@ pub fn say_fault(
     notes.go_to(Some(number));
     let line = line_at(bytes, number);
     let form = form_of_file(alloc, bytes)?;
+    let lists = lists_of_file(alloc, bytes)?;
+    let head = FileHead {
+        form,
+        lists: lists.as_ref().map(|lists| lists.as_slice()),
+    };
     if let Some(start) = comment_start(line)
-        && is_right_alone(alloc, form, &line[..start.min(line.len())])?
+        && is_right_alone(alloc, head, &line[..start.min(line.len())])?
     {
         return say_comment(alloc, notes, &line[start.min(line.len())..]);
     }
     match words(alloc, line) {
         Ok(words) => {
-            let line = FaultyLine {
-                form,
-                bytes: line,
-                words: words.as_slice(),
-            };
+            let line = faulty_line(head, line, words.as_slice());
             say_line_fault(alloc, notes, bytes, line, fault)
         }
         Err(WordFault::BadWord) => say_no_words(alloc, notes, line),
         Err(WordFault::NoMemory) => Err(NoMemory),
     }
+}
+
+/// The line with these bytes and these words, of a file that begins so.
+fn faulty_line<'x>(head: FileHead<'x>, bytes: &'x [u8], words: &'x [Word]) -> FaultyLine<'x> {
+    FaultyLine { head, bytes, words }
 }
 
 /// Says that this comment comes after a line that is right without it.
@@ -75,15 +83,20 @@ fn say_line_fault(
     match fault {
         RuleFault::UnknownWord(_) => say_unknown_line(alloc, notes, line),
         RuleFault::BadStage(_) => say_bad_stage(alloc, notes, words),
-        RuleFault::BadCondition(_) => say_bad_conditions(alloc, notes, line.form, words),
+        RuleFault::BadCondition(_) => say_bad_conditions(alloc, notes, line.head, words),
         RuleFault::BadAction(_) => say_bad_action(alloc, notes, after_do(words)),
         RuleFault::ActionNotHere(_) => say_action_not_here(alloc, notes, words, after_do(words)),
         RuleFault::TooLarge(number) => {
-            let text = if is_right_alone(alloc, line.form, line.bytes)? {
+            let text = if is_right_alone(alloc, line.head, line.bytes)? {
                 limit_of(words, rules_before(alloc, bytes, number)?)
             } else {
                 b"a text is too large for a packet, which has room for 65,535 bytes"
             };
+            notes.say(alloc, &[Piece::Plain(text)])
+        }
+        RuleFault::BadList(_) => {
+            let text =
+                b"the list can't be read: its file is missing, too large, or has a bad entry";
             notes.say(alloc, &[Piece::Plain(text)])
         }
         RuleFault::NoMemory => Err(NoMemory),
@@ -98,10 +111,13 @@ fn say_unknown_line(
 ) -> Result<(), NoMemory> {
     match line.words {
         [first, ..] if first.is_keyword(b"rules") => {
-            say_bad_form_line(alloc, notes, line.form, line.words)
+            say_bad_form_line(alloc, notes, line.head.form, line.words)
+        }
+        [first, ..] if first.is_keyword(b"list") => {
+            say_bad_list_line(alloc, notes, line.head, line.words)
         }
         words => {
-            let is_repeated = is_right_alone(alloc, line.form, line.bytes)?;
+            let is_repeated = is_right_alone(alloc, line.head, line.bytes)?;
             say_bad_option(alloc, notes, words, is_repeated)
         }
     }
@@ -131,14 +147,10 @@ fn after_line(bytes: &[u8]) -> Option<&[u8]> {
     }
 }
 
-/// Whether the line is a rule file of this form by itself.
-fn is_right_alone(alloc: Global, form: FileForm, line: &[u8]) -> Result<bool, NoMemory> {
-    let mut file = Vec::new(alloc);
-    if form == FileForm::Second {
-        file.extend_from_slice(b"rules 2\n")?;
-    }
-    file.extend_from_slice(line)?;
-    match read_rules(alloc, file.as_slice()) {
+/// Whether the line is right by itself in a file that begins so.
+fn is_right_alone(alloc: Global, head: FileHead<'_>, line: &[u8]) -> Result<bool, NoMemory> {
+    let file = head.with_line(alloc, line)?;
+    match read_rule_lines(alloc, file.as_slice()) {
         Ok(_) => Ok(true),
         Err(RuleFault::NoMemory) => Err(NoMemory),
         Err(_) => Ok(false),
@@ -162,7 +174,9 @@ fn rules_before(alloc: Global, bytes: &[u8], number: u64) -> Result<usize, NoMem
 /// What a line says that is too much for the lines before it, among which there are as many rules.
 fn limit_of(words: &[Word], rules: usize) -> &'static [u8] {
     let is_rule = words.first().is_some_and(|word| word.is_keyword(b"at"));
-    if !is_rule {
+    if words.first().is_some_and(|word| word.is_keyword(b"list")) {
+        b"a file has at most 100 lists"
+    } else if !is_rule {
         b"the names of macros of all stages are too large for a packet, which has room for 65,535 bytes"
     } else if rules >= RULES_MAX {
         b"a file has at most 10,000 rules"

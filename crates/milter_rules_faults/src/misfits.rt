@@ -2,26 +2,31 @@
 
 use crate::condition_words::ConditionWords;
 use crate::file_form::FileForm;
+use crate::file_head::FileHead;
 use crate::flag_faults::say_no_case;
 use crate::form_faults::{WITHOUT_NOT, WITHOUT_OR, say_needs_form};
 use crate::known_words::{
     CANONICAL_FIELDS, DOMAIN_FIELDS, NUMBER_FIELDS, WIDE_FIELDS, WIDE_TESTS, is_one_of,
 };
 use crate::notes::{Notes, Piece};
+use crate::reference_faults::say_bad_reference;
 use milter_network::Network;
 use milter_text::Word;
 use milter_wire::NoMemory;
 use std::alloc::Global;
 
-/// Says what of the condition files of this form don't have; answers whether there is such a thing.
+/// Says what of the condition files that begin so don't have; answers whether there is such a thing.
 pub(crate) fn say_misfit(
     alloc: Global,
     notes: &mut Notes<'_>,
-    form: FileForm,
+    head: FileHead<'_>,
     condition: ConditionWords<'_>,
 ) -> Result<bool, NoMemory> {
-    match form {
+    match head.form {
         FileForm::First => say_wide_word(alloc, notes, condition),
+        FileForm::Second if condition.test.is_keyword(b"in") => {
+            say_bad_reference(alloc, notes, head, condition)
+        }
         FileForm::Second => {
             let is_said = say_other_field(alloc, notes, condition.field, condition.test)?;
             Ok(is_said || say_bad_texts(alloc, notes, condition)?)

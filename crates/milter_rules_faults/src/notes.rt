@@ -180,6 +180,13 @@ impl<'n> Notes<'n> {
                 self.put_plain(b" over ")?;
                 self.put_number(u64::from(*limit))
             }
+            Check::In(field, list) => {
+                self.put_not(condition.negated)?;
+                self.put_field(alloc, field)?;
+                self.put_plain(b" in ")?;
+                self.put_plain(shown(list.as_slice()))?;
+                self.put_dots(list.as_slice())
+            }
         }
     }
 
@@ -213,15 +220,21 @@ impl<'n> Notes<'n> {
     /// Puts what stands before the texts of a condition.
     fn put_subject(&mut self, alloc: Global, compared: Compared<'_>) -> Result<(), NoMemory> {
         self.put_not(compared.negated)?;
-        self.put_plain(compared.field.name())?;
-        if let Field::Header(name) | Field::Macro(name) = compared.field {
-            self.put_plain(b" ")?;
-            self.put_quoted(alloc, name.as_slice())?;
-        }
+        self.put_field(alloc, compared.field)?;
         self.put_plain(b" ")?;
         self.put_plain(compared.test.name())?;
         if compared.any_case {
             self.put_plain(b" any-case")?;
+        }
+        Ok(())
+    }
+
+    /// Puts a field with its name, where it has one.
+    fn put_field(&mut self, alloc: Global, field: &Field) -> Result<(), NoMemory> {
+        self.put_plain(field.name())?;
+        if let Field::Header(name) | Field::Macro(name) = field {
+            self.put_plain(b" ")?;
+            self.put_quoted(alloc, name.as_slice())?;
         }
         Ok(())
     }

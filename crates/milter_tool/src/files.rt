@@ -2,8 +2,8 @@
 
 use milter_cli::{load_events, load_reports};
 use milter_cli_io::{
-    InputFile, RuleUse, ToolError, check_rule_file, load_rules, load_session, print_rules,
-    print_session, read_error, used_rules,
+    FileError, InputFile, RuleUse, ToolError, check_rule_file, load_session, print_rules,
+    print_session, read_error, read_file, read_lists, rules_of, used_rules,
 };
 use milter_mail::Session;
 use milter_rules::Rules;
@@ -48,10 +48,10 @@ pub(crate) fn check_rules_at<R: Files + Print + AllocGlobal>(
     path: &str,
 ) -> Result<(), ToolError> {
     let file = open(rt, InputFile::Rules, path)?;
-    check_rule_file(rt.alloc(), path, file, &mut io::writer(rt))
+    check_rule_file(rt, rt.alloc(), path, file, &mut io::writer(rt))
 }
 
-/// The rules of the file at this path as they are used, or none where there is no path.
+/// The rules of the file at this path, with its lists, as they are used; or none where there is no path.
 pub(crate) fn rules_at<R: Files + AllocGlobal>(
     rt: &R,
     path: Option<&str>,
@@ -61,10 +61,19 @@ pub(crate) fn rules_at<R: Files + AllocGlobal>(
         return Ok(Rules::new(rt.alloc()));
     };
     let file = open(rt, InputFile::Rules, path)?;
-    match load_rules(rt.alloc(), file) {
+    match rules_in(rt, path, file) {
         Ok(rules) => Ok(used_rules(rules, usage)),
         Err(error) => Err(ToolError::File(error)),
     }
+}
+
+/// The rules of this file, opened at the path, with its lists.
+fn rules_in<R: Files + AllocGlobal>(rt: &R, path: &str, file: R::File) -> Result<Rules, FileError> {
+    let bytes = read_file(rt.alloc(), InputFile::Rules, file)?;
+    let Ok(lists) = read_lists(rt, rt.alloc(), path, bytes.as_slice()) else {
+        return Err(FileError::NoMemory);
+    };
+    rules_of(rt.alloc(), bytes.as_slice(), lists.as_slice())
 }
 
 /// The session of the file at this path.

@@ -37,7 +37,7 @@ pub(crate) fn serve_many<
         ignore_case: asked.ignore_case,
         least_stages: !asked.all_stages,
     };
-    let mut source = RuleFile::new(rt, asked.rules, usage);
+    let mut source = RuleFile::new(rt, rt.alloc(), asked.rules, usage);
     let rules = first_rules(rt.alloc(), &mut source)?;
     serve_by_rules(rt, asked, mode, source, &rules, &DecisionLog::new(errors))
 }

@@ -4,9 +4,9 @@ use Rattle.milter_cli_serve.proofs.known_file.KnownFile.take_other.Goals as goal
 
 pub returns-in-Ok : goal.returns-in-Ok
 returns-in-Ok c = (
-  are_used c.args.usage c.args.file.bytes.items c.in-Ok.rules c.used_rules.result
-      (search rules) (search rules) c.in-Ok.ensures.case
-      c.used_rules.ensures.set c.used_rules.ensures.ignored c.used_rules.ensures.kept,
+  are_used c.args.usage c.args.file.bytes c.in-Ok.rules c.used_rules.result
+      (search rules) (search rules) (search rules) c.in-Ok.ensures.case
+      c.used_rules.ensures.set c.used_rules.ensures.named c.used_rules.ensures.ignored c.used_rules.ensures.kept,
   c.learn.ensures,
 )
 

@@ -1,0 +1,156 @@
+//! What is said of a condition that refers to a list.
+
+use crate::condition_words::ConditionWords;
+use crate::file_head::FileHead;
+use crate::flag_faults::say_no_case;
+use crate::known_words::{Kind, is_joint, is_one_of, say_unknown_name};
+use crate::list_words::fields_of;
+use crate::nearest::name_meant;
+use crate::notes::{Notes, Piece};
+use milter_network::Network;
+use milter_rules::ListSource;
+use milter_text::Word;
+use milter_wire::NoMemory;
+use std::alloc::Global;
+use std::str;
+
+/// The most bytes of the names of all lists that are shown.
+const NAMES_SHOWN_MAX: usize = 200;
+
+/// Says what is due after `in`, after this field, in place of these words, which don't begin with a plain one.
+pub(crate) fn say_no_name(
+    alloc: Global,
+    notes: &mut Notes<'_>,
+    head: FileHead<'_>,
+    field: &Word,
+    words: &[Word],
+) -> Result<(), NoMemory> {
+    let due = Piece::Plain(b"the name of a list is due after in");
+    let [word, ..] = words else {
+        return notes.say(alloc, &[due]);
+    };
+    let text = word.text.as_slice();
+    let quoted = Piece::Quoted(text);
+    if head.list_named(text).is_some() {
+        let end = Piece::Plain(b" is due without quotes");
+        return notes.say(alloc, &[Piece::Plain(b"list "), quoted, end]);
+    }
+    let middle = Piece::Plain(b", in place of ");
+    let end: &[u8] = if field.is_keyword(b"address") && Network::parse(text).is_some() {
+        b"; a network is due after within"
+    } else {
+        b""
+    };
+    notes.say(alloc, &[due, middle, quoted, Piece::Plain(end)])
+}
+
+/// Says what is wrong with the list of a condition, or with what comes after its name; answers whether there is such a
+/// thing.
+pub(crate) fn say_bad_reference(
+    alloc: Global,
+    notes: &mut Notes<'_>,
+    head: FileHead<'_>,
+    condition: ConditionWords<'_>,
+) -> Result<bool, NoMemory> {
+    let [name, ..] = condition.texts else {
+        return Ok(false);
+    };
+    match head.list_named(name.text.as_slice()) {
+        Some(list) => {
+            Ok(
+                say_other_kind(alloc, notes, list, condition.field)?
+                    || say_second_name(alloc, notes, head, condition.rest)?,
+            )
+        }
+        None => {
+            say_no_list(alloc, notes, head, condition.test, name)?;
+            Ok(true)
+        }
+    }
+}
+
+/// Says that the plain word after `in` is the name of no list.
+fn say_no_list(
+    alloc: Global,
+    notes: &mut Notes<'_>,
+    head: FileHead<'_>,
+    test: &Word,
+    name: &Word,
+) -> Result<(), NoMemory> {
+    if name.is_keyword(b"any-case") {
+        return say_no_case(alloc, notes, test);
+    }
+    if is_joint(name) {
+        let text = b"the name of a list is due after in";
+        return notes.say(alloc, &[Piece::Plain(text)]);
+    }
+    say_unknown_list(alloc, notes, head, name.text.as_slice())
+}
+
+/// Says that no list has the name, and which one may be meant.
+fn say_unknown_list(
+    alloc: Global,
+    notes: &mut Notes<'_>,
+    head: FileHead<'_>,
+    name: &[u8],
+) -> Result<(), NoMemory> {
+    let names = head.list_names(alloc)?;
+    let Ok(names) = str::from_utf8(names.as_slice()) else {
+        return Ok(());
+    };
+    let kind = Kind {
+        called: b"list",
+        names,
+        others: &[],
+    };
+    let are_shown = !names.is_empty() && names.len() <= NAMES_SHOWN_MAX;
+    if are_shown || name_meant(alloc, &kind, name)?.is_some() {
+        return say_unknown_name(alloc, notes, &kind, name);
+    }
+    let begin = Piece::Plain(b"list ");
+    let end = Piece::Plain(b" isn't known; a line list NAME KIND FILE gives one");
+    notes.say(alloc, &[begin, Piece::Quoted(name), end])
+}
+
+/// Says that the list isn't for this field, and for which ones it is; answers whether that is so.
+fn say_other_kind<'x>(
+    alloc: Global,
+    notes: &mut Notes<'_>,
+    list: &'x ListSource,
+    field: &'x Word,
+) -> Result<bool, NoMemory> {
+    let fields = fields_of(list.kind);
+    if is_one_of(field, fields) {
+        return Ok(false);
+    }
+    let pieces = [
+        Piece::Plain(b"list "),
+        Piece::Quoted(list.name.as_slice()),
+        Piece::Plain(b" of "),
+        Piece::Plain(list.kind.name()),
+        Piece::Plain(b" is for "),
+        Piece::List(fields),
+        Piece::Plain(b", and not for "),
+        Piece::Word(field),
+    ];
+    notes.say(alloc, &pieces)?;
+    Ok(true)
+}
+
+/// Says that one list is due after `in`, where another one follows it; answers whether that is so.
+fn say_second_name(
+    alloc: Global,
+    notes: &mut Notes<'_>,
+    head: FileHead<'_>,
+    words: &[Word],
+) -> Result<bool, NoMemory> {
+    match words {
+        [word, ..] if !is_joint(word) && head.list_named(word.text.as_slice()).is_some() => {
+            let begin = Piece::Plain(b"one list is due after in; ");
+            let end = Piece::Plain(b" is due in a condition of its own");
+            notes.say(alloc, &[begin, Piece::Quoted(word.text.as_slice()), end])?;
+            Ok(true)
+        }
+        _ => Ok(false),
+    }
+}
