@@ -321,18 +321,33 @@ def same_answers(library):
 
 
 def by_rules(library):
-    """The replies of filter's ends in Python that rules answer."""
+    """The replies of filter's ends in Python that rules answer. Files that name lists have no rules there."""
     deiruska, count = binding(library), 0
     for name, words, commands in rows(has_rules=True):
         wanted = replies_of(words, commands)
         with open(words[words.index('--rules') + 1], 'rb') as file:
             text = file.read()
-        if wanted is not None:
+        fault = fault_of_lists(text)
+        if wanted is not None and fault is not None:
+            yield checked(name, rule_fault, deiruska, text, fault)
+        elif wanted is not None:
             count += 1
             for piece in pieces_of(commands):
-                yield checked('%s by %d bytes' % (name, piece), expect, 'replies and fault',
-                              replayed.ruled(deiruska, deiruska.Rules(text), commands, piece), wanted)
+                yield checked('%s by %d bytes' % (name, piece), by_rules_of, deiruska, text, commands, piece, wanted)
     yield checked('rows with rules', expect, 'their number', count > 100, True)
+
+
+def by_rules_of(deiruska, text, commands, piece, wanted):
+    """The replies of a filter's end that the rules of this text answer."""
+    expect('replies and fault', replayed.ruled(deiruska, deiruska.Rules(text), commands, piece), wanted)
+
+
+def fault_of_lists(text):
+    """The line and the number of the fault of a rule file that names lists, whose files the library doesn't read; None
+    where it names none."""
+    lines = enumerate(text.split(b'\n'), 1)
+    named = [number for number, line in lines if line.split()[:1] == [b'list']]
+    return (named[0], of_header()['RULES_BAD_LIST']) if named else None
 
 
 def traces(library):
@@ -362,7 +377,7 @@ def rule_faults(library):
         for row in tables.rows_of(table):
             given, (_, _, said) = tables.streams_of('rules', row.lines, row.codes[0])
             fault = re.fullmatch(rb'rules line (\d+): fault (\d)\n', said)
-            expected = (int(fault[1]), 500 + int(fault[2])) if fault else None
+            expected = (int(fault[1]), 500 + int(fault[2])) if fault else fault_of_lists(given)
             yield checked(tables.row_name(row), rule_fault, deiruska, given, expected)
 
 

@@ -1,11 +1,11 @@
 #!/usr/bin/env python3
 """Plays the recipes of docs/COOKBOOK.md by `milter_tool play`, as both compilers built it. The lines of each recipe are
 taken out of the document: they are the rule file with which sessions are played, some to which it applies and some to
-which it doesn't. What becomes of their messages is written in lib/recipes.py, by what the document says of the recipe.
-So are the rules beside rows of other programs' tables.
+which it doesn't, and the files of its lists. What becomes of their messages is written in lib/recipes.py, by what the
+document says of the recipe. So are the rules beside rows of other programs' tables, with the files of their lists.
 
-Besides, of each line of a recipe: without it, one of its sessions ends otherwise. And all recipes are one rule file,
-which is printed in the same lines.
+Besides, of each line of a recipe, and of each entry of its lists: without it, one of its sessions ends otherwise. And
+all recipes are one rule file, which is printed in the same lines.
 
 The rule files that a reader copies first are played too: there is nothing to be said of any of them, and README.md's
 does with its session what is written there.
@@ -69,9 +69,10 @@ def report_of(row):
     return ''.join(line + '\n' for line in lines)
 
 
-def played(program, folder, rules, row):
-    """How the play of a row with these rules ended."""
+def played(program, folder, rules, row, files=None):
+    """How the play of a row with these rules ended, with these files of lists, or with those of all recipes."""
     session = programs.written(os.path.join(folder, 'session'), session_of(row))
+    recipes.write_files(folder, files)
     path = programs.written(os.path.join(folder, 'rules'), ''.join(rule + '\n' for rule in rules))
     return programs.ended([program, 'play', session, '--rules', path])
 
@@ -87,6 +88,17 @@ def of_recipe(program, folder, title, rules, rows):
         others = rules[:at] + rules[at + 1:]
         is_tried = any(played(program, folder, others, row) != end for row, end in zip(rows, expected))
         yield None if is_tried else '%s: no session tries %s' % (title, rule)
+    yield from of_entries(program, folder, title, rules, list(zip(rows, expected)))
+
+
+def of_entries(program, folder, title, rules, ends):
+    """The checks of the entries of a recipe's lists: without each of them a session ends otherwise."""
+    files = recipes.files()
+    for name in [line.split()[1] for line in rules if line.startswith('list ')]:
+        for entry in [line for line in files[name] if not line.startswith('#')]:
+            others = {**files, name: [line for line in files[name] if line != entry]}
+            is_tried = any(played(program, folder, rules, row, others) != end for row, end in ends)
+            yield None if is_tried else '%s: no session tries the entry %s' % (title, entry)
 
 
 def as_one_file(program, folder, lines):
@@ -95,7 +107,7 @@ def as_one_file(program, folder, lines):
     path = programs.written(os.path.join(folder, 'rules'), ''.join(line + '\n' for line in lines))
     status, out, err = programs.ended([program, 'rules', path])
     expect('the run', (status, err), (0, b''))
-    printed = [line for line in out.decode().splitlines() if line.startswith('at ') or line == recipes.WIDE]
+    printed = [line for line in out.decode().splitlines() if line.startswith(('at ', 'list ')) or line == recipes.WIDE]
     expect('the rules', sorted(printed), sorted(lines))
 
 
@@ -103,11 +115,12 @@ def of_tables(program, folder):
     """The checks of the rules beside rows of other programs' tables."""
     rules = recipes.in_tables()
     yield checked('the rules of tables', lambda: expect('rules', set(rules), set(recipes.OF_TABLES)))
-    lines = [recipes.WIDE, *dict.fromkeys(rules)]
+    lines = [recipes.WIDE, *recipes.lists_in(rules), *dict.fromkeys(rules)]
     yield checked('the rules of tables, as one file', as_one_file, program, folder, lines)
     for rule, rows in recipes.OF_TABLES.items():
         stage = rule.split()[1]
-        lines = [recipes.WIDE, rule] + ['at %s do reject' % stage] * rule.endswith(' do continue')
+        lines = [recipes.WIDE, *recipes.lists_in([rule]), rule]
+        lines += ['at %s do reject' % stage] * rule.endswith(' do continue')
         for number, row in enumerate(rows, 1):
             end = 0, report_of(row).encode(), b''
             yield programs.compared('%s, session %d' % (rule, number), played(program, folder, lines, row), end)

@@ -2,7 +2,7 @@
 """Changes the rule file of `milter_tool serve` in the ways in which files change, as both compilers built it: with the
 same time and size, by a rename, by a link, in two parts, and while it can't be read, for want of permission, of a
 descriptor or of memory. Each connection goes by the rules that the file has when it comes, as far as they can be read
-then. What is run is what `rt ci` built; nothing is proved here.
+then. So does it by the lists of the file, which are changed in the same ways. What is run is what `rt ci` built; nothing is proved here.
 
 Counted are the runs.
 """
@@ -22,6 +22,9 @@ from lib.talks import ABORT, CONTINUE, QUIT, opening, packet, quit_all, say
 REJECT, ACCEPT = 'at mail do reject\n', 'at mail do accept\n'
 FAULTY = 'at mail do reject now\n'
 REJECTED, ACCEPTED = packet(b'r'), packet(b'a')
+# A file with a list, and lists of the same size: that has the sender, and that has another one.
+BY_LIST = 'rules 2\nlist senders addresses "senders"\nat mail when sender-address in senders do reject\nat mail do accept\n'
+SENDERS, OTHERS = 'a@x\n', 'b@x\n'
 # Whoever may read nothing that isn't for all, and a time that is long over.
 NOBODY, LONG_AGO = 65534, 10 ** 18
 # For how many seconds the times of a file are too young to be trusted, and a little more.
@@ -242,6 +245,37 @@ def faulty(program, folder):
     yield checked('faults', run_with, program, folder, path, 3 * b'rules line 1: fault 4\n', play)
 
 
+def lists(program, folder):
+    """A list of a file that stays: it gets other entries of the same size, at once and after its time is trusted; a bad
+    entry; and it is gone, and comes back. Then another list is named, which has been there."""
+
+    def play(served):
+        expect_answers(served, REJECTED)
+        overwrite(senders, OTHERS)
+        expect_answers(served, ACCEPTED)
+        replace(senders, SENDERS)
+        expect_answers(served, REJECTED)
+        time.sleep(SETTLED)
+        expect_answers(served, REJECTED, REJECTED)
+        overwrite(senders, OTHERS)
+        expect_answers(served, ACCEPTED)
+        replace(senders, 'a x\n')
+        expect_answers(served, ACCEPTED, ACCEPTED)
+        replace(senders, SENDERS)
+        expect_answers(served, REJECTED)
+        os.remove(senders)
+        expect_answers(served, REJECTED, REJECTED)
+        replace(senders, OTHERS)
+        expect_answers(served, ACCEPTED)
+        replace(path, BY_LIST.replace('"senders"', '"./all"'))
+        expect_answers(served, REJECTED)
+
+    path = file_of(folder, BY_LIST)
+    senders = aged(written(os.path.join(os.path.dirname(path), 'senders'), SENDERS))
+    aged(written(os.path.join(os.path.dirname(path), 'all'), OTHERS + SENDERS))
+    yield checked('lists', run_with, program, folder, path, 2 * b'rules line 2: fault 8\n', play)
+
+
 def unchanged(program, folder):
     """A file that gets other times, and keeps its bytes, takes no memory."""
 
@@ -299,7 +333,7 @@ def refused_memory(program, folder):
     yield from checks.with_each_refused(lambda number: preloaded.is_refused(refuser, number, run)[1])
 
 
-GROUPS = [same_time, links, two_parts, unreadable, few_descriptors, faulty, unchanged, refused_memory]
+GROUPS = [same_time, links, two_parts, unreadable, few_descriptors, faulty, lists, unchanged, refused_memory]
 
 
 def groups(folder):

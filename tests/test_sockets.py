@@ -22,7 +22,7 @@ from lib import checks, preloaded, programs, serving, tables
 from lib.checks import checked, expect
 
 TABLES = ['answer_replies', 'answer_faults']
-RULE_TABLES = ['answer_rules']
+RULE_TABLES = ['answer_rules', 'answer_lists']
 ENDINGS = [(rb'filter fault (\d+)\n', b'failed %s'), (rb'input truncated (\d+) bytes\n', b'ended %s')]
 OFFER = b'O {00}{00}{00}{06}{00}{00}{01}{ff}{00}{1f}{f7}{ff}'
 AGREED = b'O {00}{00}{00}{06}{00}{00}{00}{00}{00}{00}{00}{00}'
@@ -96,7 +96,8 @@ def rows_of(table):
     for row in tables.rows_of(table):
         for code in row.codes:
             name = '%s %s' % (tables.row_name(row), '' if code is None else tables.name_of(code))
-            pieces = pieces_of(row.lines, code)
+            # A row whose rules have a fault may have no packets.
+            pieces = pieces_of(row.lines, code) or [[b'', b'']]
             given, replies = (b''.join(part) for part in zip(*pieces))
             yield name, row.lines, pieces, [[given, replies]], ending_of(row.lines, code)
 

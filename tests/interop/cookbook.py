@@ -37,6 +37,7 @@ class Server(postfix.Postfix):
     def asking(self, rules, *options):
         """The filter, with these rules and options."""
         lines = recipes.as_file(rules)
+        recipes.write_files(self.work)
         path = programs.written(os.path.join(self.work, 'rules'), ''.join(line + '\n' for line in lines))
         return peers.Service(self.program, self.filter, path, options=options)
 

@@ -1,7 +1,7 @@
 """Checks of running programs: functions that raise Wrong where something is not as expected, and groups of them."""
 import concurrent.futures
 import functools
-import subprocess
+import traceback
 
 from lib import runner
 
@@ -21,7 +21,7 @@ def checked(name, check, *given):
     try:
         check(*given)
         return None
-    except (Wrong, OSError, subprocess.TimeoutExpired) as wrong:
+    except Exception as wrong:  # whatever it is, the other checks are made
         return '%s: %s: %s' % (name, type(wrong).__name__, wrong)
 
 
@@ -38,8 +38,15 @@ def with_each_refused(run):
 
 
 def answers_of_group(name, group, given):
-    """What was wrong in each check of a group, or None."""
-    return [wrong and '%s, %s' % (name, wrong) for wrong in group(*given)]
+    """What was wrong in each check of a group, or None. What the group raises itself is one more check, which failed:
+    its text alone comes to the other process, in which the exception may not be known."""
+    answers = []
+    try:
+        for wrong in group(*given):
+            answers.append(wrong and '%s, %s' % (name, wrong))
+    except Exception:  # whatever it is, the other groups are run
+        answers.append('%s: %s' % (name, traceback.format_exc().rstrip()))
+    return answers
 
 
 def run_all(groups):

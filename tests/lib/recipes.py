@@ -72,6 +72,10 @@ WRITTEN = ['<noreply@example.net>', 'noreply@example.net', '<NoReply@Example.NET
 YES = ('X-Spam-Flag', 'YES')
 BULK = ('X-Bulk', 'yes')
 EXTERNAL = ('X-External', 'yes')
+BLOCKED = '550 5.7.1 Your network is blocked'
+PARTNER = ('X-Partner', 'yes')
+SUSPENDED = '550 5.7.1 This login is suspended'
+NO_MAILBOX = '550 5.1.1 No such mailbox'
 
 # The recipes by their titles, each with its sessions.
 RECIPES = {
@@ -147,6 +151,32 @@ RECIPES = {
         passes(sender='<ceo@example.net>', macros=[CEO, login()]),
         passes(macros=[('mail', '{mail_addr}', 'ada@example.org')]),
         passes(sender='<vice-ceo@example.net>', macros=[('mail', '{mail_addr}', 'vice-ceo@example.net')])],
+    'Refuse a list of networks': [
+        refused('connect', BLOCKED, address='203.0.113.255'),
+        refused('connect', BLOCKED, address='198.51.100.7'),
+        passes(),
+        passes(address='203.0.112.255'),
+        passes(address='198.51.100.70')],
+    'Let listed senders pass': [
+        passes(sender='<cleo@example.com>', headers=fields(YES)),
+        passes(sender='Cleo@Example.COM.', headers=fields(YES)),
+        passes(sender='<>', headers=fields(YES)),
+        passes(),
+        refused('eoh', SPAM, headers=fields(YES)),
+        refused('eoh', SPAM, sender='<cleo@mail.example.com>', headers=fields(YES))],
+    'Mark what partners send': [
+        edited({'headers': fields(PARTNER)}, sender='<cleo@Example.com>'),
+        edited({'headers': fields(PARTNER)}, sender='<cleo@mx.mail.example.com>'),
+        edited({'headers': fields(PARTNER)}, sender='<ada@mail.example.org>'),
+        passes(),
+        passes(sender='<cleo@notexample.com>'),
+        passes(sender='<>')],
+    'Logins that may send no more': [
+        refused('mail', SUSPENDED, macros=[login('mallory')]),
+        refused('mail', SUSPENDED, macros=[login('Mallory')]),
+        passes(),
+        passes(macros=[login()]),
+        passes(macros=[login('mallory2')])],
     'The null sender': [
         refused('rcpt', '550 5.7.1 This address sends no mail', sender='<>', recipients=['<news@example.net>']),
         refused('rcpt', '550 5.7.1 This address sends no mail', sender='<>', recipients=['News@example.net']),
@@ -177,6 +207,14 @@ RECIPES = {
         passes(macros=[('rcpt', '{rcpt_addr}', 'brook@example.net')]),
         passes(recipients=['<donoreply@example.net>'], macros=[('rcpt', '{rcpt_addr}', 'donoreply@example.net')]),
         passes(recipients=['<noreply%example.net>'])],
+    'Only recipients that are there': [
+        refused('rcpt', NO_MAILBOX, recipients=['<cleo@example.net>']),
+        refused('rcpt', NO_MAILBOX, recipients=['Cleo@Example.net']),
+        Row({'recipients': ['<cleo@example.net>', '<Brook@example.net>']}, {('rcpt', 1): 'code "%s"' % NO_MAILBOX},
+            None, 'released', {'recipients': ['<Brook@example.net>']}),
+        passes(),
+        passes(recipients=['<Postmaster@example.net>', r'<\"brook\"@example.net>']),
+        passes(recipients=['<cleo@example.org>'])],
     'Refuse recipients by a pattern': [
         refused('rcpt', NO_MAIL, recipients=['<brook+test@example.net>']),
         refused('rcpt', NO_MAIL, recipients=['<Brook+Testing@Example.NET.>']),
@@ -323,6 +361,48 @@ OF_TABLES = {
         rejected('rcpt', recipients=['<@mx.example:noreply@example.net>']), passes()],
     'at mail when macro "{auth_authen}" lacks "" and sender-address is "ceo@example.net" do reject': [
         rejected('mail', sender='<ceo@example.net>'), passes(sender='<ceo@example.net>', macros=[login()]), passes()],
+    'at connect when address in refused-clients do reject': [
+        rejected('connect', address='203.0.113.255'), passes(address='203.0.112.255')],
+    'at mail when sender-address in refused-senders do reject': [
+        rejected('mail', sender='<Eve@example.org.>'), passes(sender='<steve@example.org>')],
+    'at mail when sender-domain in refused-domains do reject': [
+        rejected('mail'), rejected('mail', sender='<ada@lists.example.org>'), passes(sender='<ada@notexample.org>')],
+    'at rcpt when host in known-hosts do continue': [
+        passes(), passes(host='example.org'), rejected('rcpt', host='mail.notexample.org')],
+    'at rcpt when address in known-networks do continue': [
+        passes(address='198.51.100.25'), passes(address='192.0.2.63'), passes(address='203.0.113.255'),
+        rejected('rcpt', address='192.0.2.64')],
+    'at mail when address in bad-networks do reject': [
+        rejected('mail', address='203.0.113.7'), passes(address='203.0.113.70')],
+    'at mail when sender-address in bad-senders do reject': [
+        rejected('mail', sender='<Eve@example.org>'), passes(sender='<eve@mail.example.org>')],
+    'at mail when sender-domain in bad-domains do reject': [
+        rejected('mail'), rejected('mail', sender='<ada@example.com>'), passes(sender='<ada@mail.example.org>')],
+    'at eob when address in internal do add-header "X-Internal" "yes"': [
+        edited({'headers': fields(('X-Internal', 'yes'))}),
+        edited({'headers': fields(('X-Internal', 'yes'))}, address='127.0.0.1'), passes(address='127.0.0.2')],
+    'at connect when host in peers do accept': [
+        ends('connect', 'accept', 'released'), ends('connect', 'accept', 'released', host='MX.example.com'),
+        passes(host='example.org'), passes(host='mx2.example.com')],
+    'at mail when address in src do reject': [
+        rejected('mail', address='203.0.113.127'), passes(address='203.0.113.128')],
+    'at mail when sender-address in mail-from do reject': [
+        rejected('mail', sender='<eve@Example.org>'), passes(sender='<eve@example.com>')],
+}
+# The files of the lists in these rules, by their names.
+FILES_OF_TABLES = {
+    'refused-clients': ['203.0.113.0/24'],
+    'refused-senders': ['eve@example.org'],
+    'refused-domains': ['example.org', '.example.org'],
+    'known-hosts': ['example.org', '.example.org'],
+    'known-networks': ['198.51.100.25', '192.0.2.0/26', '203.0.113.0/24'],
+    'bad-networks': ['203.0.113.7', '2001:db8::/32'],
+    'bad-senders': ['eve@example.org'],
+    'bad-domains': ['example.org', 'example.com'],
+    'internal': ['127.0.0.1', '192.0.2.0/24'],
+    'peers': ['.example.org', 'mx.example.com'],
+    'src': ['203.0.113.0/25'],
+    'mail-from': ['eve@example.org'],
 }
 
 
@@ -332,17 +412,42 @@ def text():
         return file.read()
 
 
+def blocks():
+    """The lines of the document's recipes: of each line the title of its recipe, the name of the file of a list that it
+    belongs to, or None where that is the rule file, and the line. The file of a list comes after a line that says so."""
+    title, file = None, None
+    for line in text().splitlines():
+        heading, names_file = re.match('(#+) (.*)', line), re.match('`([a-z-]+)` has an? .* a line', line)
+        if heading:
+            title, file = heading[2] if heading[1] == '###' else None, None
+        elif names_file:
+            file = names_file[1]
+        elif title and line.startswith('    '):
+            yield title, file, line.strip()
+
+
 def rules():
     """The rules of the document's recipes: the lines of each by its title."""
-    found, title = {}, None
-    for line in text().splitlines():
-        heading = re.match('#+ (.*)', line)
-        title = heading[1] if heading else title
-        if heading and line.startswith('### '):
-            found[title] = []
-        elif title in found and line.startswith('    '):
-            found[title].append(line.strip())
-    return found
+    found = collections.defaultdict(list)
+    for title, file, line in blocks():
+        if file is None:
+            found[title].append(line)
+    return dict(found)
+
+
+def files():
+    """The files of lists: the lines of each by its name. Those of recipes are in the document."""
+    found = collections.defaultdict(list, FILES_OF_TABLES)
+    for _, file, line in blocks():
+        if file is not None:
+            found[file].append(line)
+    return dict(found)
+
+
+def write_files(folder, lines_of=None):
+    """Writes the files of lists into the folder of a rule file."""
+    for name, lines in (lines_of or files()).items():
+        programs.written(os.path.join(folder, name), ''.join(line + '\n' for line in lines))
 
 
 def in_tables():
@@ -350,10 +455,19 @@ def in_tables():
     return re.findall(r'(?m)^\| .* \| `(at .*)` \|$', text())
 
 
+def lists_in(lines):
+    """The lines of the lists that these rules refer to, as the document has them."""
+    found = dict((line.split()[1], line) for line in re.findall(r'list [a-z-]+ [a-z]+ "[a-z-]+"', text()))
+    return [found[name] for line in lines for name in re.findall(r' in ([a-z-]+)', re.sub('".*?"', '', line))]
+
+
 def as_file(lines):
-    """The lines as those of one file, in which `rules 2` stands once, as the first line."""
+    """The lines as those of one file, in which `rules 2` stands once, as the first line, and behind it the lines of
+    lists."""
     others = [line for line in lines if line != WIDE]
-    return others if len(others) == len(lines) else [WIDE] + others
+    lists = [line for line in others if line.startswith('list ')]
+    rest = [line for line in others if not line.startswith('list ')]
+    return [WIDE] * (len(others) < len(lines)) + list(dict.fromkeys(lists)) + rest
 
 
 def passage(lead):

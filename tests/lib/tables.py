@@ -34,7 +34,9 @@ FILTERS = ['answer', 'guard']
 BY_LINES = {'mta': b'<', 'connection': b'<', 'questions': b'>'}
 # The marks of lines of further files, and of each what it has: an option of this name names it.
 FILES = {b'@': 'rules', b'~': 'events'}
-MARKS = b'|^<>&=!*#$%@~'
+# The mark of a line of a file beside that of the rules: its name, and what follows a blank.
+BESIDE = b':'
+MARKS = b'|^<>&=!*#$%@~:'
 SPECIAL = re.compile(rb'\{([0-9a-f]{2}|[^{}]+\*[0-9]+|code)\}')
 NO_LF = b'{no LF}'
 
@@ -106,13 +108,26 @@ def program_of(table):
 
 def further_words(kind, lines, path):
     """The words of a row of these lines after those of its kind; the files that they name are written beside this
-    one."""
+    one, and so are those that the rules name."""
+    write_beside(lines, os.path.dirname(path))
     words = [text.decode() for mark, text in lines if mark == b'$']
     for what in sorted({FILES[mark] for mark, _ in lines if mark in FILES}):
         with open('%s.%s' % (path, what), 'wb') as file:
             file.write(contents_of(kind, lines, None)[what])
         words += ['--' + what, file.name]
     return words
+
+
+def write_beside(lines, folder):
+    """Writes the files that the rules name."""
+    contents = collections.defaultdict(bytes)
+    for mark, text in lines:
+        if mark == BESIDE:
+            name, _, line = text.partition(b' ')
+            contents[name] += ended(line, None, False)
+    for name, content in contents.items():
+        with open(os.path.join(folder, name.decode()), 'wb') as file:
+            file.write(content)
 
 
 def part_of(kind, mark, text, code):
