@@ -3,12 +3,15 @@
  *
  *     load SOCKET SCRIPT OPENING AT_ONCE CONNECTIONS MESSAGES
  *
- * SCRIPT is a file of packets, each of which is replied to by one packet: the first OPENING bytes are sent once on
- * each connection, what follows is a message. CONNECTIONS are made on the Unix socket, AT_ONCE of them at a time,
- * with so many MESSAGES each, and are quit. It prints the nanoseconds that this took. With MESSAGES 0 it plays the
- * openings, prints `idle`, and keeps the connections until its standard input ends.
+ * SCRIPT is a file of packets: the first OPENING bytes are sent once on each connection, and begin with the offer of
+ * options; what follows is a message, up to its end. Packets that the filter negotiated away are left out. Each other
+ * one is replied to by one packet, but where the filter negotiated that it doesn't reply: the next one follows at once
+ * then. CONNECTIONS are made on the Unix socket, AT_ONCE of them at a time, with so many MESSAGES each, and are quit.
+ * It prints the nanoseconds that this took. With MESSAGES 0 it plays the openings, prints `idle`, and keeps the
+ * connections until its standard input ends.
  */
 #define _GNU_SOURCE
+#include <stdint.h>
 #include <stdio.h>
 #include <stdlib.h>
 #include <string.h>
@@ -22,8 +25,19 @@ enum { AT_ONCE_MAX = 10000, PACKETS_MAX = 1000 };
 
 struct link {
 	int socket, next, left;
+	uint32_t protocol;
 	size_t have;
 	unsigned char reply[64];
+};
+
+/* by the code of a packet, the protocol bit with which it isn't sent (SMFIP_NO..) */
+static const uint32_t left_out[256] = {
+	['C'] = 0x1, ['H'] = 0x2, ['M'] = 0x4, ['R'] = 0x8, ['B'] = 0x10, ['L'] = 0x20, ['N'] = 0x40, ['T'] = 0x200,
+};
+/* the same, with which it isn't replied to (SMFIP_NR_..) */
+static const uint32_t not_replied_to[256] = {
+	['L'] = 0x80, ['C'] = 0x1000, ['H'] = 0x2000, ['M'] = 0x4000, ['R'] = 0x8000, ['T'] = 0x10000, ['N'] = 0x40000,
+	['B'] = 0x80000,
 };
 
 static unsigned char *script;
@@ -36,6 +50,11 @@ static void fail(const char *what)
 {
 	perror(what);
 	exit(1);
+}
+
+static uint32_t number_at(const unsigned char *bytes)
+{
+	return (uint32_t) bytes[0] << 24 | bytes[1] << 16 | bytes[2] << 8 | bytes[3];
 }
 
 static void read_script(const char *path, long opening)
@@ -54,7 +73,7 @@ static void read_script(const char *path, long opening)
 	for (long at = 0; at < size; packets++) {
 		if (packets == PACKETS_MAX)
 			fail("too many packets");
-		at += 4 + (script[at + 2] << 8 | script[at + 3]);
+		at += 4 + number_at(script + at);
 		ends[packets] = at;
 		if (at == opening)
 			opening_packets = packets + 1;
@@ -62,13 +81,23 @@ static void read_script(const char *path, long opening)
 	fclose(file);
 }
 
-static void send_next(struct link *link)
+/* sends what comes next, up to a packet that is replied to; whether there was one */
+static int send_next(struct link *link)
 {
-	int start = link->next ? ends[link->next - 1] : 0;
+	int end = messages ? packets : opening_packets;
 
-	if (send(link->socket, script + start, ends[link->next] - start, MSG_NOSIGNAL) != ends[link->next] - start)
-		fail("send");
-	link->next++;
+	while (link->next < end) {
+		int start = link->next ? ends[link->next - 1] : 0, size = ends[link->next++] - start;
+		unsigned char code = script[start + 4];
+
+		if (link->protocol & left_out[code])
+			continue;
+		if (send(link->socket, script + start, size, MSG_NOSIGNAL) != size)
+			fail("send");
+		if (!(link->protocol & not_replied_to[code]))
+			return 1;
+	}
+	return 0;
 }
 
 static void start(struct link *link, int at)
@@ -82,6 +111,7 @@ static void start(struct link *link, int at)
 		fail("epoll_ctl");
 	link->next = 0;
 	link->left = messages;
+	link->protocol = 0;
 	link->have = 0;
 	send_next(link);
 }
@@ -97,12 +127,16 @@ static int has_reply(struct link *link)
 	link->have += count;
 	if (link->have < 5)
 		return 0;
-	size = 4 + (link->reply[2] << 8 | link->reply[3]);
+	size = 4 + number_at(link->reply);
 	if (link->have > size || !memchr("Oca", link->reply[4], 3)) {
 		fputs("a reply is not as expected\n", stderr);
 		exit(1);
 	}
-	return link->have == size;
+	if (link->have < size)
+		return 0;
+	if (link->reply[4] == 'O')
+		link->protocol = number_at(link->reply + 13);
+	return 1;
 }
 
 /* what follows a reply: 1 the next packet, 0 the end of the connection, -1 nothing */
@@ -111,9 +145,7 @@ static int go_on(struct link *link)
 	static const unsigned char quit[] = { 0, 0, 0, 1, 'Q' };
 
 	link->have = 0;
-	if (link->next == opening_packets && messages == 0)
-		return -1;
-	if (link->next == packets) {
+	if (messages && link->next == packets) {
 		if (--link->left == 0) {
 			if (send(link->socket, quit, sizeof quit, MSG_NOSIGNAL) != sizeof quit)
 				fail("send");
@@ -122,8 +154,7 @@ static int go_on(struct link *link)
 		}
 		link->next = opening_packets;
 	}
-	send_next(link);
-	return 1;
+	return send_next(link) ? 1 : -1;
 }
 
 int main(int count, char **words)

@@ -16,12 +16,13 @@ export DEIRUSKA_LIBRARY=$library/lib/libdeiruska.so.0 PYTHONPATH=bindings/python
 work=$(mktemp -d)
 trap 'rm -rf "$work"' EXIT
 MESSAGES=2000
+BODY=4096
 cc -O2 -o "$work/load" bench/load.c
 
 # rate FILTER AT_ONCE: how many messages a second the filter takes
 rate() {
     rm -f "$work/socket"
-    "$python" bench/serve.py "$work/load" "$work/socket" rate "$2" "$2" $((MESSAGES / $2)) \
+    "$python" bench/serve.py "$work/load" "$work/socket" rate "$BODY" "$2" "$2" $((MESSAGES / $2)) \
         "$python" bench/filters.py "$1" "$work/socket" |
         awk -v filter="$1" -v at_once="$2" -v count="$MESSAGES" '
             { printf "%4d %-10s %8.0f %8.0f\n", at_once, filter, count * 1e9 / $1, count * 1e9 / $2 }'

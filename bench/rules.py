@@ -1,7 +1,8 @@
-"""Plays one message to `milter_tool answer` by rules that look at everything that came at each header field and at each
-chunk of a body, and prints what that costs; ends with status 1 where the cost grows faster than the message.
+"""Plays one message to `milter_tool answer` by many rules that look at each recipient, and by rules that look at
+everything that came at each header field and at each chunk of a body, and prints what that costs; ends with status 1
+where the cost grows faster than the message, or where rules of the first form cost more than with an older program.
 
-    python3 rules.py PROGRAM FOLDER
+    python3 rules.py PROGRAM FOLDER [OLDER]
 """
 import os
 import struct
@@ -33,31 +34,49 @@ MOST = 20
 # The shortest time, in seconds, of which ten times is compared.
 LEAST = 0.004
 RUNS = 3
+# Many rules at rcpt, none of which holds: what a rule looks at, the text for each number, and whether all texts stand
+# in one rule. The first ones are also measured in a file of the first form, which an older program reads too.
+AT_RCPT = [
+    ('rcpt is', '<user%04d@example.net>', False), ('rcpt is', '<user%04d@example.net>', True),
+    ('rcpt-address is', 'user%04d@example.net', False), ('rcpt-address is', 'user%04d@example.net', True),
+    ('rcpt-domain under', 'user%04d.example.net', False), ('rcpt-domain under', 'user%04d.example.net', True)]
+RULES = 10_000
+RECIPIENTS = [1, 200, 2_000]
+# How many times as much as with an older program the same rules may cost: as much, and what such runs are off by.
+MORE = 1.25
 
 
 def packet(payload):
     return struct.pack('>I', len(payload)) + payload
 
 
-def message(middle):
-    """The bytes of a connection with one message, with these packets between its recipient and its end."""
+def message(middle, recipients=packet(b'R<b@y>\0')):
+    """The bytes of a connection with one message, with these packets between its recipients and its end."""
     return b''.join([
         packet(b'O' + struct.pack('>III', 6, 0x1ff, 0x1fffff)), packet(b'Chost\0004\0\x19192.0.2.1\0'),
-        packet(b'Hhelo\0'), packet(b'DM{x}\0value\0'), packet(b'M<a@x>\0'), packet(b'R<b@y>\0'), packet(b'T'), middle,
+        packet(b'Hhelo\0'), packet(b'DM{x}\0value\0'), packet(b'M<a@x>\0'), recipients, packet(b'T'), middle,
         packet(b'E'), packet(b'Q')])
 
 
+def run(program, rules, given):
+    """The processor time of a run on these bytes, in user mode."""
+    with open(given, 'rb') as stdin:
+        started = subprocess.Popen([program, 'answer', '--rules', rules], stdin=stdin, stdout=subprocess.DEVNULL)
+        _, status, used = os.wait4(started.pid, 0)
+    if status:
+        sys.exit('answer ended with status %d' % status)
+    return used.ru_utime
+
+
+def fastest(programs, rules, given):
+    """The time of the fastest run of each program, which run in turn."""
+    turns = [[run(program, rules, given) for program in programs] for _ in range(RUNS)]
+    return [min(times) for times in zip(*turns)]
+
+
 def seconds(program, rules, given):
-    """The processor time of the fastest run on these bytes, in user mode."""
-    best = None
-    for _ in range(RUNS):
-        with open(given, 'rb') as stdin:
-            run = subprocess.Popen([program, 'answer', '--rules', rules], stdin=stdin, stdout=subprocess.DEVNULL)
-            _, status, used = os.wait4(run.pid, 0)
-        if status:
-            sys.exit('answer ended with status %d' % status)
-        best = used.ru_utime if best is None else min(best, used.ru_utime)
-    return best
+    """The time of the fastest run of a program."""
+    return fastest([program], rules, given)[0]
 
 
 def written(folder, name, content):
@@ -84,7 +103,43 @@ def is_linear(times):
     return all(later <= MOST * max(time, LEAST) for time, later in zip(times, times[1:]))
 
 
-def main(program, folder):
+def file_at_rcpt(condition, text, is_one):
+    """The rules of a file in which so many texts are looked for in each recipient."""
+    texts = ['"%s"' % text % number for number in range(RULES)]
+    return ''.join(
+        'at rcpt when %s %s do reject\n' % (condition, it) for it in ([' '.join(texts)] if is_one else texts)).encode()
+
+
+def print_row(name, times, fault=''):
+    print('%-30s %s%s' % (name, ' '.join('%8.3f' % time for time in times), fault and '  ' + fault))
+
+
+def many_at_rcpt(program, folder, older):
+    """Prints what many rules at rcpt cost, and by an older program where there is one; whether none is too dear."""
+    paths = []
+    for count in RECIPIENTS:
+        recipients = b''.join(packet(b'R<user%04d@example.com>\0' % number) for number in range(count))
+        paths.append(written(folder, 'rcpt%d' % count, message(packet(b'N'), recipients)))
+    print('seconds for {:,} texts at rcpt, and {} recipients:'.format(
+        RULES, ', '.join('{:,}'.format(count) for count in RECIPIENTS)))
+    rules = written(folder, 'rules', file_at_rcpt(*AT_RCPT[0]))
+    times, *before = zip(*(fastest([program] + [older] * bool(older), rules, path) for path in paths))
+    is_well = not before or times[-1] <= MORE * before[0][-1]
+    print_row('rcpt is, first form', times, '' if is_well else 'MORE THAN BEFORE')
+    if before:
+        print_row('the same, by the older program', before[0])
+    else:
+        print('the same by an older program is left out: there is none at OLD')
+    for condition, text, is_one in AT_RCPT:
+        rules = written(folder, 'rules', b'rules 2\n' + file_at_rcpt(condition, text, is_one))
+        times = [seconds(program, rules, path) for path in paths]
+        is_right = is_linear(times[1:])
+        is_well &= is_right
+        print_row(condition + ', one rule' * is_one, times, '' if is_right else 'NOT LINEAR')
+    return is_well
+
+
+def main(program, folder, older=''):
     given = {}
     for count in COUNTS:
         fields = b''.join(packet(b'LX\0 v%06d\0' % number) for number in range(count))
@@ -94,7 +149,7 @@ def main(program, folder):
         given['macros', count] = written(folder, 'macros%d' % count, message(with_macros + packet(b'N')))
         chunks = b''.join(packet(b'B' + b'x') for _ in range(count))
         given['body', count] = written(folder, 'body%d' % count, message(packet(b'N') + chunks))
-    failed = False
+    failed = not many_at_rcpt(program, folder, older)
     all_conditions = conditions_on(FIELDS) + [(*name.split(), condition) for name, condition in OTHERS.items()]
     kinds = [
         ('header', 'header', 'header fields', all_conditions), ('body', 'body', 'chunks of one byte', all_conditions),

@@ -2,11 +2,20 @@
 # Measures what rules cost that look at all header fields so far at each header field, and at the whole body so far at
 # each chunk of it, for each field and each test: one message of 1,000 to 100,000 header fields, with macros before each
 # and without, or of as many chunks of one byte; and a body of 1,000,000 bytes in chunks of 1 to 65,535 bytes, to
-# `milter_tool answer`. It prints the processor time of the fastest of three runs, and fails where ten times as much of a
-# message costs more than twenty times as much. It takes Python and some minutes. The program is built first where it has
-# to be; another one may be given.
+# `milter_tool answer`. Before these it measures 10,000 rules at rcpt, and one rule with as many texts, on a message of
+# 1 to 2,000 recipients. It prints the processor time of the fastest of three runs, and fails where ten times as much of
+# a message costs more than twenty times as much. It takes Python and some minutes. The program is built first where it
+# has to be; another one may be given.
 #
-#     bash bench/rules.sh [PROGRAM]
+# With an older program at OLD both go through 10,000 rules at rcpt of the first form, in turn, and it fails where they
+# cost a quarter more than they did; less is what such runs are off by. Without OLD that row is left out. The last
+# program before rule files had a wider form is built in half an hour by
+#
+#     git worktree add --detach /tmp/before 241ad378 && make -C /tmp/before
+#
+# and is /tmp/before/crates/milter_tool/out/milter_tool then.
+#
+#     [OLD=PROGRAM] bash bench/rules.sh [PROGRAM]
 set -eu
 cd "$(dirname "${BASH_SOURCE[0]}")/.."
 program=${1:-}
@@ -16,4 +25,4 @@ if [ -z "$program" ]; then
 fi
 work=$(mktemp -d)
 trap 'rm -rf "$work"' EXIT
-python3 bench/rules.py "$program" "$work"
+python3 bench/rules.py "$program" "$work" "${OLD:-}"

@@ -1,14 +1,14 @@
 #!/usr/bin/env python3
 """Plays many connections at once on a filter, by bench/load.c.
 
-    python3 bench/serve.py LOAD SOCKET rate AT_ONCE CONNECTIONS MESSAGES COMMAND..
+    python3 bench/serve.py LOAD SOCKET rate BODY AT_ONCE CONNECTIONS MESSAGES COMMAND..
     python3 bench/serve.py LOAD SOCKET idle COUNT COMMAND..
 
 starts the command on processor 1 and waits until it listens at the Unix socket. `rate` plays so many connections, some
 of them at once, with so many messages each, by the program LOAD on processor 0, three times; it prints the least
 nanoseconds that these took, and the least of the filter's own processor time (0 where others do its work). `idle`
 prints the KiB of memory that the filter has beside so many idle connections, before them and with them. The message is
-that of bench/filter.py, with a body of 4 KiB.
+that of bench/filter.py, with a body of so many bytes.
 """
 import os
 import subprocess
@@ -18,7 +18,6 @@ import time
 
 import filter as small
 
-SIZE = 4096
 TIMES = 3
 
 
@@ -65,7 +64,8 @@ def idle(process, load, path, script, opening, count):
 
 def main():
     load, path, what, *words = sys.argv[1:]
-    options, command = (words[:3], words[3:]) if what == 'rate' else (words[:1], words[1:])
+    count = 4 if what == 'rate' else 1
+    options, command = words[:count], words[count:]
     started = subprocess.Popen(['taskset', '-c', '1'] + command, stdout=subprocess.DEVNULL)
     try:
         while not is_there(path):
@@ -74,10 +74,12 @@ def main():
             time.sleep(0.02)
         with tempfile.NamedTemporaryFile() as script:
             opening = b''.join(small.opening())
-            script.write(opening + b''.join(small.message(SIZE)))
+            script.write(opening)
+            if what == 'rate':
+                script.write(b''.join(small.message(int(options[0]))))
             script.flush()
             if what == 'rate':
-                rate(started.pid, load, path, script.name, len(opening), options)
+                rate(started.pid, load, path, script.name, len(opening), options[1:])
             else:
                 idle(started.pid, load, path, script.name, len(opening), options[0])
     finally:

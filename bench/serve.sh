@@ -7,9 +7,15 @@
 # each a filter takes a second, and how many messages a second over connections that stay, the best of three runs: by
 # the clock and, but for socat, by the filter's own processor time; and the KiB of memory of the filter before and with
 # 500 and 9,990 idle connections, which have negotiated and sent nothing more. A message has sixteen commands, with ten
-# header fields and 4 KiB of body. It takes libmilter (libmilter-dev), a C compiler, Python and some minutes. The
-# program is built first where it has to be; another one may be given. libdeiruska is that of `make lib`, or another one
-# in the folder LIBRARY.
+# header fields and 4 KiB of body.
+#
+# It also prints how many messages of 10 MiB a second a filter takes that refuses one recipient, over connections that
+# stay. `serve` with one rule at rcpt, and a filter on libmilter of that callback, negotiate the same bits: of a message
+# they are sent the sender, the recipient and the end alone, and don't reply to the sender. Beside these are the same
+# rule with --all-stages, and the filter on libmilter of before, which are sent all of it and reply to each packet.
+#
+# It takes libmilter (libmilter-dev), a C compiler, Python, some minutes and 1 GiB of memory. The program is built first
+# where it has to be; another one may be given. libdeiruska is that of `make lib`, or another one in the folder LIBRARY.
 #
 #     [LIBRARY=FOLDER] bash bench/serve.sh [PROGRAM]
 set -eu
@@ -23,6 +29,10 @@ work=$(mktemp -d)
 trap 'rm -rf "$work"' EXIT
 CONNECTIONS=5000
 MESSAGES=10000
+BODY=4096
+LARGE_BODY=10485760
+LARGE_MESSAGES=500
+LARGE_UNSENT=100000
 IDLE='500 9990'
 FILTERS='serve libmilter'
 library=${LIBRARY:-crates/milter_c/out/deiruska}
@@ -34,24 +44,31 @@ IDLE_FILTERS=$FILTERS
 if command -v socat >/dev/null; then FILTERS="$FILTERS answer"; fi
 cc -O2 -o "$work/libmilter" bench/filter.c -lmilter -lpthread
 cc -O2 -o "$work/load" bench/load.c
+cat >"$work/rules" <<'RULES'
+rules 2
+at rcpt when rcpt-address is "noreply@example.net" do code "550 5.1.1 This address takes no mail"
+RULES
 
-# play FILTER WORD..: plays connections on a filter
+# play FILTER WORD..: plays connections on a filter, or on one with a rule at rcpt
 play() {
-    local filter=$1
+    local filter=$1 serve=("$program" serve "unix:$work/socket" --at-once 10000)
     shift
     rm -f "$work/socket"
     case $filter in
-    serve) set -- "$@" "$program" serve "unix:$work/socket" --at-once 10000 ;;
-    libmilter | library) set -- "$@" "$work/$filter" "$work/socket" many ;;
+    serve) set -- "$@" "${serve[@]}" ;;
+    serve-rcpt) set -- "$@" "${serve[@]}" --rules "$work/rules" ;;
+    serve-all) set -- "$@" "${serve[@]}" --rules "$work/rules" --all-stages ;;
+    libmilter-rcpt) set -- "$@" "$work/libmilter" "$work/socket" rcpt ;;
+    libmilter | libmilter-all | library) set -- "$@" "$work/${filter%-*}" "$work/socket" many ;;
     answer) set -- "$@" socat "UNIX-LISTEN:$work/socket,fork,backlog=128" "EXEC:$program answer" ;;
     esac
     python3 bench/serve.py "$work/load" "$work/socket" "$@"
 }
 
-# rate WHAT FILTER AT_ONCE CONNECTIONS MESSAGES: how many a second the filter takes, connections or messages
+# rate WHAT FILTER BODY AT_ONCE CONNECTIONS MESSAGES: how many a second the filter takes, connections or messages
 rate() {
-    play "$2" rate "$3" "$4" "$5" >"$work/times"
-    awk -v what="$1" -v filter="$2" -v at_once="$3" -v count=$(($4 * $5)) '
+    play "$2" rate "$3" "$4" "$5" "$6" >"$work/times"
+    awk -v what="$1" -v filter="${2%-*}" -v at_once="$4" -v count=$(($5 * $6)) '
         { printf "%-12s %4d %-10s %8.0f %s\n", what, at_once, filter, count * 1e9 / $1,
             filter == "answer" ? "" : sprintf("%8.0f", count * 1e9 / $2) }' "$work/times"
 }
@@ -61,8 +78,17 @@ for at_once in 1 50 500; do
     for filter in $FILTERS; do
         count=$CONNECTIONS
         if [ "$filter" = answer ]; then count=$((CONNECTIONS / 10)); fi
-        rate connections "$filter" "$at_once" "$count" 1
-        rate messages "$filter" "$at_once" "$at_once" $((MESSAGES / at_once))
+        rate connections "$filter" "$BODY" "$at_once" "$count" 1
+        rate messages "$filter" "$BODY" "$at_once" "$at_once" $((MESSAGES / at_once))
+    done
+done
+echo "messages of 10 MiB a second, where no more is sent than a rule at rcpt needs, and where all is:"
+for at_once in 1 50; do
+    for filter in serve libmilter; do
+        rate recipient "$filter-rcpt" "$LARGE_BODY" "$at_once" "$at_once" $((LARGE_UNSENT / at_once))
+    done
+    for filter in serve libmilter; do
+        rate all "$filter-all" "$LARGE_BODY" "$at_once" "$at_once" $((LARGE_MESSAGES / at_once))
     done
 done
 echo "KiB before and with idle connections:"
