@@ -154,6 +154,12 @@ or, at eob alone, an edit:
   replace-body TEXT              quarantine TEXT
   progress
 
+and where the first line is rules 2 also
+
+  del-header TEXT                deletes all header fields of this name that were seen
+  prefix-header TEXT TEXT        puts the second text before the value of the first
+                                 header field of the name that the first text is
+
 At each stage the rules of the stage that hold are gone through in order, up to
 the first that is a verdict: the edits before it and that verdict are the answer,
 or the edits and continue.

@@ -6,3 +6,8 @@ pub mod ActionFields
 pub mod Strings
 pub mod ReadingLaws
 mod LeastLawful
+mod DeletedHeaders
+mod NamedHeaders
+mod GivenValues
+mod ChangeRoom
+mod TooManyEdits

@@ -17,6 +17,7 @@ use Rattle.milter_filter_rules.specs.declared.rule.Field.TheVariants as fields
 use Rattle.milter_filter_rules.specs.declared.rule.Measure.TheVariants.{Size, Rcpts}
 use Rattle.milter_filter_rules.specs.declared.rule.Rule.{Rule}
 use Rattle.milter_filter_rules.specs.declared.rule_list.StageRules.{StageRules}
+use Rattle.milter_filter_rules.specs.ActionFits.{changes_seen}
 use Rattle.milter_filter_rules.specs.RuleSet.{RuleSet}
 use Rattle.milter_filter_rules.specs.StageRules.{is_stage, rules_at}
 
@@ -46,9 +47,11 @@ abbrev pub is_shown_by : Option Stage → Stage → Bool
 is_shown_by (Some at) stage = is_stage at stage
 is_shown_by None stage = is_some (macro_stage_of stage)
 
--- some condition of the rule looks at what the stage shows
+-- some condition of the rule looks at what the stage shows, or its action does
 abbrev pub looks_at : Stage → Rule → Bool
-looks_at stage rule = list_any (λ condition. is_shown_by (looked_at condition.check) stage) rule.conditions
+looks_at stage rule =
+    list_any (λ condition. is_shown_by (looked_at condition.check) stage) rule.conditions
+    || (changes_seen rule.action && is_stage Header stage)
 
 -- ---- which stages are asked about, and which are sent
 

@@ -2,8 +2,9 @@ pub mod RuleNames
 pub mod StageRules
 pub mod ListedValues
 pub mod Conditions
-pub mod Decisions
 pub mod ActionFits
+pub mod HeaderChanges
+pub mod Decisions
 pub mod RuleSet
 pub mod RulesLaw
 pub mod RulesValue

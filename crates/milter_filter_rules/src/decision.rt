@@ -6,10 +6,11 @@ ghost use Rattle.milter_filter_rules.specs.ListedValues.{matched_by};
 
 use crate::conditions::applies;
 use crate::context::Context;
+use crate::edit_list::{EditFault, EditList};
 use crate::places::Places;
 use crate::rule::Rule;
 use milter_filter_policy::Seen;
-use milter_protocol::{Action, Answer, Edits};
+use milter_protocol::Answer;
 use milter_wire::{NoMemory, Verdict};
 
 /// The answer of a stage's rules to what is shown. Most stages have none.
@@ -34,7 +35,7 @@ fn decide_in_turn(context: Context<'_>, rules: &[Rule], seen: &Seen) -> Result<A
         rules.now seen.now.shown) }
 {
     let alloc = context.alloc;
-    let mut edits = Vec::new(alloc);
+    let mut edits = EditList::new(alloc);
     let mut places = Places::first();
     for rule in rules {
         let at = places;
@@ -42,18 +43,14 @@ fn decide_in_turn(context: Context<'_>, rules: &[Rule], seen: &Seen) -> Result<A
         if !applies(context, at, rule, seen)? {
             continue;
         }
-        match &rule.action {
-            Action::Edit(edit) => edits.push(edit.copy(alloc)?)?,
-            Action::Verdict(verdict) => {
-                return Ok(Answer {
-                    edits: Edits::new(edits),
-                    verdict: verdict.copy(alloc)?,
-                });
-            }
+        if let Some(verdict) = rule.action.verdict() {
+            return Ok(edits.into_answer(verdict.copy(alloc)?));
+        }
+        match edits.add(alloc, &rule.action, seen) {
+            Ok(()) => {}
+            Err(EditFault::TooLong) => return Ok(Answer::of_verdict(alloc, Verdict::Tempfail)),
+            Err(EditFault::NoMemory) => return Err(NoMemory),
         }
     }
-    Ok(Answer {
-        edits: Edits::new(edits),
-        verdict: Verdict::Continue,
-    })
+    Ok(edits.into_answer(Verdict::Continue))
 }

@@ -7,7 +7,7 @@ ghost use Rattle.std.specs.List.{fold, list_any};
 ghost use Rattle.milter_wire.specs.Stages.{all_stages};
 ghost use Rattle.milter_filter_rules.specs.LeastWants.{bit_unless, is_least_asked, is_least_sent, is_looked_at, is_looked_at_from, is_of_use, is_shown_by, least_protocol, left_out_at, looked_at, looks_at, shown_at};
 
-use crate::rule::{Check, Field, Measure, Rule};
+use crate::rule::{Check, Condition, Field, Measure, Rule};
 use crate::rule_list::StageRules;
 use milter_protocol::rank_of;
 use milter_wire::{Protocol, Stage};
@@ -95,12 +95,19 @@ fn some_looks_at(stage: Stage, rules: &[Rule]) -> bool
     rules.iter().any(|rule| looks_at(stage, rule))
 }
 
-/// Whether some condition of the rule looks at what the stage shows.
+/// Whether some condition of the rule looks at what the stage shows, or its action does.
 fn looks_at(stage: Stage, rule: &Rule) -> bool
     ensures { result ≡ looks_at stage rule.now }
 {
-    rule.conditions
-        .as_slice()
+    some_condition_looks_at(stage, rule.conditions.as_slice())
+        || rule.action.changes_seen() && Stage::Header == stage
+}
+
+/// Whether some of the conditions looks at what the stage shows.
+fn some_condition_looks_at(stage: Stage, conditions: &[Condition]) -> bool
+    ensures { result ≡ list_any (λ condition. is_shown_by (looked_at condition.check) stage) conditions.now }
+{
+    conditions
         .iter()
         .any(|condition| is_shown_at(&condition.check, stage))
 }

@@ -7,9 +7,12 @@ mod comparison;
 mod conditions;
 mod context;
 mod decision;
+mod edit_list;
+mod header_values;
 mod laws;
 mod least_wants;
 mod listed;
+mod named_headers;
 mod named_list;
 mod networks;
 mod places;
@@ -21,14 +24,15 @@ mod searches;
 mod values;
 
 pub use action_fits::{fields_fit, has_room, is_allowed_at, is_string};
-pub use laws::answers_of_actions;
+pub use laws::{answers_of_actions, deleted_headers};
 pub use milter_filter_policy::{Test, TextCase};
 pub use milter_list_lines::{ListSource, ListSources};
 pub use milter_lists::{ListFault, ListKind, TextList};
 pub use milter_protocol::Action;
 pub use named_list::{NamedList, NamedLists};
 pub use rule::{
-    Check, Condition, Conditions, Field, Joint, Measure, PathPart, Rule, TextCheck, Texts,
+    Check, Condition, Conditions, Field, Joint, Measure, PathPart, Rule, RuleAction, TextCheck,
+    Texts,
 };
 pub use rule_list::{RuleList, StageRules};
 pub use rules::Rules;

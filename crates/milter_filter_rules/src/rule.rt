@@ -5,7 +5,7 @@ ghost use Rattle.milter_filter_rules.specs.RuleNames.{field_name, measure_name, 
 
 use milter_filter_policy::Test;
 use milter_protocol::Action;
-use milter_wire::{List, Text};
+use milter_wire::{Header, List, Text, Verdict};
 
 /// What of a sender or a recipient a condition looks at.
 #[derive(Clone, Copy, Debug, PartialEq, Eq)]
@@ -151,11 +151,50 @@ pub type Texts = List<Text>;
 /// The conditions of a rule, from none on: groups, each of which ends before an `Or`.
 pub type Conditions = List<Condition>;
 
+/// What a rule does where its conditions are met.
+#[derive(Clone, Debug, PartialEq, Eq, Drop)]
+pub enum RuleAction {
+    /// The same, whatever was seen.
+    Fixed(Action),
+    /// Deletes all header fields of this name that were seen, the last one first. ASCII case doesn't count in names.
+    /// Source: smfi_chgheader.
+    DeleteHeader(Text),
+    /// Puts the value of this header field before that of the first field of its name, as the edits before it leave
+    /// that: it is cut to what a packet has room for. It does nothing where there is no such field, or where both
+    /// values are empty. Source: smfi_chgheader.
+    PrefixHeader(Header),
+}
+
+impl RuleAction {
+    ghost use Rattle.std.specs.Prelude.{option_copied};
+    ghost use Rattle.milter_filter_rules.specs.ActionFits.{changes_seen, verdict_of};
+
+    /// The verdict that it gives, if it gives one. Doesn't allocate.
+    pub fn verdict(&self) -> Option<&Verdict>
+        ensures { option_copied result ≡ verdict_of self.now }
+    {
+        match self {
+            RuleAction::Fixed(Action::Verdict(verdict)) => Some(verdict),
+            _ => None,
+        }
+    }
+
+    /// Whether it depends on the header fields that were seen. Doesn't allocate.
+    pub fn changes_seen(&self) -> bool
+        ensures { result ≡ changes_seen self.now }
+    {
+        match self {
+            RuleAction::Fixed(_) => false,
+            RuleAction::DeleteHeader(_) | RuleAction::PrefixHeader(_) => true,
+        }
+    }
+}
+
 /// A rule.
 #[derive(Clone, Debug, Drop)]
 pub struct Rule {
     /// Its conditions: all of some group are to be met, or there are none.
     pub conditions: Conditions,
     /// What it does where they are met. No rule after a verdict is looked at.
-    pub action: Action,
+    pub action: RuleAction,
 }

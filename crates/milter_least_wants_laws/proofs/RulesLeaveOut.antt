@@ -25,7 +25,7 @@ use Rattle.milter_filter_rules.specs.StageRules.{rules_at}
 use Rattle.milter_least_wants_laws.proofs.Decided.{decided-alike}
 use Rattle.milter_least_wants_laws.proofs.NegotiatedBits.{answered_as_before, answered_before, as_it_is, least, sent_as_before, sent_before, skip_as_before, space_as_before}
 use Rattle.milter_least_wants_laws.proofs.Places.{AreUpTo, place_of, sends}
-use Rattle.milter_least_wants_laws.proofs.ShownFields.{HidesNone, check-alike}
+use Rattle.milter_least_wants_laws.proofs.ShownFields.{HidesNone, check-alike, headers-alike}
 use Rattle.milter_least_wants_laws.proofs.Thinned.{is_plain}
 use Rattle.milter_least_wants_laws.proofs.ThinnedDialogues.{LeavesOut}
 
@@ -150,6 +150,8 @@ module _ (m : Matching) (set : RuleSet) (offer : Options) where
       (seen (has_leading_space as_wanted) (command ∷ before))
       (λ check each. check-alike (sends at_least) (λ bytes. refl) command before (has_leading_space as_wanted)
       (has_leading_space at_least) m check (hides-none stage (looked_at check) each before up_to))
+      (λ each. headers-alike (sends at_least) (λ bytes. refl) command before (has_leading_space as_wanted)
+      (has_leading_space at_least) (hides-none stage (Some Header) each before up_to))
       (rules_at set.rules stage) (λ shown looks less. looked_at-sent set.rules shown stage less looks)
 
   pub leaves : LeavesOut decides as_wanted at_least

@@ -1,4 +1,4 @@
--- What a condition looks at is shown alike with and without commands that show nothing of it.
+-- What rules look at is shown alike with and without commands that show nothing of it.
 use Rattle.std.proofs.Common.{◌≡◌, ℕ, Bool, true, false, cond, List, [], ◌∷◌, ◌++◌, reverse, map, filter, filter_map, flat_map, is_some, length, nat_lt, Option, None, Some, refl, sym, ap, ◌∙◌}
 use Rattle.std.specs.List.{concat, list_any}
 use Rattle.std.specs.Option.{option_to_list}
@@ -122,6 +122,10 @@ module _ (keeps : Command → Bool) (ends : (bytes : List ℕ) → keeps (comman
   client-alike : HidesNone keeps (Some stages.Connect) before → some.client ≡ all.client
   client-alike hides =
       ap latest (with_command client_in (parts-alike keeps (shown_at fields.Host) client_in (λ c gone. no_client c) before hides))
+
+  pub headers-alike : HidesNone keeps (Some stages.Header) before → some.headers ≡ all.headers
+  headers-alike hides =
+      ap reverse (with_command header_in (parts-alike keeps (Some stages.Header) header_in (λ c gone. no_header c) before hides))
 
   pub values-alike : (field : Field) → HidesNone keeps (shown_at field) before → values_of field some ≡ values_of field all
   values-alike fields.Host hides =

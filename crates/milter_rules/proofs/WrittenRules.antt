@@ -40,15 +40,17 @@ use Rattle.milter_filter_rules.specs.declared.rule.TextCheck.{TextCheck}
 use Rattle.milter_filter_search.specs.declared.pattern.Test.{Test}
 use Rattle.milter_filter_search.specs.declared.pattern.Test.TheVariants as tests
 use Rattle.milter_filter_rules.specs.declared.rule_list.StageRules.{StageRules}
-use Rattle.milter_filter_rules.specs.ActionFits.{allowed_at, are_lawful_at, edit_fits, fields_fit, has_room, header_fits}
-use Rattle.milter_filter_rules.specs.ActionFits.{is_index, may_act}
-use Rattle.milter_rules.specs.ActionText.{action_words, edit_words, verdict_words}
+use Rattle.milter_filter_rules.specs.declared.rule.RuleAction.{RuleAction}
+use Rattle.milter_filter_rules.specs.declared.rule.RuleAction.TheVariants.{Fixed, DeleteHeader, PrefixHeader}
+use Rattle.milter_filter_rules.specs.ActionFits.{allowed_at, are_lawful_at, edit_fits, fields_fit, has_room, header_fits, least_action}
+use Rattle.milter_filter_rules.specs.ActionFits.{is_index, may_do}
+use Rattle.milter_rules.specs.ActionText.{action_words, edit_words, fixed_words, verdict_words}
 use Rattle.milter_filter_rules.specs.declared.rule.Joint.{Joint}
 use Rattle.milter_filter_rules.specs.declared.rule.Joint.TheVariants.{And, Or}
 use Rattle.milter_filter_rules.specs.declared.rule.PathPart.TheVariants as parts
 use Rattle.milter_rules.specs.declared.form.Form.{Form}
 use Rattle.milter_rules.specs.declared.form.Form.TheVariants.{First, Second}
-use Rattle.milter_rules.specs.RuleForms.{all_fit, are_conditions, form_of, header_lines, is_of_first}
+use Rattle.milter_rules.specs.RuleForms.{all_fit, are_conditions, form_of, has_action, has_rule, header_lines, is_of_first}
 use Rattle.milter_rules.specs.RulesGiven.{CanFollow}
 use Rattle.milter_lists.specs.ListKinds.{kind_name}
 use Rattle.milter_lists.specs.declared.list_kind.ListKind.{ListKind}
@@ -341,11 +343,16 @@ verdict_plain verdicts.Discard = refl
 verdict_plain verdicts.Skip = refl
 verdict_plain (verdicts.Code text) = refl
 
-action_plain : (action : Action) → fields_fit action ≡ true → are_writable (action_words action) ≡ true
-action_plain (actions.Edit edit) fits = edit_plain edit fits
-action_plain (actions.Verdict verdict) fits = verdict_plain verdict
+fixed_plain : (action : Action) → fields_fit action ≡ true → are_writable (fixed_words action) ≡ true
+fixed_plain (actions.Edit edit) fits = edit_plain edit fits
+fixed_plain (actions.Verdict verdict) fits = verdict_plain verdict
 
-rule_line : (stage : Stage) (rule : Rule) → fields_fit rule.action ≡ true → have_plain_words rule.conditions ≡ true
+action_plain : (action : RuleAction) → fields_fit (least_action action) ≡ true → are_writable (action_words action) ≡ true
+action_plain (Fixed action) fits = fixed_plain action fits
+action_plain (DeleteHeader name) fits = refl
+action_plain (PrefixHeader header) fits = refl
+
+rule_line : (stage : Stage) (rule : Rule) → fields_fit (least_action rule.action) ≡ true → have_plain_words rule.conditions ≡ true
     → is_line (rule_words stage rule) ≡ true
 rule_line stage rule fits limits =
     let action = keyword (codes "do") ∷ action_words rule.action in
@@ -355,16 +362,18 @@ rule_line stage rule fits limits =
     rw (stage_plain stage, plain) refl
 
 rules_line : (form : Form) (stage : Stage) (rules : List Rule) → are_lawful_at stage rules ≡ true
-    → list_all (λ rule. are_conditions form rule.conditions) rules ≡ true
+    → list_all (has_rule form) rules ≡ true
     → list_all is_line (map (rule_words stage) rules) ≡ true
 rules_line form stage [] lawful formed = refl
 rules_line form stage (rule ∷ rules) lawful formed =
-    let of_form = and_parts (are_conditions form rule.conditions) (list_all (λ r. are_conditions form r.conditions) rules) formed in
-    let both = and_parts (may_act stage rule.action) (are_lawful_at stage rules) lawful in
-    let may = and_parts (allowed_at stage rule.action) (fields_fit rule.action && has_room rule.action) both.0 in
-    let fits = (and_parts (fields_fit rule.action) (has_room rule.action) may.1).0 in
+    let of_form = and_parts (has_rule form rule) (list_all (has_rule form) rules) formed in
+    let conditions = (and_parts (are_conditions form rule.conditions) (has_action form rule.action) of_form.0).0 in
+    let both = and_parts (may_do stage rule.action) (are_lawful_at stage rules) lawful in
+    let action = least_action rule.action in
+    let may = and_parts (allowed_at stage action) (fields_fit action && has_room action) both.0 in
+    let fits = (and_parts (fields_fit action) (has_room action) may.1).0 in
     and_from (is_line (rule_words stage rule)) (list_all is_line (map (rule_words stage) rules))
-    (rule_line stage rule fits (plain_words form rule.conditions of_form.0)) (rules_line form stage rules both.1 of_form.1)
+    (rule_line stage rule fits (plain_words form rule.conditions conditions)) (rules_line form stage rules both.1 of_form.1)
 
 pub stage_lawful : (rules : StageRules) (stage : Stage) → EachFits rules → are_lawful_at stage (rules_at rules stage) ≡ true
 stage_lawful rules stages.Connect each = each.connect
@@ -382,11 +391,11 @@ both_lines : (a b : List (List Word)) → list_all is_line a ≡ true → list_a
 both_lines a b p q = list_all-append is_line a b ∙ and_from (list_all is_line a) (list_all is_line b) p q
 
 stages_lines : (form : Form) (rules : StageRules) (all : List Stage) → EachFits rules
-    → list_all (λ stage. list_all (λ rule. are_conditions form rule.conditions) (rules_at rules stage)) all ≡ true
+    → list_all (λ stage. list_all (has_rule form) (rules_at rules stage)) all ≡ true
     → list_all is_line (flat_map (stage_lines rules) all) ≡ true
 stages_lines form rules [] each formed = refl
 stages_lines form rules (stage ∷ all) each formed =
-    let of_form = and_parts (list_all (λ rule. are_conditions form rule.conditions) (rules_at rules stage)) _ formed in
+    let of_form = and_parts (list_all (has_rule form) (rules_at rules stage)) _ formed in
     both_lines (stage_lines rules stage) (flat_map (stage_lines rules) all)
     (rules_line form stage (rules_at rules stage) (stage_lawful rules stage each) of_form.0)
     (stages_lines form rules all each of_form.1)

@@ -1,4 +1,5 @@
--- The two forms of rule files: one whose first line is `rules 2` may have lists, and conditions of more kinds.
+-- The two forms of rule files: one whose first line is `rules 2` may have lists, conditions of more kinds, and changes
+-- of header fields as they were seen.
 use Rattle.std.specs.Prelude.{◌≡◌, ◌==◌, ℕ, Bool, true, false, not, nat_le, nat_lt, ◌^◌, ◌-◌, is_some, ◌&&◌, List, [], ◌∷◌, codes, length, map, Option, None, Some, if◌then◌else◌}
 use Rattle.std.specs.List.{list_all}
 use Rattle.milter_text.specs.declared.word.Word.{Word}
@@ -23,7 +24,10 @@ use Rattle.milter_filter_rules.specs.declared.rule.Joint.TheVariants.{And, Or}
 use Rattle.milter_filter_rules.specs.declared.rule.Measure.{Measure}
 use Rattle.milter_filter_rules.specs.declared.rule.Measure.TheVariants.{Size, Rcpts}
 use Rattle.milter_filter_rules.specs.declared.rule.PathPart.TheVariants as parts
+use Rattle.milter_filter_rules.specs.declared.rule.Rule.{Rule}
+use Rattle.milter_filter_rules.specs.declared.rule.RuleAction.{RuleAction}
 use Rattle.milter_filter_rules.specs.declared.rule_list.StageRules.{StageRules}
+use Rattle.milter_filter_rules.specs.ActionFits.{changes_seen}
 use Rattle.milter_filter_rules.specs.Conditions.{has_form}
 use Rattle.milter_filter_rules.specs.RuleSet.{RuleSet}
 use Rattle.milter_filter_rules.specs.StageRules.{rules_at}
@@ -140,10 +144,21 @@ abbrev pub are_conditions : Form → List Condition → Bool
 are_conditions First conditions = list_all fits_first conditions
 are_conditions (Second sources) conditions = begins_with_and conditions && list_all (fits_second sources) conditions
 
+-- ---- rules
+
+-- the first form has no action that changes header fields as they were seen
+abbrev pub has_action : Form → RuleAction → Bool
+has_action First action = not (changes_seen action)
+has_action (Second sources) action = true
+
+abbrev pub has_rule : Form → Rule → Bool
+has_rule form rule = are_conditions form rule.conditions && has_action form rule.action
+
 -- ---- lines
 
 abbrev pub FitsForm : Form → RuleLine → Type 0
-FitsForm form (lines.At stage rule) = are_conditions form rule.conditions ≡ true
+FitsForm form (lines.At stage rule) =
+    (are_conditions form rule.conditions ≡ true) × (has_action form rule.action ≡ true)
 FitsForm form (lines.Setting setting) = Unit {0}
 
 -- ---- the first line
@@ -173,7 +188,7 @@ HasForm (Second sources) lines rest = IsHeaded sources lines rest
 
 abbrev pub all_fit : Form → StageRules → Bool
 all_fit form rules =
-    list_all (λ stage. list_all (λ rule. are_conditions form rule.conditions) (rules_at rules stage)) all_stages
+    list_all (λ stage. list_all (has_rule form) (rules_at rules stage)) all_stages
 
 abbrev pub has_none : List ListSource → Bool
 has_none [] = true

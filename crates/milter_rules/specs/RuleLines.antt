@@ -17,7 +17,7 @@ use Rattle.milter_rules.specs.declared.rule_line.RuleLine.{RuleLine}
 use Rattle.milter_rules.specs.declared.rule_line.RuleLine.TheVariants as lines
 use Rattle.milter_rules.specs.declared.rule_line.Setting.{Setting}
 use Rattle.milter_rules.specs.declared.rule_line.Setting.TheVariants as settings
-use Rattle.milter_filter_rules.specs.ActionFits.{is_string, may_act}
+use Rattle.milter_filter_rules.specs.ActionFits.{is_string, may_do}
 use Rattle.milter_rules.specs.ActionWords.{action_of}
 use Rattle.milter_rules.specs.ConditionWords.{conditions_words}
 
@@ -91,7 +91,7 @@ pub record HasRule (words : List Word) (stage : Stage) (rule : Rule) : Type 0 wh
   pub action : List Word
   pub in_order : words ≡ keyword (name_of stage) ∷ (conditions_words rule.conditions ++ keyword (codes "do") ∷ action)
   pub action_is : action_of action ≡ Some rule.action
-  pub may : may_act stage rule.action ≡ true
+  pub may : may_do stage rule.action ≡ true
 
 -- ---- lines
 

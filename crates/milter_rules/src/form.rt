@@ -1,9 +1,9 @@
-//! The two forms of rule files, and which conditions each may have.
+//! The two forms of rule files, and which conditions and actions each may have.
 
 ghost use Rattle.std.specs.Prelude.{◌≡◌, not};
 ghost use Rattle.milter_rules.specs.RuleForms.{all_fit, are_conditions, begins_with_and, begins_with_dot, case_fits, check_fits, fits_first};
 ghost use Rattle.milter_rules.specs.RuleForms.{fits_second, is_domain, is_first_check, is_first_field, is_header, is_network, is_of_first};
-ghost use Rattle.milter_rules.specs.RuleForms.{form_sources, kind_fits, limit_max, source_fits, test_fits};
+ghost use Rattle.milter_rules.specs.RuleForms.{form_sources, has_action, has_rule, kind_fits, limit_max, source_fits, test_fits};
 ghost use Rattle.milter_list_lines.specs.ListLines.{is_list_name, source_named};
 ghost use Rattle.milter_rules.specs.declared.form.Form.TheVariants.{First};
 ghost use Rattle.milter_filter_rules.specs.Conditions.{has_form};
@@ -12,7 +12,7 @@ ghost use Rattle.std.specs.List.{list_all};
 
 use milter_filter_rules::{
     Check, Condition, Field, Joint, ListKind, ListSource, ListSources, Measure, PathPart, Rule,
-    Rules, Test, Texts,
+    RuleAction, Rules, Test, Texts,
 };
 use milter_list_lines::{is_list_name, source_named};
 use milter_message::WEIGHT_MAX;
@@ -49,7 +49,7 @@ pub(crate) fn is_of_first(rules: &Rules) -> bool
     rules.named_lists().is_empty() && all_fit_first(rules)
 }
 
-/// Whether all conditions of all rules are of the first form.
+/// Whether all rules are of the first form.
 fn all_fit_first(rules: &Rules) -> bool
     ensures { result ≡ all_fit First (rule_set rules.now).rules }
 {
@@ -61,13 +61,18 @@ fn all_fit_first(rules: &Rules) -> bool
     true
 }
 
-/// Whether all conditions of the rules are of the first form.
+/// Whether these rules are of the first form.
 fn rules_fit_first(rules: &[Rule]) -> bool
-    ensures { result ≡ list_all (λ rule. list_all fits_first rule.conditions) rules.now }
+    ensures { result ≡ list_all (has_rule First) rules.now }
 {
-    rules
-        .iter()
-        .all(|rule| conditions_fit_first(rule.conditions.as_slice()))
+    rules.iter().all(|rule| rule_fits_first(rule))
+}
+
+/// Whether the rule is of the first form.
+fn rule_fits_first(rule: &Rule) -> bool
+    ensures { result ≡ has_rule First rule.now }
+{
+    conditions_fit_first(rule.conditions.as_slice()) && !rule.action.changes_seen()
 }
 
 /// Whether all conditions are of the first form.
@@ -105,6 +110,16 @@ pub(crate) fn are_conditions(form: &Form, conditions: &[Condition]) -> bool
         Form::Second(sources) => {
             begins_with_and(conditions) && conditions_fit_second(sources.as_slice(), conditions)
         }
+    }
+}
+
+/// Whether a rule of a file of this form may have this action.
+pub(crate) fn has_action(form: &Form, action: &RuleAction) -> bool
+    ensures { result ≡ has_action form.now action.now }
+{
+    match form {
+        Form::First => !action.changes_seen(),
+        Form::Second(_) => true,
     }
 }
 

@@ -3,7 +3,7 @@
 ghost use Rattle.std.specs.Prelude.{◌≡◌, ◌+◌, ◌-◌, ◌^◌, ◌==◌, ◌++◌, ◌∷◌, IfErr, IsOk, None, OnErr, OnOk, [], Some, false, is_some, length, min, true};
 ghost use Rattle.std.specs.List.{list_any};
 ghost use Rattle.milter_rules.specs.declared.rule_fault.RuleFault.TheVariants as faults;
-ghost use Rattle.milter_filter_rules.specs.ActionFits.{may_act};
+ghost use Rattle.milter_filter_rules.specs.ActionFits.{may_do};
 ghost use Rattle.milter_rules.specs.RuleBuilder.{edits_weight_at, LineFits, LineFollows, ListFollows, RuleFollows, SettingFits, SettingFollows, with_line, with_list, with_rule_at, with_setting};
 ghost use Rattle.milter_rules.specs.RuleFault.{IsAt};
 ghost use Rattle.milter_rules.specs.RuleFile.{needed_actions, needed_for, needed_protocol, is_skip, parts_of, rules_of, wanted};
@@ -14,7 +14,7 @@ ghost use Rattle.milter_glob.specs.declared.text_case.TextCase.TheVariants.{Exac
 
 use crate::rule_fault::RuleFault;
 use crate::rule_line::{RuleLine, Setting};
-use milter_filter_rules::{Action, NamedLists, Rule, Rules, StageRules};
+use milter_filter_rules::{Action, NamedLists, Rule, RuleAction, Rules, StageRules};
 use milter_message::WEIGHT_MAX;
 use milter_protocol::VERSION_MAX;
 use milter_wire::{Actions, Options, PAYLOAD_MAX, Protocol, Stage, SymList, SymLists, Verdict};
@@ -134,7 +134,7 @@ impl Builder {
 
     /// Adds a rule of the stage.
     fn push_rule(&mut self, stage: Stage, rule: Rule, line: u64) -> Result<(), RuleFault>
-        requires { may_act stage rule.action ≡ true }
+        requires { may_do stage rule.action ≡ true }
         ensures found { OnOk result (RuleFollows stage rule self.old × (self.new ≡ with_rule_at stage rule self.old)) }
         ensures only { RuleFollows stage rule self.old → IfErr result (λ e. e ≡ faults.NoMemory) }
         ensures at { IfErr result (λ e. IsAt line e) }
@@ -213,7 +213,7 @@ fn weight_at(stage: Stage, rule: &Rule) -> usize
     ensures { result ≡ min (edits_weight_at stage rule.now) (2 ^ 64 - 1) }
 {
     match &rule.action {
-        Action::Edit(edit) if stage == Stage::Eob => edit.weight(),
+        RuleAction::Fixed(Action::Edit(edit)) if stage == Stage::Eob => edit.weight(),
         _ => 0,
     }
 }
@@ -230,12 +230,13 @@ fn needed_actions(rules: &[Rule]) -> Actions
 }
 
 /// The bit that the action needs.
-fn needed_for(action: &Action) -> u32
+fn needed_for(action: &RuleAction) -> u32
     ensures { result ≡ needed_for action.now }
 {
     match action {
-        Action::Edit(edit) => edit.needs().0,
-        Action::Verdict(_) => 0,
+        RuleAction::Fixed(Action::Edit(edit)) => edit.needs().0,
+        RuleAction::Fixed(Action::Verdict(_)) => 0,
+        RuleAction::DeleteHeader(_) | RuleAction::PrefixHeader(_) => Actions::CHGHDRS.0,
     }
 }
 
@@ -258,8 +259,8 @@ fn has_skip(rules: &[Rule]) -> bool
 }
 
 /// Whether the action is to skip the rest of a body.
-fn is_skip(action: &Action) -> bool
+fn is_skip(action: &RuleAction) -> bool
     ensures { result ≡ is_skip action.now }
 {
-    matches!(action, Action::Verdict(Verdict::Skip))
+    matches!(action, RuleAction::Fixed(Action::Verdict(Verdict::Skip)))
 }

@@ -4,21 +4,22 @@ ghost use Rattle.std.specs.Prelude.{◌≡◌, IfErr, IfOk, IfSome, MatchResult,
 ghost use Rattle.milter_text.specs.declared.word.Word.{Word};
 ghost use Rattle.milter_text.specs.WordValues.{plain_text};
 ghost use Rattle.milter_wire.specs.declared.stage.Stage.{Stage};
-ghost use Rattle.milter_protocol.specs.declared.action.Action.{Action};
+ghost use Rattle.milter_filter_rules.specs.declared.rule.RuleAction.{RuleAction};
 ghost use Rattle.milter_filter_rules.specs.declared.rule.Rule.{Rule};
 ghost use Rattle.milter_rules.specs.declared.rule_fault.RuleFault.TheVariants as faults;
+ghost use Rattle.milter_rules.specs.declared.rule_line.RuleLine.TheVariants as lines;
 ghost use Rattle.milter_rules.specs.declared.rule_line.RuleLine.{RuleLine};
-ghost use Rattle.milter_filter_rules.specs.ActionFits.{may_act};
+ghost use Rattle.milter_filter_rules.specs.ActionFits.{may_do};
 ghost use Rattle.milter_rules.specs.ActionWords.{action_of};
 ghost use Rattle.milter_rules.specs.RuleFault.{IsAt};
-ghost use Rattle.milter_rules.specs.RuleForms.{FitsForm, are_conditions};
+ghost use Rattle.milter_rules.specs.RuleForms.{FitsForm, has_action};
 ghost use Rattle.milter_rules.specs.RuleLines.{Gives, HasRule, IsNoText, actions_of, macro_stage_of, option_line, protocol_of, stage_at, symbols_line, symbols_of, version_of, setting_of};
 
 use crate::action_words::action_in;
 use crate::condition_words::{conditions_in, words_after};
-use crate::form::{Form, are_conditions};
+use crate::form::{Form, are_conditions, has_action};
 use crate::rule_fault::RuleFault;
-use milter_filter_rules::{Action, Rule, has_room, is_allowed_at, is_string};
+use milter_filter_rules::{Rule, RuleAction, has_room, is_allowed_at, is_string};
 use milter_protocol::{VERSION_MAX, VERSION_MIN};
 use milter_text::{FileLine, Word};
 use milter_wire::{Actions, MacroStage, NoMemory, Protocol, Stage, SymList, Text};
@@ -171,10 +172,9 @@ fn rule_in(
     words: &[Word],
     line: u64,
 ) -> Result<(Stage, Rule), RuleFault>
-    ensures found { IfOk result (λ x. HasRule words.now x.0 x.1
-        × (are_conditions form.now x.1.conditions ≡ true)) }
+    ensures found { IfOk result (λ x. HasRule words.now x.0 x.1 × FitsForm form.now (lines.At x.0 x.1)) }
     ensures only { (stage : Stage) (rule : Rule) → HasRule words.now stage rule →
-        are_conditions form.now rule.conditions ≡ true →
+        FitsForm form.now (lines.At stage rule) →
         MatchResult result (λ x. x ≡ (stage, rule)) (λ e. e ≡ faults.NoMemory) }
     ensures at { IfErr result (λ e. IsAt line e) }
 {
@@ -187,7 +187,7 @@ fn rule_in(
     if !are_conditions(form, conditions.as_slice()) {
         return Err(RuleFault::BadCondition(line));
     }
-    let action = action_at(alloc, action, stage, line)?;
+    let action = action_at(alloc, form, action, stage, line)?;
     Ok((stage, Rule { conditions, action }))
 }
 
@@ -201,17 +201,27 @@ fn stage_in(words: &[Word]) -> Option<(Stage, &[Word])>
     Some((Stage::from_name(word.keyword()?)?, rest))
 }
 
-/// The action of the words, which may be done at the stage.
+/// The action of the words, which a file of this form may have, and which may be done at the stage.
 #[tactic(auto, using(crate::proofs::LineForms::fields_of))]
-fn action_at(alloc: Global, words: &[Word], stage: Stage, line: u64) -> Result<Action, RuleFault>
-    ensures found { IfOk result (λ a. (action_of words.now ≡ Some a) × (may_act stage a ≡ true)) }
-    ensures only { (a : Action) → action_of words.now ≡ Some a → may_act stage a ≡ true →
-        MatchResult result (λ b. b ≡ a) (λ e. e ≡ faults.NoMemory) }
+fn action_at(
+    alloc: Global,
+    form: &Form,
+    words: &[Word],
+    stage: Stage,
+    line: u64,
+) -> Result<RuleAction, RuleFault>
+    ensures found { IfOk result (λ a. (action_of words.now ≡ Some a) × (may_do stage a ≡ true)) }
+    ensures form { IfOk result (λ a. has_action form.now a ≡ true) }
+    ensures only { (a : RuleAction) → action_of words.now ≡ Some a → has_action form.now a ≡ true →
+        may_do stage a ≡ true → MatchResult result (λ b. b ≡ a) (λ e. e ≡ faults.NoMemory) }
     ensures at { IfErr result (λ e. IsAt line e) }
 {
     let Some(action) = action_in(alloc, words)? else {
         return Err(RuleFault::BadAction(line));
     };
+    if !has_action(form, &action) {
+        return Err(RuleFault::BadAction(line));
+    }
     if !is_allowed_at(&action, stage) {
         return Err(RuleFault::ActionNotHere(line));
     }

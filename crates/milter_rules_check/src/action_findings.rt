@@ -2,10 +2,11 @@
 
 use crate::condition_findings::{is_header_name, say_header_name};
 use crate::reply_findings::say_reply;
-use milter_filter_rules::Action;
+use crate::sent_stages::bit_among;
+use milter_filter_rules::{Action, RuleAction};
 use milter_message::Edit;
 use milter_rules_faults::{Notes, Piece};
-use milter_wire::{Header, NoMemory, Options, Protocol, Verdict};
+use milter_wire::{Actions, Header, NoMemory, Options, Protocol, Stage, Text, Verdict};
 use std::alloc::Global;
 
 /// Says what is to be said of the action of a rule, where a filter asks for these options.
@@ -13,16 +14,36 @@ pub(crate) fn say_action(
     alloc: Global,
     notes: &mut Notes<'_>,
     options: Options,
-    action: &Action,
+    action: &RuleAction,
 ) -> Result<(), NoMemory> {
     match action {
-        Action::Edit(edit) => say_edit(alloc, notes, options, edit),
-        Action::Verdict(Verdict::Code(text)) => say_reply(alloc, notes, text.as_slice()),
-        Action::Verdict(Verdict::Skip) if options.protocol.0 & Protocol::SKIP.0 == 0 => {
+        RuleAction::Fixed(Action::Edit(edit)) => say_edit(alloc, notes, options, edit),
+        RuleAction::Fixed(Action::Verdict(verdict)) => say_verdict(alloc, notes, options, verdict),
+        RuleAction::DeleteHeader(name) => {
+            say_unseen(alloc, notes, options)?;
+            say_name(alloc, notes, name)
+        }
+        RuleAction::PrefixHeader(header) => {
+            say_unseen(alloc, notes, options)?;
+            say_header(alloc, notes, header)
+        }
+    }
+}
+
+/// Says what is to be said of a verdict.
+fn say_verdict(
+    alloc: Global,
+    notes: &mut Notes<'_>,
+    options: Options,
+    verdict: &Verdict,
+) -> Result<(), NoMemory> {
+    match verdict {
+        Verdict::Code(text) => say_reply(alloc, notes, text.as_slice()),
+        Verdict::Skip if options.protocol.0 & Protocol::SKIP.0 == 0 => {
             let text = b"skip is answered as continue: SKIP isn't in the protocol line";
             notes.say(alloc, &[Piece::Plain(text)])
         }
-        Action::Verdict(_) => Ok(()),
+        _ => Ok(()),
     }
 }
 
@@ -33,12 +54,7 @@ fn say_edit(
     options: Options,
     edit: &Edit,
 ) -> Result<(), NoMemory> {
-    let needed = edit.needs();
-    if options.actions.0 & needed.0 != needed.0 {
-        let begin = Piece::Plain(b"this edit is never done: ");
-        let end = Piece::Plain(b" isn't in the actions line");
-        notes.say(alloc, &[begin, Piece::Actions(needed), end])?;
-    }
+    say_needed(alloc, notes, options, edit.needs())?;
     match edit {
         Edit::AddHeader(header)
         | Edit::InsertHeader { header, .. }
@@ -47,11 +63,43 @@ fn say_edit(
     }
 }
 
+/// Says of an edit that needs this action that it is never done, where the action isn't asked for.
+fn say_needed(
+    alloc: Global,
+    notes: &mut Notes<'_>,
+    options: Options,
+    needed: Actions,
+) -> Result<(), NoMemory> {
+    if options.actions.0 & needed.0 == needed.0 {
+        return Ok(());
+    }
+    let begin = Piece::Plain(b"this edit is never done: ");
+    let end = Piece::Plain(b" isn't in the actions line");
+    notes.say(alloc, &[begin, Piece::Actions(needed), end])
+}
+
+/// Says of an edit of the header fields that are seen why it is never done, where that is so.
+fn say_unseen(alloc: Global, notes: &mut Notes<'_>, options: Options) -> Result<(), NoMemory> {
+    say_needed(alloc, notes, options, Actions::CHGHDRS)?;
+    let Some(bit) = bit_among(options, Stage::Header.not_sent()) else {
+        return Ok(());
+    };
+    let begin = Piece::Plain(b"this edit is never done: header isn't sent, by ");
+    let end = Piece::Plain(b" in the protocol line");
+    notes.say(alloc, &[begin, Piece::Protocol(bit), end])
+}
+
+/// Says of the name of a header field that is added, changed or deleted that it is none, where that is so.
+fn say_name(alloc: Global, notes: &mut Notes<'_>, name: &Text) -> Result<(), NoMemory> {
+    if is_header_name(name) {
+        return Ok(());
+    }
+    say_header_name(alloc, notes, name)
+}
+
 /// Says what is to be said of a header field that is added or changed.
 fn say_header(alloc: Global, notes: &mut Notes<'_>, header: &Header) -> Result<(), NoMemory> {
-    if !is_header_name(&header.name) {
-        say_header_name(alloc, notes, &header.name)?;
-    }
+    say_name(alloc, notes, &header.name)?;
     let begin = Piece::Plain(b"the value of header field ");
     let name = Piece::Quoted(header.name.as_slice());
     let value = header.value.as_slice();

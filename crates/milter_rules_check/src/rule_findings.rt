@@ -6,7 +6,7 @@ use crate::condition_findings::{say_condition_names, say_conditions};
 use crate::file_findings::say_stages;
 use crate::sent_stages::{bit_among, has_stage};
 use crate::text_findings::say_texts;
-use milter_filter_rules::{Action, Rule, Rules};
+use milter_filter_rules::{Action, Rule, RuleAction, Rules};
 use milter_protocol::rank_of;
 use milter_rules_faults::{Notes, Piece, RuleLine, form_of_file, rule_lines};
 use milter_wire::{NoMemory, Options, Stage};
@@ -67,7 +67,8 @@ fn say_next(
 
 /// Whether no rule after it is looked at, whatever is shown.
 fn is_last(rule: &Rule) -> bool {
-    rule.conditions.as_slice().is_empty() && matches!(rule.action, Action::Verdict(_))
+    rule.conditions.as_slice().is_empty()
+        && matches!(rule.action, RuleAction::Fixed(Action::Verdict(_)))
 }
 
 /// Says what is to be said of a rule of the file, before which the rule in line `last` is the last one that is looked

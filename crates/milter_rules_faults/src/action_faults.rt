@@ -1,6 +1,10 @@
 //! What is said of a rule whose action is none, or may not be done at its stage.
 
-use crate::known_words::{ACTION, is_one_of, say_missing, say_unknown, say_unquoted};
+use crate::file_form::FileForm;
+use crate::form_faults::say_needs_form;
+use crate::known_words::{
+    ACTION, Kind, WIDE_ACTION, WIDE_ACTIONS, is_one_of, say_missing, say_unknown, say_unquoted,
+};
 use crate::notes::{Notes, Piece};
 use milter_text::Word;
 use milter_wire::NoMemory;
@@ -61,11 +65,14 @@ const NUMBER_AND_TWO_TEXTS: Form = Form {
 
 /// The form of the action of this word.
 fn form_of(action: &Word) -> Form {
-    if is_one_of(action, "code|add-rcpt|del-rcpt|replace-body|quarantine") {
+    if is_one_of(
+        action,
+        "code|del-header|add-rcpt|del-rcpt|replace-body|quarantine",
+    ) {
         ONE_TEXT
     } else if is_one_of(action, "add-rcpt-par|change-from") {
         ONE_OR_TWO_TEXTS
-    } else if is_one_of(action, "add-header") {
+    } else if is_one_of(action, "add-header|prefix-header") {
         TWO_TEXTS
     } else if is_one_of(action, "insert-header|change-header") {
         NUMBER_AND_TWO_TEXTS
@@ -74,26 +81,49 @@ fn form_of(action: &Word) -> Form {
     }
 }
 
-/// Says what is wrong with these words, which are to be an action.
+/// The actions of files of this form.
+fn actions_of(file: FileForm) -> Kind<'static> {
+    match file {
+        FileForm::First => ACTION,
+        FileForm::Second => WIDE_ACTION,
+    }
+}
+
+/// Says what is wrong with these words, which are to be an action of a file of this form.
 pub(crate) fn say_bad_action(
     alloc: Global,
     notes: &mut Notes<'_>,
+    file: FileForm,
     words: &[Word],
 ) -> Result<(), NoMemory> {
-    let [action, rest @ ..] = words else {
-        return say_missing(alloc, notes, &ACTION, Piece::Plain(b"do"));
-    };
-    if !is_one_of(action, ACTION.names) {
-        return say_unknown(alloc, notes, &ACTION, action);
+    let known = actions_of(file);
+    match words {
+        [] => say_missing(alloc, notes, &known, Piece::Plain(b"do")),
+        [action, ..] if file == FileForm::First && is_one_of(action, WIDE_ACTIONS) => {
+            say_needs_form(alloc, notes, Piece::Word(action), b"")
+        }
+        [action, rest @ ..] if is_one_of(action, known.names) => {
+            say_bad_words(alloc, notes, action, rest)
+        }
+        [action, ..] => say_unknown(alloc, notes, &known, action),
     }
+}
+
+/// Says what is wrong with these words, which stand after an action.
+fn say_bad_words(
+    alloc: Global,
+    notes: &mut Notes<'_>,
+    action: &Word,
+    words: &[Word],
+) -> Result<(), NoMemory> {
     let form = form_of(action);
     if form.most == 0 {
         return say_not_alone(alloc, notes, action);
     }
     if !form.has_number {
-        return say_bad_texts(alloc, notes, action, form, action, rest);
+        return say_bad_texts(alloc, notes, action, form, action, words);
     }
-    match rest {
+    match words {
         [] => say_form(alloc, notes, action, form),
         [number, texts @ ..] if is_index(number) => {
             say_bad_texts(alloc, notes, action, form, number, texts)

@@ -10,7 +10,7 @@ use crate::file_head::FileHead;
 use crate::flag_faults::{is_not, say_any_case_place, say_not_place};
 use crate::form_faults::{WITHOUT_NOT, WITHOUT_OR, say_needs_form};
 use crate::known_words::{
-    ACTION, FIELD, FIRST_JOINT, Kind, NAMED_FIELDS, NEXT_JOINT, NUMBER_FIELDS, STAGE, TEST,
+    FIELD, FIRST_JOINT, Kind, NAMED_FIELDS, NEXT_JOINT, NUMBER_FIELDS, STAGE, TEST, WIDE_ACTION,
     WIDE_FIELD, WIDE_FIELDS, WIDE_JOINT, WIDE_TEST, WIDE_TESTS, is_joint, is_one_of, say_missing,
     say_unknown, say_unquoted,
 };
@@ -216,7 +216,7 @@ fn say_bad_joint<'x>(
     word: &'x Word,
 ) -> Result<(), NoMemory> {
     let quoted = Piece::Quoted(word.text.as_slice());
-    if is_one_of(word, ACTION.names) {
+    if is_one_of(word, WIDE_ACTION.names) {
         return notes.say(alloc, &[Piece::Plain(b"do is missing before "), quoted]);
     }
     if is_one_of(word, WIDE_FIELD.names) {

@@ -148,6 +148,26 @@ pub(crate) const ACTION: Kind<'static> = Kind {
     ],
 };
 
+/// The actions that files of the second form alone have.
+pub(crate) const WIDE_ACTIONS: &str = "del-header|prefix-header";
+
+/// The words of actions in files of the second form.
+pub(crate) const WIDE_ACTION: Kind<'static> = Kind {
+    called: b"action",
+    names: "continue|accept|reject|tempfail|discard|skip|code|add-header|insert-header|change-header|\
+            del-header|prefix-header|add-rcpt|add-rcpt-par|del-rcpt|change-from|replace-body|quarantine|progress",
+    others: &[
+        ("refuse", "reject"),
+        ("deny", "reject"),
+        ("defer", "tempfail"),
+        ("drop", "discard"),
+        ("pass", "continue"),
+        ("delete-header", "del-header"),
+        ("remove-header", "del-header"),
+        ("prepend-header", "prefix-header"),
+    ],
+};
+
 /// Whether the name is among these, which `|` joins.
 pub(crate) fn has_name(names: &str, name: &[u8]) -> bool {
     names.split('|').any(|known| known.as_bytes() == name)

@@ -84,7 +84,7 @@ fn say_line_fault(
         RuleFault::UnknownWord(_) => say_unknown_line(alloc, notes, line),
         RuleFault::BadStage(_) => say_bad_stage(alloc, notes, words),
         RuleFault::BadCondition(_) => say_bad_conditions(alloc, notes, line.head, words),
-        RuleFault::BadAction(_) => say_bad_action(alloc, notes, after_do(words)),
+        RuleFault::BadAction(_) => say_bad_action(alloc, notes, line.head.form, after_do(words)),
         RuleFault::ActionNotHere(_) => say_action_not_here(alloc, notes, words, after_do(words)),
         RuleFault::TooLarge(number) => {
             let text = if is_right_alone(alloc, line.head, line.bytes)? {

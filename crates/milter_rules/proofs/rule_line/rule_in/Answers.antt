@@ -15,5 +15,8 @@ returns-clause-found c =
         action_is = c.in_ok-action.ensures.found.0;
         may = c.in_ok-action.ensures.found.1;
       },
-      sym (rw c.as_slice.ensures at c.are_conditions.ensures) ∙ c.if-not-are_conditions.false,
+      (
+        sym (rw c.as_slice.ensures at c.are_conditions.ensures) ∙ c.if-not-are_conditions.false,
+        c.in_ok-action.ensures.form,
+      ),
     )
