@@ -178,13 +178,13 @@ def play_accepts(checks, server):
 
 
 def play_fields_taken(checks, server):
-    """Fields that are taken out: each by a line of its own, and those that a client has forged above a rule that adds
+    """Fields that are taken out: the first one, all of them, and those that a client has forged above a rule that adds
     one."""
     taken, marked_by = recipes.rules()['Take out a header field'], recipes.rules()['Mark a message']
+    first = ['at eob do change-header 1 "X-External" ""']
     forged = 'X-External: one\r\nSubject: Lunch\r\nx-external: two\r\n\r\nAt one.\r\n'
-    for rules, login, expected in [(taken, None, ['x-external: two']), (2 * taken, None, []),
-                                   (2 * taken + marked_by, None, ['X-External: yes']),
-                                   (2 * taken + marked_by, 'ada', [])]:
+    for rules, login, expected in [(first, None, ['x-external: two']), (taken, None, []),
+                                   (taken + marked_by, None, ['X-External: yes']), (taken + marked_by, 'ada', [])]:
         with server.asking(rules), server.client(login=login) as client:
             said(client, SENDER, [TO], forged)
             found = [mail_server.fields(text, 'X-External', 'x-external') for text in server.arrived()]

@@ -24,6 +24,8 @@ TABLE = {
     ('change-header 1 "X-A" ""', 'change-header 2 "X-A" "new"'): [
         ('2 new a', BOTH), ('2 new a', BOTH), ('new 3 a', BOTH)],
     ('change-header 5 "X-A" "new"',): [('1 2 3 a new', BOTH), ('1 2 3 a new', BOTH), ('new 1 2 3 a', BOTH)],
+    ('del-header "X-A"',): [('a', BOTH), ('a', BOTH), ('a', BOTH)],
+    ('prefix-header "X-A" "new "',): [('new 1 2 3 a', BOTH), ('new 1 2 3 a', BOTH), ('new 1 2 3 a', BOTH)],
     ('insert-header 2 "X-New" "new"',): [('1 2 new 3 a', BOTH), ('1 new 2 3 a', BOTH), ('new 1 2 3 a', BOTH)],
     ('del-rcpt "bob@example.net"',): [('1 2 3 a', BOTH), ('1 2 3 a', [EVE]), ('1 2 3 a', [EVE])],
     ('del-rcpt "<BOB@example.net>"',): [('1 2 3 a', BOTH), ('1 2 3 a', BOTH), ('1 2 3 a', BOTH)],
@@ -37,7 +39,8 @@ FORMS = ['X-A', 'x-a', 'X-A']
 
 def rules_of(folder, edits):
     """A file of rules that asks for these edits."""
-    return programs.written(os.path.join(folder, 'rules'), ''.join('at eob do %s\n' % edit for edit in edits))
+    lines = ['rules 2'] + ['at eob do ' + edit for edit in edits]
+    return programs.written(os.path.join(folder, 'rules'), ''.join(line + '\n' for line in lines))
 
 
 def in_memory(program, folder, edits):

@@ -69,7 +69,8 @@ LARGE = (48 * 'x' + r'\r\n') * 1000
 # Ways to write the address `noreply@example.net`, as a session file has them.
 WRITTEN = ['<noreply@example.net>', 'noreply@example.net', '<NoReply@Example.NET>', r'<\"noreply\"@example.net>',
            '<noreply@example.net.>', '<@other.example:noreply@example.net>']
-YES = ('X-Spam-Flag', 'YES')
+YES, NO = ('X-Spam-Flag', 'YES'), ('X-Spam-Flag', 'NO')
+WON = r'You won the Lottery.\r\n'
 BULK = ('X-Bulk', 'yes')
 EXTERNAL = ('X-External', 'yes')
 BLOCKED = '550 5.7.1 Your network is blocked'
@@ -115,10 +116,25 @@ RECIPES = {
         passes(address='127.0.0.1', macros=[login()])],
     'Take out a header field': [
         edited({'headers': fields()}, headers=fields(EXTERNAL)),
-        edited({'headers': fields(('X-External', 'two'))},
-               headers=[('x-external', 'one')] + fields(('X-External', 'two'))),
+        edited({'headers': fields()}, headers=[('x-external', 'one')] + fields(('X-External', ''), EXTERNAL)),
         passes(),
         passes(headers=fields(('X-Internal', 'yes')))],
+    'A header field that nobody forges': [
+        edited({'headers': fields()}, headers=[('x-spam-flag', 'yes')] + fields(YES)),
+        edited({'headers': fields(YES)}, body=WON),
+        edited({'headers': fields(YES)}, headers=[NO] + fields(('X-SPAM-FLAG', 'never')), body=WON),
+        passes(),
+        passes(headers=fields(('X-Spam-Level', '*')))],
+    'Tag the subject': [
+        edited({'headers': [YES, ('Subject', '[SPAM] Lunch')]}, headers=[YES] + fields()),
+        edited({'headers': [('Subject', '[SPAM] Lunch'), YES, ('Subject', 'Dinner')]},
+               headers=fields(YES, ('Subject', 'Dinner'))),
+        edited({'headers': [('Subject', '[SPAM] =?utf-8?q?caf=C3=A9?='), YES]},
+               headers=[('Subject', '=?utf-8?q?caf=C3=A9?='), YES]),
+        edited({'headers': [YES, ('Subject', '[SPAM]')]}, headers=[YES]),
+        passes(),
+        passes(headers=fields(NO)),
+        passes(headers=[NO])],
     'Let a client pass first': [
         ends('connect', 'accept', 'released', address='192.0.2.25', headers=fields(YES)),
         ends('connect', 'accept', 'released', address='192.0.2.25'),
@@ -328,7 +344,19 @@ OF_TABLES = {
     'at eob when header "Subject" begins any-case "re:" "fwd:" do quarantine "HOLD"': [
         edited(HOLD, headers=subject('Re: lunch')), edited(HOLD, headers=subject('FWD: lunch')),
         passes(headers=subject('More: lunch'))],
-    'at eob do change-header 1 "X-Mailer" ""': [edited({'headers': fields()}, headers=fields(MAILER)), passes()],
+    'at eob do del-header "X-Mailer"': [
+        edited({'headers': fields()}, headers=[MAILER] + fields(('x-mailer', 'Dove'), MAILER)), passes()],
+    'at eob do prefix-header "Subject" "[list] "': [
+        edited({'headers': subject('[list] Lunch')}),
+        edited({'headers': subject('[list] Lunch') + fields()}, headers=fields() + fields()),
+        passes(headers=[MAILER])],
+    'at eob when header "X-Spam-Flag" is any-case "YES" do prefix-header "Subject" "[SPAM] "': [
+        edited({'headers': subject('[SPAM] Lunch') + [YES]}, headers=fields(YES)), passes(headers=fields(NO)),
+        passes(headers=[YES])],
+    'at eob do del-header "X-Spam-Flag"': [
+        edited({'headers': fields()}, headers=[YES] + fields(NO, YES)), passes()],
+    'at eob do change-header 1 "X-Spam-Flag" ""': [
+        edited({'headers': fields(NO)}, headers=[YES] + fields(NO)), passes()],
     'at eob when header "Precedence" begins any-case "bulk" do insert-header 0 "X-Bulk" "yes"': [
         edited({'headers': [BULK] + fields(('Precedence', 'Bulk'))}, headers=fields(('Precedence', 'Bulk'))),
         passes(headers=fields(('Precedence', 'no bulk')))],
