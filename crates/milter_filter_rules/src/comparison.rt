@@ -22,7 +22,19 @@ pub(crate) struct Comparison<'a> {
 
 impl<'a> Comparison<'a> {
     /// Whether one of the texts is found in the value.
+    #[inline(always)]
     pub(crate) fn finds_in(self, value: &[u8]) -> Result<bool, NoMemory>
+        ensures { IfOk result (λ found. found ≡ finds_some self.entry.case self.entry.check.now value.now) }
+    {
+        match value_form(&self.check.field, self.check.test) {
+            PathPart::Domain => self.finds_in_form(value),
+            _ => self.finds_some(value),
+        }
+    }
+
+    /// Whether one of the texts is found in the value, whatever form that is brought into.
+    #[inline(never)]
+    fn finds_in_form(self, value: &[u8]) -> Result<bool, NoMemory>
         ensures { IfOk result (λ found. found ≡ finds_some self.entry.case self.entry.check.now value.now) }
     {
         match value_form(&self.check.field, self.check.test) {
@@ -35,7 +47,23 @@ impl<'a> Comparison<'a> {
     }
 
     /// Whether one of the texts is found in the value, which has the form in which it is compared.
+    #[inline(always)]
     fn finds_some(self, value: &[u8]) -> Result<bool, NoMemory>
+        ensures { IfOk result (λ found. found ≡ list_any (λ text.
+            finds (case_in self.entry.case self.entry.check.now) self.entry.check.now.test
+            (in_form (text_form self.entry.check.now.field self.entry.check.now.test) text) value.now)
+            self.entry.check.now.texts) }
+    {
+        match text_form(&self.check.field, self.check.test) {
+            PathPart::Sent => Ok(self.finds_sent(value)),
+            _ => self.finds_formed(value),
+        }
+    }
+
+    /// Whether one of the texts, whatever form they are brought into, is found in the value, which has the form in
+    /// which it is compared.
+    #[inline(never)]
+    fn finds_formed(self, value: &[u8]) -> Result<bool, NoMemory>
         ensures { IfOk result (λ found. found ≡ list_any (λ text.
             finds (case_in self.entry.case self.entry.check.now) self.entry.check.now.test
             (in_form (text_form self.entry.check.now.field self.entry.check.now.test) text) value.now)
@@ -47,6 +75,21 @@ impl<'a> Comparison<'a> {
             }
         }
         Ok(false)
+    }
+
+    /// Whether one of the texts, as they are, is found in the value.
+    #[inline(always)]
+    fn finds_sent(self, value: &[u8]) -> bool
+        ensures { result ≡ list_any (λ text. finds (case_in self.entry.case self.entry.check.now)
+            self.entry.check.now.test text value.now) self.entry.check.now.texts }
+    {
+        let case = self.text_case();
+        for text in self.check.texts.as_slice() {
+            if is_found(case, self.check.test, text.as_slice(), value) {
+                return true;
+            }
+        }
+        false
     }
 
     /// Whether the text is found in the value, which has the form in which it is compared.
@@ -74,20 +117,39 @@ impl<'a> Comparison<'a> {
         ensures test { result.test ≡ self.entry.check.now.test }
         ensures text { result.text.now ≡ text.now }
     {
-        let case = if self.check.any_case || has_form(&self.check.field) {
-            TextCase::Ignored
-        } else {
-            self.case
-        };
         Pattern {
-            case,
+            case: self.text_case(),
             test: self.check.test,
             text,
         }
     }
+
+    /// Whether the case of letters counts.
+    #[inline(always)]
+    fn text_case(self) -> TextCase
+        ensures { result ≡ case_in self.entry.case self.entry.check.now }
+    {
+        if self.check.any_case || has_form(&self.check.field) {
+            TextCase::Ignored
+        } else {
+            self.case
+        }
+    }
+}
+
+/// Whether the test holds of the value and the text. The test that most rules have is made here, without a call.
+#[inline(always)]
+fn is_found(case: TextCase, test: Test, text: &[u8], value: &[u8]) -> bool
+    ensures { result ≡ finds case test text.now value.now }
+{
+    match (case, test) {
+        (TextCase::Exact, Test::Is) => value == text,
+        _ => Pattern { case, test, text }.is_found_in(value),
+    }
 }
 
 /// Whether the values of the field have a form of their own, in which case doesn't count.
+#[inline(always)]
 fn has_form(field: &Field) -> bool
     ensures { result ≡ has_form field.now }
 {
@@ -98,6 +160,7 @@ fn has_form(field: &Field) -> bool
 }
 
 /// Whether the field is searched by its texts, and its values are compared as they are.
+#[inline(always)]
 fn is_searched(field: &Field) -> bool
     ensures { result ≡ is_searched field.now }
 {
@@ -105,6 +168,7 @@ fn is_searched(field: &Field) -> bool
 }
 
 /// The form into which texts are brought that are looked for.
+#[inline(always)]
 fn text_form(field: &Field, test: Test) -> PathPart
     ensures { result ≡ text_form field.now test }
 {
@@ -115,6 +179,7 @@ fn text_form(field: &Field, test: Test) -> PathPart
 }
 
 /// The form into which values are brought.
+#[inline(always)]
 fn value_form(field: &Field, test: Test) -> PathPart
     ensures { result ≡ value_form field.now test }
 {

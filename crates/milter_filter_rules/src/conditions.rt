@@ -49,6 +49,7 @@ pub(crate) fn applies(
 }
 
 /// Whether the condition is met, and those of its group that came before it, where those before it are met or not.
+#[inline(always)]
 fn is_met_too(asked: Asked<'_>, before: bool, places: Places, seen: &Seen) -> Result<bool, NoMemory>
     ensures { IfOk result (λ met. met ≡ (group_met asked.entry.condition.now.joint before
         && is_met (matched_by asked.entry.context.case asked.entry.context.lists.now) seen.now.shown
@@ -59,6 +60,7 @@ fn is_met_too(asked: Asked<'_>, before: bool, places: Places, seen: &Seen) -> Re
 }
 
 /// Whether the condition is met; the places of its texts begin with these.
+#[inline(always)]
 fn is_met(asked: Asked<'_>, places: Places, seen: &Seen) -> Result<bool, NoMemory>
     ensures { IfOk result (λ met. met ≡ is_met (matched_by asked.entry.context.case asked.entry.context.lists.now)
         seen.now.shown asked.entry.condition.now) }
@@ -72,6 +74,7 @@ fn is_met(asked: Asked<'_>, places: Places, seen: &Seen) -> Result<bool, NoMemor
 }
 
 /// Whether the check of the condition holds; the places of its texts begin with these.
+#[inline(always)]
 fn holds(asked: Asked<'_>, places: Places, seen: &Seen) -> Result<bool, NoMemory>
     ensures { IfOk result (λ holds. holds ≡
         check_holds (matched_by asked.entry.context.case asked.entry.context.lists.now) seen.now.shown
@@ -120,6 +123,7 @@ fn measured(measure: Measure, seen: &Seen) -> usize
 }
 
 /// Whether the test of the check holds; the places of its texts begin with these.
+#[inline(always)]
 fn test_holds(comparison: Comparison<'_>, places: Places, seen: &Seen) -> Result<bool, NoMemory>
     ensures { IfOk result (λ holds. holds ≡
         test_holds comparison.entry.case seen.now.shown comparison.entry.check.now) }
@@ -132,6 +136,7 @@ fn test_holds(comparison: Comparison<'_>, places: Places, seen: &Seen) -> Result
 }
 
 /// Whether a text of the check is found in some value of its field.
+#[inline(always)]
 fn finds(comparison: Comparison<'_>, places: Places, seen: &Seen) -> Result<bool, NoMemory>
     ensures { IfOk result (λ found. found ≡ list_any (finds_some comparison.entry.case comparison.entry.check.now)
         (values_of comparison.entry.check.now.field seen.now.shown)) }
@@ -161,7 +166,20 @@ fn finds(comparison: Comparison<'_>, places: Places, seen: &Seen) -> Result<bool
 }
 
 /// Whether a text of the check is found in this part of the path.
+#[inline(always)]
 fn finds_in_path(comparison: Comparison<'_>, part: PathPart, path: &Path) -> Result<bool, NoMemory>
+    ensures { IfOk result (λ found. found ≡
+        finds_some comparison.entry.case comparison.entry.check.now (part_of part path.now)) }
+{
+    match part {
+        PathPart::Sent => comparison.finds_in(path.address.as_slice()),
+        _ => finds_in_part(comparison, part, path),
+    }
+}
+
+/// Whether a text of the check is found in this part of the path, whichever it is.
+#[inline(never)]
+fn finds_in_part(comparison: Comparison<'_>, part: PathPart, path: &Path) -> Result<bool, NoMemory>
     ensures { IfOk result (λ found. found ≡
         finds_some comparison.entry.case comparison.entry.check.now (part_of part path.now)) }
 {

@@ -36,11 +36,11 @@ fn decide_in_turn(context: Context<'_>, rules: &[Rule], seen: &Seen) -> Result<A
 {
     let alloc = context.alloc;
     let mut edits = EditList::new(alloc);
-    let mut places = Places::first();
+    let mut places = Places::first(context.is_searched);
     for rule in rules {
-        let at = places;
+        let is_met = applies(context, places, rule, seen)?;
         places = places.after_all(rule.conditions.as_slice());
-        if !applies(context, at, rule, seen)? {
+        if !is_met {
             continue;
         }
         if let Some(verdict) = rule.action.verdict() {

@@ -123,7 +123,7 @@ fn is_shown_at(check: &Check, stage: Stage) -> bool
 }
 
 /// The stage that shows what the check looks at; none for a macro.
-fn looked_at(check: &Check) -> Option<Stage>
+pub(crate) fn looked_at(check: &Check) -> Option<Stage>
     ensures { result ≡ looked_at check.now }
 {
     match check {

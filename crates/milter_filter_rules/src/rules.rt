@@ -10,7 +10,7 @@ use crate::least_wants::least_protocol;
 use crate::named_list::{NamedList, NamedLists};
 use crate::rule::Rule;
 use crate::rule_list::StageRules;
-use crate::searches::search_by;
+use crate::searches::{search_by, some_looks_at_macro};
 use milter_filter_policy::{Policy, Seen, TextCase};
 use milter_protocol::{Answer, VERSION_MAX};
 use milter_wire::{Actions, NoMemory, Options, Protocol, Stage, SymList, SymLists};
@@ -30,6 +30,8 @@ pub struct Rules {
     case: TextCase,
     /// Whether who made the rules stated their protocol bits.
     is_protocol_stated: bool,
+    /// Whether a condition at a recipient looks at a macro, which is searched for there.
+    searches_rcpt: bool,
     pub ghost lawful: { is_lawful
         (record { options = options; lists = lists; rules = rules; sources = sources_of named }) ≡ true },
 }
@@ -62,6 +64,7 @@ impl Rules {
             named: NamedLists::new(Vec::new(alloc)),
             case: TextCase::Exact,
             is_protocol_stated: false,
+            searches_rcpt: false,
         }
     }
 
@@ -83,6 +86,7 @@ impl Rules {
         ensures case { case_of result ≡ Exact }
         ensures stated { states_protocol result ≡ false }
     {
+        let searches_rcpt = some_looks_at_macro(rules.rcpt.as_slice());
         Rules {
             options,
             lists,
@@ -90,6 +94,7 @@ impl Rules {
             named,
             case: TextCase::Exact,
             is_protocol_stated: false,
+            searches_rcpt,
         }
     }
 
@@ -107,6 +112,7 @@ impl Rules {
             named,
             case: self.case,
             is_protocol_stated: self.is_protocol_stated,
+            searches_rcpt: self.searches_rcpt,
         }
     }
 
@@ -124,6 +130,7 @@ impl Rules {
             named: self.named,
             case: TextCase::Ignored,
             is_protocol_stated: self.is_protocol_stated,
+            searches_rcpt: self.searches_rcpt,
         }
     }
 
@@ -156,6 +163,7 @@ impl Rules {
             named: self.named,
             case: self.case,
             is_protocol_stated: self.is_protocol_stated,
+            searches_rcpt: self.searches_rcpt,
         }
     }
 
@@ -173,6 +181,7 @@ impl Rules {
             named: self.named,
             case: self.case,
             is_protocol_stated: is_stated,
+            searches_rcpt: self.searches_rcpt,
         }
     }
 
@@ -217,6 +226,14 @@ impl Rules {
     {
         self.rules.at(stage)
     }
+
+    /// Whether something may have been searched for when the rules of the stage decide.
+    fn is_searched(&self, at: Stage) -> bool {
+        match at {
+            Stage::Rcpt => self.searches_rcpt,
+            _ => true,
+        }
+    }
 }
 
 impl Policy for Rules {
@@ -238,7 +255,7 @@ impl Policy for Rules {
 
     #[inline(always)]
     fn prepare(&self, alloc: Global, at: Stage, seen: &mut Seen) {
-        if matches!(at, Stage::Rcpt | Stage::Header | Stage::Body) {
+        if matches!(at, Stage::Rcpt | Stage::Header | Stage::Body) && self.is_searched(at) {
             search_by(alloc, self.case, self.rules.at(at), seen);
         }
     }
@@ -249,6 +266,7 @@ impl Policy for Rules {
             alloc,
             case: self.case,
             lists: self.named.as_slice(),
+            is_searched: self.is_searched(at),
         };
         decide_by(context, self.rules.at(at), seen)
     }

@@ -3,6 +3,7 @@
 ghost use Rattle.std.specs.Prelude.{◌≡◌};
 
 use crate::comparison::Comparison;
+use crate::least_wants::looked_at;
 use crate::places::Places;
 use crate::rule::{Check, Field, Rule};
 use milter_filter_policy::{Seen, TextCase};
@@ -14,7 +15,7 @@ use std::alloc::Global;
 pub(crate) fn search_by(alloc: Global, case: TextCase, rules: &[Rule], seen: &mut Seen)
     ensures { seen.new ≡ seen.old }
 {
-    let mut places = Places::first();
+    let mut places = Places::first(true);
     for rule in rules {
         search_by_rule(alloc, case, places, rule, seen);
         places = places.after_all(rule.conditions.as_slice());
@@ -82,4 +83,17 @@ fn search_body(comparison: Comparison<'_>, place: usize, seen: &mut Seen)
         );
         place = place.wrapping_add(1);
     }
+}
+
+/// Whether a condition of one of the rules looks at a macro.
+pub(crate) fn some_looks_at_macro(rules: &[Rule]) -> bool {
+    rules.iter().any(|rule| looks_at_macro(rule))
+}
+
+/// Whether a condition of the rule looks at a macro.
+fn looks_at_macro(rule: &Rule) -> bool {
+    let conditions = rule.conditions.as_slice();
+    conditions
+        .iter()
+        .any(|condition| looked_at(&condition.check).is_none())
 }

@@ -2,7 +2,7 @@ use Rattle.std.proofs.Common.{◌≡◌, Bool, List, drop, ℕ}
 use Rattle.std.specs.List.{list_any}
 use Rattle.milter_filter_search.specs.Texts.{finds}
 use Rattle.milter_filter_rules.specs.Conditions.{case_in, in_form, text_form}
-use Rattle.milter_filter_rules.proofs.comparison.Comparison.finds_some.Given as goal
+use Rattle.milter_filter_rules.proofs.comparison.Comparison.finds_formed.Given as goal
 
 -- the texts that are left
 abbrev pub invariant-loop-text : goal.invariant-loop-text
