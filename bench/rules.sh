@@ -7,6 +7,10 @@
 # a message costs more than twenty times as much. It takes Python and some minutes. The program is built first where it
 # has to be; another one may be given.
 #
+# After these it measures lists of 1,000,000 entries of each kind, beside sets of Python (`lists.py`): the processor
+# time and the peak of memory of reading one, and the lookups a second. It fails where one takes more than a second or
+# 200 MiB, or where fewer than 100,000 values a second are looked for.
+#
 # With an older program at OLD both go through 10,000 rules at rcpt of the first form, in turn, and it fails where they
 # cost a quarter more than they did; less is what such runs are off by. Without OLD that row is left out. The last
 # program before rule files had a wider form is built in half an hour by
@@ -25,4 +29,7 @@ if [ -z "$program" ]; then
 fi
 work=$(mktemp -d)
 trap 'rm -rf "$work"' EXIT
-python3 bench/rules.py "$program" "$work" "${OLD:-}"
+status=0
+python3 bench/rules.py "$program" "$work" "${OLD:-}" || status=1
+python3 bench/lists.py "$program" "$work" || status=1
+exit "$status"
