@@ -137,13 +137,21 @@ def parts_of(text, names):
             mail_server.body(text))
 
 
+def as_delivered(written):
+    """An address as Postfix delivers it, however a client wrote it: within brackets, without a dot at its end, and
+    without quotes, which none of the recipes' addresses needs."""
+    local, at, domain = plain(written).strip('<>').rpartition('@')
+    return '<%s%s%s>' % (local.strip('"'), at, domain.rstrip('.'))
+
+
 def delivered_of(row):
     """The same, of each message of a row that is delivered."""
     if row.outcome != 'released' or 'quarantine' in row.released:
         return []
     parts = {**recipes.USUAL, **row.given, **row.released}
-    return [(parts['sender'], sorted(parts['recipients']), [('%s: %s' % each).rstrip() for each in parts['headers']],
-             plain(parts['body']).replace('\r\n', '\n'))]
+    recipients = sorted(map(as_delivered, parts['recipients']))
+    headers = [('%s: %s' % each).rstrip() for each in parts['headers']]
+    return [(as_delivered(parts['sender']), recipients, headers, plain(parts['body']).replace('\r\n', '\n'))]
 
 
 def is_of_smtp(rules, row):
