@@ -5,10 +5,11 @@ document and by Postfix's manual pages (access(5), header_checks(5), postconf(5)
 import os
 import re
 import subprocess
+import tempfile
 
 import cookbook
 import logins
-from lib import recipes
+from lib import programs, recipes
 
 NETWORKS, LISTS, PATTERNS = 'Networks of clients', 'Big lists', 'Regular expressions'
 NO_MAIL, OUR_OWN, SPAM = recipes.NO_MAIL, recipes.OUR_OWN, recipes.SPAM
@@ -144,10 +145,18 @@ def play_patterns(checks, program):
                 checks.check('patterns: %r' % message, replies, ['taken', 'taken', reply])
 
 
+def kinds_of_tables():
+    """The kinds of tables that this Postfix has, which it says where there is a main.cf."""
+    with tempfile.TemporaryDirectory() as config:
+        programs.written(os.path.join(config, 'main.cf'), '')
+        done = subprocess.run(['postconf', '-c', config, '-m'], check=True, stdout=subprocess.PIPE)
+    return done.stdout.decode().split()
+
+
 def play(checks, program):
     """All of it."""
     checks.part('networks', play_networks, program)
-    has = subprocess.run(['postconf', '-m'], check=True, stdout=subprocess.PIPE).stdout.decode().split()
+    has = kinds_of_tables()
     for kind in [recipes.quoted(LISTS, '^hash:$'), recipes.quoted(LISTS, '^lmdb:$')]:
         if kind[:-1] in has:
             checks.part('lists ' + kind, play_lists, program, kind)
