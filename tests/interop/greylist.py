@@ -115,7 +115,7 @@ def play_faults(checks, server, address, database):
 
 def play(checks):
     """Starts a Postfix, and plays all of it."""
-    programs.need('greylist')
+    programs.need_files(programs.command_of('greylist', '')[:1])
     with tempfile.TemporaryDirectory() as work:
         os.chmod(work, 0o755)
         address = 'inet:%d@127.0.0.1' % peers.free_port()

@@ -23,7 +23,7 @@ class Checks:
         """Plays a part, and counts a check that failed where it ends early."""
         try:
             play(self, *given)
-        except Exception as error:  # whatever it is, the other parts are played
+        except (Exception, SystemExit) as error:  # whatever it is, the other parts are played
             self.check(name, repr(error), None)
 
     def check(self, name, found, expected):
