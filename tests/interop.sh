@@ -7,13 +7,13 @@
 # say. A Postfix has the filter example_greylist. A Postfix is played the sessions of the recipes of docs/COOKBOOK.md,
 # and what that says of Postfix, with its lines for main.cf, master.cf and tables; those of the kind `lmdb:` where the
 # package postfix-lmdb is there. The rule files of README.md and docs/DEPLOY.md have to refuse an address however it is
-# written. What both mail servers make of edits is compared with the table of docs/PROTOCOL.md. The filters in C and
-# Python of examples/ are behind a Postfix, and the mail server's side in C shows a message to OpenDKIM, on the library
-# that tests/test_c_library.py built, or of the archive that ARCHIVE names. `mta`: to filters on Sendmail's libmilter,
-# one that does what its words say (interop/scripted.c) and OpenDKIM. It needs Debian's packages miltertest, postfix,
-# libmilter-dev and opendkim, a C compiler, openssl, and root, as whom Postfix and Sendmail start. It isn't part of the
-# test command. The program is built first where it has to be; another one may be given. The last line is 'N passed, M
-# failed'.
+# written. What both mail servers make of edits is compared with the table of docs/PROTOCOL.md, and both refuse by lists
+# of each kind, also by new ones. The filters in C and Python of examples/ are behind a Postfix, and the mail server's
+# side in C shows a message to OpenDKIM, on the library that tests/test_c_library.py built, or of the archive that
+# ARCHIVE names. `mta`: to filters on Sendmail's libmilter, one that does what its words say (interop/scripted.c) and
+# OpenDKIM. It needs Debian's packages miltertest, postfix, libmilter-dev and opendkim, a C compiler, openssl, and root,
+# as whom Postfix and Sendmail start. It isn't part of the test command. The program is built first where it has to be;
+# another one may be given. The last line is 'N passed, M failed'.
 #
 #     sudo [SENDMAIL_ROOT=FOLDER] bash tests/interop.sh [PROGRAM]
 #

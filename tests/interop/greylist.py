@@ -1,5 +1,5 @@
-"""`example_greylist` behind a Postfix of its own, for tests/interop.sh: a first try of mail is deferred and a later one is
-delivered, also by another process of smtpd and after the filter was started again; and while its database is locked,
+"""`example_greylist` behind a Postfix of its own, for tests/interop.sh: a first try of mail is deferred and a later one
+is delivered, also by another process of smtpd and after the filter was started again; and while its database is locked,
 damaged or can't grow, no mail passes that wasn't known.
 
 Both ports of Postfix have the one filter.

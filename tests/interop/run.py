@@ -17,6 +17,7 @@ import edit_rules
 import first_rules
 import greylist
 import library
+import listed
 import many
 import mta
 import peers
@@ -102,6 +103,7 @@ def main():
     checks.part('library', library.play)
     checks.part('edits in memory', edit_rules.play, program)
     checks.part('Postfix, edits', edit_rules.play, program, postfix.Postfix)
+    checks.part('Postfix, lists', listed.play, program, postfix.Postfix)
     for part in (cookbook, cookbook_settings, cookbook_statements, first_rules):
         checks.part(part.__name__, part.play, program)
     root = os.environ.get('SENDMAIL_ROOT', sendmail.UNPACKED)
@@ -112,6 +114,7 @@ def main():
         sendmail_at = functools.partial(sendmail.Sendmail, root)
         checks.part('Sendmail, many at once', many.play, program, sendmail_at)
         checks.part('Sendmail, edits', edit_rules.play, program, sendmail_at)
+        checks.part('Sendmail, lists', listed.play, program, sendmail_at)
     print('%d passed, %d failed' % (checks.passed, checks.failed))
     return 1 if checks.failed else 0
 
