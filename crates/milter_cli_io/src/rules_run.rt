@@ -4,7 +4,7 @@ ghost use Rattle.std.specs.Prelude.{◌≡◌, IfErr, IfOk, OnOk, false, true};
 ghost use Rattle.milter_rules.specs.RuleFile.{IsRuleFile, StatesProtocol};
 ghost use Rattle.milter_filter_rules.specs.RulesValue.{case_of, named_of, rule_set, states_protocol};
 ghost use Rattle.milter_list_files.specs.ListFiles.{AreRead};
-ghost use Rattle.milter_cli_io.specs.UsedRules.{IsFileWith, used_set};
+ghost use Rattle.milter_cli_io.specs.UsedRules.{IsFileWith, also_sent, used_set};
 ghost use Rattle.milter_glob.specs.declared.text_case.TextCase.TheVariants.{Exact, Ignored};
 ghost use Rattle.milter_rules.specs.RulesText.{rules_text};
 ghost use Rattle.milter_cli_io.specs.FileRun.{Has, HasNone, IsFaultOrMemory, IsFileFault, IsOf, WritesCanonical};
@@ -15,6 +15,7 @@ use crate::list_check::check_lists;
 use crate::tool_error::{ToolError, output_error};
 use milter_rules::{ListFile, Rules, read_rule_lines, read_rules, write_rules};
 use milter_rules_check::{Severity, check_rules};
+use milter_wire::Stage;
 use std::alloc::Global;
 use std::io::{Read, Write};
 use std::rt::Files;
@@ -81,7 +82,27 @@ pub struct RuleUse {
     pub ignore_case: bool,
     /// Whether the stages alone are asked for that the rules look at, where the file states no protocol bits.
     pub least_stages: bool,
+    /// Whether the stages are sent all the same with which the names of messages come.
+    pub names_messages: bool,
 }
+
+impl RuleUse {
+    /// The stages that are sent besides those that the rules look at.
+    fn also_sent(&self) -> &[Stage]
+        ensures { result.now ≡ also_sent self.now }
+    {
+        if self.names_messages {
+            &NAMING_STAGES
+        } else {
+            &[]
+        }
+    }
+}
+
+/// The stages with which the names of messages come, where mail servers send them as they do by default: Sendmail sends
+/// a message's queue id, the macro `i`, before its sender, and Postfix, which has none there yet, before DATA. Source:
+/// the libmilter callback documentation (smfi_getsymval), and MILTER_README of Postfix.
+const NAMING_STAGES: [Stage; 2] = [Stage::Mail, Stage::DataCmd];
 
 /// These rules, as they are used.
 pub fn used_rules(rules: Rules, usage: RuleUse) -> Rules
@@ -93,7 +114,7 @@ pub fn used_rules(rules: Rules, usage: RuleUse) -> Rules
     let is_stated = rules.is_protocol_stated();
     let rules = with_case_ignored(rules, usage.ignore_case);
     if usage.least_stages && !is_stated {
-        rules.with_least_wants()
+        rules.with_least_wants(usage.also_sent())
     } else {
         rules
     }

@@ -1,39 +1,45 @@
-//! The least that rules want of a mail server: the stages that they look at are sent, and the stages at which they
-//! stand are asked about.
+//! The least that rules want of a mail server: the stages that they look at are sent, with those that are to be sent
+//! besides, and the stages at which they stand are asked about.
 
 ghost use Rattle.std.specs.Prelude.{◌≡◌};
 ghost use Rattle.std.specs.Int.Bits.{bit_or};
 ghost use Rattle.std.specs.List.{fold, list_any};
 ghost use Rattle.milter_wire.specs.Stages.{all_stages};
-ghost use Rattle.milter_filter_rules.specs.LeastWants.{bit_unless, is_least_asked, is_least_sent, is_looked_at, is_looked_at_from, is_of_use, is_shown_by, least_protocol, left_out_at, looked_at, looks_at, shown_at};
+ghost use Rattle.milter_filter_rules.specs.StageRules.{is_stage};
+ghost use Rattle.milter_filter_rules.specs.LeastWants.{bit_unless, is_least_asked, is_least_sent, is_looked_at, is_looked_at_from, is_of_use, is_shown_by, is_wanted, least_protocol, left_out_at, looked_at, looks_at, shown_at};
 
 use crate::rule::{Check, Condition, Field, Measure, Rule};
 use crate::rule_list::StageRules;
 use milter_protocol::rank_of;
 use milter_wire::{Protocol, Stage};
 
-/// These bits, and those of all that the rules don't need.
-pub(crate) fn least_protocol(protocol: Protocol, rules: &StageRules) -> Protocol
-    ensures { result ≡ least_protocol protocol rules.now }
+/// These bits, and those of all that the rules don't need; these stages are sent besides.
+pub(crate) fn least_protocol(
+    also_sent: &[Stage],
+    protocol: Protocol,
+    rules: &StageRules,
+) -> Protocol
+    ensures { result ≡ least_protocol also_sent.now protocol rules.now }
 {
     let unknown_left_out = Protocol::NOUNKNOWN.0 | Protocol::NR_UNKN.0;
-    Protocol(with_left_out(protocol.0 | unknown_left_out, rules))
+    Protocol(with_left_out(protocol.0 | unknown_left_out, also_sent, rules))
 }
 
 /// These bits, and those of each stage that the rules don't need.
-fn with_left_out(bits: u32, rules: &StageRules) -> u32
-    ensures { result ≡ fold (λ bits stage. bit_or bits (left_out_at rules.now stage)) bits all_stages }
+fn with_left_out(bits: u32, also_sent: &[Stage], rules: &StageRules) -> u32
+    ensures { result
+        ≡ fold (λ bits stage. bit_or bits (left_out_at also_sent.now rules.now stage)) bits all_stages }
 {
-    Stage::ALL
-        .iter()
-        .fold(bits, |bits, stage| bits | left_out_at(rules, *stage))
+    Stage::ALL.iter().fold(bits, |bits, stage| {
+        bits | left_out_at(also_sent, rules, *stage)
+    })
 }
 
-/// The bits by which the stage isn't sent and isn't answered, where the rules need neither.
-fn left_out_at(rules: &StageRules, stage: Stage) -> u32
-    ensures { result ≡ left_out_at rules.now stage }
+/// The bits by which the stage isn't sent and isn't answered, where neither is wanted.
+fn left_out_at(also_sent: &[Stage], rules: &StageRules, stage: Stage) -> u32
+    ensures { result ≡ left_out_at also_sent.now rules.now stage }
 {
-    bit_unless(is_sent(rules, stage), stage.not_sent())
+    bit_unless(is_sent(also_sent, rules, stage), stage.not_sent())
         | bit_unless(is_asked(rules, stage), stage.not_answered())
 }
 
@@ -55,14 +61,28 @@ fn is_asked(rules: &StageRules, stage: Stage) -> bool
 }
 
 /// Whether the stage is sent. The sender is sent wherever a part of its message is.
-fn is_sent(rules: &StageRules, stage: Stage) -> bool
-    ensures { result ≡ is_least_sent rules.now stage }
+fn is_sent(also_sent: &[Stage], rules: &StageRules, stage: Stage) -> bool
+    ensures { result ≡ is_least_sent also_sent.now rules.now stage }
 {
-    is_of_use(rules, stage)
+    is_wanted(also_sent, rules, stage)
         || stage == Stage::Mail
-            && (is_of_use(rules, Stage::Rcpt)
-                || is_of_use(rules, Stage::Header)
-                || is_of_use(rules, Stage::Body))
+            && (is_wanted(also_sent, rules, Stage::Rcpt)
+                || is_wanted(also_sent, rules, Stage::Header)
+                || is_wanted(also_sent, rules, Stage::Body))
+}
+
+/// Whether the stage is one of these, which are sent besides, or of use.
+fn is_wanted(also_sent: &[Stage], rules: &StageRules, stage: Stage) -> bool
+    ensures { result ≡ is_wanted also_sent.now rules.now stage }
+{
+    is_one_of(stage, also_sent) || is_of_use(rules, stage)
+}
+
+/// Whether the stage is one of these.
+fn is_one_of(stage: Stage, stages: &[Stage]) -> bool
+    ensures { result ≡ list_any (is_stage stage) stages.now }
+{
+    stages.iter().any(|one| stage == *one)
 }
 
 /// Whether a rule stands at the stage, or looks at what it shows.

@@ -14,23 +14,31 @@ ghost use Rattle.milter_filter_rules.specs.WorkedRules.{is_empty, least_names, o
 /// The protocol bits that rules want which set none of their own.
 pub(crate) fn least_bits_of_rules()
     // Nothing but the end of a message is sent.
-    ensures none { least_names no_rules
+    ensures none { least_names [] no_rules
         ≡ codes "NOCONNECT|NOHELO|NOMAIL|NORCPT|NOBODY|NOHDRS|NOEOH|NR_HDR|NOUNKNOWN|NODATA|"
         ++ codes "NR_CONN|NR_HELO|NR_MAIL|NR_RCPT|NR_DATA|NR_UNKN|NR_EOH|NR_BODY" }
+    // So are stages that are to be sent besides, which are not asked about.
+    ensures also_sent { least_names (stages.Mail ∷ stages.DataCmd ∷ []) no_rules
+        ≡ codes "NOCONNECT|NOHELO|NORCPT|NOBODY|NOHDRS|NOEOH|NR_HDR|NOUNKNOWN|"
+        ++ codes "NR_CONN|NR_HELO|NR_MAIL|NR_RCPT|NR_DATA|NR_UNKN|NR_EOH|NR_BODY" }
+    // The sender is sent wherever a recipient is.
+    ensures also_sender { least_names (stages.Rcpt ∷ []) no_rules
+        ≡ codes "NOCONNECT|NOHELO|NOBODY|NOHDRS|NOEOH|NR_HDR|NOUNKNOWN|NODATA|"
+        ++ codes "NR_CONN|NR_HELO|NR_MAIL|NR_RCPT|NR_DATA|NR_UNKN|NR_EOH|NR_BODY" }
     // The sender and the recipients are sent, and only the recipients are asked about.
-    ensures recipient { least_names (one_rule stages.Rcpt (is_empty (fields.Rcpt parts.Address)))
+    ensures recipient { least_names [] (one_rule stages.Rcpt (is_empty (fields.Rcpt parts.Address)))
         ≡ codes "NOCONNECT|NOHELO|NOBODY|NOHDRS|NOEOH|NR_HDR|NOUNKNOWN|NODATA|"
         ++ codes "NR_CONN|NR_HELO|NR_MAIL|NR_DATA|NR_UNKN|NR_EOH|NR_BODY" }
     // All up to DATA is sent, since a macro may come before each stage.
-    ensures a_macro { least_names (one_rule stages.DataCmd (is_empty (fields.Macro (codes "i"))))
+    ensures a_macro { least_names [] (one_rule stages.DataCmd (is_empty (fields.Macro (codes "i"))))
         ≡ codes "NOBODY|NOHDRS|NOEOH|NR_HDR|NOUNKNOWN|"
         ++ codes "NR_CONN|NR_HELO|NR_MAIL|NR_RCPT|NR_UNKN|NR_EOH|NR_BODY" }
     // The header fields are sent, with the sender, and only the end of the message is asked about.
-    ensures header { least_names (one_rule stages.Eob (is_empty (fields.Header (codes "Subject"))))
+    ensures header { least_names [] (one_rule stages.Eob (is_empty (fields.Header (codes "Subject"))))
         ≡ codes "NOCONNECT|NOHELO|NORCPT|NOBODY|NOEOH|NR_HDR|NOUNKNOWN|NODATA|"
         ++ codes "NR_CONN|NR_HELO|NR_MAIL|NR_RCPT|NR_DATA|NR_UNKN|NR_EOH|NR_BODY" }
     // The body is sent, with the sender, and only the end of the message is asked about.
-    ensures size { least_names (one_rule stages.Eob (Over Size 1000000))
+    ensures size { least_names [] (one_rule stages.Eob (Over Size 1000000))
         ≡ codes "NOCONNECT|NOHELO|NORCPT|NOHDRS|NOEOH|NR_HDR|NOUNKNOWN|NODATA|"
         ++ codes "NR_CONN|NR_HELO|NR_MAIL|NR_RCPT|NR_DATA|NR_UNKN|NR_EOH|NR_BODY" }
 {}

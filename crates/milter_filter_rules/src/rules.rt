@@ -134,30 +134,30 @@ impl Rules {
         }
     }
 
-    /// What the filter wants, without what its rules don't need: only stages are sent that rules look at, with the
-    /// sender of what is sent of a message, and only those are asked about at which rules stand. The end of a message
-    /// always is; unknown commands of the client never are. It doesn't depend on the texts of conditions. Doesn't
-    /// allocate. Source: mfdef.h (SMFIP_NOCONNECT and those after it).
-    pub fn least_wants(&self) -> Options
-        ensures { result ≡ least_wants (rule_set self.now) }
+    /// What the filter wants, without what its rules don't need: only stages are sent that rules look at, and those of
+    /// `also_sent`, with the sender of what is sent of a message, and only those are asked about at which rules stand.
+    /// The end of a message always is; unknown commands of the client never are. It doesn't depend on the texts of
+    /// conditions. Doesn't allocate. Source: mfdef.h (SMFIP_NOCONNECT and those after it).
+    pub fn least_wants(&self, also_sent: &[Stage]) -> Options
+        ensures { result ≡ least_wants also_sent.now (rule_set self.now) }
     {
         Options {
             version: self.options.version,
             actions: self.options.actions,
-            protocol: least_protocol(self.options.protocol, &self.rules),
+            protocol: least_protocol(also_sent, self.options.protocol, &self.rules),
         }
     }
 
-    /// These rules, where the filter wants no more than they need. Each message comes to the same by them. Neither
-    /// copies nor allocates.
-    pub fn with_least_wants(self) -> Self
-        ensures set { rule_set result ≡ with_least_wants (rule_set self) }
+    /// These rules, where the filter wants no more than they need, and these stages sent besides. Each message comes to
+    /// the same by them. Neither copies nor allocates.
+    pub fn with_least_wants(self, also_sent: &[Stage]) -> Self
+        ensures set { rule_set result ≡ with_least_wants also_sent.now (rule_set self) }
         ensures named { named_of result ≡ named_of self }
         ensures case { case_of result ≡ case_of self }
         ensures stated { states_protocol result ≡ states_protocol self }
     {
         Rules {
-            options: self.least_wants(),
+            options: self.least_wants(also_sent),
             lists: self.lists,
             rules: self.rules,
             named: self.named,

@@ -28,6 +28,7 @@ pub(crate) fn answer_mail_server<R: Input + Files + Print + AllocGlobal>(
     let usage = RuleUse {
         ignore_case: asked.ignore_case,
         least_stages: asked.least_stages,
+        names_messages: false,
     };
     let rules = rules_at(rt, asked.rules, usage)?;
     let mut reader = rt.reader();
@@ -49,6 +50,7 @@ pub(crate) fn serve_in_turn<
     let usage = RuleUse {
         ignore_case: asked.ignore_case,
         least_stages: asked.least_stages,
+        names_messages: false,
     };
     let rules = rules_at(rt, asked.rules, usage)?;
     serve_at(rt, &rules, address, asked)

@@ -36,6 +36,7 @@ pub(crate) fn serve_many<
     let usage = RuleUse {
         ignore_case: asked.ignore_case,
         least_stages: !asked.all_stages,
+        names_messages: asked.log,
     };
     let mut source = RuleFile::new(rt, rt.alloc(), asked.rules, usage);
     let rules = first_rules(rt.alloc(), &mut source)?;

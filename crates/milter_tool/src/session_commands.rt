@@ -114,6 +114,7 @@ pub(crate) fn play_in_memory<R: Files + Print + AllocGlobal>(
     let usage = RuleUse {
         ignore_case: asked.ignore_case,
         least_stages: asked.least_stages,
+        names_messages: false,
     };
     let rules = rules_at(rt, asked.rules, usage)?;
     play_with_rules(rt, config, asked, &rules)
