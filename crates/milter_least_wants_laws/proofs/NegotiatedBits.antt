@@ -50,21 +50,22 @@ less_none a b mask e =
 none_together : (a b mask : ℕ) → bit_and a mask ≡ 0 → bit_and b mask ≡ 0 → bit_and (bit_or a b) mask ≡ 0
 none_together a b mask e f = and_or_apart mask a b f ∙ e
 
-module _ (rules : StageRules) where
+module _ (also_sent : List Stage) (rules : StageRules) where
   abbrev more : ℕ → List Stage → ℕ
-  more bits these = fold (λ bits stage. bit_or bits (left_out_at rules stage)) bits these
+  more bits these = fold (λ bits stage. bit_or bits (left_out_at also_sent rules stage)) bits these
 
   fold_none : (mask bits : ℕ) (these : List Stage) → bit_and (more bits these) mask ≡ 0 → bit_and bits mask ≡ 0
   fold_none mask bits [] e = e
   fold_none mask bits (stage ∷ these) e =
-      less_none bits (left_out_at rules stage) mask (fold_none mask (bit_or bits (left_out_at rules stage)) these e)
+      less_none bits (left_out_at also_sent rules stage) mask
+      (fold_none mask (bit_or bits (left_out_at also_sent rules stage)) these e)
 
-  fold_apart : (mask : ℕ) → ((stage : Stage) → bit_and (left_out_at rules stage) mask ≡ 0) → (bits : ℕ)
+  fold_apart : (mask : ℕ) → ((stage : Stage) → bit_and (left_out_at also_sent rules stage) mask ≡ 0) → (bits : ℕ)
       (these : List Stage) → bit_and (more bits these) mask ≡ bit_and bits mask
   fold_apart mask apart bits [] = refl
   fold_apart mask apart bits (stage ∷ these) =
-      fold_apart mask apart (bit_or bits (left_out_at rules stage)) these
-      ∙ and_or_apart mask bits (left_out_at rules stage) (apart stage)
+      fold_apart mask apart (bit_or bits (left_out_at also_sent rules stage)) these
+      ∙ and_or_apart mask bits (left_out_at also_sent rules stage) (apart stage)
 
 -- ---- the bit of one stage is no other's
 
@@ -170,30 +171,30 @@ unknown_apart Eob = (refl, refl)
 
 -- ---- what both ends have
 
-module _ (set : RuleSet) (offer : Options) where
+module _ (also_sent : List Stage) (set : RuleSet) (offer : Options) where
   abbrev pub as_it_is : Negotiated
   as_it_is = negotiate offer set.options set.lists
 
   abbrev pub least : Negotiated
-  least = negotiate offer (least_wants set) set.lists
+  least = negotiate offer (least_wants also_sent set) set.lists
 
   abbrev own_bits : ℕ
   own_bits = set.options.protocol.0
 
   abbrev least_bits : ℕ
-  least_bits = (least_protocol set.options.protocol set.rules).0
+  least_bits = (least_protocol also_sent set.options.protocol set.rules).0
 
   -- none of these bits is among those that were added
   same_bits : (mask : ℕ) → bit_and unknown_left_out mask ≡ 0
-      → ((stage : Stage) → bit_and (left_out_at set.rules stage) mask ≡ 0)
+      → ((stage : Stage) → bit_and (left_out_at also_sent set.rules stage) mask ≡ 0)
       → bit_and least_bits mask ≡ bit_and own_bits mask
   same_bits mask unknown apart =
-      fold_apart set.rules mask apart (bit_or own_bits unknown_left_out) all_stages
+      fold_apart also_sent set.rules mask apart (bit_or own_bits unknown_left_out) all_stages
       ∙ and_or_apart mask own_bits unknown_left_out unknown
 
   -- and so it was negotiated as before
   same_bit : (mask : ℕ) → bit_and unknown_left_out mask ≡ 0
-      → ((stage : Stage) → bit_and (left_out_at set.rules stage) mask ≡ 0)
+      → ((stage : Stage) → bit_and (left_out_at also_sent set.rules stage) mask ≡ 0)
       → has_bit least.options.protocol.0 mask ≡ has_bit as_it_is.options.protocol.0 mask
   same_bit mask unknown apart =
       ap (λ (n : ℕ). not (n == 0))
@@ -206,7 +207,7 @@ module _ (set : RuleSet) (offer : Options) where
   no_bit mask e =
       turned own_bits
       ∙ less_none own_bits unknown_left_out (bit_and offer.protocol.0 mask)
-      (fold_none set.rules (bit_and offer.protocol.0 mask) (bit_or own_bits unknown_left_out) all_stages
+      (fold_none also_sent set.rules (bit_and offer.protocol.0 mask) (bit_or own_bits unknown_left_out) all_stages
       (sym (turned least_bits) ∙ e))
     where
       turned : (wanted : ℕ) → bit_and (bit_and offer.protocol.0 wanted) mask
@@ -224,8 +225,8 @@ module _ (set : RuleSet) (offer : Options) where
 
   -- ---- stages
 
-  needed_sent : (stage : Stage) → is_least_sent set.rules stage ≡ true → (other : Stage)
-      → bit_and (left_out_at set.rules other) (bit_of (not_sent_of stage)) ≡ 0
+  needed_sent : (stage : Stage) → is_least_sent also_sent set.rules stage ≡ true → (other : Stage)
+      → bit_and (left_out_at also_sent set.rules other) (bit_of (not_sent_of stage)) ≡ 0
   needed_sent stage needed other =
       let mask = bit_of (not_sent_of stage) in
       let both = and_parts (is_stage stage other || is_apart mask (not_sent_of other)) _
@@ -235,20 +236,21 @@ module _ (set : RuleSet) (offer : Options) where
     where
       by_same : (same : Bool) → is_stage stage other ≡ same
           → (same || is_apart (bit_of (not_sent_of stage)) (not_sent_of other)) ≡ true
-          → bit_and (bit_unless (is_least_sent set.rules other) (not_sent_of other)) (bit_of (not_sent_of stage)) ≡ 0
+          → bit_and (bit_unless (is_least_sent also_sent set.rules other) (not_sent_of other))
+          (bit_of (not_sent_of stage)) ≡ 0
       by_same true e apart =
-          needed_apart (bit_of (not_sent_of stage)) (is_least_sent set.rules other) (not_sent_of other)
-          (subst (λ (s : Stage). is_least_sent set.rules s ≡ true) (same_stage stage other e) needed)
+          needed_apart (bit_of (not_sent_of stage)) (is_least_sent also_sent set.rules other) (not_sent_of other)
+          (subst (λ (s : Stage). is_least_sent also_sent set.rules s ≡ true) (same_stage stage other e) needed)
       by_same false e apart =
-          unless_apart (bit_of (not_sent_of stage)) (is_least_sent set.rules other) (not_sent_of other) apart
+          unless_apart (bit_of (not_sent_of stage)) (is_least_sent also_sent set.rules other) (not_sent_of other) apart
 
   needed_asked : (stage : Stage) → is_least_asked set.rules stage ≡ true → (other : Stage)
-      → bit_and (left_out_at set.rules other) (bit_of (not_answered_of stage)) ≡ 0
+      → bit_and (left_out_at also_sent set.rules other) (bit_of (not_answered_of stage)) ≡ 0
   needed_asked stage needed other =
       let mask = bit_of (not_answered_of stage) in
       let both = and_parts (is_apart mask (not_sent_of other)) _
       (at_each (apart_unanswered stage) (unanswered_apart stage) other) in
-      none_together _ _ mask (unless_apart mask (is_least_sent set.rules other) (not_sent_of other) both.0)
+      none_together _ _ mask (unless_apart mask (is_least_sent also_sent set.rules other) (not_sent_of other) both.0)
       (by_same (is_stage stage other) refl both.1)
     where
       by_same : (same : Bool) → is_stage stage other ≡ same
@@ -262,11 +264,12 @@ module _ (set : RuleSet) (offer : Options) where
           unless_apart (bit_of (not_answered_of stage)) (is_least_asked set.rules other) (not_answered_of other) apart
 
   has_as_before : (bit : Option Protocol) → bit_and unknown_left_out (bit_of bit) ≡ 0
-      → ((stage : Stage) → bit_and (left_out_at set.rules stage) (bit_of bit) ≡ 0) → has least bit ≡ has as_it_is bit
+      → ((stage : Stage) → bit_and (left_out_at also_sent set.rules stage) (bit_of bit) ≡ 0)
+      → has least bit ≡ has as_it_is bit
   has_as_before None unknown apart = refl
   has_as_before (Some bit) unknown apart = same_bit bit.0 unknown apart
 
-  pub sent_as_before : (stage : Stage) → is_least_sent set.rules stage ≡ true
+  pub sent_as_before : (stage : Stage) → is_least_sent also_sent set.rules stage ≡ true
       → is_sent least stage ≡ is_sent as_it_is stage
   sent_as_before stage needed =
       sent_by stage (has_as_before (not_sent_of stage) (unknown_apart stage).0 (needed_sent stage needed))
@@ -312,10 +315,10 @@ module _ (set : RuleSet) (offer : Options) where
   apart_from_all mask stage = is_apart mask (not_sent_of stage) && is_apart mask (not_answered_of stage)
 
   other_bit : (mask : ℕ) → list_all (apart_from_all mask) all_stages ≡ true → (stage : Stage)
-      → bit_and (left_out_at set.rules stage) mask ≡ 0
+      → bit_and (left_out_at also_sent set.rules stage) mask ≡ 0
   other_bit mask all stage =
       let both = and_parts (is_apart mask (not_sent_of stage)) _ (at_each (apart_from_all mask) all stage) in
-      none_together _ _ mask (unless_apart mask (is_least_sent set.rules stage) (not_sent_of stage) both.0)
+      none_together _ _ mask (unless_apart mask (is_least_sent also_sent set.rules stage) (not_sent_of stage) both.0)
       (unless_apart mask (is_least_asked set.rules stage) (not_answered_of stage) both.1)
 
   pub skip_as_before : has least (Some SKIP) ≡ has as_it_is (Some SKIP)

@@ -19,9 +19,9 @@ use Rattle.milter_filter_rules.specs.ListedValues.{Matching}
 use Rattle.milter_filter_rules.specs.declared.rule.Rule.{Rule}
 use Rattle.milter_filter_rules.specs.declared.rule_list.StageRules.{StageRules}
 use Rattle.milter_filter_rules.specs.Decisions.{decided}
-use Rattle.milter_filter_rules.specs.LeastWants.{has_rules, is_least_asked, is_least_sent, is_looked_at, is_looked_at_from, is_of_use, is_shown_by, looked_at, looks_at}
+use Rattle.milter_filter_rules.specs.LeastWants.{has_rules, is_least_asked, is_least_sent, is_looked_at, is_looked_at_from, is_of_use, is_shown_by, is_wanted, looked_at, looks_at}
 use Rattle.milter_filter_rules.specs.RuleSet.{RuleSet}
-use Rattle.milter_filter_rules.specs.StageRules.{rules_at}
+use Rattle.milter_filter_rules.specs.StageRules.{is_stage, rules_at}
 use Rattle.milter_least_wants_laws.proofs.Decided.{decided-alike}
 use Rattle.milter_least_wants_laws.proofs.NegotiatedBits.{answered_as_before, answered_before, as_it_is, least, sent_as_before, sent_before, skip_as_before, space_as_before}
 use Rattle.milter_least_wants_laws.proofs.Places.{AreUpTo, place_of, sends}
@@ -53,16 +53,19 @@ any_at test Eob e =
     (or_right (test DataCmd) _ (or_right (test Header) _
     (or_right (test Eoh) _ (or_right (test Body) _ (rw e refl))))))))
 
-module _ (rules : StageRules) where
-  of_use-sent : (stage : Stage) → is_of_use rules stage ≡ true → is_least_sent rules stage ≡ true
-  of_use-sent Mail e = or_left (is_of_use rules Mail) _ e
-  of_use-sent other e = e
+module _ (also_sent : List Stage) (rules : StageRules) where
+  of_use-wanted : (stage : Stage) → is_of_use rules stage ≡ true → is_wanted also_sent rules stage ≡ true
+  of_use-wanted stage e = or_right (list_any (is_stage stage) also_sent) (is_of_use rules stage) e
 
-  asked-sent : (stage : Stage) → is_least_asked rules stage ≡ true → is_least_sent rules stage ≡ true
+  of_use-sent : (stage : Stage) → is_of_use rules stage ≡ true → is_least_sent also_sent rules stage ≡ true
+  of_use-sent Mail e = or_left (is_wanted also_sent rules Mail) _ (of_use-wanted Mail e)
+  of_use-sent other e = of_use-wanted other e
+
+  asked-sent : (stage : Stage) → is_least_asked rules stage ≡ true → is_least_sent also_sent rules stage ≡ true
   asked-sent stage e = of_use-sent stage (or_left (is_least_asked rules stage) (is_looked_at rules stage) e)
 
   looked_at-sent : (stage later : Stage) → rank_of stage ≤ rank_of later
-      → list_any (looks_at stage) (rules_at rules later) ≡ true → is_least_sent rules stage ≡ true
+      → list_any (looks_at stage) (rules_at rules later) ≡ true → is_least_sent also_sent rules stage ≡ true
   looked_at-sent stage later less looks =
       of_use-sent stage (or_right (is_least_asked rules stage) (is_looked_at rules stage)
       (any_at (is_looked_at_from rules stage) later
@@ -83,12 +86,12 @@ module _ (rules : StageRules) where
   unasked-none Eoh e = no_rules rules.eoh e
   unasked-none Body e = no_rules rules.body e
 
-module _ (m : Matching) (set : RuleSet) (offer : Options) where
+module _ (m : Matching) (also_sent : List Stage) (set : RuleSet) (offer : Options) where
   abbrev as_wanted : Negotiated
-  as_wanted = as_it_is set offer
+  as_wanted = as_it_is also_sent set offer
 
   abbrev at_least : Negotiated
-  at_least = least set offer
+  at_least = least also_sent set offer
 
   abbrev pub decides : Stage → Seen → Answer
   decides = λ stage shown. decided m (rules_at set.rules stage) shown
@@ -97,7 +100,7 @@ module _ (m : Matching) (set : RuleSet) (offer : Options) where
 
   verdict-alike : (verdict : Verdict) → permitted_verdict at_least verdict ≡ permitted_verdict as_wanted verdict
   verdict-alike verdicts.Skip =
-      ap (λ (b : Bool). if b then verdicts.Skip else verdicts.Continue) (skip_as_before set offer)
+      ap (λ (b : Bool). if b then verdicts.Skip else verdicts.Continue) (skip_as_before also_sent set offer)
   verdict-alike other = refl
 
   answer-alike : (answer : Answer) → permitted at_least answer ≡ permitted as_wanted answer
@@ -113,15 +116,15 @@ module _ (m : Matching) (set : RuleSet) (offer : Options) where
           → is_plain (Some (permitted as_wanted (decides stage shown))) ≡ true
       by_asked true e =
           absurd (true≢false (sym (and_from (is_sent at_least stage) (is_answered at_least stage)
-          (sent_as_before set offer stage (asked-sent set.rules stage e) ∙ sent)
-          (answered_as_before set offer stage e ∙ answered)) ∙ none))
+          (sent_as_before also_sent set offer stage (asked-sent also_sent set.rules stage e) ∙ sent)
+          (answered_as_before also_sent set offer stage e ∙ answered)) ∙ none))
       by_asked false e =
           ap (λ (l : List Rule). is_plain (Some (permitted as_wanted (decided m l shown))))
-          (unasked-none set.rules stage e)
+          (unasked-none also_sent set.rules stage e)
 
   -- each stage that shows what a rule of this stage looks at is sent as before
   abbrev IsKept : Stage → Stage → Type 0
-  IsKept stage shown = rank_of shown ≤ rank_of stage → is_least_sent set.rules shown ≡ true
+  IsKept stage shown = rank_of shown ≤ rank_of stage → is_least_sent also_sent set.rules shown ≡ true
 
   hides-none : (stage : Stage) (at : Option Stage)
       → ((shown : Stage) → is_shown_by at shown ≡ true → IsKept stage shown)
@@ -138,8 +141,8 @@ module _ (m : Matching) (set : RuleSet) (offer : Options) where
           → is_shown_by at (place_of command) ≡ false
       by_shown false e gone = e
       by_shown true e gone =
-          absurd (true≢false (sym (sent_as_before set offer (place_of command) (each (place_of command) e up_to.0)
-          ∙ up_to.1) ∙ gone))
+          absurd (true≢false (sym (sent_as_before also_sent set offer (place_of command)
+          (each (place_of command) e up_to.0) ∙ up_to.1) ∙ gone))
 
   decides-alike : (stage : Stage) (command : Command) (before : List Command) → AreUpTo as_wanted (rank_of stage) before
       → decides stage (seen (has_leading_space at_least) (command ∷ filter (sends at_least) before))
@@ -152,16 +155,16 @@ module _ (m : Matching) (set : RuleSet) (offer : Options) where
       (has_leading_space at_least) m check (hides-none stage (looked_at check) each before up_to))
       (λ each. headers-alike (sends at_least) (λ bytes. refl) command before (has_leading_space as_wanted)
       (has_leading_space at_least) (hides-none stage (Some Header) each before up_to))
-      (rules_at set.rules stage) (λ shown looks less. looked_at-sent set.rules shown stage less looks)
+      (rules_at set.rules stage) (λ shown looks less. looked_at-sent also_sent set.rules shown stage less looks)
 
   pub leaves : LeavesOut decides as_wanted at_least
   leaves =
       record {
         permitted_alike = answer-alike;
         lists_alike = refl;
-        space_alike = space_as_before set offer;
-        sent = sent_before set offer;
-        answered = answered_before set offer;
+        space_alike = space_as_before also_sent set offer;
+        sent = sent_before also_sent set offer;
+        answered = answered_before also_sent set offer;
         quiet = quiet;
         decided = decides-alike;
       }

@@ -2,6 +2,7 @@
 
 ghost use Rattle.std.specs.Prelude.{List};
 ghost use Rattle.milter_wire_options.specs.declared.options.Options.{Options};
+ghost use Rattle.milter_wire.specs.declared.stage.Stage.{Stage};
 ghost use Rattle.milter_message.specs.MailObject.{MailObject};
 ghost use Rattle.milter_mail.specs.MailSession.{MailSession};
 ghost use Rattle.milter_filter_rules.specs.ListedValues.{Matching};
@@ -11,12 +12,13 @@ ghost use Rattle.milter_least_wants_laws.specs.SettledAlike.{SettlesAlike};
 
 use milter_mta_laws::{closed_dialogues_rule, plans_are_sent};
 
-/// Where a filter of rules wants no more than its rules need, each message of a session comes to the same, by the same
-/// cause, and so does the connection. Only the verdicts that were acted on are fewer: fewer stages are asked about.
+/// Where a filter of rules wants no more than its rules need, and any stages besides to be sent, each message of a
+/// session comes to the same, by the same cause, and so does the connection. Only the verdicts that were acted on are
+/// fewer: fewer stages are asked about.
 pub fn least_wants_settle_alike()
-    ensures { (m : Matching) (set : RuleSet) (offer : Options) (session : MailSession)
+    ensures { (m : Matching) (also_sent : List Stage) (set : RuleSet) (offer : Options) (session : MailSession)
         (messages : List MailObject) →
-        SettlesAlike (behavior_of m set) (behavior_of m (with_least_wants set)) offer session messages }
+        SettlesAlike (behavior_of m set) (behavior_of m (with_least_wants also_sent set)) offer session messages }
 {
     closed_dialogues_rule();
     plans_are_sent();

@@ -5,16 +5,18 @@ use Rattle.milter_least_wants_laws.proofs.SettledAlike.{connection-alike, dispos
 use Rattle.milter_least_wants_laws.proofs.laws.least_wants_settle_alike.Goals as goal
 
 pub returns : goal.returns
-returns c = λ case set offer session messages.
+returns c = λ case also_sent set offer session messages.
     record {
-      messages_alike = dispositions-alike set.options (least_wants set) set.lists (decides case set offer)
-          (as_it_is set offer) (least set offer) (leaves case set offer) session
-          (λ message. (c.plans_are_sent.ensures.plan (as_it_is set offer) session message).ends)
+      messages_alike = dispositions-alike set.options (least_wants also_sent set) set.lists
+          (decides case also_sent set offer)
+          (as_it_is also_sent set offer) (least also_sent set offer) (leaves case also_sent set offer) session
+          (λ message. (c.plans_are_sent.ensures.plan (as_it_is also_sent set offer) session message).ends)
           (λ dialogue left space message closed. c.closed_dialogues_rule.ensures.dialogue dialogue left space message closed)
           messages;
-      connection_alike = connection-alike set.options (least_wants set) set.lists (decides case set offer)
-          (as_it_is set offer) (least set offer) (leaves case set offer) session
-          (λ message. (c.plans_are_sent.ensures.plan (as_it_is set offer) session message).ends)
+      connection_alike = connection-alike set.options (least_wants also_sent set) set.lists
+          (decides case also_sent set offer)
+          (as_it_is also_sent set offer) (least also_sent set offer) (leaves case also_sent set offer) session
+          (λ message. (c.plans_are_sent.ensures.plan (as_it_is also_sent set offer) session message).ends)
           (λ dialogue left space message closed. c.closed_dialogues_rule.ensures.dialogue dialogue left space message closed)
           messages;
     }
