@@ -396,6 +396,21 @@ def logged(program, kind, folder):
             say(one, [(packet(b'H', b'h4'), CONTINUE), (packet(b'M', b'<s4@x>'), packet(b't'))])
             expect_logged(served, [b'connection 1 message "" mail tempfail\n'])
 
+    def named():
+        # No rule looks at the sender or stands at DATA. Both are sent, since a name comes with them, and not replied to.
+        discarded = (packet(b'E'), packet(b'd'))
+        sender, data = packet(b'M', b'<a@x>'), packet(b'T')
+        words = rules_file(folder, 'at eob do discard\n') + ['--log']
+        with serving.Service(program, kind, folder, words, all_stages=False) as served, served.connected() as one:
+            # As Sendmail names a message: before its sender.
+            say(one, [(OFFER, options(0, 0xff1fb)), (packet(b'D', b'Mi', b'Q1') + sender + data, b''), discarded])
+            expect_logged(served, [b'connection 1 message "Q1" eob discard\n'])
+            # As Postfix names one: before DATA.
+            say(one, [(sender + packet(b'D', b'Ti', b'Q2') + data, b''), discarded])
+            expect_logged(served, [b'connection 1 message "Q2" eob discard\n'])
+            say(one, [(sender + data, b''), discarded])
+            expect_logged(served, [b'connection 1 message "" eob discard\n'])
+
     def no_log():
         with serving.Service(program, kind, folder, words) as served, served.connected() as one:
             say(one, talk(1, b'd'))
@@ -412,6 +427,7 @@ def logged(program, kind, folder):
 
     yield checked('log of two connections', two_connections)
     yield checked('log of no message', no_message)
+    yield checked('log of messages that no rule looks at', named)
     yield checked('no log', no_log)
     yield checked('a log that nobody reads', unread)
 
@@ -481,12 +497,18 @@ def changed_rules(program, kind, folder):
 
 
 # Rules, options, and the protocol bits that are asked for: without a stage that no rule looks at, and without replies
-# where no rule stands.
+# where no rule stands. With a log the sender and DATA are sent all the same.
 AT_RCPT = 'at rcpt when rcpt is "<b@y>" do reject\n'
 ASKED_FOR = [
     ('no rule', '', [], 0xff3ff), ('recipients', AT_RCPT, [], 0xf73f3),
+    ('the end alone', 'at eob do discard\n', [], 0xff3ff),
     ('a body at the end', 'at eob when body has "x" do reject\n', [], 0xff3eb),
-    ('all stages', AT_RCPT, ['--all-stages'], 0), ('stated bits', 'protocol NOHELO\n' + AT_RCPT, [], 2)]
+    ('all stages', AT_RCPT, ['--all-stages'], 0), ('stated bits', 'protocol NOHELO\n' + AT_RCPT, [], 2),
+    ('names', '', ['--log'], 0xff1fb), ('recipients and names', AT_RCPT, ['--log'], 0xf71f3),
+    ('the end and names', 'at eob do discard\n', ['--log'], 0xff1fb),
+    ('a reply to the sender and names', 'at mail do reject\n', ['--log'], 0xfb1fb),
+    ('all stages and names', AT_RCPT, ['--all-stages', '--log'], 0),
+    ('stated bits and names', 'protocol NOHELO\n' + AT_RCPT, ['--log'], 2)]
 
 
 def asked_for(program, kind, folder):
