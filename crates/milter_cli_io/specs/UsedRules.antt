@@ -1,22 +1,26 @@
 -- The rules of a file whose lists have entries, and how rules are used.
-use Rattle.std.specs.Prelude.{ℕ, List, [], Bool, ◌&&◌, not, if◌then◌else◌}
+use Rattle.std.specs.Prelude.{ℕ, List, [], ◌∷◌, Bool, ◌&&◌, not, if◌then◌else◌}
 use Rattle.milter_wire.specs.declared.stage.Stage.{Stage}
+use Rattle.milter_wire.specs.declared.stage.Stage.TheVariants.{Mail, DataCmd}
 use Rattle.milter_filter_rules.specs.LeastWants.{with_least_wants}
 use Rattle.milter_filter_rules.specs.RuleSet.{RuleSet}
 use Rattle.milter_list_files.specs.declared.list_file.ListFile.{ListFile}
 use Rattle.milter_list_files.specs.ListFiles.{CanBeRead}
 use Rattle.milter_rules.specs.RuleFile.{IsRuleFile}
 use Rattle.milter_cli_io.specs.declared.rules_run.RuleUse.{RuleUse}
-use Rattle.milter_cli_io.specs.declared.rules_run.TheConstants.{NAMING_STAGES}
 
 -- the rule file gives these rules, and their lists can be read of these files
 pub record IsFileWith (files : List ListFile) (bytes : List ℕ) (set : RuleSet) : Type 0 where
   pub is_file : IsRuleFile bytes set
   pub can_be : CanBeRead files set.sources
 
+-- the stages with which the names of messages come
+abbrev pub naming_stages : List Stage
+naming_stages = Mail ∷ DataCmd ∷ []
+
 -- the stages that are sent besides those that the rules need
 abbrev pub also_sent : RuleUse → List Stage
-also_sent usage = if usage.names_messages then NAMING_STAGES else []
+also_sent usage = if usage.names_messages then naming_stages else []
 
 -- rules whose file states protocol bits keep these
 abbrev pub used_set : RuleUse → Bool → RuleSet → RuleSet

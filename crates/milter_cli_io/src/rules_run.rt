@@ -75,6 +75,11 @@ fn with_case_ignored(rules: Rules, ignore_case: bool) -> Rules
     }
 }
 
+/// The stages with which the names of messages come: Sendmail sends a message's queue id, the macro `i`, before its
+/// sender, and Postfix, which has none there yet, before DATA. Source: the libmilter callback documentation
+/// (smfi_getsymval), and MILTER_README of Postfix.
+const NAMING_STAGES: [Stage; 2] = [Stage::Mail, Stage::DataCmd];
+
 /// How the rules of a file are used.
 #[derive(Clone, Copy, Debug, PartialEq, Eq)]
 pub struct RuleUse {
@@ -82,7 +87,7 @@ pub struct RuleUse {
     pub ignore_case: bool,
     /// Whether the stages alone are asked for that the rules look at, where the file states no protocol bits.
     pub least_stages: bool,
-    /// Whether the stages are sent all the same with which the names of messages come.
+    /// Whether the stages are sent too with which the names of messages come.
     pub names_messages: bool,
 }
 
@@ -98,11 +103,6 @@ impl RuleUse {
         }
     }
 }
-
-/// The stages with which the names of messages come, where mail servers send them as they do by default: Sendmail sends
-/// a message's queue id, the macro `i`, before its sender, and Postfix, which has none there yet, before DATA. Source:
-/// the libmilter callback documentation (smfi_getsymval), and MILTER_README of Postfix.
-const NAMING_STAGES: [Stage; 2] = [Stage::Mail, Stage::DataCmd];
 
 /// These rules, as they are used.
 pub fn used_rules(rules: Rules, usage: RuleUse) -> Rules
