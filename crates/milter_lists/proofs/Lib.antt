@@ -1,6 +1,9 @@
 pub mod KeySets
-pub mod NetworkNumbers
-pub mod NetworkLookups
 pub mod DomainLookups
+pub mod NetworkBlocks
+pub mod NetworkLookups
 pub mod Lookups
+pub mod CollectedEntries
+pub mod FileReads
 pub mod ListAnswers
+pub mod ListRows

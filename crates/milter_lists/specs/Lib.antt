@@ -1,7 +1,8 @@
 pub mod ListKinds
 pub mod Listed
-pub mod NetworkKeys
+pub mod NetworkRanges
 pub mod ListKeys
-pub mod EntryKeys
+pub mod Collected
+pub mod ParsedEntries
 pub mod ListFaults
 pub mod ListValues

@@ -1,9 +1,8 @@
 //! The entries of a list file, one after the other.
 
-ghost use Rattle.std.specs.Prelude.{◌≡◌, ◌==◌, ◌<◌, ◌≤◌, ◌+◌, ◌∷◌, [], IfSome, MatchOption, length, position};
+ghost use Rattle.std.specs.Prelude.{◌≡◌, ◌==◌, ◌<◌, ◌≤◌, ◌+◌, ◌^◌, ◌∷◌, [], IfSome, MatchOption, length, position};
 ghost use Rattle.milter_text.specs.LineCursor.{all_contents};
-ghost use Rattle.milter_text.specs.Lines.{lines_of};
-ghost use Rattle.milter_lists.specs.Listed.{entries_in};
+ghost use Rattle.milter_lists.specs.ListFaults.{numbered_from};
 
 use crate::trimmed::trimmed;
 use memchr::memchr;
@@ -23,25 +22,25 @@ pub(crate) struct FileEntry<'a> {
 /// The first entry of these bytes, which have as many lines before them; none where no line has an entry. Doesn't
 /// allocate.
 pub(crate) fn next_entry(bytes: &[u8], before: u64) -> Option<FileEntry<'_>>
-    ensures found { MatchOption result (entries_in bytes.now ≡ [])
-        (λ x. entries_in bytes.now ≡ x.entry.now ∷ entries_in x.rest.now) }
+    requires { before + length bytes.now < 2 ^ 64 }
+    ensures found { MatchOption result (numbered_from before (all_contents bytes.now) ≡ [])
+        (λ x. numbered_from before (all_contents bytes.now)
+        ≡ record { line = x.line; entry = x.entry.now } ∷ numbered_from x.line (all_contents x.rest.now)) }
     ensures shorter { IfSome result (λ x. length x.rest.now < length bytes.now) }
-    ensures from { IfSome result (λ x. 1 ≤ x.line) }
-    ensures to { IfSome result (λ x.
-        x.line + length (lines_of x.rest.now) ≤ before + length (lines_of bytes.now)) }
+    ensures counted { IfSome result (λ x. x.line + length x.rest.now ≤ before + length bytes.now) }
 {
     let mut rest = bytes;
-    let mut skipped = before;
-    while let Some((line, after)) = first_line(rest) {
-        if !is_skipped(line) {
+    let mut line = before;
+    while let Some((content, after)) = first_line(rest) {
+        rest = after;
+        line += 1;
+        if !is_skipped(content) {
             return Some(FileEntry {
-                entry: trimmed(line),
-                line: skipped.saturating_add(1),
-                rest: after,
+                entry: trimmed(content),
+                line,
+                rest,
             });
         }
-        rest = after;
-        skipped = skipped.saturating_add(1);
     }
     None
 }

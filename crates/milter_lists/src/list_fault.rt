@@ -12,7 +12,7 @@ pub enum ListFault {
     /// The line is no entry of a list of this kind.
     #[error("line {0}: bad entry")]
     BadEntry(u64),
-    /// With this line there are more than 1,000,000 entries, or more than 209,715,200 bytes of them.
+    /// With this line there are more than 1,000,000 entries, or more than 209,715,200 bytes of them, networks aside.
     #[error("line {0}: too large")]
     TooLarge(u64),
     /// The memory that was asked for was refused.

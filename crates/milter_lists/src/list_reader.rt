@@ -1,60 +1,56 @@
-//! How the entries of a file become keys.
+//! How the entries of a file are read.
 
-ghost use Rattle.std.specs.Prelude.{◌≡◌, ◌++◌, ◌∷◌, ◌≤◌, [], IfErr, IfOk, OnOk, map, true};
-ghost use Rattle.milter_lists.specs.ListFaults.{AreSmall, IsFaultAt, IsFaultOf, IsSmallFile, has_good_entries};
-ghost use Rattle.milter_lists.specs.ListKeys.{key_of};
+ghost use Rattle.std.specs.Prelude.{◌≡◌, IfErr, IfOk, OnOk, true};
+ghost use Rattle.milter_lists.specs.Collected.{IsWithin, collected, joined, of_entry};
+ghost use Rattle.milter_lists.specs.ListFaults.{IsFaultOf, IsSmallFile, has_good_entries};
 ghost use Rattle.milter_lists.specs.Listed.{entries_in, is_entry};
+ghost use Rattle.milter_lists.specs.ParsedEntries.{IsFaultAt};
 
-use crate::entry_keys::entry_key;
+use crate::entry::parse_entry;
 use crate::file_entries::next_entry;
+use crate::list_builder::ListBuilder;
 use crate::list_fault::ListFault;
 use crate::list_kind::ListKind;
-use milter_text_set::{EntryFault, TextSetBuilder};
 use std::alloc::Global;
 
-/// The keys of the entries of a file.
-pub(crate) fn keys_in(
+/// What is kept of the entries of a file.
+pub(crate) fn read_entries(
     alloc: Global,
     kind: ListKind,
     bytes: &[u8],
-) -> Result<TextSetBuilder, ListFault>
-    ensures keys { IfOk result (λ keys. keys ≡ map (key_of kind) (entries_in bytes.now)) }
+) -> Result<ListBuilder, ListFault>
+    ensures entries { IfOk result (λ builder. builder ≡ collected kind (entries_in bytes.now)) }
     ensures good { OnOk result (has_good_entries kind bytes.now ≡ true) }
     ensures small { OnOk result (IsSmallFile kind bytes.now) }
     ensures fault { IfErr result (IsFaultOf kind bytes.now) }
 {
-    let mut keys = TextSetBuilder::new(alloc);
+    let mut builder = ListBuilder::new(alloc);
     let mut rest = bytes;
     let mut before: u64 = 0;
     while let Some(next) = next_entry(rest, before) {
-        push_key(alloc, kind, next.entry, next.line, &mut keys)?;
+        push_entry(alloc, kind, next.entry, next.line, &mut builder)?;
         rest = next.rest;
         before = next.line;
     }
-    Ok(keys)
+    Ok(builder)
 }
 
-/// Adds the key of the entry that is on this line.
-fn push_key(
+/// Adds the entry that is on this line.
+fn push_entry(
     alloc: Global,
     kind: ListKind,
     entry: &[u8],
     line: u64,
-    keys: &mut TextSetBuilder,
+    builder: &mut ListBuilder,
 ) -> Result<(), ListFault>
-    requires { AreSmall keys.old }
-    ensures ok { OnOk result (keys.new ≡ keys.old ++ key_of kind entry.now ∷ []) }
+    requires { IsWithin builder.old }
+    ensures ok { OnOk result (builder.new ≡ joined builder.old (of_entry kind entry.now)) }
     ensures good { OnOk result (is_entry kind entry.now ≡ true) }
-    ensures small { OnOk result (AreSmall keys.new) }
-    ensures fault { IfErr result (IsFaultAt line kind keys.old entry.now) }
+    ensures within { OnOk result (IsWithin builder.new) }
+    ensures fault { IfErr result (IsFaultAt line kind builder.old entry.now) }
 {
-    let Some(key) = entry_key(alloc, kind, entry)? else {
-        return Err(ListFault::BadEntry(line));
-    };
-    match keys.push(key.as_slice()) {
-        Ok(()) => Ok(()),
-        Err(EntryFault::TooManyEntries) => Err(ListFault::TooLarge(line)),
-        Err(EntryFault::TooManyBytes) => Err(ListFault::TooLarge(line)),
-        Err(EntryFault::NoMemory) => Err(ListFault::NoMemory),
+    match parse_entry(alloc, kind, entry)? {
+        Some(parsed) => builder.push(&parsed, line),
+        None => Err(ListFault::BadEntry(line)),
     }
 }

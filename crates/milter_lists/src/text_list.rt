@@ -8,22 +8,21 @@ ghost use Rattle.milter_lists.specs.ListValues.{has_value, kind_of, len_of};
 ghost use Rattle.milter_lists.specs.Listed.{entries_in, entry_has};
 
 use crate::domain_keys::has_domain;
+use crate::entries::{Entries, kind_of, len_of};
 use crate::key_set::is_key;
+use crate::list_builder::ListBuilder;
 use crate::list_fault::ListFault;
 use crate::list_kind::ListKind;
-use crate::list_reader::keys_in;
-use crate::network_keys::has_address_text;
+use crate::list_reader::read_entries;
+use crate::network_set::has_address_text;
 use milter_address::canonical_domain;
-use milter_text_set::{TextSet, TextSetBuilder};
 use milter_wire_stream::NoMemory;
 use std::alloc::Global;
 
 /// A list that stays as it is.
 #[derive(Debug, Drop)]
 pub struct TextList {
-    kind: ListKind,
-    // The keys of its entries.
-    set: TextSet,
+    entries: Entries,
 }
 
 impl TextList {
@@ -34,14 +33,13 @@ impl TextList {
         ensures has { (value : List ℕ) → has_value result value ≡ false }
     {
         TextList {
-            kind,
-            set: TextSetBuilder::new(alloc).finish(),
+            entries: ListBuilder::new(alloc).finish(kind),
         }
     }
 
     /// The list of the entries of a file: those of its lines that are neither blank nor begin with a `#`, without the
-    /// blanks around them. It takes time in their number times its logarithm, and memory for a key of each entry, which
-    /// is about as long as the entry.
+    /// blanks around them. It takes time in their number times its logarithm, and memory for a copy of each entry; of a
+    /// network 32 bytes.
     pub fn read(alloc: Global, kind: ListKind, bytes: &[u8]) -> Result<Self, ListFault>
         ensures kind { IfOk result (λ list. kind_of list ≡ kind) }
         ensures len { IfOk result (λ list. len_of list ≡ length (entries_in bytes.now)) }
@@ -53,10 +51,9 @@ impl TextList {
             IfErr result (λ e. e ≡ faults.NoMemory) }
         ensures fault { IfErr result (IsFaultOf kind bytes.now) }
     {
-        let keys = keys_in(alloc, kind, bytes)?;
+        let builder = read_entries(alloc, kind, bytes)?;
         Ok(TextList {
-            kind,
-            set: keys.finish(),
+            entries: builder.finish(kind),
         })
     }
 
@@ -64,39 +61,39 @@ impl TextList {
     pub fn kind(&self) -> ListKind
         ensures { result ≡ kind_of self.now }
     {
-        self.kind
+        kind_of(&self.entries)
     }
 
     /// How many entries it has, equal ones counted each. Doesn't allocate.
     pub fn len(&self) -> usize
         ensures { result ≡ len_of self.now }
     {
-        self.set.len()
+        len_of(&self.entries)
     }
 
     /// Whether it has no entries. Doesn't allocate.
     pub fn is_empty(&self) -> bool
         ensures { IsTrue result ↔ (len_of self.now ≡ 0) }
     {
-        self.set.is_empty()
+        len_of(&self.entries) == 0
     }
 
     /// Whether some entry has the value: a canonical address, a domain, the text of an IP address, or a text. It is
-    /// compared with few entries, about the logarithm of their number, for each label of a domain and for each prefix
-    /// of an IP address. Allocates the canonical form of a domain and of a text; `NoMemory` where memory is refused.
+    /// compared with few entries, about the logarithm of their number; a domain for each of its labels. Allocates the
+    /// canonical form of a domain and of a text; `NoMemory` where memory is refused.
     pub fn has(&self, alloc: Global, value: &[u8]) -> Result<bool, NoMemory>
         ensures { IfOk result (λ has. has ≡ has_value self.now value.now) }
     {
-        match self.kind {
-            ListKind::Addresses => Ok(is_key(&self.set, value)),
-            ListKind::Domains => {
+        match &self.entries {
+            Entries::Addresses(keys) => Ok(is_key(keys, value)),
+            Entries::Domains(keys) => {
                 let domain = canonical_domain(alloc, value)?;
-                Ok(has_domain(&self.set, domain.as_slice()))
+                Ok(has_domain(keys, domain.as_slice()))
             }
-            ListKind::Networks => Ok(has_address_text(&self.set, value)),
-            ListKind::Texts => {
+            Entries::Networks(networks) => Ok(has_address_text(networks, value)),
+            Entries::Texts(keys) => {
                 let lower = value.to_ascii_lowercase(alloc)?;
-                Ok(is_key(&self.set, lower.as_slice()))
+                Ok(is_key(keys, lower.as_slice()))
             }
         }
     }

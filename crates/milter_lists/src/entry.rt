@@ -1,66 +1,74 @@
-//! The keys of entries.
+//! Entries, each as what is kept of it.
 
 ghost use Rattle.std.specs.Prelude.{◌≡◌, IfOk, option_map};
 ghost use Rattle.std.specs.List.{list_all};
 ghost use Rattle.std.specs.Str.{bytes_eq};
-ghost use Rattle.milter_lists.specs.EntryKeys.{IsKeyIn};
 ghost use Rattle.milter_lists.specs.Listed.{is_address, is_domain, is_domain_byte, is_name, is_visible, without_dot};
+ghost use Rattle.milter_lists.specs.ParsedEntries.{IsParsed};
 ghost use Rattle.milter_lists.specs.declared.list_kind.ListKind.TheVariants as kinds;
 
 use crate::list_kind::ListKind;
-use crate::network_keys::network_key;
 use milter_address::{canonical_address, canonical_domain};
 use milter_network::Network;
 use milter_wire_stream::NoMemory;
 use std::alloc::Global;
 
-/// The key of an entry, or none where it is no entry of a list of this kind.
-pub(crate) fn entry_key(
+/// An entry of a list.
+#[derive(Drop)]
+pub(crate) enum Entry {
+    /// The canonical form of an address or a domain, or a text in lower case.
+    Key(Vec<u8>),
+    /// A network.
+    Block(Network),
+}
+
+/// An entry of a list of this kind, or none where it isn't one.
+pub(crate) fn parse_entry(
     alloc: Global,
     kind: ListKind,
     entry: &[u8],
-) -> Result<Option<Vec<u8>>, NoMemory>
-    ensures { IfOk result (λ key. IsKeyIn kind entry.now (option_map (λ bytes. bytes.items) key)) }
+) -> Result<Option<Entry>, NoMemory>
+    ensures { IfOk result (IsParsed kind entry.now) }
 {
     match kind {
-        ListKind::Addresses => address_key(alloc, entry),
-        ListKind::Domains => domain_key(alloc, entry),
-        ListKind::Networks => network_text_key(alloc, entry),
-        ListKind::Texts => Ok(Some(entry.to_ascii_lowercase(alloc)?)),
+        ListKind::Addresses => parse_address(alloc, entry),
+        ListKind::Domains => parse_domain(alloc, entry),
+        ListKind::Networks => Ok(parse_network(entry)),
+        ListKind::Texts => Ok(Some(Entry::Key(entry.to_ascii_lowercase(alloc)?))),
     }
 }
 
 /// The canonical form of an address.
-fn address_key(alloc: Global, entry: &[u8]) -> Result<Option<Vec<u8>>, NoMemory>
-    ensures { IfOk result (λ key. IsKeyIn kinds.Addresses entry.now (option_map (λ bytes. bytes.items) key)) }
+fn parse_address(alloc: Global, entry: &[u8]) -> Result<Option<Entry>, NoMemory>
+    ensures { IfOk result (IsParsed kinds.Addresses entry.now) }
 {
     let key = canonical_address(alloc, entry)?;
     Ok(if is_address(entry, key.as_slice()) {
-        Some(key)
+        Some(Entry::Key(key))
     } else {
         None
     })
 }
 
 /// The canonical form of a domain.
-fn domain_key(alloc: Global, entry: &[u8]) -> Result<Option<Vec<u8>>, NoMemory>
-    ensures { IfOk result (λ key. IsKeyIn kinds.Domains entry.now (option_map (λ bytes. bytes.items) key)) }
+fn parse_domain(alloc: Global, entry: &[u8]) -> Result<Option<Entry>, NoMemory>
+    ensures { IfOk result (IsParsed kinds.Domains entry.now) }
 {
     let key = canonical_domain(alloc, entry)?;
     Ok(if is_domain(entry, key.as_slice()) {
-        Some(key)
+        Some(Entry::Key(key))
     } else {
         None
     })
 }
 
-/// The key of the network that a text writes.
-fn network_text_key(alloc: Global, entry: &[u8]) -> Result<Option<Vec<u8>>, NoMemory>
-    ensures { IfOk result (λ key. IsKeyIn kinds.Networks entry.now (option_map (λ bytes. bytes.items) key)) }
+/// The network that a text writes.
+fn parse_network(entry: &[u8]) -> Option<Entry>
+    ensures { IsParsed kinds.Networks entry.now result }
 {
     match Network::parse(entry) {
-        Some(network) => Ok(Some(network_key(network.prefix, network.address).to_vec(alloc)?)),
-        None => Ok(None),
+        Some(network) => Some(Entry::Block(network)),
+        None => None,
     }
 }
 

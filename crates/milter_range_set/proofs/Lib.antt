@@ -1,0 +1,3 @@
+pub mod RaisedRanges
+pub mod RangeLookups
+pub mod RangeRows
