@@ -17,7 +17,9 @@ pub(crate) fn say_stages(
         return Ok(());
     }
     let options = rules.options();
-    let needless = rules.least_wants(&[]).protocol.0 & bits_of_stages(options) & !options.protocol.0;
+    let needless = rules.least_wants(&[]).protocol.0
+        & bits_of_stages(options)
+        & !options.protocol.0;
     if needless == 0 {
         return Ok(());
     }
