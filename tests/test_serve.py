@@ -17,7 +17,7 @@ import sys
 import tempfile
 
 import test_sockets
-from lib import checks, programs, serving
+from lib import checks, packets, programs, serving
 from lib.checks import checked, expect
 from lib.talks import (
     ABORT, AGREED, CONTINUE, GREETED_AGAIN, KEYS, LENIENTLY, OFFER, QUIT, STRICTLY, filled, message, opening, options,
@@ -358,8 +358,16 @@ LOGGED_RULES = (
     'at eob when sender is "<s2@x>" do accept\n')
 
 
+DISCARDED = b'stage="eob" verdict="discard"\n'
+
+
+def named_line(key, rest, number=None):
+    """A line of the log about the client of this key, on the connection of this number, with the rest of it."""
+    return b'connection="%d" host="h%d.example" address="192.0.2.1" %s' % (number or key, key, rest)
+
+
 def logged(program, kind, folder):
-    """The log has a line for each decision that isn't to go on, and names the connection and the message."""
+    """The log has a line for each decision that isn't to go on, and names the connection, its client and the message."""
     words = rules_file(folder, LOGGED_RULES)
     refused = packet(b'y', b'550 5.1.1 "no"')
 
@@ -383,33 +391,47 @@ def logged(program, kind, folder):
         with serving.Service(program, kind, folder, words + ['--log']) as served:
             with served.connected() as one, served.connected() as two:
                 side_by_side([one, two], [talk(1, b'd'), talk(2, b'a')])
-                no = b'rcpt code "550 5.1.1 \\"no\\""\n'
-                expect_logged(served, [b'connection 1 message "Q1" ' + end for end in (no, b'eob discard\n')],
-                              [b'connection 2 message "Q2" ' + end for end in (no, b'eob accept\n')])
+                no = b'stage="rcpt" verdict="code" text="550 5.1.1 \\"no\\""\n'
+                expect_logged(served, [named_line(1, b'id="Q1" ' + end) for end in (no, DISCARDED)],
+                              [named_line(2, b'id="Q2" ' + end) for end in (no, b'stage="eob" verdict="accept"\n')])
                 quit_all([one, two])
             served.expect_all(b'quit')
 
     def no_message():
         with serving.Service(program, kind, folder, ['--log'] + words) as served, served.connected() as one:
             say(one, opening(3)[:-1] + [(packet(b'H', b'h3'), packet(b'r'))])
-            expect_logged(served, [b'connection 1 message "" helo reject\n'])
+            expect_logged(served, [named_line(3, b'stage="helo" verdict="reject"\n', number=1)])
             say(one, [(packet(b'H', b'h4'), CONTINUE), (packet(b'M', b'<s4@x>'), packet(b't'))])
-            expect_logged(served, [b'connection 1 message "" mail tempfail\n'])
+            expect_logged(served, [named_line(3, b'sender="<s4@x>" stage="mail" verdict="tempfail"\n', number=1)])
 
     def named():
-        # No rule looks at the sender or stands at DATA. Both are sent, since a name comes with them, and not replied to.
+        # No rule looks at the client, the sender or a recipient, or stands at DATA. All are sent, and not replied to.
         discarded = (packet(b'E'), packet(b'd'))
-        sender, data = packet(b'M', b'<a@x>'), packet(b'T')
+        client = packets.packet_of(b'Ch1.example\0004\0\x19192.0.2.1\0')
+        sender, data = packet(b'M', b'<a@x>'), packet(b'R', b'<b"@y>') + packet(b'T')
         words = rules_file(folder, 'at eob do discard\n') + ['--log']
         with serving.Service(program, kind, folder, words, all_stages=False) as served, served.connected() as one:
             # As Sendmail names a message: before its sender.
-            say(one, [(OFFER, options(0, 0xff1fb)), (packet(b'D', b'Mi', b'Q1') + sender + data, b''), discarded])
-            expect_logged(served, [b'connection 1 message "Q1" eob discard\n'])
+            begun = client + packet(b'D', b'Mi', b'Q1') + sender + data
+            say(one, [(OFFER, options(0, 0xff1f2)), (begun, b''), discarded])
+            expect_logged(served, [named_line(1, b'id="Q1" ' + DISCARDED)])
             # As Postfix names one: before DATA.
             say(one, [(sender + packet(b'D', b'Ti', b'Q2') + data, b''), discarded])
-            expect_logged(served, [b'connection 1 message "Q2" eob discard\n'])
+            expect_logged(served, [named_line(1, b'id="Q2" ' + DISCARDED)])
             say(one, [(sender + data, b''), discarded])
-            expect_logged(served, [b'connection 1 message "" eob discard\n'])
+            expect_logged(served, [named_line(1, b'sender="<a@x>" recipient="<b\\"@y>" ' + DISCARDED)])
+
+    def unknown():
+        # Of a client of which nothing is known there is the name; without its stage there is nothing.
+        words = rules_file(folder, 'at helo when helo is "h" do reject\n') + ['--log']
+        client = packets.packet_of(b'Cunknown\0U')
+        greeted = (packet(b'H', b'h'), packet(b'r'))
+        with serving.Service(program, kind, folder, words, all_stages=False) as served:
+            with served.connected() as one, served.connected() as two:
+                say(one, [(OFFER, options(0, 0xfd1f0)), greeted])
+                expect_logged(served, [b'connection="1" stage="helo" verdict="reject"\n'])
+                say(two, [(OFFER, options(0, 0xfd1f0)), (client, b''), greeted])
+                expect_logged(served, [b'connection="2" host="unknown" stage="helo" verdict="reject"\n'])
 
     def no_log():
         with serving.Service(program, kind, folder, words) as served, served.connected() as one:
@@ -428,6 +450,7 @@ def logged(program, kind, folder):
     yield checked('log of two connections', two_connections)
     yield checked('log of no message', no_message)
     yield checked('log of messages that no rule looks at', named)
+    yield checked('log of clients that are not known', unknown)
     yield checked('no log', no_log)
     yield checked('a log that nobody reads', unread)
 
@@ -497,16 +520,16 @@ def changed_rules(program, kind, folder):
 
 
 # Rules, options, and the protocol bits that are asked for: without a stage that no rule looks at, and without replies
-# where no rule stands. With a log the sender and DATA are sent all the same.
+# where no rule stands. With a log the client, the sender, recipients and DATA are sent all the same.
 AT_RCPT = 'at rcpt when rcpt is "<b@y>" do reject\n'
 ASKED_FOR = [
     ('no rule', '', [], 0xff3ff), ('recipients', AT_RCPT, [], 0xf73f3),
     ('the end alone', 'at eob do discard\n', [], 0xff3ff),
     ('a body at the end', 'at eob when body has "x" do reject\n', [], 0xff3eb),
     ('all stages', AT_RCPT, ['--all-stages'], 0), ('stated bits', 'protocol NOHELO\n' + AT_RCPT, [], 2),
-    ('names', '', ['--log'], 0xff1fb), ('recipients and names', AT_RCPT, ['--log'], 0xf71f3),
-    ('the end and names', 'at eob do discard\n', ['--log'], 0xff1fb),
-    ('a reply to the sender and names', 'at mail do reject\n', ['--log'], 0xfb1fb),
+    ('names', '', ['--log'], 0xff1f2), ('recipients and names', AT_RCPT, ['--log'], 0xf71f2),
+    ('the end and names', 'at eob do discard\n', ['--log'], 0xff1f2),
+    ('a reply to the sender and names', 'at mail do reject\n', ['--log'], 0xfb1f2),
     ('all stages and names', AT_RCPT, ['--all-stages', '--log'], 0),
     ('stated bits and names', 'protocol NOHELO\n' + AT_RCPT, ['--log'], 2)]
 

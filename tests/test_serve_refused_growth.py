@@ -26,7 +26,8 @@ at header when header "Subject" is "of nothing" do reject
 at header when header "X-Spam" has "yes" and header "Subject" has "nothing" do reject
 at body when body has "nothing" and header "Subject" lacks "of" do reject
 '''
-LOGGED = rb'(connection \d+ message "\d+" (rcpt|eob) code "[^"\n]*"\n)*'
+LOGGED = (rb'(connection="\d+" host="h\d+\.example" address="192\.0\.2\.1" id="\d+" '
+          rb'stage="(rcpt|eob)" verdict="code" text="[^"\n]*"\n)*')
 
 
 def talk_of(key):

@@ -1,7 +1,7 @@
 -- The rules of a file whose lists have entries, and how rules are used.
 use Rattle.std.specs.Prelude.{ℕ, List, [], ◌∷◌, Bool, ◌&&◌, not, if◌then◌else◌}
 use Rattle.milter_wire.specs.declared.stage.Stage.{Stage}
-use Rattle.milter_wire.specs.declared.stage.Stage.TheVariants.{Mail, DataCmd}
+use Rattle.milter_wire.specs.declared.stage.Stage.TheVariants.{Connect, Mail, Rcpt, DataCmd}
 use Rattle.milter_filter_rules.specs.LeastWants.{with_least_wants}
 use Rattle.milter_filter_rules.specs.RuleSet.{RuleSet}
 use Rattle.milter_list_files.specs.declared.list_file.ListFile.{ListFile}
@@ -14,9 +14,9 @@ pub record IsFileWith (files : List ListFile) (bytes : List ℕ) (set : RuleSet)
   pub is_file : IsRuleFile bytes set
   pub can_be : CanBeRead files set.sources
 
--- the stages with which the names of messages come
+-- the stages that bring the names of clients and messages
 abbrev pub naming_stages : List Stage
-naming_stages = Mail ∷ DataCmd ∷ []
+naming_stages = Connect ∷ Mail ∷ Rcpt ∷ DataCmd ∷ []
 
 -- the stages that are sent besides those that the rules need
 abbrev pub also_sent : RuleUse → List Stage

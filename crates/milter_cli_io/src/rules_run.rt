@@ -75,10 +75,10 @@ fn with_case_ignored(rules: Rules, ignore_case: bool) -> Rules
     }
 }
 
-/// The stages with which the names of messages come: Sendmail sends a message's queue id, the macro `i`, before its
-/// sender, and Postfix, which has none there yet, before DATA. Source: the libmilter callback documentation
-/// (smfi_getsymval), and MILTER_README of Postfix.
-const NAMING_STAGES: [Stage; 2] = [Stage::Mail, Stage::DataCmd];
+/// The stages that bring what a line of the log names: the client, the sender and the recipients, and the queue id, the
+/// macro `i`, which Sendmail sends before the sender, and Postfix, which has none there yet, before DATA. Source: the
+/// libmilter callback documentation (smfi_getsymval), and MILTER_README of Postfix.
+const NAMING_STAGES: [Stage; 4] = [Stage::Connect, Stage::Mail, Stage::Rcpt, Stage::DataCmd];
 
 /// How the rules of a file are used.
 #[derive(Clone, Copy, Debug, PartialEq, Eq)]
@@ -87,7 +87,7 @@ pub struct RuleUse {
     pub ignore_case: bool,
     /// Whether the stages alone are asked for that the rules look at, where the file states no protocol bits.
     pub least_stages: bool,
-    /// Whether the stages are sent too with which the names of messages come.
+    /// Whether the stages are sent too that bring the names of clients and messages.
     pub names_messages: bool,
 }
 

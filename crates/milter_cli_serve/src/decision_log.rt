@@ -1,10 +1,10 @@
-//! The log of `serve`: a line for each decision that isn't to go on.
+//! The log of `serve`: a line for each decision that isn't to go on, of keys with values in quotes.
 
 use milter_cli_io::FileError;
 use milter_filter::{Policy, Seen};
 use milter_protocol::Answer;
 use milter_text::{TextFault, TextWriter};
-use milter_wire::{NoMemory, Options, Stage, SymList, Verdict};
+use milter_wire::{NoMemory, Options, Origin, Stage, SymList, Verdict};
 use std::alloc::Global;
 use std::cell::{Cell, RefCell};
 use std::io::Write;
@@ -41,39 +41,114 @@ impl<W: Write> DecisionLog<W> {
         }
     }
 
-    /// Writes the line of a decision at a stage, about a message with this queue id; no line where a write fails or
-    /// memory is refused.
-    fn write(&self, alloc: Global, id: &[u8], at: Stage, verdict: &Verdict) {
+    /// Writes the line of a decision; no line where a write fails or memory is refused.
+    fn write(&self, alloc: Global, decision: &Decision<'_>) {
         if let Ok(mut writer) = self.writer.try_borrow_mut() {
-            let _ = write_line(alloc, &mut *writer, self.number.get(), id, at, verdict);
+            let _ = write_line(alloc, &mut *writer, self.number.get(), decision);
         }
     }
 }
 
-/// Writes the line of a decision.
+/// A decision of a policy.
+#[derive(Clone, Copy)]
+struct Decision<'a> {
+    /// The stage at which it was asked.
+    at: Stage,
+    /// What it was shown.
+    seen: &'a Seen,
+    /// What it decided.
+    verdict: &'a Verdict,
+}
+
+/// Writes the line of a decision on the connection with this number.
 fn write_line<W: Write>(
     alloc: Global,
     writer: &mut W,
     number: u32,
-    id: &[u8],
+    decision: &Decision<'_>,
+) -> Result<(), TextFault> {
+    let number = format!(in alloc; "{number}")?;
+    let mut buffer = Vec::new(alloc);
+    let mut line = TextWriter::new(writer, &mut buffer);
+    line.put(b"connection=")?;
+    line.put_quoted(number.as_bytes())?;
+    put_client(&mut line, decision.seen)?;
+    put_message(&mut line, decision.seen)?;
+    put_verdict(&mut line, decision.at, decision.verdict)?;
+    line.put(b"\n")?;
+    line.flush()
+}
+
+/// Puts the host and the address of the client, as far as they are known.
+fn put_client<W: Write>(line: &mut TextWriter<'_, W>, seen: &Seen) -> Result<(), TextFault> {
+    let Some(client) = seen.client() else {
+        return Ok(());
+    };
+    put_value(line, b"host", client.host.as_slice())?;
+    put_if_known(line, b"address", address_of(&client.origin))
+}
+
+/// The address that a client connects from; the path of a Unix socket.
+fn address_of(origin: &Origin) -> Option<&[u8]> {
+    match origin {
+        Origin::Unknown => None,
+        Origin::Unix { address, .. }
+        | Origin::Inet { address, .. }
+        | Origin::Inet6 { address, .. } => Some(address.as_slice()),
+    }
+}
+
+/// Puts how the mail server names the message; its sender and its last recipient where it has not named it.
+fn put_message<W: Write>(line: &mut TextWriter<'_, W>, seen: &Seen) -> Result<(), TextFault> {
+    if let Some(id) = seen.macro_value(QUEUE_ID) {
+        return put_value(line, b"id", id);
+    }
+    let sender = seen.sender().map(|path| path.address.as_slice());
+    put_if_known(line, b"sender", sender)?;
+    let recipient = seen.recipients().last();
+    put_if_known(
+        line,
+        b"recipient",
+        recipient.map(|path| path.address.as_slice()),
+    )
+}
+
+/// Puts the stage and the verdict.
+fn put_verdict<W: Write>(
+    line: &mut TextWriter<'_, W>,
     at: Stage,
     verdict: &Verdict,
 ) -> Result<(), TextFault> {
-    let start = format!(in alloc; "connection {number} message ")?;
-    let mut buffer = Vec::new(alloc);
-    let mut line = TextWriter::new(writer, &mut buffer);
-    line.put(start.as_bytes())?;
-    line.put_quoted(id)?;
-    line.put(b" ")?;
-    line.put(at.name())?;
-    line.put(b" ")?;
-    line.put(verdict.name())?;
-    if let Verdict::Code(text) = verdict {
-        line.put(b" ")?;
-        line.put_quoted(text.as_slice())?;
+    put_value(line, b"stage", at.name())?;
+    put_value(line, b"verdict", verdict.name())?;
+    match verdict {
+        Verdict::Code(text) => put_value(line, b"text", text.as_slice()),
+        _ => Ok(()),
     }
-    line.put(b"\n")?;
-    line.flush()
+}
+
+/// Puts a blank, the key, and the value in quotes, if there is one.
+fn put_if_known<W: Write>(
+    line: &mut TextWriter<'_, W>,
+    key: &[u8],
+    value: Option<&[u8]>,
+) -> Result<(), TextFault> {
+    match value {
+        Some(value) => put_value(line, key, value),
+        None => Ok(()),
+    }
+}
+
+/// Puts a blank, the key, and the value in quotes.
+fn put_value<W: Write>(
+    line: &mut TextWriter<'_, W>,
+    key: &[u8],
+    value: &[u8],
+) -> Result<(), TextFault> {
+    line.put(b" ")?;
+    line.put(key)?;
+    line.put(b"=")?;
+    line.put_quoted(value)
 }
 
 /// A policy whose decisions are logged, where there is a log. What it does is what the policy does.
@@ -105,16 +180,11 @@ impl<'l, P: Policy, W: Write> Policy for LoggedPolicy<'l, P, W> {
     fn decide(&self, alloc: Global, at: Stage, seen: &Seen) -> Result<Answer, NoMemory> {
         let answer = self.policy.decide(alloc, at, seen)?;
         if let Some(log) = self.log {
-            match answer.verdict {
+            match &answer.verdict {
                 Verdict::Continue | Verdict::Skip => {}
-                _ => log.write(alloc, queue_id(seen), at, &answer.verdict),
+                verdict => log.write(alloc, &Decision { at, seen, verdict }),
             }
         }
         Ok(answer)
     }
-}
-
-/// How the mail server names the message; nothing where it has not named it.
-fn queue_id(seen: &Seen) -> &[u8] {
-    seen.macro_value(QUEUE_ID).unwrap_or(b"")
 }
