@@ -4,3 +4,4 @@ pub mod LeadingSpaces
 pub mod EditsFit
 pub mod EditSequences
 pub mod HeaderChanges
+pub mod KeptRecipients

@@ -4,3 +4,4 @@ pub mod EditReplies
 pub mod EditedMessage
 pub mod Occurrences
 pub mod Chunks
+pub mod Deletions

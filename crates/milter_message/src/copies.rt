@@ -55,14 +55,3 @@ pub(crate) fn copy_path(alloc: Global, path: &Path) -> Result<Path, NoMemory>
     let params = copy_params(alloc, &path.params)?;
     Ok(Path { address, params })
 }
-
-/// The same paths, in order.
-pub(crate) fn copy_paths(alloc: Global, paths: &[Path]) -> Result<Vec<Path>, NoMemory>
-    ensures { IfOk result (λ copies. copies.items ≡ paths.now) }
-{
-    let mut copies = Vec::with_capacity(alloc, paths.len())?;
-    for path in paths {
-        copies.push(copy_path(alloc, path)?)?;
-    }
-    Ok(copies)
-}

@@ -6,6 +6,7 @@
 
 mod application;
 mod copies;
+mod deletions;
 mod edit;
 mod header_edits;
 mod laws;

@@ -1,15 +1,18 @@
 //! What edits make of the sender and the recipients of a message.
 
-ghost use Rattle.std.specs.Prelude.{◌≡◌, IfOk, OnOk, None, option_map};
+ghost use Rattle.std.specs.Prelude.{◌≡◌, ◌++◌, IfOk, OnOk, None, option_map};
 ghost use Rattle.std.specs.List.{filter_map, last_or};
-ghost use Rattle.milter_message.specs.EditedMessage.{edit_recipients, new_sender, or_as_it_was, params_of, recipients_after, without};
+ghost use Rattle.milter_message.specs.EditedMessage.{new_sender, or_as_it_was, params_of, recipients_after};
+ghost use Rattle.milter_message.specs.Deletions.{HasLastDeletions, kept_added, kept_by};
 
-use crate::copies::{copy_path, copy_paths};
+use crate::copies::copy_path;
+use crate::deletions::{LastDeletions, is_deleted_from, last_deletions};
 use crate::edit::Edit;
 use milter_wire::{NoMemory, Params, Path, Text};
 use std::alloc::Global;
 
-/// The recipients after the edits, one after the other. Each text is copied once.
+/// The recipients after the edits, one after the other: those that no later edit deletes. Each of their texts is copied
+/// once, and each deletion is looked up among the others in the logarithm of their number.
 pub(crate) fn recipients_after(
     alloc: Global,
     recipients: &[Path],
@@ -17,35 +20,54 @@ pub(crate) fn recipients_after(
 ) -> Result<Vec<Path>, NoMemory>
     ensures { IfOk result (λ changed. changed.items ≡ recipients_after recipients.now edits.now) }
 {
-    let mut changed = copy_paths(alloc, recipients)?;
-    for edit in edits {
-        edit_recipients(alloc, &mut changed, edit)?;
-    }
+    let deletions = last_deletions(alloc, edits)?;
+    let mut changed = kept_recipients(alloc, recipients, &deletions)?;
+    add_recipients(alloc, edits, &deletions, &mut changed)?;
     Ok(changed)
 }
 
-/// Changes the recipients as the edit asks.
-fn edit_recipients(alloc: Global, recipients: &mut Vec<Path>, edit: &Edit) -> Result<(), NoMemory>
-    ensures { OnOk result (recipients.new.items ≡ edit_recipients recipients.old.items edit.now) }
+/// Copies of the recipients that aren't deleted.
+fn kept_recipients(
+    alloc: Global,
+    recipients: &[Path],
+    deletions: &LastDeletions<'_>,
+) -> Result<Vec<Path>, NoMemory>
+    ensures { IfOk result (λ kept. kept.items ≡ kept_by deletions.now recipients.now) }
 {
-    match edit {
-        Edit::AddRcpt(address) => {
-            recipients.push(path_of(alloc, address, &None)?)?;
+    let mut kept = Vec::with_capacity(alloc, recipients.len())?;
+    for recipient in recipients {
+        if !is_deleted_from(deletions, 0, &recipient.address) {
+            kept.push(copy_path(alloc, recipient)?)?;
         }
-        Edit::AddRcptPar { address, arguments } => {
-            recipients.push(path_of(alloc, address, arguments)?)?;
-        }
-        Edit::DelRcpt(address) => remove_recipient(recipients, address),
-        _ => {}
     }
-    Ok(())
+    Ok(kept)
 }
 
-/// Removes each recipient with this very address.
-fn remove_recipient(recipients: &mut Vec<Path>, address: &Text)
-    ensures { recipients.new.items ≡ without address.now recipients.old.items }
+/// Adds the recipients that the edits add and no later one deletes.
+fn add_recipients(
+    alloc: Global,
+    edits: &[Edit],
+    deletions: &LastDeletions<'_>,
+    recipients: &mut Vec<Path>,
+) -> Result<(), NoMemory>
+    requires { HasLastDeletions edits.now deletions.now }
+    ensures { OnOk result (recipients.new.items ≡ recipients.old.items ++ kept_added edits.now) }
 {
-    recipients.retain(|recipient| recipient.address != *address);
+    let mut next: usize = 0;
+    for edit in edits {
+        next += 1;
+        match edit {
+            Edit::AddRcpt(address) if !is_deleted_from(deletions, next, address) => {
+                recipients.push(path_of(alloc, address, &None)?)?;
+            }
+            Edit::AddRcptPar { address, arguments } if !is_deleted_from(deletions, next, address) =>
+                {
+                    recipients.push(path_of(alloc, address, arguments)?)?;
+                }
+            _ => {}
+        }
+    }
+    Ok(())
 }
 
 /// The path of an address, with the argument text as its one parameter.
