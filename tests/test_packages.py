@@ -3,9 +3,9 @@
 are made of, and looks at what is in them: the program runs, its manual page has each subcommand, mandoc finds no
 mistake in the pages where it is installed, bash completes the program's words, the units start the program where the
 package puts it, and the documents are there. With the library's packages a program in C is compiled and run, and so is
-one in Python; the manual page has each function; no two have the same file. And the units of systemd/ are those that
-docs/DEPLOY.md shows; those that make a Unix socket give it a group and a mode, and the one of `serve` is exposed as
-little as systemd-analyze says, where that is installed.
+one in Python; the manual page has each function; no two have the same file. And the units of systemd/ say what they
+are, and are those that docs/DEPLOY.md shows; those that make a Unix socket give it a group and a mode, and the one of
+`serve` is exposed as little as systemd-analyze says, where that is installed.
 
 The library is built where tools/static_library.py didn't do that already, which takes minutes;
 `tests/test_packages.py ARCHIVE` takes an archive of it that is there. The last line is 'N passed, M failed'; the status
@@ -169,9 +169,11 @@ def packages(archive):
 
 
 def units():
-    """Whether the document shows each unit as it is."""
+    """Whether each unit says what it is, and the document shows it as it is."""
     shown = read(TOP, 'docs', 'DEPLOY.md')
     for unit in UNITS:
+        described = re.findall(r'(?m)^Description=(\S.*)$', read(TOP, 'systemd', unit))
+        yield None if len(described) == 1 else '%s has the descriptions %s' % (unit, described)
         lines = ''.join('    ' + line if line.strip() else line for line in read(TOP, 'systemd', unit).splitlines(True))
         yield None if lines in shown else 'docs/DEPLOY.md does not show %s as it is' % unit
 
@@ -185,7 +187,7 @@ def hardened():
             missing = [line for line in wanted if line not in text.splitlines()]
             yield '%s lacks %s' % (unit, missing) if missing else None
     if shutil.which('systemd-analyze'):
-        for command in [['verify'], ['security', '--offline=true', '--threshold=%d' % EXPOSURE_MAX]]:
+        for command in [['verify', '--man=no'], ['security', '--offline=true', '--threshold=%d' % EXPOSURE_MAX]]:
             with tempfile.TemporaryDirectory() as folder:
                 path = os.path.join(folder, HARDENED)
                 with open(path, 'w', encoding='utf-8') as unit:

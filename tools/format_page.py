@@ -43,7 +43,8 @@ def row(heads, line):
     first, second, *others = cells(line)
     more = [f"({head[0].lower() + head[1:]}: {it})" for head, it in zip(heads[2:], others) if it]
     text = " ".join(filter(None, [second, *more]))
-    return f".TP\n{words(first)}\n{words(text) or '.br'}\n"
+    empty = "\\&"
+    return f".TP\n{words(first) or empty}\n{words(text) or '.br'}\n"
 
 
 def page_of(lines):
