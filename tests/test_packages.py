@@ -31,7 +31,7 @@ USE = '#include <deiruska.h>\nint main(void) { return deiruska_version() != DEIR
 # The sections of manual pages, and the pages of the program and of the library.
 PAGES = ['man1/milter_tool.1', 'man5/milter_rules.5', 'man5/milter_session.5'], ['man3/deiruska.3']
 # The most that systemd-analyze says of the exposure of this unit, in tenths.
-HARDENED, EXPOSURE_MAX = 'milter-serve.service', 15
+HARDENED, EXPOSURE_MAX = 'deiruska-serve.service', 15
 # What bash completes of lines.
 COMPLETED = {'milter_tool se': ['session', 'serve'], 'milter_tool mta --e': ['--expect'],
              'milter_tool help pl': ['play'], 'milter_tool serve --no': []}
@@ -92,7 +92,7 @@ def looked_at(root, folder_of_program):
         is_well &= bool(started) == unit.endswith('.service')
         yield None if is_well else '%s starts %s' % (unit, started)
     for name in ['README.md', 'docs/HEADLINE.md', 'examples/conversation.trace']:
-        yield None if read(TOP, name) == read(root, 'share', 'doc', 'milter_tool', name) else '%s differs' % name
+        yield None if read(TOP, name) == read(root, 'share', 'doc', 'deiruska', name) else '%s differs' % name
 
 
 def linted(folder, names):
@@ -163,7 +163,7 @@ def packages(archive):
         [root] = unpacked(folder, 'dist', ['tar', '-xzf', '{package}', '-C', '{place}']).values()
         yield from looked_at(glob.glob(root + '/*')[0], '/usr/local/bin')
         roots = unpacked(folder, 'deb', ['dpkg-deb', '-x', '{package}', '{place}'])
-        yield from looked_at(os.path.join(roots['milter-tool'], 'usr'), '/usr/bin')
+        yield from looked_at(os.path.join(roots['deiruska'], 'usr'), '/usr/bin')
         if archive is not None:
             yield from library(roots, folder)
 

@@ -3,8 +3,8 @@
 # systemd, the documents and the examples.
 #
 #     tools/package.sh install DESTDIR PREFIX   in place, as DESTDIR/PREFIX/bin/milter_tool and so on
-#     tools/package.sh dist                     dist/milter_tool-VERSION-x86_64-linux.tar.gz
-#     tools/package.sh deb                      dist/milter-tool_VERSION_amd64.deb, and where the library for C is built
+#     tools/package.sh dist                     dist/deiruska-VERSION-x86_64-linux.tar.gz
+#     tools/package.sh deb                      dist/deiruska_VERSION_amd64.deb, and where the library for C is built
 #                                               also libdeiruska0, libdeiruska-dev and python3-deiruska
 #
 # The program is one file that needs the C library alone, and so does the shared library for C: the packages are for
@@ -34,7 +34,7 @@ put() {
     local root=$1 bin=$2 unit page
     install -D -m 755 "$program" "$root/bin/milter_tool"
     install -d "$root/share/man/man1" "$root/share/man/man5" "$root/share/bash-completion/completions" \
-        "$root/lib/systemd/system" "$root/share/doc/milter_tool/docs" "$root/share/doc/milter_tool/examples"
+        "$root/lib/systemd/system" "$root/share/doc/deiruska/docs" "$root/share/doc/deiruska/examples"
     python3 tools/man_page.py "$program" | gzip -n9 >"$root/share/man/man1/milter_tool.1.gz"
     for page in milter_rules milter_session; do
         format_page "$page" | gzip -n9 >"$root/share/man/man5/$page.5.gz"
@@ -43,9 +43,9 @@ put() {
     for unit in systemd/*; do
         sed "s|/usr/local/bin/|$bin/|" "$unit" >"$root/lib/systemd/system/$(basename "$unit")"
     done
-    install -m 644 README.md CHANGELOG.md SECURITY.md "$root/share/doc/milter_tool"
-    install -m 644 docs/*.md "$root/share/doc/milter_tool/docs"
-    find examples -maxdepth 1 -type f -exec install -m 644 -t "$root/share/doc/milter_tool/examples" {} +
+    install -m 644 README.md CHANGELOG.md SECURITY.md "$root/share/doc/deiruska"
+    install -m 644 docs/*.md "$root/share/doc/deiruska/docs"
+    find examples -maxdepth 1 -type f -exec install -m 644 -t "$root/share/doc/deiruska/examples" {} +
 }
 
 # The newest version of the C library of which the file $1 names a symbol.
@@ -53,7 +53,7 @@ c_library() { grep -ao 'GLIBC_[0-9.]*[0-9]' "$1" | cut -d _ -f 2 | sort -uV | ta
 
 # Packs a tar file, with $1 as the folder to work in.
 pack_tar() {
-    local name=milter_tool-$version-x86_64-linux
+    local name=deiruska-$version-x86_64-linux
     put "$1/$name" /usr/local/bin
     tar -C "$1" --sort=name --owner=0 --group=0 --numeric-owner -czf "dist/$name.tar.gz" "$name"
     echo "dist/$name.tar.gz"
@@ -82,8 +82,8 @@ END
 
 # Packs the program for Debian, with $1 as the folder to work in.
 pack_program() {
-    put "$1/milter-tool/usr" /usr/bin
-    pack "$1" milter-tool amd64 mail "libc6 (>= $(c_library "$program"))" <<END
+    put "$1/deiruska/usr" /usr/bin
+    pack "$1" deiruska amd64 mail "libc6 (>= $(c_library "$program"))" <<END
 both ends of the milter protocol, proved
  A filter by rules for Sendmail and Postfix, a tester of filters, and a player of
  sessions, events and traces of the milter protocol, version 6.
