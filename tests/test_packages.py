@@ -1,11 +1,12 @@
 #!/usr/bin/env python3
 """Makes the tar file and the Debian packages of the proved program and of the library for C, in a copy of what they
 are made of, and looks at what is in them: the program runs, its manual page has each subcommand, mandoc finds no
-mistake in the pages where it is installed, bash completes the program's words, the units start the program where the
-package puts it, and the documents are there. With the library's packages a program in C is compiled and run, and so is
-one in Python; the manual page has each function; no two have the same file. And the units of systemd/ say what they
-are, and are those that docs/DEPLOY.md shows; those that make a Unix socket give it a group and a mode, and the one of
-`serve` is exposed as little as systemd-analyze says, where that is installed.
+mistake in the pages where it is installed, bash completes the program's words, and so do zsh and fish where they are
+installed, the units start the program where the package puts it, and the documents are there. With the library's
+packages a program in C is compiled and run, and so is one in Python; the manual page has each function; no two have the
+same file. And the units of systemd/ say what they are, and are those that docs/DEPLOY.md shows; those that make a Unix
+socket give it a group and a mode, and the one of `serve` is exposed as little as systemd-analyze says, where that is
+installed.
 
 The library is built where tools/static_library.py didn't do that already, which takes minutes;
 `tests/test_packages.py ARCHIVE` takes an archive of it that is there. The last line is 'N passed, M failed'; the status
@@ -21,7 +22,7 @@ import subprocess
 import sys
 import tempfile
 
-from lib import c_library, runner
+from lib import c_library, completions, runner
 from lib.programs import BUILDS, TOP, ended, need, tool, written
 
 PACKED = ['README.md', 'CHANGELOG.md', 'SECURITY.md', 'bindings', 'docs', 'examples', 'include', 'systemd', 'tools']
@@ -32,9 +33,6 @@ USE = '#include <deiruska.h>\nint main(void) { return deiruska_version() != DEIR
 PAGES = ['man1/milter_tool.1', 'man5/milter_rules.5', 'man5/milter_session.5'], ['man3/deiruska.3']
 # The most that systemd-analyze says of the exposure of this unit, in tenths.
 HARDENED, EXPOSURE_MAX = 'deiruska-serve.service', 15
-# What bash completes of lines.
-COMPLETED = {'milter_tool se': ['session', 'serve'], 'milter_tool mta --e': ['--expect'],
-             'milter_tool help pl': ['play'], 'milter_tool serve --no': []}
 UNITS = sorted(os.listdir(os.path.join(TOP, 'systemd')))
 
 
@@ -82,10 +80,7 @@ def looked_at(root, folder_of_program):
     commands = re.findall(r'(?m)^  (\w+)  ', helped.stdout)
     yield None if sections + ['HELP'] == [it.upper() for it in commands] else 'the manual page has %s' % sections
     yield from linted(os.path.join(root, 'share', 'man'), PAGES[0])
-    script = os.path.join(root, 'share', 'bash-completion', 'completions', 'milter_tool')
-    for line, wanted in COMPLETED.items():
-        found = completed(script, line)
-        yield None if found == wanted else 'bash completes %s as %s' % (line, found)
+    yield from completions.checked(os.path.join(root, 'share'), folder_of_program == '/usr/bin')
     for unit in UNITS:
         started = re.findall(r'(?m)^ExecStart=(\S+)', read(root, 'lib', 'systemd', 'system', unit))
         is_well = started.count(folder_of_program + '/milter_tool') == len(started)
@@ -104,15 +99,6 @@ def linted(folder, names):
             found = subprocess.run(['mandoc', '-T', 'lint', '-W', 'warning', path], stdout=subprocess.PIPE,
                                    stderr=subprocess.STDOUT, check=False, text=True).stdout
             yield None if not found else 'mandoc of %s: %s' % (name, found)
-
-
-def completed(script, line):
-    """The words that bash offers for the last one of a line."""
-    words = line.split(' ')
-    found = subprocess.run(
-        ['bash', '-c', 'source "$1"; COMP_WORDS=("${@:2}"); COMP_CWORD=$(($# - 2)); _milter_tool; '
-         'printf "%s\\n" "${COMPREPLY[@]}"', 'bash', script, *words], stdout=subprocess.PIPE, check=True, text=True)
-    return found.stdout.split()
 
 
 def files(root):
@@ -204,4 +190,6 @@ if __name__ == '__main__':
     if lacking:
         print('not installed, and the packages of the library are not made: %s' % ', '.join(lacking))
     its_archive = None if lacking else c_library.proved(*sys.argv[1:])
+    if completions.missing():
+        print('not installed, and not asked what they complete: %s' % ', '.join(completions.missing()))
     sys.exit(runner.run_all([functools.partial(packages, its_archive), units, hardened]))

@@ -1,6 +1,6 @@
 #!/usr/bin/env bash
-# Puts the proved program in place, or packs it: the program, its manual pages, what bash completes of it, the units for
-# systemd, the documents and the examples.
+# Puts the proved program in place, or packs it: the program, its manual pages, what bash, zsh and fish complete of it,
+# the units for systemd, the documents and the examples.
 #
 #     tools/package.sh install DESTDIR PREFIX   in place, as DESTDIR/PREFIX/bin/milter_tool and so on
 #     tools/package.sh dist                     dist/deiruska-VERSION-x86_64-linux.tar.gz
@@ -29,17 +29,28 @@ format_page() {
     esac
 }
 
+# Puts what shells complete below the folder $1, for a program that will be in the folder $2. zsh has what comes in
+# packages apart from what an administrator installs.
+put_completions() {
+    local zsh=site-functions
+    if [ "$2" = /usr/bin ]; then zsh=vendor-completions; fi
+    install -d "$1/bash-completion/completions" "$1/zsh/$zsh" "$1/fish/vendor_completions.d"
+    python3 tools/completion.py "$program" bash >"$1/bash-completion/completions/milter_tool"
+    python3 tools/completion.py "$program" zsh >"$1/zsh/$zsh/_milter_tool"
+    python3 tools/completion.py "$program" fish >"$1/fish/vendor_completions.d/milter_tool.fish"
+}
+
 # Puts all of it below the folder $1, for a machine on which the program will be in the folder $2.
 put() {
     local root=$1 bin=$2 unit page
     install -D -m 755 "$program" "$root/bin/milter_tool"
-    install -d "$root/share/man/man1" "$root/share/man/man5" "$root/share/bash-completion/completions" \
-        "$root/lib/systemd/system" "$root/share/doc/deiruska/docs" "$root/share/doc/deiruska/examples"
+    install -d "$root/share/man/man1" "$root/share/man/man5" "$root/lib/systemd/system" \
+        "$root/share/doc/deiruska/docs" "$root/share/doc/deiruska/examples"
     python3 tools/man_page.py "$program" | gzip -n9 >"$root/share/man/man1/milter_tool.1.gz"
     for page in milter_rules milter_session; do
         format_page "$page" | gzip -n9 >"$root/share/man/man5/$page.5.gz"
     done
-    python3 tools/completion.py "$program" >"$root/share/bash-completion/completions/milter_tool"
+    put_completions "$root/share" "$bin"
     for unit in systemd/*; do
         sed "s|/usr/local/bin/|$bin/|" "$unit" >"$root/lib/systemd/system/$(basename "$unit")"
     done
