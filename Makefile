@@ -1,12 +1,12 @@
 # `make` proves and builds the program, `make lib` the library for C, `make check` proves what changed, `make test` is the
 # whole test command, `make bench` measures, `make install PREFIX=/usr/local` puts the program in place, with its manual
-# pages, units and documents, and the library with its header, and `make dist` and `make deb` pack the program, and the
-# latter also the library, for machines without the toolchain.
+# pages, units and documents, and the library with its header, `make uninstall PREFIX=/usr/local` takes that away again,
+# and `make dist` and `make deb` pack the program, and the latter also the library, for machines without the toolchain.
 
 PREFIX ?= /usr/local
 PROGRAM := crates/milter_tool/out/milter_tool
 
-.PHONY: all lib check test bench install dist deb clean
+.PHONY: all lib check test bench install uninstall dist deb clean
 
 all:
 	@python3 tools/prove.py --build milter_tool
@@ -37,7 +37,9 @@ bench:
 
 install: all lib
 	bash tools/package.sh install "$(DESTDIR)" "$(PREFIX)"
-	bash tools/library.sh install "$(DESTDIR)" "$(PREFIX)"
+
+uninstall:
+	bash tools/package.sh uninstall "$(DESTDIR)" "$(PREFIX)"
 
 dist: all
 	bash tools/package.sh dist

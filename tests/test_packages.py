@@ -6,7 +6,7 @@ installed, the units start the program where the package puts it, and the docume
 packages a program in C is compiled and run, and so is one in Python; the manual page has each function; no two have the
 same file. And the units of systemd/ say what they are, and are those that docs/DEPLOY.md shows; those that make a Unix
 socket give it a group and a mode, and the one of `serve` is exposed as little as systemd-analyze says, where that is
-installed.
+installed. What `make install` puts is there, and `make uninstall` removes it and nothing else.
 
 The library is built where tools/static_library.py didn't do that already, which takes minutes;
 `tests/test_packages.py ARCHIVE` takes an archive of it that is there. The last line is 'N passed, M failed'; the status
@@ -142,6 +142,34 @@ def library(roots, folder):
     yield None if end == (0, b'%s\n' % version[0], b'') else 'the package for Python: %s' % (end,)
 
 
+def tree(root):
+    """All files and folders below a root."""
+    found = [os.path.join(at, name) for at, folders, names in os.walk(root) for name in folders + names]
+    return sorted(os.path.relpath(it, root) for it in found)
+
+
+def placed(archive):
+    """Installs into a folder in which there are a file of another program and an empty folder, twice, looks at what is
+    there, and uninstalls it again."""
+    with tempfile.TemporaryDirectory() as folder:
+        copied(folder, archive)
+        script, root = os.path.join(folder, 'tools', 'package.sh'), os.path.join(folder, 'root')
+        prefix = os.path.join(root, 'usr', 'local')
+        for name in ['bin', 'man/man1', 'share/man/man5']:
+            os.makedirs(os.path.join(prefix, name))
+        foreign = written(os.path.join(prefix, 'bin', 'foreign'), 'of another program')
+        before = tree(root)
+        for _ in range(2):
+            yield (None if ended(['bash', script, 'install', root, '/usr/local'])[0] == 0 else 'it is not installed')
+        yield from looked_at(prefix, '/usr/local/bin')
+        end = ended(['bash', script, 'uninstall', root, '/usr/local'])
+        left = sorted(set(tree(root)) ^ set(before))
+        yield None if end == (0, b'', b'') and not left else 'not uninstalled: %s, %s' % (end, left)
+        yield None if read(foreign) == 'of another program' else 'a file of another program is changed'
+        end = ended(['bash', script, 'uninstall', root, '/usr/local'])
+        yield None if end[0] == 1 and b'is not there' in end[2] else 'uninstalled twice: %s' % (end,)
+
+
 def packages(archive):
     """Looks at all packages."""
     with tempfile.TemporaryDirectory() as folder:
@@ -192,4 +220,5 @@ if __name__ == '__main__':
     its_archive = None if lacking else c_library.proved(*sys.argv[1:])
     if completions.missing():
         print('not installed, and not asked what they complete: %s' % ', '.join(completions.missing()))
-    sys.exit(runner.run_all([functools.partial(packages, its_archive), units, hardened]))
+    sys.exit(runner.run_all([
+        functools.partial(packages, its_archive), functools.partial(placed, its_archive), units, hardened]))

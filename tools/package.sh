@@ -2,7 +2,9 @@
 # Puts the proved program in place, or packs it: the program, its manual pages, what bash, zsh and fish complete of it,
 # the units for systemd, the documents and the examples.
 #
-#     tools/package.sh install DESTDIR PREFIX   in place, as DESTDIR/PREFIX/bin/milter_tool and so on
+#     tools/package.sh install DESTDIR PREFIX   in place, as DESTDIR/PREFIX/bin/milter_tool and so on, and where the
+#                                               library for C is built also that
+#     tools/package.sh uninstall DESTDIR PREFIX away again, and nothing else
 #     tools/package.sh dist                     dist/deiruska-VERSION-x86_64-linux.tar.gz
 #     tools/package.sh deb                      dist/deiruska_VERSION_amd64.deb, and where the library for C is built
 #                                               also libdeiruska0, libdeiruska-dev and python3-deiruska
@@ -13,7 +15,9 @@ set -eu
 cd "$(dirname "${BASH_SOURCE[0]}")/.."
 program=crates/milter_tool/out/milter_tool
 archive=crates/milter_c/out/libmilter_c.a
-version=$("$program" --version | cut -d ' ' -f 2)
+
+# The version of the program.
+version() { "$program" --version | cut -d ' ' -f 2; }
 
 # Prints the manual page of a form of file.
 format_page() {
@@ -64,7 +68,8 @@ c_library() { grep -ao 'GLIBC_[0-9.]*[0-9]' "$1" | cut -d _ -f 2 | sort -uV | ta
 
 # Packs a tar file, with $1 as the folder to work in.
 pack_tar() {
-    local name=deiruska-$version-x86_64-linux
+    local name
+    name=deiruska-$(version)-x86_64-linux
     put "$1/$name" /usr/local/bin
     tar -C "$1" --sort=name --owner=0 --group=0 --numeric-owner -czf "dist/$name.tar.gz" "$name"
     echo "dist/$name.tar.gz"
@@ -133,20 +138,35 @@ END
 
 # Packs the packages for Debian, with $1 as the folder to work in.
 pack_deb() {
+    version=$(version)
     pack_program "$1"
     if [ -f "$archive" ]; then pack_library "$1"; fi
 }
 
+# Puts all that is built in place below $2 for the folder $3, with $1 as the folder to work in.
+put_in_place() {
+    put "$1$3" "$3/bin"
+    if [ -f "$archive" ]; then bash tools/library.sh install "$1" "$3"; fi
+    python3 tools/installed.py put "$1" "$2" "$3"
+}
+
+umask 022
+work=$(mktemp -d)
+trap 'rm -rf "$work"' EXIT
 case ${1-} in
 install)
-    put "$2$3" "$3/bin"
+    put_in_place "$work" "$2" "$3"
     ;;
-dist | deb)
-    umask 022
+uninstall)
+    python3 tools/installed.py remove "$2" "$3"
+    ;;
+dist)
     mkdir -p dist
-    work=$(mktemp -d)
-    trap 'rm -rf "$work"' EXIT
-    if [ "$1" = dist ]; then pack_tar "$work"; else pack_deb "$work"; fi
+    pack_tar "$work"
+    ;;
+deb)
+    mkdir -p dist
+    pack_deb "$work"
     ;;
 *)
     sed -n '2,/^set/{/^set/d;s/^# \{0,1\}//;p}' "${BASH_SOURCE[0]}" >&2
