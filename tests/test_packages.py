@@ -1,16 +1,16 @@
 #!/usr/bin/env python3
-"""Makes the tar file and the Debian packages of the proved program and of the library for C, in a copy of what they
-are made of, and looks at what is in them: the program runs, its manual page has each subcommand, mandoc finds no
-mistake in the pages where it is installed, bash completes the program's words, and so do zsh and fish where they are
-installed, the units start the program where the package puts it, and the documents are there. With the library's
-packages a program in C is compiled and run, and so is one in Python; the manual page has each function; no two have the
-same file. And the units of systemd/ say what they are, and are those that docs/DEPLOY.md shows; those that make a Unix
-socket give it a group and a mode, and the one of `serve` is exposed as little as systemd-analyze says, where that is
-installed. What `make install` puts is there, and `make uninstall` removes it and nothing else.
+"""Makes the tar file and the Debian packages of the proved program and of the library for C, in copies of what they
+are made of, installs both in a folder, and looks at what is there: the program runs, its manual page has each
+subcommand, mandoc finds no mistake in the pages where it is installed, bash completes the program's words, and so do
+zsh and fish where they are installed, the units start the program where it is, and the documents are there. With the
+library a program in C is compiled and run, and so is one in Python; its manual page has each function. No two packages
+have the same file. Two tar files are the same, and `make uninstall` removes what `make install` put, and nothing else.
+And the units of systemd/ say what they are, and are those that docs/DEPLOY.md shows; those that make a Unix socket give
+it a group and a mode, and the one of `serve` is exposed as little as systemd-analyze says, where that is installed.
 
 The library is built where tools/static_library.py didn't do that already, which takes minutes;
-`tests/test_packages.py ARCHIVE` takes an archive of it that is there. The last line is 'N passed, M failed'; the status
-is 1 where one failed.
+`tests/test_packages.py ARCHIVE` takes an archive of it that is there. The packages for Debian are made where debhelper
+is installed; tests/packages.sh installs them. The last line is 'N passed, M failed'; the status is 1 where one failed.
 """
 import functools
 import glob
@@ -22,17 +22,16 @@ import subprocess
 import sys
 import tempfile
 
-from lib import c_library, completions, runner
+from lib import c_library, completions, packed, runner
 from lib.programs import BUILDS, TOP, ended, need, tool, written
 
-PACKED = ['README.md', 'CHANGELOG.md', 'SECURITY.md', 'bindings', 'docs', 'examples', 'include', 'systemd', 'tools']
-# The packages of the library for C, and the folder of its files.
-LIBRARY, LIB = ['libdeiruska0', 'libdeiruska-dev', 'python3-deiruska'], 'usr/lib/x86_64-linux-gnu'
 USE = '#include <deiruska.h>\nint main(void) { return deiruska_version() != DEIRUSKA_VERSION; }\n'
 # The sections of manual pages, and the pages of the program and of the library.
 PAGES = ['man1/milter_tool.1', 'man5/milter_rules.5', 'man5/milter_session.5'], ['man3/deiruska.3']
 # The most that systemd-analyze says of the exposure of this unit, in tenths.
 HARDENED, EXPOSURE_MAX = 'deiruska-serve.service', 15
+# The folder of the library in a package for Debian.
+LIB = 'lib/x86_64-linux-gnu'
 UNITS = sorted(os.listdir(os.path.join(TOP, 'systemd')))
 
 
@@ -42,36 +41,17 @@ def read(*path):
         return file.read()
 
 
-def copied(folder, archive):
-    """Copies what packages are made of to a folder, with the program, and the archive of the library where there is
-    one."""
-    for name in PACKED:
-        given, made = os.path.join(TOP, name), os.path.join(folder, name)
-        (shutil.copytree if os.path.isdir(given) else shutil.copy)(given, made)
-    for given, known in [(tool(BUILDS[0]), tool(BUILDS[0])), (archive, c_library.ARCHIVE)]:
-        if given is not None:
-            made = os.path.join(folder, os.path.relpath(known, TOP))
-            os.makedirs(os.path.dirname(made))
-            shutil.copy(given, made)
+def unpacked(package, place):
+    """Unpacks a package in a folder, and answers that."""
+    os.makedirs(place, exist_ok=True)
+    is_tar = package.endswith('.tar.gz')
+    subprocess.run(['tar', '-xzf', package, '-C', place] if is_tar else ['dpkg-deb', '-x', package, place], check=True)
+    return place
 
 
-def unpacked(folder, kind, command):
-    """Makes the packages of this kind in a copy of the repository, and unpacks each by a command in which the package
-    and a folder are named. Answers the folders by the packages' names."""
-    made = subprocess.run(
-        ['bash', os.path.join(folder, 'tools', 'package.sh'), kind], stdout=subprocess.PIPE, check=True, text=True)
-    places = {}
-    for line in made.stdout.splitlines():
-        name = os.path.basename(line).partition('_')[0]
-        places[name] = os.path.join(folder, 'unpacked', kind, name)
-        os.makedirs(places[name])
-        package = os.path.join(folder, line)
-        subprocess.run([part.format(package=package, place=places[name]) for part in command], check=True)
-    return places
-
-
-def looked_at(root, folder_of_program):
-    """Looks at what is unpacked below a root. The units name the program in this folder."""
+def looked_at(root, folder_of_program, units_at=None):
+    """Looks at what is unpacked below a root. The units name the program in this folder, and are in lib/systemd/system
+    where no other folder is given."""
     program = os.path.join(root, 'bin', 'milter_tool')
     helped = subprocess.run([program, '--help'], stdout=subprocess.PIPE, check=False, text=True)
     yield None if helped.returncode == 0 else '%s does not run' % program
@@ -82,7 +62,7 @@ def looked_at(root, folder_of_program):
     yield from linted(os.path.join(root, 'share', 'man'), PAGES[0])
     yield from completions.checked(os.path.join(root, 'share'), folder_of_program == '/usr/bin')
     for unit in UNITS:
-        started = re.findall(r'(?m)^ExecStart=(\S+)', read(root, 'lib', 'systemd', 'system', unit))
+        started = re.findall(r'(?m)^ExecStart=(\S+)', read(units_at or os.path.join(root, 'lib/systemd/system'), unit))
         is_well = started.count(folder_of_program + '/milter_tool') == len(started)
         is_well &= bool(started) == unit.endswith('.service')
         yield None if is_well else '%s starts %s' % (unit, started)
@@ -101,45 +81,41 @@ def linted(folder, names):
             yield None if not found else 'mandoc of %s: %s' % (name, found)
 
 
-def files(root):
-    """The paths of all files below a root."""
-    found = [os.path.relpath(os.path.join(at, name), root) for at, _, names in os.walk(root) for name in names]
-    return sorted(it for it in found if not it.startswith('DEBIAN'))
-
-
-def compiled(shared, dev, folder):
-    """How a program ends that was compiled with the library's packages, and their settings for pkg-config; statically,
-    and with the shared library."""
-    source, lib = written(os.path.join(folder, 'use.c'), USE), os.path.join(dev, LIB)
-    os.symlink(os.path.join(shared, LIB, 'libdeiruska.so.0'), os.path.join(lib, 'libdeiruska.so.0'))
+def compiled(prefix, libdir, folder):
+    """How a program ends that was compiled with the library below a prefix, statically and with the shared library; and
+    its settings for pkg-config."""
+    source, lib = written(os.path.join(folder, 'use.c'), USE), os.path.join(prefix, libdir)
     for name, words in [('static', [os.path.join(lib, 'libdeiruska.a')]), ('shared', ['-L', lib, '-ldeiruska'])]:
         program = os.path.join(folder, name)
-        subprocess.run(['cc', '-I', os.path.join(dev, 'usr/include'), source, '-o', program, *words], check=True)
+        include = os.path.join(prefix, 'include')
+        subprocess.run(['cc', '-I', include, source, '-o', program, *words], check=True)
         yield ended([program], env={**os.environ, 'LD_LIBRARY_PATH': lib})
     settings = dict(line.split('=', 1) for line in read(lib, 'pkgconfig/deiruska.pc').splitlines() if '=' in line)
     yield settings['prefix'], settings['libdir'], settings['includedir']
 
 
-def library(roots, folder):
-    """Looks at the packages of the library."""
-    shared, dev, python = (roots[name] for name in LIBRARY)
-    every = sorted(it for root in roots.values() for it in files(root))
-    yield None if len(set(every)) == len(every) else 'a file is in two packages'
-    yield from linted(os.path.join(dev, 'usr/share/man'), PAGES[1])
-    with gzip.open(os.path.join(dev, 'usr/share/man/man3/deiruska.3.gz'), 'rt') as page:
+def library(prefix, target, libdir, documents, python, folder):
+    """Looks at the library below a prefix, which is to be at a target. There are the folders of the library and of its
+    documents, and somewhere that of the package for Python."""
+    yield from linted(os.path.join(prefix, 'share/man'), PAGES[1])
+    with gzip.open(os.path.join(prefix, 'share/man/man3/deiruska.3.gz'), 'rt') as page:
         text = page.read()
     missing = [name for name in c_library.functions() if not re.search(r'\b%s\(' % name, text)]
     yield 'the manual page lacks %s' % missing if missing else None
     for name in ['C.md', 'examples/filter.c', 'examples/filter.rs', 'examples/test_filter.py']:
-        yield None if name in files(os.path.join(dev, 'usr/share/doc/libdeiruska-dev')) else '%s is missing' % name
-    wanted = [(0, b'', b''), (0, b'', b''), ('/usr', '${prefix}/' + LIB[4:], '${prefix}/include')]
-    found = list(compiled(shared, dev, folder))
+        yield None if os.path.isfile(os.path.join(prefix, 'share/doc', documents, name)) else '%s is missing' % name
+    wanted = [(0, b'', b''), (0, b'', b''), (target, '${prefix}/' + libdir, '${prefix}/include')]
+    found = list(compiled(prefix, libdir, folder))
     yield None if found == wanted else 'what is compiled: %s' % found
-    environment = {**os.environ, 'PYTHONPATH': os.path.join(python, 'usr/lib/python3/dist-packages'),
-                   'PYTHONDONTWRITEBYTECODE': '1', 'DEIRUSKA_LIBRARY': os.path.join(shared, LIB, 'libdeiruska.so.0')}
+    environment = {**os.environ, 'PYTHONPATH': python, 'PYTHONDONTWRITEBYTECODE': '1',
+                   'DEIRUSKA_LIBRARY': os.path.join(prefix, libdir, 'libdeiruska.so.0')}
     end = ended([sys.executable, '-c', 'import deiruska.testing; print(deiruska.version())'], env=environment)
-    version = ended([tool(BUILDS[0]), '--version'])[1].split()[-1:]
-    yield None if end == (0, b'%s\n' % version[0], b'') else 'the package for Python: %s' % (end,)
+    yield None if end == (0, b'%s\n' % version(), b'') else 'the package for Python: %s' % (end,)
+
+
+def version():
+    """The version of the program."""
+    return ended([tool(BUILDS[0]), '--version'])[1].split()[-1]
 
 
 def tree(root):
@@ -152,7 +128,7 @@ def placed(archive):
     """Installs into a folder in which there are a file of another program and an empty folder, twice, looks at what is
     there, and uninstalls it again."""
     with tempfile.TemporaryDirectory() as folder:
-        copied(folder, archive)
+        packed.copied(folder, archive)
         script, root = os.path.join(folder, 'tools', 'package.sh'), os.path.join(folder, 'root')
         prefix = os.path.join(root, 'usr', 'local')
         for name in ['bin', 'man/man1', 'share/man/man5']:
@@ -162,6 +138,8 @@ def placed(archive):
         for _ in range(2):
             yield (None if ended(['bash', script, 'install', root, '/usr/local'])[0] == 0 else 'it is not installed')
         yield from looked_at(prefix, '/usr/local/bin')
+        if archive is not None:
+            yield from library(prefix, '/usr/local', 'lib', 'libdeiruska', c_library.BINDING, folder)
         end = ended(['bash', script, 'uninstall', root, '/usr/local'])
         left = sorted(set(tree(root)) ^ set(before))
         yield None if end == (0, b'', b'') and not left else 'not uninstalled: %s, %s' % (end, left)
@@ -170,16 +148,53 @@ def placed(archive):
         yield None if end[0] == 1 and b'is not there' in end[2] else 'uninstalled twice: %s' % (end,)
 
 
-def packages(archive):
-    """Looks at all packages."""
+def archived():
+    """Looks at the tar file, which is the same when it is made again."""
     with tempfile.TemporaryDirectory() as folder:
-        copied(folder, archive)
-        [root] = unpacked(folder, 'dist', ['tar', '-xzf', '{package}', '-C', '{place}']).values()
-        yield from looked_at(glob.glob(root + '/*')[0], '/usr/local/bin')
-        roots = unpacked(folder, 'deb', ['dpkg-deb', '-x', '{package}', '{place}'])
-        yield from looked_at(os.path.join(roots['deiruska'], 'usr'), '/usr/bin')
-        if archive is not None:
-            yield from library(roots, folder)
+        packed.copied(folder, None)
+        [package] = packed.packages_of(folder, 'dist')
+        first = bytes_of(package)
+        yield from looked_at(glob.glob(unpacked(package, os.path.join(folder, 'unpacked')) + '/*')[0], '/usr/local/bin')
+        yield None if [bytes_of(it) for it in packed.packages_of(folder, 'dist')] == [first] else 'two tar files differ'
+
+
+def bytes_of(path):
+    """The bytes of a file."""
+    with open(path, 'rb') as file:
+        return file.read()
+
+
+def rules():
+    """Whether the rules of the package for Debian have no fault and no rule, and its version is the program's."""
+    path = os.path.join(TOP, 'debian', 'mail.rules')
+    end = ended([tool(BUILDS[0]), 'rules', '--check', path])
+    yield None if end == (0, b'', b'') else 'debian/mail.rules: %s' % (end,)
+    printed = ended([tool(BUILDS[0]), 'rules', path])[1]
+    yield None if b'version' in printed and b'\nat ' not in printed else 'debian/mail.rules has rules: %s' % printed
+    newest = re.match(r'deiruska \((.*?)\)', read(TOP, 'debian', 'changelog'))[1]
+    yield None if newest.encode() == version() else 'debian/changelog is of version %s' % newest
+
+
+def packages(archive):
+    """Looks at the packages for Debian, all of them unpacked in one folder."""
+    with tempfile.TemporaryDirectory() as folder:
+        packed.copied(folder, archive)
+        root, files = os.path.join(folder, 'unpacked'), []
+        for package in packed.packages_of(folder, 'deb'):
+            listed = subprocess.run(['dpkg-deb', '-c', package], stdout=subprocess.PIPE, check=True, text=True).stdout
+            files += [line.split(None, 5)[5] for line in listed.splitlines() if not line.startswith('d')]
+            unpacked(package, root)
+        yield None if len(set(files)) == len(files) else 'a file is in two packages'
+        usr = os.path.join(root, 'usr')
+        yield from looked_at(usr, '/usr/bin', os.path.join(root, 'lib/systemd/system'))
+        python = os.path.join(usr, 'lib/python3/dist-packages')
+        yield from library(usr, '/usr', LIB, 'libdeiruska-dev', python, folder)
+        same = read(root, 'etc/deiruska/mail.rules') == read(TOP, 'debian', 'mail.rules')
+        yield None if same else 'the rules of the package differ'
+        shutil.rmtree(os.path.join(folder, 'crates'))
+        end = ended(['make', '-C', folder, '-f', 'debian/rules', 'override_dh_auto_install'])
+        is_said = b"milter_tool is not there: run 'make all lib'" in end[2]
+        yield None if end[0] != 0 and is_said else 'packed without the program: %s' % (end,)
 
 
 def units():
@@ -216,9 +231,13 @@ if __name__ == '__main__':
     need('tool')
     lacking = c_library.missing()
     if lacking:
-        print('not installed, and the packages of the library are not made: %s' % ', '.join(lacking))
+        print('not installed, and the library is not looked at: %s' % ', '.join(lacking))
     its_archive = None if lacking else c_library.proved(*sys.argv[1:])
     if completions.missing():
         print('not installed, and not asked what they complete: %s' % ', '.join(completions.missing()))
-    sys.exit(runner.run_all([
-        functools.partial(packages, its_archive), functools.partial(placed, its_archive), units, hardened]))
+    plays = [functools.partial(placed, its_archive), archived, rules, units, hardened]
+    if its_archive is None or packed.missing():
+        print('not installed, and the packages for Debian are not made: %s' % ', '.join(lacking + packed.missing()))
+    else:
+        plays.append(functools.partial(packages, its_archive))
+    sys.exit(runner.run_all(plays))

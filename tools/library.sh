@@ -6,11 +6,13 @@
 #     [LIBDIR=lib] tools/library.sh install DESTDIR PREFIX
 #                                           the same below DESTDIR/PREFIX, with its document, manual page and examples
 #
-# FOLDER is PREFIX where none is named. It takes a C compiler and binutils. Of the library's symbols the functions of
-# include/deiruska.h alone are visible: in the shared object, and to who links the static library.
+# FOLDER is PREFIX where none is named. It takes the toolchain, a C compiler and binutils; what `make lib` has made is put
+# in place without them. Of the library's symbols the functions of include/deiruska.h alone are visible: in the shared
+# object, and to who links the static library.
 set -eu
 cd "$(dirname "${BASH_SOURCE[0]}")/.."
 proved=crates/milter_c/out/libmilter_c.a
+made=crates/milter_c/out/deiruska
 libdir=${LIBDIR:-lib}
 number=$(sed -n 's/^#define DEIRUSKA_VERSION //p' include/deiruska.h)
 version=$((number >> 16)).$((number >> 8 & 255)).$((number & 255))
@@ -51,22 +53,32 @@ joined() {
     objcopy --wildcard --keep-global-symbol='deiruska_*' "$2/deiruska.o"
 }
 
-# Makes the library of the archive $1 below the folder $2, for use below the folder $3.
-make_library() {
+# Makes both libraries of the archive $1 in the folder $2.
+link_library() {
+    joined "$1" "$2"
+    symbols >"$2/map"
+    ar rcsD "$2/libdeiruska.a" "$2/deiruska.o"
+    "${CC:-cc}" -shared -Wl,-soname,"$soname" -Wl,--version-script="$2/map" -Wl,--gc-sections -Wl,-z,defs \
+        -Wl,-z,now -Wl,-z,relro -Wl,-z,noexecstack -o "$2/libdeiruska.so.$version" "$2/deiruska.o"
+}
+
+# Puts the libraries that are in the folder $1 below the folder $2, for use below the folder $3.
+put_library() {
     local lib=$2/$libdir
-    work=$(mktemp -d)
-    trap 'rm -rf "$work"' EXIT
-    joined "$1" "$work"
-    symbols >"$work/map"
     install -d "$lib/pkgconfig"
     install -D -m 644 include/deiruska.h "$2/include/deiruska.h"
-    rm -f "$lib/libdeiruska.a"
-    ar rcsD "$lib/libdeiruska.a" "$work/deiruska.o"
-    "${CC:-cc}" -shared -Wl,-soname,"$soname" -Wl,--version-script="$work/map" -Wl,--gc-sections -Wl,-z,defs \
-        -Wl,-z,now -Wl,-z,relro -Wl,-z,noexecstack -o "$lib/libdeiruska.so.$version" "$work/deiruska.o"
+    install -m 644 "$1/libdeiruska.a" "$1/libdeiruska.so.$version" "$lib"
     ln -sf "libdeiruska.so.$version" "$lib/$soname"
     ln -sf "$soname" "$lib/libdeiruska.so"
     pkg_config "$3" >"$lib/pkgconfig/deiruska.pc"
+}
+
+# Makes the library of the archive $1 below the folder $2, for use below the folder $3.
+make_library() {
+    work=$(mktemp -d)
+    trap 'rm -rf "$work"' EXIT
+    link_library "$1" "$work"
+    put_library "$work" "$2" "$3"
 }
 
 case ${1-} in
@@ -74,7 +86,8 @@ make)
     make_library "$2" "$3" "${4-$3}"
     ;;
 install)
-    make_library "$proved" "$2$3" "$3"
+    if [ "$proved" -nt "$made/lib/libdeiruska.a" ]; then LIBDIR='' bash "$0" make "$proved" "$made" "$3"; fi
+    put_library "$made/lib" "$2$3" "$3"
     install -d "$2$3/share/man/man3"
     python3 tools/header_page.py | gzip -n9 >"$2$3/share/man/man3/deiruska.3.gz"
     install -D -m 644 -t "$2$3/share/doc/libdeiruska" docs/C.md

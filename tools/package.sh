@@ -5,16 +5,19 @@
 #     tools/package.sh install DESTDIR PREFIX   in place, as DESTDIR/PREFIX/bin/milter_tool and so on, and where the
 #                                               library for C is built also that
 #     tools/package.sh uninstall DESTDIR PREFIX away again, and nothing else
+#     tools/package.sh stage FOLDER PREFIX      in FOLDER, to be moved to PREFIX
 #     tools/package.sh dist                     dist/deiruska-VERSION-x86_64-linux.tar.gz
-#     tools/package.sh deb                      dist/deiruska_VERSION_amd64.deb, and where the library for C is built
-#                                               also libdeiruska0, libdeiruska-dev and python3-deiruska
+#     tools/package.sh deb                      dist/deiruska_VERSION_amd64.deb, and the packages of the library for C
 #
 # The program is one file that needs the C library alone, and so does the shared library for C: the packages are for
-# machines without the toolchain.
+# machines without the toolchain. Those for Debian take debhelper and dh-python, and what `make all lib` built.
 set -eu
 cd "$(dirname "${BASH_SOURCE[0]}")/.."
 program=crates/milter_tool/out/milter_tool
 archive=crates/milter_c/out/libmilter_c.a
+library=crates/milter_c/out/deiruska
+# What the packages are made of, beside what is built.
+packed=(README.md CHANGELOG.md SECURITY.md bindings debian docs examples include systemd tools)
 
 # The version of the program.
 version() { "$program" --version | cut -d ' ' -f 2; }
@@ -63,99 +66,53 @@ put() {
     find examples -maxdepth 1 -type f -exec install -m 644 -t "$root/share/doc/deiruska/examples" {} +
 }
 
-# The newest version of the C library of which the file $1 names a symbol.
-c_library() { grep -ao 'GLIBC_[0-9.]*[0-9]' "$1" | cut -d _ -f 2 | sort -uV | tail -n 1; }
-
 # Packs a tar file, with $1 as the folder to work in.
 pack_tar() {
-    local name
+    local name date
     name=deiruska-$(version)-x86_64-linux
     put "$1/$name" /usr/local/bin
-    tar -C "$1" --sort=name --owner=0 --group=0 --numeric-owner -czf "dist/$name.tar.gz" "$name"
+    date=$(sed -n 's/^ -- .*>  //p' debian/changelog | head -n 1)
+    tar -C "$1" --sort=name --mtime="$date" --owner=0 --group=0 --numeric-owner -I 'gzip -n9' \
+        -cf "dist/$name.tar.gz" "$name"
     echo "dist/$name.tar.gz"
 }
 
-# Packs what is below the folder $1/$2 as a package for Debian of the name $2, for the architecture $3 and the section
-# $4, which depends on $5; its description is the standard input.
-pack() {
-    local root=$1/$2 package=dist/$2_${version}_$3.deb description
-    description=$(cat)
-    install -d "$root/DEBIAN"
-    cat >"$root/DEBIAN/control" <<END
-Package: $2
-Version: $version
-Architecture: $3
-Maintainer: ${MAINTAINER:-Deiruska <deiruska@localhost>}
-Depends: $5
-Installed-Size: $(du -sk "$root/usr" | cut -f 1)
-Section: $4
-Priority: optional
-Description: $description
-END
-    dpkg-deb --root-owner-group --build "$root" "$package" >/dev/null
-    echo "$package"
-}
-
-# Packs the program for Debian, with $1 as the folder to work in.
-pack_program() {
-    put "$1/deiruska/usr" /usr/bin
-    pack "$1" deiruska amd64 mail "libc6 (>= $(c_library "$program"))" <<END
-both ends of the milter protocol, proved
- A filter by rules for Sendmail and Postfix, a tester of filters, and a player of
- sessions, events and traces of the milter protocol, version 6.
-END
-}
-
-# Packs the library for Debian, with $1 as the folder to work in: what programs load, what compilers need, and the
-# package for Python.
-pack_library() {
-    local runtime=$1/libdeiruska0 dev=$1/libdeiruska-dev
-    local python=$1/python3-deiruska/usr/lib/python3/dist-packages/deiruska
-    local lib=usr/lib/x86_64-linux-gnu
-    LIBDIR=${lib#usr/} bash tools/library.sh install "$dev" /usr
-    mv "$dev/usr/share/doc/libdeiruska" "$dev/usr/share/doc/libdeiruska-dev"
-    install -d "$runtime/$lib" "$runtime/DEBIAN" "$python"
-    mv "$dev/$lib"/libdeiruska.so.* "$runtime/$lib"
-    echo 'activate-noawait ldconfig' >"$runtime/DEBIAN/triggers"
-    echo "libdeiruska 0 libdeiruska0 (>= $version)" >"$runtime/DEBIAN/shlibs"
-    install -m 644 bindings/python/deiruska/{*.py,py.typed} "$python"
-    pack "$1" libdeiruska0 amd64 libs "libc6 (>= $(c_library "$runtime/$lib/libdeiruska.so.0"))" <<END
-both ends of the milter protocol, proved: shared library
- A filter's end and a mail server's end without input and output, for programs in
- C and in languages that call C.
-END
-    pack "$1" libdeiruska-dev amd64 libdevel "libdeiruska0 (= $version)" <<END
-both ends of the milter protocol, proved: development files
- The header, the static library, the manual page deiruska(3), a document and
- examples.
-END
-    pack "$1" python3-deiruska all python "python3 (>= 3.9), libdeiruska0 (= $version)" <<END
-both ends of the milter protocol, proved: Python package
- A server of filters over asyncio, both ends without input and output, and a
- player of messages for tests of filters.
-END
-}
-
-# Packs the packages for Debian, with $1 as the folder to work in.
+# Packs the packages for Debian as debian/ has them, in a copy of what they are made of, with $1 as the folder to work
+# in.
 pack_deb() {
-    version=$(version)
-    pack_program "$1"
-    if [ -f "$archive" ]; then pack_library "$1"; fi
+    local copy=$1/deiruska package
+    if ! command -v dh >/dev/null; then
+        echo "make deb takes Debian's packages debhelper and dh-python" >&2
+        exit 1
+    fi
+    mkdir "$copy"
+    tar -cf - "${packed[@]}" "$program" "$library" | tar -C "$copy" -xf -
+    if ! (cd "$copy" && dpkg-buildpackage -b -us -uc) >"$1/log" 2>&1; then
+        tail -n 40 "$1/log" >&2
+        exit 1
+    fi
+    for package in "$1"/*.deb; do
+        cp "$package" dist
+        echo "dist/$(basename "$package")"
+    done
 }
 
-# Puts all that is built in place below $2 for the folder $3, with $1 as the folder to work in.
-put_in_place() {
-    put "$1$3" "$3/bin"
-    if [ -f "$archive" ]; then bash tools/library.sh install "$1" "$3"; fi
-    python3 tools/installed.py put "$1" "$2" "$3"
+# Puts the program and the library below the folder $1/$2, for use below the folder $2.
+stage() {
+    put "$1$2" "$2/bin"
+    if [ -f "$archive" ] || [ -d "$library" ]; then bash tools/library.sh install "$1" "$2"; fi
 }
 
 umask 022
 work=$(mktemp -d)
 trap 'rm -rf "$work"' EXIT
 case ${1-} in
+stage)
+    stage "$2" "$3"
+    ;;
 install)
-    put_in_place "$work" "$2" "$3"
+    stage "$work" "$3"
+    python3 tools/installed.py put "$work" "$2" "$3"
     ;;
 uninstall)
     python3 tools/installed.py remove "$2" "$3"
