@@ -1,12 +1,12 @@
 #!/usr/bin/env bash
 # Installs the packages for Debian in a Debian of its own, which debootstrap makes in a temporary folder: they are built
 # twice, in two folders, with equal bytes; lintian has nothing to say of them; they are installed, upgraded, removed and
-# purged, and the rules that an administrator wrote stay until then. Nothing is enabled or started by the installation;
-# an upgrade restarts the service, and a removal stops it: systemd doesn't run there, and what `systemctl` is asked for
-# is written down in its place. It needs Debian's packages debhelper, dh-python, lintian and debootstrap, a C compiler,
-# root, and Debian's registry, of which MIRROR may name another copy. It isn't part of the test command. What is packed
-# is what `make all lib` built; ARCHIVE takes an archive of the library in place of that of `make lib`. The last line is
-# 'N passed, M failed'.
+# purged, and the rules that an administrator wrote stay until then. What the unit of the service starts lets mail
+# pass. Nothing is enabled or started by the installation; an upgrade restarts the service, and a removal stops it:
+# systemd doesn't run there, and what `systemctl` is asked for is written down in its place. It needs Debian's packages
+# debhelper, dh-python, lintian and debootstrap, a C compiler, root, and Debian's registry, of which MIRROR may name
+# another copy. It isn't part of the test command. What is packed is what `make all lib` built; ARCHIVE takes an archive
+# of the library in place of that of `make lib`. The last line is 'N passed, M failed'.
 #
 #     sudo [ARCHIVE=FILE] [MIRROR=URL] bash tests/packages.sh
 set -u

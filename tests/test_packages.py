@@ -198,11 +198,12 @@ def packages(archive):
 
 
 def units():
-    """Whether each unit says what it is, and the document shows it as it is."""
+    """Whether each unit is called for the project and says what it is, and the document shows it as it is."""
     shown = read(TOP, 'docs', 'DEPLOY.md')
     for unit in UNITS:
         described = re.findall(r'(?m)^Description=(\S.*)$', read(TOP, 'systemd', unit))
-        yield None if len(described) == 1 else '%s has the descriptions %s' % (unit, described)
+        is_well = len(described) == 1 and unit.startswith('deiruska-')
+        yield None if is_well else '%s has the descriptions %s' % (unit, described)
         lines = ''.join('    ' + line if line.strip() else line for line in read(TOP, 'systemd', unit).splitlines(True))
         yield None if lines in shown else 'docs/DEPLOY.md does not show %s as it is' % unit
 
@@ -236,8 +237,9 @@ if __name__ == '__main__':
     if completions.missing():
         print('not installed, and not asked what they complete: %s' % ', '.join(completions.missing()))
     plays = [functools.partial(placed, its_archive), archived, rules, units, hardened]
-    if its_archive is None or packed.missing():
-        print('not installed, and the packages for Debian are not made: %s' % ', '.join(lacking + packed.missing()))
+    lacking += packed.missing()
+    if lacking:
+        print('not installed, and the packages for Debian are not made: %s' % ', '.join(lacking))
     else:
         plays.append(functools.partial(packages, its_archive))
     sys.exit(runner.run_all(plays))

@@ -36,5 +36,10 @@ def packages_of(folder, kind, **settings):
 
 
 def missing():
-    """The programs that aren't installed of those that make the packages for Debian."""
-    return [name for name in ['dh', 'dh_python3', 'dpkg-buildpackage'] if not shutil.which(name)]
+    """What isn't installed of what makes the packages for Debian: programs, or else packages."""
+    programs = [name for name in ['dh', 'dh_python3', 'dpkg-buildpackage'] if not shutil.which(name)]
+    if programs:
+        return programs
+    control = os.path.join(TOP, 'debian', 'control')
+    done = subprocess.run(['dpkg-checkbuilddeps', control], stderr=subprocess.PIPE, check=False, text=True)
+    return [done.stderr.strip().rpartition(': ')[2]] if done.returncode != 0 else []

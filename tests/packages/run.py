@@ -120,14 +120,27 @@ def compared(what, found, expected):
     return None if found == expected else '%s: %r, expected %r' % (what, found, expected)
 
 
+def served(debian, session):
+    """Starts what the unit of the service starts, and plays a session to it. Answers the reports."""
+    with open(debian.path('/lib/systemd/system/' + SERVICE), encoding='utf-8') as file:
+        [line] = re.findall(r'(?m)^ExecStart=(.*)$', file.read().replace('\\\n', ''))
+    os.makedirs(debian.path('/run/deiruska'))
+    with subprocess.Popen(['chroot', debian.root, *line.split()], stdout=subprocess.DEVNULL) as service:
+        try:
+            return debian.run('milter_tool', 'mta', 'unix:/run/deiruska/milter.sock', session, '--wait', '30')
+        finally:
+            service.terminate()
+            service.wait()
+            shutil.rmtree(debian.path('/run/deiruska'))
+
+
 def used(debian, version):
     """Uses what is installed: the program, with the rules that come with it, and the library."""
     yield compared('the program', debian.run('milter_tool', '--version'), 'milter_tool %s\n' % version)
     yield compared('the rules', debian.run('milter_tool', 'rules', '--check', '/etc/deiruska/mail.rules'), '')
     session = '/usr/share/doc/deiruska/examples/two_messages.session'
-    played = debian.run('milter_tool', 'play', session, '--rules', '/etc/deiruska/mail.rules')
-    outcomes = re.findall(r'(?m)^message \d+ (.*)$', played)
-    yield compared('what the rules refuse', outcomes, ['filter released'] * 2)
+    outcomes = re.findall(r'(?m)^message \d+ (.*)$', served(debian, session))
+    yield compared('what the service refuses', outcomes, ['filter released'] * 2)
     library = debian.run('python3', '-c', 'import deiruska; print(deiruska.version())')
     yield compared('the library', library, version + '\n')
 
