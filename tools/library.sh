@@ -86,7 +86,7 @@ make)
     make_library "$2" "$3" "${4-$3}"
     ;;
 install)
-    if [ "$proved" -nt "$made/lib/libdeiruska.a" ]; then LIBDIR='' bash "$0" make "$proved" "$made" "$3"; fi
+    if [ "$proved" -nt "$made/lib/libdeiruska.a" ]; then LIBDIR='' bash tools/library.sh make "$proved" "$made" "$3"; fi
     put_library "$made/lib" "$2$3" "$3"
     install -d "$2$3/share/man/man3"
     python3 tools/header_page.py | gzip -n9 >"$2$3/share/man/man3/deiruska.3.gz"
