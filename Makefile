@@ -1,8 +1,8 @@
-# `make` proves and builds the program, `make lib` the library for C, `make check` proves what changed, `make test` is the
-# whole test command, `make bench` measures, `make install PREFIX=/usr/local` puts the program in place, with its manual
-# pages, units and documents, and the library with its header, `make uninstall PREFIX=/usr/local` takes that away again,
-# and `make dist` and `make deb` pack the program, and the latter also the library, for machines without the toolchain;
-# `make deb` takes Debian's packages debhelper and dh-python.
+# `make` proves and builds the program, `make lib` the library for C, `make check` proves what changed, `make test` is
+# the whole test command, `make bench` measures, `make install PREFIX=/usr/local` puts the program in place, with its
+# manual pages, units and documents, and the library with its header, `make uninstall PREFIX=/usr/local` takes that away
+# again, and `make dist` and `make deb` pack the program, and the latter also the library, for machines without the
+# toolchain. `make deb` takes Debian's packages debhelper and dh-python.
 
 PREFIX ?= /usr/local
 PROGRAM := crates/milter_tool/out/milter_tool

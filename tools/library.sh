@@ -6,9 +6,9 @@
 #     [LIBDIR=lib] tools/library.sh install DESTDIR PREFIX
 #                                           the same below DESTDIR/PREFIX, with its document, manual page and examples
 #
-# FOLDER is PREFIX where none is named. It takes the toolchain, a C compiler and binutils; what `make lib` has made is put
-# in place without them. Of the library's symbols the functions of include/deiruska.h alone are visible: in the shared
-# object, and to who links the static library.
+# FOLDER is PREFIX where none is named. It takes the toolchain, a C compiler and binutils; what `make lib` has made is
+# put in place without them. Of the library's symbols the functions of include/deiruska.h alone are visible: in the
+# shared object, and to who links the static library.
 set -eu
 cd "$(dirname "${BASH_SOURCE[0]}")/.."
 proved=crates/milter_c/out/libmilter_c.a
