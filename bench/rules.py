@@ -25,6 +25,17 @@ OTHERS = {
     'rcpts over': 'rcpts over 4294967295'}
 # The fields whose values are domains, which alone have the test under.
 DOMAINS = ['host', 'helo', 'sender-domain', 'rcpt-domain', 'recipients-domain']
+# The kind of list that each field may be looked for in, and an entry of one that no message has.
+KINDS = {
+    'host': 'domains', 'address': 'networks', 'helo': 'domains', 'sender': 'texts', 'sender-address': 'addresses',
+    'sender-domain': 'domains', 'rcpt': 'texts', 'rcpt-address': 'addresses', 'rcpt-domain': 'domains',
+    'recipients': 'texts', 'recipients-address': 'addresses', 'recipients-domain': 'domains', 'macro "{x}"': 'texts',
+    'macro "{y}"': 'texts'}
+ENTRIES = {
+    'addresses': 'nobody%d@nowhere.example', 'domains': 'nowhere%d.example', 'networks': '10.0.%d.0/24',
+    'texts': 'nowhere %d'}
+# How many entries a list has.
+LISTED = 200
 COUNTS = [1_000, 10_000, 100_000]
 SIZES = [1, 10, 100, 1_000, 10_000, 65_535]
 BODY = 1_000_000
@@ -93,9 +104,19 @@ def has_test(field, test):
 
 def conditions_on(fields):
     """The conditions on these fields, with each test that they may have: the field, the test and the condition."""
-    return [
+    tested = [
         (field, test, '%s %s' % (field, condition))
         for field in fields for test, condition in TESTS.items() if has_test(field, test)]
+    return tested + [(field, 'in', '%s in %s' % (field, KINDS[field])) for field in fields if field in KINDS]
+
+
+def lists_in(folder):
+    """The lines of a rule file that name a list of each kind."""
+    lines = []
+    for kind, entry in ENTRIES.items():
+        path = written(folder, kind, ''.join(entry % number + '\n' for number in range(LISTED)).encode())
+        lines.append('list %s %s "%s"\n' % (kind, kind, path))
+    return ''.join(lines)
 
 
 def is_linear(times):
@@ -149,15 +170,19 @@ def main(program, folder, older=''):
         given['macros', count] = written(folder, 'macros%d' % count, message(with_macros + packet(b'N')))
         chunks = b''.join(packet(b'B' + b'x') for _ in range(count))
         given['body', count] = written(folder, 'body%d' % count, message(packet(b'N') + chunks))
+        recipients = b''.join(packet(b'R<user%06d@example.com>\0' % number) for number in range(count))
+        given['rcpt', count] = written(folder, 'recipients%d' % count, message(packet(b'N'), recipients))
     failed = not many_at_rcpt(program, folder, older)
     all_conditions = conditions_on(FIELDS) + [(*name.split(), condition) for name, condition in OTHERS.items()]
+    lists = lists_in(folder)
     kinds = [
+        ('rcpt', 'rcpt', 'recipients', conditions_on([it for it in FIELDS if 'header' not in it and it != 'body'])),
         ('header', 'header', 'header fields', all_conditions), ('body', 'body', 'chunks of one byte', all_conditions),
         ('macros', 'header', 'header fields with macros before each', conditions_on(['macro "{x}"', 'macro "{y}"']))]
     for kind, stage, what, conditions in kinds:
         print('seconds for %s %s:' % (', '.join('{:,}'.format(count) for count in COUNTS), what))
         for field, test, condition in conditions:
-            rule = 'rules 2\nat %s when %s do reject\n' % (stage, condition)
+            rule = 'rules 2\n%sat %s when %s do reject\n' % (lists, stage, condition)
             rules = written(folder, 'rules', rule.encode())
             times = [seconds(program, rules, given[kind, count]) for count in COUNTS]
             is_right = is_linear(times)

@@ -1,7 +1,8 @@
 #!/usr/bin/env bash
-# Measures what rules cost that look at all header fields so far at each header field, and at the whole body so far at
-# each chunk of it, for each field and each test: one message of 1,000 to 100,000 header fields, with macros before each
-# and without, or of as many chunks of one byte; and a body of 1,000,000 bytes in chunks of 1 to 65,535 bytes, to
+# Measures what rules cost that look at all recipients so far at each recipient, at all header fields so far at each
+# header field, and at the whole body so far at each chunk of it, for each field and each test, `in` a list of 200
+# entries too: one message of 1,000 to 100,000 recipients or header fields, with macros before each of these and without,
+# or of as many chunks of one byte; and a body of 1,000,000 bytes in chunks of 1 to 65,535 bytes, to
 # `milter_tool answer`. Before these it measures 10,000 rules at rcpt, and one rule with as many texts, on a message of
 # 1 to 2,000 recipients. It prints the processor time of the fastest of three runs, and fails where ten times as much of
 # a message costs more than twenty times as much. It takes Python and some minutes. The program is built first where it

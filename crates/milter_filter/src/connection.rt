@@ -13,7 +13,8 @@ use crate::served::Served;
 use crate::steps::take_turn;
 use crate::turn::Turn;
 use milter_filter_core::{
-    Answer, AnswerFault, CommandOrder, FilterConnection, Pattern, Policy, Seen, Wants,
+    Answer, AnswerFault, CommandOrder, FilterConnection, Needle, PathPart, Pattern, Policy, Seen,
+    Wants,
 };
 use milter_wire::{NoMemory, Stage};
 use std::alloc::Global;
@@ -116,10 +117,17 @@ impl Connection {
     }
 
     /// Searches the header fields that are shown, as [`Seen::search_headers`] does.
-    pub fn search_headers(&mut self, place: usize, name: &[u8], pattern: &Pattern<'_>)
+    pub fn search_headers(&mut self, place: usize, name: &[u8], needle: &Needle<'_>)
         ensures { self.new ≡ self.old }
     {
-        self.filter.search_headers(place, name, pattern);
+        self.filter.search_headers(place, name, needle);
+    }
+
+    /// Searches the recipients that are shown, as [`Seen::search_recipients`] does.
+    pub fn search_recipients(&mut self, place: usize, part: PathPart, needle: &Needle<'_>)
+        ensures { self.new ≡ self.old }
+    {
+        self.filter.search_recipients(place, part, needle);
     }
 
     /// Searches the body that is shown, as [`Seen::search_body`] does.

@@ -14,7 +14,7 @@ ghost use Rattle.milter_filter_stream.specs.Streams.{received_in};
 
 use crate::policy_answer::answer_at_once;
 use milter_filter_answer::{AnswerFault, Wants, check_answer};
-use milter_filter_policy::{Pattern, Policy, Seen};
+use milter_filter_policy::{Needle, PathPart, Pattern, Policy, Seen};
 use milter_filter_stream::{FilterStream, NextStep};
 use milter_protocol::{Answer, CommandOrder, FilterFault, FilterState};
 use milter_wire::{NoMemory, Stage};
@@ -138,10 +138,17 @@ impl FilterConnection {
     }
 
     /// Searches the header fields that are shown, as [`Seen::search_headers`] does.
-    pub fn search_headers(&mut self, place: usize, name: &[u8], pattern: &Pattern<'_>)
+    pub fn search_headers(&mut self, place: usize, name: &[u8], needle: &Needle<'_>)
         ensures { self.new ≡ self.old }
     {
-        self.stream.search_headers(place, name, pattern);
+        self.stream.search_headers(place, name, needle);
+    }
+
+    /// Searches the recipients that are shown, as [`Seen::search_recipients`] does.
+    pub fn search_recipients(&mut self, place: usize, part: PathPart, needle: &Needle<'_>)
+        ensures { self.new ≡ self.old }
+    {
+        self.stream.search_recipients(place, part, needle);
     }
 
     /// Searches the body that is shown, as [`Seen::search_body`] does.

@@ -10,7 +10,7 @@ mod pass;
 mod policy;
 mod seen;
 
-pub use milter_filter_search::{Pattern, Test, TextCase};
+pub use milter_filter_search::{Needle, PathPart, Pattern, Test, TextCase};
 pub use pass::Pass;
 pub use policy::Policy;
 pub use seen::Seen;

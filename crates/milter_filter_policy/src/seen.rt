@@ -1,14 +1,16 @@
 //! What a filter is shown.
 
-ghost use Rattle.std.specs.Prelude.{◌≡◌, [], OnErr, OnOk, false, option_map};
+ghost use Rattle.std.specs.Prelude.{◌≡◌, [], IfOk, OnErr, OnOk, false, map, option_map};
+ghost use Rattle.std.specs.List.{list_any};
 ghost use Rattle.std.specs.Option.{option_copied};
 ghost use Rattle.milter_wire.specs.BorrowedCommand.{command_of};
 ghost use Rattle.milter_protocol.specs.Seen.{seen, value_in};
 ghost use Rattle.milter_filter_policy.specs.SeenParts.{nothing_seen, parts_with};
-ghost use Rattle.milter_filter_search.specs.Texts.{finds, finds_named};
+ghost use Rattle.milter_filter_search.specs.Needles.{matches, part_of};
+ghost use Rattle.milter_filter_search.specs.Texts.{finds, values_named};
 
 use crate::macro_list::MacroList;
-use milter_filter_search::{Body, Headers, Pattern};
+use milter_filter_search::{Body, Headers, Needle, PathPart, Pattern, Recipients};
 use milter_wire::codes::{SMFIC_CONNECT, SMFIC_HELO};
 use milter_wire::{Client, CommandRef, Header, NoMemory, Path, Text};
 use std::alloc::Global;
@@ -22,7 +24,7 @@ pub struct Seen {
     client: Option<Client>,
     helo: Option<Text>,
     sender: Option<Path>,
-    recipients: Vec<Path>,
+    recipients: Recipients,
     headers: Headers,
     body: Body,
     macros: MacroList,
@@ -41,7 +43,7 @@ impl Model for Seen {
         client = s.client;
         helo = s.helo;
         sender = s.sender;
-        recipients = s.recipients.items;
+        recipients = s.recipients;
         headers = s.headers;
         body = s.body;
         macros = s.macros.shown;
@@ -88,7 +90,7 @@ impl Seen {
     pub fn recipients(&self) -> &[Path]
         ensures { result.now ≡ self.now.shown.recipients }
     {
-        &self.recipients
+        self.recipients.as_slice()
     }
 
     /// The header fields of the message, in order, with values as they were sent. Doesn't allocate. Source:
@@ -106,13 +108,36 @@ impl Seen {
         self.body.as_slice()
     }
 
-    /// Whether the pattern is found in the value of a header field of this name, in which ASCII case doesn't count.
-    /// What [`Seen::search_headers`] found for the same in this place isn't looked for again. Doesn't allocate.
-    pub fn finds_in_headers(&self, place: usize, name: &[u8], pattern: &Pattern<'_>) -> bool
-        ensures { result ≡ finds_named pattern.now.case pattern.now.test pattern.now.text.now name.now
-            self.now.shown.headers }
+    /// Whether the needle is found in this part of one of the recipients. What [`Seen::search_recipients`] found for
+    /// the same in this place isn't looked for again. Allocates as [`Needle::matches`] does, and canonical addresses;
+    /// `NoMemory` where memory is refused.
+    pub fn finds_in_recipients(
+        &self,
+        alloc: Global,
+        place: usize,
+        part: PathPart,
+        needle: &Needle<'_>,
+    ) -> Result<bool, NoMemory>
+        ensures { IfOk result (λ found. found
+            ≡ list_any (matches needle.now) (map (part_of part) self.now.shown.recipients)) }
     {
-        self.headers.finds(place, name, pattern)
+        self.recipients.finds(alloc, place, part, needle)
+    }
+
+    /// Whether the needle is found in the value of a header field of this name, in which ASCII case doesn't count. What
+    /// [`Seen::search_headers`] found for the same in this place isn't looked for again. Allocates as
+    /// [`Needle::matches`] does; `NoMemory` where memory is refused.
+    pub fn finds_in_headers(
+        &self,
+        alloc: Global,
+        place: usize,
+        name: &[u8],
+        needle: &Needle<'_>,
+    ) -> Result<bool, NoMemory>
+        ensures { IfOk result (λ found. found
+            ≡ list_any (matches needle.now) (values_named name.now self.now.shown.headers)) }
+    {
+        self.headers.finds(alloc, place, name, needle)
     }
 
     /// Whether the pattern is found in the body, as far as it has come. What [`Seen::search_body`] found for the same
@@ -125,18 +150,26 @@ impl Seen {
 
     /// Searches the header fields for what [`Seen::finds_in_headers`] is going to be asked for in this place: those
     /// alone that came since they were searched for the same in this place. Places are numbered from 0, and the first
-    /// search of each comes after that of the one before. It keeps copies of both texts. Where memory is refused
-    /// nothing is kept.
-    pub fn search_headers(
+    /// search of each comes after that of the one before. It keeps copies of texts, and owns a list together with its
+    /// other owners. Where memory is refused nothing more is kept.
+    pub fn search_headers(&mut self, alloc: Global, place: usize, name: &[u8], needle: &Needle<'_>)
+        ensures { self.new ≡ self.old }
+    {
+        self.headers.search(alloc, place, name, needle);
+    }
+
+    /// Searches the recipients for what [`Seen::finds_in_recipients`] is going to be asked for in this place, as
+    /// [`Seen::search_headers`] does; places are those of recipients alone.
+    pub fn search_recipients(
         &mut self,
         alloc: Global,
         place: usize,
-        name: &[u8],
-        pattern: &Pattern<'_>,
+        part: PathPart,
+        needle: &Needle<'_>,
     )
         ensures { self.new ≡ self.old }
     {
-        self.headers.search(alloc, place, name, pattern);
+        self.recipients.search(alloc, place, part, needle);
     }
 
     /// Searches the body for what [`Seen::finds_in_body`] is going to be asked for in this place, as
@@ -189,7 +222,7 @@ impl Seen {
             client: None,
             helo: None,
             sender: None,
-            recipients: Vec::new(alloc),
+            recipients: Recipients::new(alloc),
             headers: Headers::new(alloc),
             body: Body::new(alloc),
             macros: MacroList::new(alloc),

@@ -1,5 +1,5 @@
 pub mod TextValues
-pub mod ListedHeaders
+pub mod UnlistedValues
 pub mod ConditionGroups
 pub mod Decisions
 pub mod ActionFields

@@ -10,3 +10,4 @@ pub mod RulesLaw
 pub mod RulesValue
 pub mod LeastWants
 pub mod WorkedRules
+pub mod FormedTexts

@@ -8,6 +8,7 @@ mod conditions;
 mod context;
 mod decision;
 mod edit_list;
+mod formed_text;
 mod header_values;
 mod laws;
 mod least_wants;
@@ -25,14 +26,13 @@ mod values;
 
 pub use action_fits::{fields_fit, has_room, is_allowed_at, is_string};
 pub use laws::{answers_of_actions, deleted_headers};
-pub use milter_filter_policy::{Test, TextCase};
+pub use milter_filter_policy::{PathPart, Test, TextCase};
 pub use milter_list_lines::{ListSource, ListSources};
-pub use milter_lists::{ListFault, ListKind, TextList};
+pub use milter_lists::{ListFault, ListKind, SharedList, TextList};
 pub use milter_protocol::Action;
 pub use named_list::{NamedList, NamedLists};
 pub use rule::{
-    Check, Condition, Conditions, Field, Joint, Measure, PathPart, Rule, RuleAction, TextCheck,
-    Texts,
+    Check, Condition, Conditions, Field, Joint, Measure, Rule, RuleAction, TextCheck, Texts,
 };
 pub use rule_list::{RuleList, StageRules};
 pub use rules::Rules;

@@ -3,21 +3,9 @@
 ghost use Rattle.std.specs.Prelude.{◌≡◌};
 ghost use Rattle.milter_filter_rules.specs.RuleNames.{field_name, measure_name, path_part};
 
-use milter_filter_policy::Test;
+use milter_filter_policy::{PathPart, Test};
 use milter_protocol::Action;
 use milter_wire::{Header, List, Text, Verdict};
-
-/// What of a sender or a recipient a condition looks at.
-#[derive(Clone, Copy, Debug, PartialEq, Eq)]
-pub enum PathPart {
-    /// All of it as it was sent, with `<` and `>`.
-    Sent,
-    /// The address in the form in which mail servers compare addresses:
-    /// [`canonical_address`](milter_address::canonical_address). The null sender's is empty.
-    Address,
-    /// The domain of that address; empty where it has none.
-    Domain,
-}
 
 /// What of a connection and its message a condition looks at. Each has no value where it wasn't seen yet.
 #[derive(Clone, Debug, PartialEq, Eq, Drop)]

@@ -5,12 +5,12 @@ ghost use Rattle.milter_filter_rules.specs.ListedValues.{sources_of};
 ghost use Rattle.milter_filter_rules.specs.RuleSet.{is_lawful};
 
 use crate::context::Context;
-use crate::decision::decide_by;
+use crate::decision::{decide_by, deciding_rule};
 use crate::least_wants::least_protocol;
 use crate::named_list::{NamedList, NamedLists};
 use crate::rule::Rule;
 use crate::rule_list::StageRules;
-use crate::searches::{search_by, some_looks_at_macro};
+use crate::searches::{search_by, some_is_searched};
 use milter_filter_policy::{Policy, Seen, TextCase};
 use milter_protocol::{Answer, VERSION_MAX};
 use milter_wire::{Actions, NoMemory, Options, Protocol, Stage, SymList, SymLists};
@@ -30,18 +30,20 @@ pub struct Rules {
     case: TextCase,
     /// Whether who made the rules stated their protocol bits.
     is_protocol_stated: bool,
-    /// Whether a condition at a recipient looks at a macro, which is searched for there.
+    /// Whether a condition at a recipient looks at a macro or at all recipients, which are searched there.
     searches_rcpt: bool,
     pub ghost lawful: { is_lawful
         (record { options = options; lists = lists; rules = rules; sources = sources_of named }) ≡ true },
 }
 
 impl Rules {
-    ghost use Rattle.std.specs.Prelude.{◌≡◌, [], false};
+    ghost use Rattle.std.specs.Prelude.{◌≡◌, IfOk, [], false};
+    ghost use Rattle.std.specs.List.{position_from};
+    ghost use Rattle.milter_filter_rules.specs.Decisions.{decides};
     ghost use Rattle.milter_filter_rules.specs.LeastWants.{least_wants, with_least_wants};
     ghost use Rattle.milter_filter_rules.specs.RuleSet.{no_rule_set};
     ghost use Rattle.milter_filter_rules.specs.ListedValues.{sources_of};
-    ghost use Rattle.milter_filter_rules.specs.RulesValue.{case_of, named_of, rule_set, states_protocol};
+    ghost use Rattle.milter_filter_rules.specs.RulesValue.{case_of, matching_of, named_of, rule_set, states_protocol};
     ghost use Rattle.milter_glob.specs.declared.text_case.TextCase.TheVariants.{Exact, Ignored};
     ghost use Rattle.milter_filter_rules.specs.StageRules.{rules_at};
 
@@ -86,7 +88,7 @@ impl Rules {
         ensures case { case_of result ≡ Exact }
         ensures stated { states_protocol result ≡ false }
     {
-        let searches_rcpt = some_looks_at_macro(rules.rcpt.as_slice());
+        let searches_rcpt = some_is_searched(rules.rcpt.as_slice());
         Rules {
             options,
             lists,
@@ -227,6 +229,35 @@ impl Rules {
         self.rules.at(stage)
     }
 
+    /// The index, from 0 among the rules of the stage, of the first one that applies to what is shown and has a
+    /// verdict: that of [`Policy::decide`], unless the edits before it are too many. It is `None` where no rule has
+    /// one. Allocates as `decide` does; `NoMemory` where memory is refused.
+    pub fn deciding_rule(
+        &self,
+        alloc: Global,
+        at: Stage,
+        seen: &Seen,
+    ) -> Result<Option<usize>, NoMemory>
+        ensures { IfOk result (λ index. index ≡ position_from (decides (matching_of self.now) seen.now.shown) 0
+            (rules_at (rule_set self.now).rules at)) }
+    {
+        deciding_rule(self.context(alloc, at), self.rules.at(at), seen)
+    }
+
+    /// What the conditions of a stage's rules are compared by.
+    #[inline(always)]
+    fn context(&self, alloc: Global, at: Stage) -> Context<'_>
+        ensures case { result.case ≡ case_of self.now }
+        ensures lists { result.lists.now ≡ named_of self.now }
+    {
+        Context {
+            alloc,
+            case: self.case,
+            lists: self.named.as_slice(),
+            is_searched: self.is_searched(at),
+        }
+    }
+
     /// Whether something may have been searched for when the rules of the stage decide.
     fn is_searched(&self, at: Stage) -> bool {
         match at {
@@ -256,18 +287,12 @@ impl Policy for Rules {
     #[inline(always)]
     fn prepare(&self, alloc: Global, at: Stage, seen: &mut Seen) {
         if matches!(at, Stage::Rcpt | Stage::Header | Stage::Body) && self.is_searched(at) {
-            search_by(alloc, self.case, self.rules.at(at), seen);
+            search_by(self.context(alloc, at), self.rules.at(at), seen);
         }
     }
 
     #[inline(always)]
     fn decide(&self, alloc: Global, at: Stage, seen: &Seen) -> Result<Answer, NoMemory> {
-        let context = Context {
-            alloc,
-            case: self.case,
-            lists: self.named.as_slice(),
-            is_searched: self.is_searched(at),
-        };
-        decide_by(context, self.rules.at(at), seen)
+        decide_by(self.context(alloc, at), self.rules.at(at), seen)
     }
 }

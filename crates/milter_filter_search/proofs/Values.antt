@@ -1,23 +1,23 @@
 -- The values of a field, one after the other.
-use Rattle.std.specs.Prelude.{◌≡◌, ℕ, Bool, true, false, ◌&&◌, ◌||◌, List, [], ◌∷◌, map, refl, if◌then◌else◌}
-use Rattle.std.specs.List.{filter, list_any}
-use Rattle.std.proofs.Common.{ap}
+use Rattle.std.specs.Prelude.{◌≡◌, ◌<◌, ◌+◌, ℕ, suc, Bool, true, false, ◌&&◌, ◌||◌, List, ◌∷◌, drop, length, refl}
+use Rattle.std.specs.List.{list_any}
+use Rattle.std.proofs.Common.{add-one, drop-cons, get_or}
 use Rattle.milter_wire_fields.specs.declared.header.Header.{Header}
-use Rattle.milter_filter_search.specs.Texts.{is_named}
+use Rattle.milter_filter_search.specs.Texts.{is_named, values_named}
 
-first_found : (named : Bool) (test : List ℕ → Bool) (header : Header) (left : Bool) (others : List Header)
-    → left ≡ list_any test (map (λ other. other.value) others)
-    → ((named && test header.value) || left)
-    ≡ list_any test (map (λ other. other.value) (if named then header ∷ others else others))
-first_found true test header left others e = ap (λ b. test header.value || b) e
-first_found false test header left others e = e
+-- the first header field has the name and such a value, or one of the others
+pub one_more : (name : List ℕ) (f : List ℕ → Bool) (header : Header) (headers : List Header)
+    → list_any f (values_named name (header ∷ headers))
+    ≡ ((is_named name header && f header.value) || list_any f (values_named name headers))
+one_more name f header headers = by_name (is_named name header) refl
+  where
+    by_name : (is : Bool) → is_named name header ≡ is
+        → list_any f (values_named name (header ∷ headers)) ≡ ((is && f header.value) || list_any f (values_named name headers))
+    by_name true e = rw e refl
+    by_name false e = rw e refl
 
--- some header field has the name and a value that passes, where some value of those with the name does
-pub found_in_named : (test : List ℕ → Bool) (name : List ℕ) (headers : List Header)
-    → list_any (λ header. is_named name header && test header.value) headers
-    ≡ list_any test (map (λ header. header.value) (filter (is_named name) headers))
-found_in_named test name [] = refl
-found_in_named test name (header ∷ headers) =
-    first_found (is_named name header) test header
-    (list_any (λ other. is_named name other && test other.value) headers)
-    (filter (is_named name) headers) (found_in_named test name headers)
+pub next_header : (name : List ℕ) (f : List ℕ → Bool) (headers : List Header) (i : ℕ) (x : Header) → i < length headers
+    → x ≡ get_or headers i x
+    → list_any f (values_named name (drop i headers))
+    ≡ ((is_named name x && f x.value) || list_any f (values_named name (drop (i + 1) headers)))
+next_header name f headers i x within is = rw (drop-cons headers i x within, ← is, add-one) (one_more name f x (drop (suc i) headers))

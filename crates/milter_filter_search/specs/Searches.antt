@@ -1,35 +1,22 @@
--- What of a message was searched for texts: each search says of a beginning of it whether a text was found there.
+-- What of a message was searched: each search says of a beginning of it whether something was found there.
 use Rattle.std.specs.Prelude.{◌≡◌, ◌≤◌, ℕ, Bool, false, List, [], length, take}
-use Rattle.milter_wire_fields.specs.declared.header.Header.{Header}
-use Rattle.milter_filter_search.specs.declared.pattern.Test.{Test}
+use Rattle.std.specs.List.{list_any}
 use Rattle.milter_filter_search.specs.declared.pattern.Test.TheVariants.{Has}
+use Rattle.milter_filter_search.specs.declared.search.Search.{Search}
 use Rattle.milter_glob.specs.declared.text_case.TextCase.{TextCase}
-use Rattle.milter_filter_search.specs.Texts.{finds, finds_named}
+use Rattle.milter_filter_search.specs.Texts.{finds}
 
--- a text that is looked for in header fields of a name, and whether it was found in so many of them
-pub record HeaderSearch : Type 0 where
-  pub name : List ℕ
-  pub case : TextCase
-  pub test : Test
-  pub text : List ℕ
-  pub looked : ℕ
-  pub found : Bool
+-- ---- searches among items, of which each has what a key stands for or not
 
--- the text is found in one of these header fields
-abbrev pub is_found_among : HeaderSearch → List Header → Bool
-is_found_among s headers = finds_named s.case s.test s.text s.name headers
-
--- what it says of the first of these header fields is so
-abbrev pub HasLooked : List Header → HeaderSearch → Type 0
-HasLooked headers s = (s.looked ≤ length headers) × (s.found ≡ is_found_among s (take s.looked headers))
+-- what it says of the first of these items is so
+abbrev pub HasLooked : {K T : Type 0} → (K → T → Bool) → List T → Search K → Type 0
+HasLooked finds items s = (s.looked ≤ length items) × (s.found ≡ list_any (finds s.key) (take s.looked items))
 
 -- a search of nothing yet
-abbrev pub IsUnlooked : HeaderSearch → Type 0
+abbrev pub IsUnlooked : {K : Type 0} → Search K → Type 0
 IsUnlooked s = (s.looked ≡ 0) × (s.found ≡ false)
 
--- a search of all of these header fields
-abbrev pub looked_at : List Header → HeaderSearch → HeaderSearch
-looked_at headers s = record s { looked = length headers; found = is_found_among s headers }
+-- ---- searches in a body
 
 -- a text that is looked for in a body, and whether it occurs in so many bytes of it
 pub record BodySearch : Type 0 where

@@ -1,11 +1,14 @@
-//! The header fields of a message, and what of them was searched for texts.
+//! The header fields of a message, and what was looked for among them.
 
-ghost use Rattle.std.specs.Prelude.{◌≡◌, ◌++◌, ◌∷◌, [], IfOk, OnErr, OnOk};
+ghost use Rattle.std.specs.Prelude.{◌≡◌, ◌++◌, ◌∷◌, ◌&&◌, [], IfOk, OnErr, OnOk};
+ghost use Rattle.std.specs.List.{list_any};
 ghost use Rattle.milter_wire_fields.specs.Borrowed.{header_of};
-ghost use Rattle.milter_filter_search.specs.Texts.{finds_named};
+ghost use Rattle.milter_filter_search.specs.Needles.{matches};
+ghost use Rattle.milter_filter_search.specs.Texts.{is_named, values_named};
 
-use crate::header_search::{HeaderSearch, finds_named, look_at_all, reset_all};
-use crate::pattern::Pattern;
+use crate::header_key::{HeaderKey, finds_in_header};
+use crate::needle::Needle;
+use crate::search::{Search, look_at_all, reset_all};
 use milter_wire_fields::{Header, HeaderRef, header_len};
 use milter_wire_stream::NoMemory;
 use std::alloc::Global;
@@ -16,20 +19,21 @@ const KEPT_MAX: usize = 64;
 /// The most bytes of both strings of a header field whose texts are used again.
 const KEPT_LEN_MAX: usize = 1024;
 
-/// A list of header fields, and what of it was searched for texts. After its end there are header fields to be filled
+/// A list of header fields, and what was looked for among them. After its end there are header fields to be filled
 /// again: at most 64, of at most 1,024 bytes when they were last filled.
 #[derive(Debug, Drop)]
 pub struct Headers {
     fields: Vec<Header>,
     len: usize,
-    // What was searched for, each in its place.
-    searches: Vec<HeaderSearch>,
+    // What was looked for, each in its place.
+    searches: Vec<Search<HeaderKey>>,
 }
 
 impl Model for Headers {
     ghost use Rattle.std.specs.Prelude.{◌≤◌, List, length, take};
     ghost use Rattle.std.specs.List.{All};
     ghost use Rattle.milter_wire_fields.specs.declared.header.Header.{Header};
+    ghost use Rattle.milter_filter_search.specs.Needles.{header_found};
     ghost use Rattle.milter_filter_search.specs.Searches.{HasLooked};
 
     ghost Value = { List Header };
@@ -37,7 +41,7 @@ impl Model for Headers {
     ghost view = { λ h. take h.len h.fields.items };
 
     ghost invariant = { λ h. (h.len ≤ length h.fields.items)
-        × All (HasLooked (take h.len h.fields.items)) h.searches.items };
+        × All (HasLooked header_found (take h.len h.fields.items)) h.searches.items };
 }
 
 impl Headers {
@@ -82,23 +86,31 @@ impl Headers {
         reset_all(self.searches.as_mut_slice());
     }
 
-    /// Whether the pattern is found in the value of a header field of this name, in which ASCII case doesn't count.
-    /// Where the same was searched for in this place it isn't looked for again. Doesn't allocate.
-    pub fn finds(&self, place: usize, name: &[u8], pattern: &Pattern<'_>) -> bool
-        ensures { result ≡ finds_named pattern.now.case pattern.now.test pattern.now.text.now name.now self.now }
+    /// Whether the needle is found in the value of a header field of this name, in which ASCII case doesn't count.
+    /// Where the same was looked for in this place it isn't looked for again. Allocates as [`Needle::matches`] does;
+    /// `NoMemory` where memory is refused.
+    pub fn finds(
+        &self,
+        alloc: Global,
+        place: usize,
+        name: &[u8],
+        needle: &Needle<'_>,
+    ) -> Result<bool, NoMemory>
+        ensures { IfOk result (λ found. found ≡ list_any (matches needle.now) (values_named name.now self.now)) }
     {
         let fields = &self.fields[..self.len];
         if let Some(search) = self.searches.get(place) {
-            if search.is_for(name, pattern) && search.has_looked_at(fields.len()) {
-                return search.found();
+            let is_worth = search.looked == fields.len() && needle.is_worth_keeping(fields.len());
+            if is_worth && search.key.is_for(name, needle) {
+                return Ok(search.found);
             }
         }
-        finds_named(name, pattern, fields)
+        finds_named(alloc, name, needle, fields)
     }
 
-    /// Searches the header fields for what [`Headers::finds`] is going to be asked for in this place: those alone that
-    /// came since they were searched for the same in this place. Where memory is refused nothing is remembered.
-    pub fn search(&mut self, alloc: Global, place: usize, name: &[u8], pattern: &Pattern<'_>)
+    /// Looks among the header fields for what [`Headers::finds`] is going to be asked for in this place: only among
+    /// those that came since the same was looked for in this place. Where memory is refused no more is remembered.
+    pub fn search(&mut self, alloc: Global, place: usize, name: &[u8], needle: &Needle<'_>)
         ensures { self.new ≡ self.old }
     {
         let Headers {
@@ -106,8 +118,46 @@ impl Headers {
             len,
             searches,
         } = self;
-        look_at_all(alloc, searches, place, name, pattern, &fields[..*len]);
+        if !needle.is_worth_keeping(*len) {
+            return;
+        }
+        match new_key(alloc, searches.get(place), name, needle) {
+            Ok(key) => look_at_all(alloc, searches, place, key, &fields[..*len]),
+            Err(NoMemory) => {}
+        }
     }
+}
+
+/// A key for a new search, unless this search is probably one for the same.
+fn new_key(
+    alloc: Global,
+    search: Option<&Search<HeaderKey>>,
+    name: &[u8],
+    needle: &Needle<'_>,
+) -> Result<Option<HeaderKey>, NoMemory> {
+    if let Some(search) = search {
+        if search.key.resembles(name, needle) {
+            return Ok(None);
+        }
+    }
+    Ok(Some(HeaderKey::new(alloc, name, needle)?))
+}
+
+/// Whether the needle is found in the value of one of the header fields, of this name.
+fn finds_named(
+    alloc: Global,
+    name: &[u8],
+    needle: &Needle<'_>,
+    fields: &[Header],
+) -> Result<bool, NoMemory>
+    ensures { IfOk result (λ found. found ≡ list_any (matches needle.now) (values_named name.now fields.now)) }
+{
+    for header in fields {
+        if finds_in_header(alloc, name, needle, header)? {
+            return Ok(true);
+        }
+    }
+    Ok(false)
 }
 
 /// Gives up the header fields that are not to be filled again.

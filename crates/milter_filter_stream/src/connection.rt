@@ -14,7 +14,7 @@ ghost use Rattle.milter_protocol.specs.OrderStates.{after_client, after_message,
 
 use crate::answer_effect::AnswerEffect;
 use crate::commands::{is_greeting_or_sender, is_of_connection, is_shown};
-use milter_filter_policy::{Pattern, Policy, Seen};
+use milter_filter_policy::{Needle, PathPart, Pattern, Policy, Seen};
 use milter_message::WEIGHT_MAX;
 use milter_protocol::{
     CommandOrder, FilterFault, FilterState, VERSION_MIN, is_final_at, may_follow, rank_of,
@@ -214,11 +214,24 @@ impl Connection {
         alloc: Global,
         place: usize,
         name: &[u8],
-        pattern: &Pattern<'_>,
+        needle: &Needle<'_>,
     )
         ensures { self.new ≡ self.old }
     {
-        self.seen.search_headers(alloc, place, name, pattern);
+        self.seen.search_headers(alloc, place, name, needle);
+    }
+
+    /// Searches the recipients that are shown, as [`Seen::search_recipients`] does.
+    pub(crate) fn search_recipients(
+        &mut self,
+        alloc: Global,
+        place: usize,
+        part: PathPart,
+        needle: &Needle<'_>,
+    )
+        ensures { self.new ≡ self.old }
+    {
+        self.seen.search_recipients(alloc, place, part, needle);
     }
 
     /// Searches the body that is shown, as [`Seen::search_body`] does.

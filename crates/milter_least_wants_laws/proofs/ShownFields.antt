@@ -20,7 +20,8 @@ use Rattle.milter_filter_rules.specs.declared.rule.Check.TheVariants as checks
 use Rattle.milter_filter_rules.specs.declared.rule.Field.{Field}
 use Rattle.milter_filter_rules.specs.declared.rule.Field.TheVariants as fields
 use Rattle.milter_filter_rules.specs.declared.rule.Measure.TheVariants.{Size, Rcpts}
-use Rattle.milter_filter_rules.specs.Conditions.{check_holds, client_address, finds_some, is_within_some, last_recipient, part_of, passes, values_of}
+use Rattle.milter_filter_search.specs.Needles.{part_of}
+use Rattle.milter_filter_rules.specs.Conditions.{check_holds, client_address, finds_some, is_within_some, last_recipient, passes, values_of}
 use Rattle.milter_filter_rules.specs.ListedValues.{Matching}
 use Rattle.milter_filter_rules.specs.LeastWants.{is_shown_by, looked_at, shown_at}
 use Rattle.milter_filter_search.specs.Texts.{values_named}

@@ -5,7 +5,7 @@ ghost use Rattle.milter_filter_rules.specs.ListedValues.{sources_of};
 ghost use Rattle.milter_list_files.specs.ListFiles.{AreRead, CanBeList, CanBeRead, IsAtIndex, IsOfList, IsRead, bytes_named};
 ghost use Rattle.milter_list_files.specs.declared.list_file.ListFileFault.TheVariants as faults;
 
-use milter_filter_rules::{ListFault, ListSource, NamedList, NamedLists, TextList};
+use milter_filter_rules::{ListFault, ListSource, NamedList, NamedLists, SharedList, TextList};
 use milter_wire::{NoMemory, RefusedMemory, Text};
 use std::alloc::Global;
 use thiserror::Error;
@@ -76,6 +76,7 @@ fn read_list(
         Err(_) => return Err(ListFileFault::BadList(index)),
     };
     let source = copy_of(alloc, source)?;
+    let list = SharedList::new(alloc, list)?;
     Ok(NamedList { source, list })
 }
 
@@ -99,7 +100,7 @@ pub fn lists_without_entries(alloc: Global, sources: &[ListSource]) -> Result<Na
     for source in sources {
         lists.push(NamedList {
             source: copy_of(alloc, source)?,
-            list: TextList::empty(alloc, source.kind),
+            list: SharedList::new(alloc, TextList::empty(alloc, source.kind))?,
         })?;
     }
     Ok(NamedLists::new(lists))

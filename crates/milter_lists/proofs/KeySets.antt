@@ -1,8 +1,9 @@
 -- Sets of keys, and tests that some key passes.
-use Rattle.std.proofs.Common.{◌≡◌, ℕ, Bool, true, false, List, [], ◌∷◌, map, refl, sym, ap, ◌∙◌}
+use Rattle.std.proofs.Common.{◌≡◌, ◌≤◌, ◌<◌, ℕ, suc, Bool, true, false, List, [], ◌∷◌, length, map, refl, sym, ap, arith, ◌∙◌}
 use Rattle.std.specs.Prelude.{IsTrue, ◌↔◌, ◌||◌}
-use Rattle.std.specs.List.{Contains, list_any}
+use Rattle.std.specs.List.{All, Contains, list_any}
 use Rattle.std.specs.Str.{bytes_eq}
+use Rattle.std.proofs.lemmas.Bool.{false_from_ne_true}
 use Rattle.std.proofs.lemmas.Cmp.{nat_list_eq_equiv}
 use Rattle.std.proofs.lemmas.Map.Views.{Contains-from_any, list_any-from_Contains}
 use Rattle.std.proofs.lemmas.Slice.Eq.{bytes_eq-Decides}
@@ -19,6 +20,18 @@ pub contained_is_key : (keys : List (List ℕ)) (key : List ℕ) (found : Bool) 
 contained_is_key keys key found iff =
     same_test found (is_key keys key) (λ e. list_any-from_Contains nat_list_eq_equiv key keys (iff.0 e))
     (λ e. iff.1 (Contains-from_any (λ x y same. (bytes_eq-Decides x y).0 same) key keys e))
+
+-- a key that is longer than all others is none of them
+pub longer_is_none : (keys : List (List ℕ)) (key : List ℕ) (n : ℕ) → All (λ other. length other ≤ n) keys
+    → n < length key → is_key keys key ≡ false
+longer_is_none [] key n short long = refl
+longer_is_none (other ∷ keys) key n short long =
+    let first : length other ≤ n = short 0 other (omega arith) in
+    let differ : bytes_eq key other ≡ false =
+    false_from_ne_true (bytes_eq key other)
+    (λ same. let len : length key ≡ length other = ap length ((bytes_eq-Decides key other).0 same) in
+    omega (arith, first, long, len)) in
+    rw (differ, longer_is_none keys key n (λ k d below. short (suc k) d (omega (arith, below))) long) refl
 
 pub or_false : (b : Bool) → (b || false) ≡ b
 or_false true = refl

@@ -1,6 +1,6 @@
 //! The entries of lists, as they are searched.
 
-ghost use Rattle.std.specs.Prelude.{◌≡◌};
+ghost use Rattle.std.specs.Prelude.{◌≡◌, IsTrue};
 ghost use Rattle.milter_lists.specs.Collected.{len_by};
 ghost use Rattle.milter_lists.specs.ListValues.{collected_in, kind_in};
 
@@ -42,5 +42,20 @@ pub(crate) fn len_of(entries: &Entries) -> usize
         Entries::Domains(keys) => keys.len(),
         Entries::Networks(networks) => networks.v4.len() + networks.v6.len(),
         Entries::Texts(keys) => keys.len(),
+    }
+}
+
+/// Whether both are of one kind, and the same.
+pub(crate) fn are_same(a: &Entries, b: &Entries) -> bool
+    ensures { IsTrue result → (kind_in a.now ≡ kind_in b.now) × (collected_in a.now ≡ collected_in b.now) }
+{
+    match (a, b) {
+        (Entries::Addresses(a), Entries::Addresses(b)) => a.has_same_entries(b),
+        (Entries::Domains(a), Entries::Domains(b)) => a.has_same_entries(b),
+        (Entries::Networks(a), Entries::Networks(b)) => {
+            a.v4.has_same_ranges(&b.v4) && a.v6.has_same_ranges(&b.v6)
+        }
+        (Entries::Texts(a), Entries::Texts(b)) => a.has_same_entries(b),
+        _ => false,
     }
 }

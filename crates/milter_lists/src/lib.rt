@@ -17,6 +17,7 @@ mod list_kind;
 mod list_reader;
 mod network_range;
 mod network_set;
+mod shared_list;
 #[cfg(test)]
 mod tests;
 mod text_list;
@@ -24,4 +25,5 @@ mod trimmed;
 
 pub use list_fault::ListFault;
 pub use list_kind::ListKind;
+pub use shared_list::SharedList;
 pub use text_list::TextList;

@@ -8,8 +8,8 @@ ghost use Rattle.milter_lists.specs.ListValues.{has_value, kind_of, len_of};
 ghost use Rattle.milter_lists.specs.Listed.{entries_in, entry_has};
 
 use crate::domain_keys::has_domain;
-use crate::entries::{Entries, kind_of, len_of};
-use crate::key_set::is_key;
+use crate::entries::{Entries, are_same, kind_of, len_of};
+use crate::key_set::{has_text, is_key};
 use crate::list_builder::ListBuilder;
 use crate::list_fault::ListFault;
 use crate::list_kind::ListKind;
@@ -78,9 +78,18 @@ impl TextList {
         len_of(&self.entries) == 0
     }
 
+    /// Whether both are lists of one kind with the same entries, in the order in which they are kept, so that they have
+    /// the same values. It takes time in their bytes. Doesn't allocate.
+    pub fn has_same_entries(&self, other: &TextList) -> bool
+        ensures { IsTrue result → (value : List ℕ) → has_value self.now value ≡ has_value other.now value }
+    {
+        are_same(&self.entries, &other.entries)
+    }
+
     /// Whether some entry has the value: a canonical address, a domain, the text of an IP address, or a text. It is
     /// compared with few entries, about the logarithm of their number; a domain for each of its labels. Allocates the
-    /// canonical form of a domain and of a text; `NoMemory` where memory is refused.
+    /// canonical form of a domain, and that of a text which isn't longer than all entries; `NoMemory` where memory is
+    /// refused.
     pub fn has(&self, alloc: Global, value: &[u8]) -> Result<bool, NoMemory>
         ensures { IfOk result (λ has. has ≡ has_value self.now value.now) }
     {
@@ -91,10 +100,7 @@ impl TextList {
                 Ok(has_domain(keys, domain.as_slice()))
             }
             Entries::Networks(networks) => Ok(has_address_text(networks, value)),
-            Entries::Texts(keys) => {
-                let lower = value.to_ascii_lowercase(alloc)?;
-                Ok(is_key(keys, lower.as_slice()))
-            }
+            Entries::Texts(keys) => has_text(alloc, keys, value),
         }
     }
 }

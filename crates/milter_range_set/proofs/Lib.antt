@@ -1,3 +1,4 @@
 pub mod RaisedRanges
 pub mod RangeLookups
 pub mod RangeRows
+pub mod EqualRanges

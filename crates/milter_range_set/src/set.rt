@@ -44,6 +44,13 @@ impl RangeSet {
         is_in_range(self.ranges.as_slice(), number)
     }
 
+    /// Whether both have the same ranges. It takes time in their number. Doesn't allocate.
+    pub fn has_same_ranges(&self, other: &RangeSet) -> bool
+        ensures { IsTrue result → self.now ≡ other.now }
+    {
+        self.ranges.as_slice() == other.ranges.as_slice()
+    }
+
     /// How many ranges it has.
     pub fn len(&self) -> usize
         ensures value { result ≡ length self.now }

@@ -1,3 +1,4 @@
 pub mod EntryRows
 pub mod Lookups
 pub mod Pushes
+pub mod EqualSpans

@@ -1,9 +1,9 @@
 //! Sets of texts.
 
-ghost use Rattle.std.specs.Prelude.{◌≡◌, ◌↔◌, IsTrue, length};
-ghost use Rattle.std.specs.List.{Contains};
+ghost use Rattle.std.specs.Prelude.{◌≡◌, ◌↔◌, ◌≤◌, IsTrue, length};
+ghost use Rattle.std.specs.List.{All, Contains};
 
-use crate::span::{Span, is_entry};
+use crate::span::{Span, is_entry, longest_entry};
 use std::marker::Model;
 
 /// A set of texts that stays as it is, made by a [`crate::TextSetBuilder`]: its entries, in some order and maybe more
@@ -13,11 +13,14 @@ pub struct TextSet {
     bytes: Vec<u8>,
     // In the order of the entries.
     spans: Vec<Span>,
+    // No entry has more bytes.
+    longest: usize,
 }
 
 impl Model for TextSet {
-    ghost use Rattle.std.specs.Prelude.{List, ℕ};
+    ghost use Rattle.std.specs.Prelude.{◌≤◌, List, length, ℕ};
     ghost use Rattle.std.specs.Cmp.Lexicographic.{slice_cmp};
+    ghost use Rattle.std.specs.List.{All};
     ghost use Rattle.std.specs.List.Sorted.{IsSortedByKey};
     ghost use Rattle.std.specs.Ordering.{nat_cmp};
     ghost use Rattle.milter_text_set.specs.Entries.{entries_of, entry_of};
@@ -26,7 +29,8 @@ impl Model for TextSet {
 
     ghost view = { λ s. entries_of s.bytes.items s.spans.items };
 
-    ghost invariant = { λ s. IsSortedByKey (entry_of s.bytes.items) (slice_cmp nat_cmp) s.spans.items };
+    ghost invariant = { λ s. IsSortedByKey (entry_of s.bytes.items) (slice_cmp nat_cmp) s.spans.items
+        × All (λ span. length (entry_of s.bytes.items span) ≤ s.longest) s.spans.items };
 }
 
 impl TextSet {
@@ -40,7 +44,12 @@ impl TextSet {
         requires { IsSortedByKey (entry_of bytes.items) (slice_cmp nat_cmp) spans.items }
         ensures { result ≡ entries_of bytes.items spans.items }
     {
-        TextSet { bytes, spans }
+        let longest = longest_entry(bytes.as_slice(), spans.as_slice());
+        TextSet {
+            bytes,
+            spans,
+            longest,
+        }
     }
 
     /// Whether the text is an entry of the set. It is compared with few entries: about the logarithm of their number.
@@ -49,6 +58,21 @@ impl TextSet {
         ensures { IsTrue result ↔ Contains self.now text.now }
     {
         is_entry(self.bytes.as_slice(), self.spans.as_slice(), text)
+    }
+
+    /// A number of bytes that no entry has more of. Doesn't allocate.
+    pub fn longest(&self) -> usize
+        ensures { All (λ entry. length entry ≤ result) self.now }
+    {
+        self.longest
+    }
+
+    /// Whether both have the same entries, in the same order. It takes time in their bytes. Doesn't allocate.
+    pub fn has_same_entries(&self, other: &TextSet) -> bool
+        ensures { IsTrue result → self.now ≡ other.now }
+    {
+        self.spans.as_slice() == other.spans.as_slice()
+            && self.bytes.as_slice() == other.bytes.as_slice()
     }
 
     /// How many entries it has, equal ones counted each.

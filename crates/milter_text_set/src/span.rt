@@ -1,8 +1,8 @@
 //! Where the entries stand among their bytes, and the search among them.
 
-ghost use Rattle.std.specs.Prelude.{◌≡◌, ◌↔◌, IsTrue};
+ghost use Rattle.std.specs.Prelude.{◌≡◌, ◌↔◌, ◌≤◌, IsTrue, length};
 ghost use Rattle.std.specs.Cmp.Lexicographic.{slice_cmp};
-ghost use Rattle.std.specs.List.{Contains};
+ghost use Rattle.std.specs.List.{All, Contains};
 ghost use Rattle.std.specs.List.Sorted.{IsPermutation, IsSortedByKey};
 ghost use Rattle.std.specs.Ordering.{nat_cmp};
 ghost use Rattle.milter_text_set.specs.Entries.{entries_of, entry_of};
@@ -10,7 +10,7 @@ ghost use Rattle.milter_text_set.specs.Entries.{entries_of, entry_of};
 use std::cmp::Ordering;
 
 /// Where the bytes of an entry stand.
-#[derive(Clone, Copy, Debug)]
+#[derive(Clone, Copy, Debug, PartialEq, Eq)]
 pub(crate) struct Span {
     /// The place of the first byte.
     pub(crate) start: u32,
@@ -52,4 +52,15 @@ pub(crate) fn is_entry(bytes: &[u8], spans: &[Span], text: &[u8]) -> bool
     spans
         .binary_search_by(|span| span.compare(bytes, text))
         .is_ok()
+}
+
+/// The most bytes that one of the entries has; 0 where there is none.
+pub(crate) fn longest_entry(bytes: &[u8], spans: &[Span]) -> usize
+    ensures { All (λ span. length (entry_of bytes.now span) ≤ result) spans.now }
+{
+    let mut longest = 0;
+    for span in spans {
+        longest = longest.max(span.of(bytes).len());
+    }
+    longest
 }

@@ -7,5 +7,5 @@ returns-clause-found c =
       source_is = c.in_ok-source.ensures;
       bytes = c.in-Some.bytes.now;
       there = sym (rw (c.in-Some.is, c.as_slice.ensures) at c.bytes_named.ensures);
-      has = c.in-Ok.ensures.has;
+      has = rw c.in_ok-list.ensures c.in-Ok.ensures.has;
     }

@@ -1,5 +1,4 @@
-use Rattle.std.proofs.Common.{ap, ◌∙◌}
-use Rattle.milter_lists.specs.ListKeys.{is_key}
+use Rattle.std.proofs.lemmas.Result.{IfOk-weaker}
 use Rattle.milter_lists.proofs.ListAnswers.{has_answer}
 use Rattle.milter_lists.proofs.text_list.TextList.has.Goals as goal
 
@@ -15,7 +14,7 @@ pub returns-in-Networks : goal.returns-in-Networks
 returns-in-Networks c =
     has_answer c.args.self.now _ c.args.value.now c.has_address_text.result c.in-Networks.is c.has_address_text.ensures
 
-pub returns-in_ok-lower-in-Texts : goal.returns-in_ok-lower-in-Texts
-returns-in_ok-lower-in-Texts c =
-    has_answer c.args.self.now _ c.args.value.now c.is_key-in-Texts.result c.in-Texts.is
-    (c.is_key-in-Texts.ensures ∙ ap (is_key c.in-Texts.keys) (c.as_slice-in-Texts.ensures.value ∙ c.in_ok-lower-in-Texts.ensures.ok))
+pub returns-in-Texts : goal.returns-in-Texts
+returns-in-Texts c =
+    IfOk-weaker c.has_text.result _ _ (λ found is. has_answer c.args.self.now _ c.args.value.now found c.in-Texts.is is)
+    c.has_text.ensures

@@ -1,0 +1,76 @@
+//! What is looked for in recipients.
+
+ghost use Rattle.std.specs.Prelude.{◌≡◌, IfOk, IsTrue};
+ghost use Rattle.milter_wire_fields.specs.declared.path.Path.{Path};
+ghost use Rattle.milter_filter_search.specs.Needles.{matches, part_of, path_found};
+
+use crate::needle::{KeptNeedle, Needle};
+use crate::path_part::PathPart;
+use crate::search::Lookup;
+use milter_address::{canonical_address, domain_of};
+use milter_wire_fields::Path;
+use milter_wire_stream::NoMemory;
+use std::alloc::Global;
+
+/// A needle that is looked for in a part of paths.
+#[derive(Debug, Drop)]
+pub(crate) struct PathKey {
+    part: PathPart,
+    needle: KeptNeedle,
+}
+
+impl PathKey {
+    /// A key with a copy of the needle.
+    pub(crate) fn new(
+        alloc: Global,
+        part: PathPart,
+        needle: &Needle<'_>,
+    ) -> Result<Self, NoMemory> {
+        Ok(PathKey {
+            part,
+            needle: KeptNeedle::of(alloc, needle)?,
+        })
+    }
+
+    /// Whether it has this part and probably a copy of the needle. It takes little time, also where that is a large
+    /// list.
+    pub(crate) fn resembles(&self, part: PathPart, needle: &Needle<'_>) -> bool {
+        self.part == part && self.needle.resembles(needle)
+    }
+
+    /// Whether it has this part and a copy of the needle.
+    pub(crate) fn is_for(&self, part: PathPart, needle: &Needle<'_>) -> bool
+        ensures { IsTrue result → (path : Path) → path_found self.now path ≡ matches needle.now (part_of part path) }
+    {
+        self.part == part && self.needle.is_for(needle)
+    }
+}
+
+impl Lookup<Path> for PathKey {
+    ghost finds = { path_found };
+
+    fn finds(&self, alloc: Global, path: &Path) -> Result<bool, NoMemory> {
+        finds_in_path(alloc, self.part, &self.needle.as_needle(), path)
+    }
+}
+
+/// Whether the needle is found in this part of the path. Allocates as [`Needle::matches`] does, and a canonical
+/// address; `NoMemory` where memory is refused.
+pub fn finds_in_path(
+    alloc: Global,
+    part: PathPart,
+    needle: &Needle<'_>,
+    path: &Path,
+) -> Result<bool, NoMemory>
+    ensures { IfOk result (λ found. found ≡ matches needle.now (part_of part path.now)) }
+{
+    let sent = path.address.as_slice();
+    match part {
+        PathPart::Sent => needle.matches(alloc, sent),
+        PathPart::Address => needle.matches(alloc, &canonical_address(alloc, sent)?),
+        PathPart::Domain => {
+            let address = canonical_address(alloc, sent)?;
+            needle.matches(alloc, domain_of(&address))
+        }
+    }
+}
