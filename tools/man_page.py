@@ -23,8 +23,8 @@ def escaped(text):
 
 
 def as_it_is(text):
-    """A text with its lines and blanks kept."""
-    return f".EX\n{escaped(text.rstrip())}\n.EE\n"
+    """A text with its lines and blanks kept, from the first column on: they have up to 80 columns."""
+    return f".in 0\n.EX\n{escaped(text.rstrip())}\n.EE\n.in\n"
 
 
 def main():

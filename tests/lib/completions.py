@@ -7,7 +7,8 @@ import subprocess
 LINES = {
     'milter_tool se': ['serve', 'session'],
     'milter_tool --ver': ['--version'],
-    'milter_tool mta --e': ['--expect'],
+    'milter_tool mta --e': ['--expect', '--explain'],
+    'milter_tool trace --e': ['--explain'],
     'milter_tool mta --loss re': ['reject'],
     'milter_tool play --loss ': ['accept', 'reject', 'tempfail'],
     'milter_tool help pl': ['play'],

@@ -1,6 +1,7 @@
 """Runs `milter_tool filter` and `milter_tool serve`, and makes connections to them and to other filters."""
 import itertools
 import os
+import re
 import resource
 import select
 import socket
@@ -15,6 +16,8 @@ SECONDS = 30
 PORTS = itertools.count(10000)
 # The kinds of sockets.
 KINDS = ['inet', 'unix']
+# The lines of its log with which `milter_tool serve` begins.
+STARTS = re.compile(b'event="(start|limit|listen)" ')
 
 
 class Filter:
@@ -78,9 +81,17 @@ class Service(Filter):
         return connection
 
     def lines(self):
-        """The lines that are printed: of each the number of the connection, and how that ended."""
+        """The lines of connections that are printed: of each its number, and how it ended."""
+        return [tuple(line.split(b' ', 2)[1:]) for line in self.printed() if not line.startswith(b'lost ')]
+
+    def lost(self):
+        """How many lines were lost, as the lines that are printed count them."""
+        return sum(int(line.split()[1]) for line in self.printed() if line.startswith(b'lost '))
+
+    def printed(self):
+        """The whole lines that are printed."""
         with open(self.out, 'rb') as lines:
-            return [tuple(line.split(b' ', 2)[1:]) for line in lines.read().split(b'\n')[:-1]]
+            return lines.read().split(b'\n')[:-1]
 
     def expect_line(self, number, *endings):
         """Waits until the connection of this number has a line, which has one of these endings."""
@@ -94,6 +105,23 @@ class Service(Filter):
         checks.expect('numbers', numbers == list(range(1, self.made + 1)), True)
         others = [line for line in lines if line[1] not in endings]
         checks.expect('lines', others[:5], [])
+
+    def log_line(self):
+        """The next line of its log, but for those with which it begins; or that none came in time."""
+        while True:
+            ready, _, _ = select.select([self.process.stderr], [], [], SECONDS)
+            line = self.process.stderr.readline() if ready else b'none in time'
+            if not STARTS.match(line):
+                return line
+
+    def log_lines(self):
+        """All lines of its log that it has written, but for those with which it begins; the run is ended."""
+        self.process.kill()
+        return [line for line in self.process.stderr.read().splitlines(keepends=True) if not STARTS.match(line)]
+
+    def faults(self):
+        """The errors that it has written on standard error, one a line; the run is ended."""
+        return faults_in(b''.join(self.log_lines()))
 
     def memory(self):
         """The KiB of memory that it has."""
@@ -118,6 +146,26 @@ class Service(Filter):
         """It runs, and has printed no fault."""
         if self.process.poll() is not None:
             raise checks.Wrong('ended with status %d: %r' % (self.process.returncode, self.process.stderr.read()))
+
+
+def faults_in(errors):
+    """The errors of these lines, and the words that explain them, one a line: what a line of the log about the service
+    has as these, and any other line as it is."""
+    found = []
+    for line in errors.splitlines(keepends=True):
+        if not line.startswith(b'event="'):
+            found.append(line)
+        elif not line.startswith(b'event="end"'):
+            values = re.findall(rb' (?:error|why)="((?:[^"\\]|\\.)*)"', line)
+            found += [unquoted(value) + b'\n' for value in values]
+    return b''.join(found)
+
+
+def unquoted(value):
+    """The bytes of a value that is quoted as texts are."""
+    plain = {b'n': b'\n', b'r': b'\r', b't': b'\t'}
+    return re.sub(rb'\\(x[0-9a-f]{2}|.)', lambda it: bytes([int(it[1][1:], 16)]) if len(it[1]) == 3 else plain.get(it[1], it[1]),
+                  value)
 
 
 def waited_for(look):

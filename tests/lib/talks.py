@@ -80,9 +80,10 @@ def quit_all(connections):
 
 
 def run_to_end(program, words, expected):
-    """A run that serves no connection, and ends at once."""
-    end = programs.ended([program, 'serve'] + words, timeout=10)
-    expect('end', end, expected)
+    """A run that serves no connection, and ends at once. Of its errors the first line is expected; those that explain
+    it follow, which tests/test_faults.py compares."""
+    status, output, errors = programs.ended([program, 'serve'] + words, timeout=10)
+    expect('end', (status, output, errors[:errors.find(b'\n') + 1]), expected)
 
 
 def filled(connection, given, seconds):

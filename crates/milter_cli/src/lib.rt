@@ -18,5 +18,5 @@ pub use expected_reports::{check_reports, load_reports};
 pub use filter_command::{Connections, filter_run};
 pub use in_memory::play_run;
 pub use mta_command::mta_run;
-pub use socket_dial::{TcpDial, UnixDial};
+pub use socket_dial::{Connect, TcpDial, UnixDial};
 pub use waiting_dial::WaitingDial;

@@ -6,6 +6,12 @@ use std::net::{Net, TcpStream};
 use std::os::unix::net::UnixStream;
 use std::time::Duration;
 
+/// Makes connections, and says why it doesn't.
+pub trait Connect: Dial {
+    /// Tries to connect.
+    fn connect(&mut self) -> io::Result<Self::Link>;
+}
+
 /// Connects to a filter's port over TCP.
 #[derive(Drop)]
 pub struct TcpDial<'a, R> {
@@ -25,6 +31,12 @@ impl<'a, R: Net<Stream = TcpStream>> Dial for TcpDial<'a, R> {
     /// Tries the addresses of the host in turn. Packets are sent without delay, and each read and write has the limit.
     fn dial(&mut self) -> Result<TcpStream, DialFault> {
         connect_tcp(self).map_err(|_| DialFault)
+    }
+}
+
+impl<'a, R: Net<Stream = TcpStream>> Connect for TcpDial<'a, R> {
+    fn connect(&mut self) -> io::Result<TcpStream> {
+        connect_tcp(self)
     }
 }
 
@@ -53,6 +65,12 @@ impl<'a, R: Net> Dial for UnixDial<'a, R> {
     /// Each read and write has the limit.
     fn dial(&mut self) -> Result<UnixStream, DialFault> {
         connect_unix(self).map_err(|_| DialFault)
+    }
+}
+
+impl<'a, R: Net> Connect for UnixDial<'a, R> {
+    fn connect(&mut self) -> io::Result<UnixStream> {
+        connect_unix(self)
     }
 }
 

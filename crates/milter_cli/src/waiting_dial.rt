@@ -1,6 +1,8 @@
 //! Connections to a filter that may not listen yet.
 
+use crate::socket_dial::Connect;
 use milter_mta_client::{Dial, DialFault};
+use std::io::ErrorKind;
 use std::rt::Clock;
 use std::thread;
 use std::time::{Duration, Instant};
@@ -13,15 +15,17 @@ const TRIES_MAX: u32 = 100_000;
 
 /// Makes connections as another does. The first of them is tried again for a while; where it is not made, none is.
 #[derive(Drop)]
-pub struct WaitingDial<'r, R: Clock, D: Dial> {
+pub struct WaitingDial<'r, R: Clock, D: Connect> {
     clock: &'r R,
     dial: D,
     // For how long the first connection is tried again; none once it was tried, or where it is tried once.
     wait: Option<Duration>,
     has_failed: bool,
+    // Why the first connection was not made at the last try, as far as the system said it.
+    refusal: Option<ErrorKind>,
 }
 
-impl<'r, R: Clock, D: Dial> WaitingDial<'r, R, D> {
+impl<'r, R: Clock, D: Connect> WaitingDial<'r, R, D> {
     /// Makes connections as `dial` does, and tries the first again for so many seconds; only once where that is 0.
     pub fn new(clock: &'r R, dial: D, seconds: u32) -> Self {
         let wait = match seconds {
@@ -33,6 +37,7 @@ impl<'r, R: Clock, D: Dial> WaitingDial<'r, R, D> {
             dial,
             wait,
             has_failed: false,
+            refusal: None,
         }
     }
 
@@ -41,14 +46,20 @@ impl<'r, R: Clock, D: Dial> WaitingDial<'r, R, D> {
         self.has_failed
     }
 
+    /// Why the first connection was not made at the last try; none where it was made at once, or not waited for.
+    pub fn refusal(&self) -> Option<ErrorKind> {
+        self.refusal
+    }
+
     /// Tries to connect for so long.
     fn connect_within(&mut self, wait: Duration) -> Result<D::Link, DialFault> {
         let Ok(start) = Instant::now(self.clock) else {
             return Err(DialFault);
         };
         for _ in 0..TRIES_MAX {
-            if let Ok(link) = self.dial.dial() {
-                return Ok(link);
+            match self.dial.connect() {
+                Ok(link) => return Ok(link),
+                Err(error) => self.refusal = Some(error.kind()),
             }
             match start.elapsed(self.clock) {
                 Ok(elapsed) if elapsed < wait => {}
@@ -60,7 +71,7 @@ impl<'r, R: Clock, D: Dial> WaitingDial<'r, R, D> {
     }
 }
 
-impl<'r, R: Clock, D: Dial> Dial for WaitingDial<'r, R, D> {
+impl<'r, R: Clock, D: Connect> Dial for WaitingDial<'r, R, D> {
     type Link = D::Link;
 
     fn dial(&mut self) -> Result<D::Link, DialFault> {

@@ -29,8 +29,9 @@ pub(crate) fn check_lists<R: Files, W: Write>(
     Ok(notes.severity().is_some())
 }
 
-/// Says of each of the lists why it can't be used, if it can't.
-fn say_lists<R: Files>(
+/// Says of each list that the rule file at this path names, which has these bytes, why it can't be used, if it can't.
+/// Of none it says so where the line of a list is at fault.
+pub fn say_lists<R: Files>(
     files: &R,
     alloc: Global,
     notes: &mut Notes<'_>,

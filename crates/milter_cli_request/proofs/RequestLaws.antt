@@ -213,13 +213,13 @@ module _ (losses : BorrowedWords) where
   play_shape = built_leaf (inherited (with_leaf_noted (marked_built (tool_app losses).top)) (play_app losses).top)
 
   mta_fills : Each Fills mta_shape.rules
-  mta_fills = (inr (inl refl), (inr (inl refl), (inr (inl refl), (inr (inl refl), (inr (inl refl), (inr (inl refl), (inr (inl refl), (inr (inl refl), (inl refl, tt)))))))))
+  mta_fills = (inr (inl refl), (inr (inl refl), (inr (inl refl), (inr (inl refl), (inr (inl refl), (inr (inl refl), (inr (inl refl), (inr (inl refl), (inr (inr refl), (inl refl, tt))))))))))
 
   serve_fills : Each Fills serve_shape.rules
-  serve_fills = (inr (inl refl), (inr (inl refl), (inr (inl refl), (inr (inl refl), (inr (inl refl), (inr (inr refl), (inr (inr refl), (inr (inr refl), (inl refl, tt)))))))))
+  serve_fills = (inr (inl refl), (inr (inl refl), (inr (inl refl), (inr (inl refl), (inr (inl refl), (inr (inr refl), (inr (inr refl), (inr (inr refl), (inr (inr refl), (inl refl, tt))))))))))
 
   play_fills : Each Fills play_shape.rules
-  play_fills = (inr (inl refl), (inr (inl refl), (inr (inr refl), (inr (inr refl), (inr (inl refl), (inr (inl refl), (inr (inl refl), (inr (inl refl), (inr (inl refl), (inl refl, tt))))))))))
+  play_fills = (inr (inl refl), (inr (inl refl), (inr (inr refl), (inr (inr refl), (inr (inl refl), (inr (inl refl), (inr (inl refl), (inr (inl refl), (inr (inl refl), (inr (inr refl), (inl refl, tt)))))))))))
 
   -- the shape of the subcommand whose test is the first to hold
   abbrev pick : List (Bool × Shape) → Option Shape
@@ -247,12 +247,12 @@ module _ (losses : BorrowedWords) where
       → check_fault (built (tool_app losses)).top rows (is_some (entered_by (pick (shapes trace session rules answer filter serve mta play help)) words)) ≡ [] → IsRequestOf (entered_by (pick (shapes trace session rules answer filter serve mta play help)) words) None → ⊥
   picked_asks words rows true session rules answer filter serve mta play help none below check unasked = unasked.0 refl
   picked_asks words rows false true rules answer filter serve mta play help none below check unasked =
-      is_there (codes "file") session_shape words (inr (inl refl), (inl refl, tt)) (λ rows e. required_here _ _ e) below (unasked.2 refl)
+      is_there (codes "file") session_shape words (inr (inl refl), (inr (inr refl), (inl refl, tt))) (λ rows e. required_here _ _ e) below (unasked.2 refl)
   picked_asks words rows false false true answer filter serve mta play help none below check unasked =
-      is_there (codes "file") rules_shape words (inr (inl refl), (inr (inr refl), (inl refl, tt))) (λ rows e. required_here _ _ e) below (unasked.3 refl)
+      is_there (codes "file") rules_shape words (inr (inl refl), (inr (inr refl), (inr (inr refl), (inl refl, tt)))) (λ rows e. required_here _ _ e) below (unasked.3 refl)
   picked_asks words rows false false false true filter serve mta play help none below check unasked = unasked.1 refl
   picked_asks words rows false false false false true serve mta play help none below check unasked =
-      is_there (codes "address") filter_shape words (inr (inl refl), (inr (inl refl), (inr (inl refl), (inr (inr refl), (inr (inr refl), (inr (inr refl), (inl refl, tt))))))) (λ rows e. required_here _ _ e) below (unasked.4 refl)
+      is_there (codes "address") filter_shape words (inr (inl refl), (inr (inl refl), (inr (inl refl), (inr (inr refl), (inr (inr refl), (inr (inr refl), (inr (inr refl), (inl refl, tt)))))))) (λ rows e. required_here _ _ e) below (unasked.4 refl)
   picked_asks words rows false false false false false true mta play help none below check unasked =
       is_there (codes "address") serve_shape words serve_fills (λ rows e. required_here _ _ e) below (unasked.5 refl)
   picked_asks words rows false false false false false false true play help none below check unasked = mta_asks words below (unasked.6 refl)

@@ -1,6 +1,8 @@
 //! The command line: what the program is asked to do.
 
 ghost use Rattle.std.specs.Prelude.{◌≡◌, ◌-◌, ◌^◌, ◌↔◌, IfOk, IsTrue, Some, codes, map};
+ghost use Rattle.std.specs.List.{list_any};
+ghost use Rattle.std.specs.Str.{bytes_eq};
 ghost use Rattle.clap.specs.Words.{found_of, rows_of, subcommand_rows_of};
 ghost use Rattle.milter_cli_words.specs.Words.{AreLossWords};
 ghost use Rattle.milter_cli_words.specs.declared.limits.TheConstants.{AT_ONCE_MAX, COUNT_MAX, IDLE_MAX, MODE_MAX, TIMEOUT_MAX, WAIT_MAX};
@@ -45,6 +47,9 @@ pub fn command_line_limits()
     ensures mode_default { MODE_DEFAULT ≡ 660 }
     ensures mode_most { MODE_MAX ≡ 777 }
 {}
+
+/// The word that asks for words that explain a fault.
+const EXPLAIN: &str = "--explain";
 
 /// The words of `--loss`.
 const LOSS_WORDS: &[&str] = &["accept", "tempfail", "reject"];
@@ -180,6 +185,14 @@ pub fn parse<'a, S: AsStr>(alloc: Global, words: &'a [S]) -> Result<Request<'a>,
 {
     let matches = parse_matches(alloc, words)?;
     Ok(request_of(alloc, &matches)?.unwrap())
+}
+
+/// Whether the words of a command line ask for words that explain a fault: whether `--explain` is one of them. A wrong
+/// use of the command line, which has no request, asks for them too.
+pub fn is_explained<S: AsStr>(words: &[S]) -> bool
+    ensures { result ≡ list_any (λ word. bytes_eq (S.text word) (codes "--explain")) words.now }
+{
+    words.iter().any(|word| word.as_str() == EXPLAIN)
 }
 
 fn parse_matches<'a, S: AsStr>(alloc: Global, words: &'a [S]) -> Result<ArgMatches<'a>, Error>

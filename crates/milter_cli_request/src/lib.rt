@@ -11,8 +11,9 @@ mod usage_error;
 pub use address::Address;
 pub use command_line::{
     AnswerRequest, FilterRequest, MtaRequest, PlayRequest, Request, ServeRequest,
-    command_line_limits, parse,
+    command_line_limits, is_explained, parse,
 };
+pub use milter_cli_words::VERSION;
 pub use mode::parse_mode;
 pub use target::{Offer, Target};
 pub use usage_error::UsageError;

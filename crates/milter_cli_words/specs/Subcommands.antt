@@ -9,32 +9,36 @@ abbrev pub app_with : Text → List Rule → App
 app_with name rules = with_rules (new_app name) rules
 
 abbrev pub trace_app : App
-trace_app = app_with (codes "trace") []
+trace_app = app_with (codes "trace") (flag_rule (codes "explain") ∷ [])
 
 abbrev pub session_app : App
-session_app = app_with (codes "session") (place_rule (codes "file") ∷ [])
+session_app = app_with (codes "session") (place_rule (codes "file") ∷ flag_rule (codes "explain") ∷ [])
 
 abbrev pub rules_app : App
-rules_app = app_with (codes "rules") (place_rule (codes "file") ∷ flag_rule (codes "check") ∷ [])
+rules_app =
+    app_with (codes "rules")
+    (place_rule (codes "file") ∷ flag_rule (codes "check") ∷ flag_rule (codes "explain") ∷ [])
 
 abbrev pub answer_app : App
 answer_app =
     app_with (codes "answer")
     (option_rule (codes "rules") ∷ flag_rule (codes "lenient") ∷ flag_rule (codes "ignore-case")
-    ∷ flag_rule (codes "least-stages") ∷ [])
+    ∷ flag_rule (codes "least-stages") ∷ flag_rule (codes "explain") ∷ [])
 
 abbrev pub filter_app : App
 filter_app =
     app_with (codes "filter")
     (place_rule (codes "address") ∷ option_rule (codes "rules") ∷ number_rule (codes "count") COUNT_MAX
-    ∷ flag_rule (codes "lenient") ∷ flag_rule (codes "ignore-case") ∷ flag_rule (codes "least-stages") ∷ [])
+    ∷ flag_rule (codes "lenient") ∷ flag_rule (codes "ignore-case") ∷ flag_rule (codes "least-stages")
+    ∷ flag_rule (codes "explain") ∷ [])
 
 abbrev pub serve_app : App
 serve_app =
     app_with (codes "serve")
     (places_rule (codes "address") ∷ option_rule (codes "rules") ∷ number_rule (codes "at-once") AT_ONCE_MAX
     ∷ number_rule (codes "timeout") IDLE_MAX ∷ number_rule (codes "mode") MODE_MAX ∷ flag_rule (codes "log")
-    ∷ flag_rule (codes "ignore-case") ∷ flag_rule (codes "all-stages") ∷ [])
+    ∷ flag_rule (codes "ignore-case") ∷ flag_rule (codes "all-stages")
+    ∷ flag_rule (codes "explain") ∷ [])
 
 -- with the words of `--loss`
 abbrev pub mta_app : BorrowedWords → App
@@ -42,14 +46,15 @@ mta_app losses =
     app_with (codes "mta")
     (place_rule (codes "address") ∷ place_rule (codes "session") ∷ loss_rule losses
     ∷ number_rule (codes "timeout") TIMEOUT_MAX ∷ option_rule (codes "actions") ∷ option_rule (codes "protocol")
-    ∷ number_rule (codes "wait") WAIT_MAX ∷ option_rule (codes "expect") ∷ [])
+    ∷ number_rule (codes "wait") WAIT_MAX ∷ option_rule (codes "expect") ∷ flag_rule (codes "explain") ∷ [])
 
 abbrev pub play_app : BorrowedWords → App
 play_app losses =
     app_with (codes "play")
     (place_rule (codes "session") ∷ option_rule (codes "rules") ∷ flag_rule (codes "ignore-case")
     ∷ flag_rule (codes "least-stages") ∷ option_rule (codes "actions") ∷ option_rule (codes "protocol")
-    ∷ option_rule (codes "events") ∷ loss_rule losses ∷ option_rule (codes "expect") ∷ [])
+    ∷ option_rule (codes "events") ∷ loss_rule losses ∷ option_rule (codes "expect")
+    ∷ flag_rule (codes "explain") ∷ [])
 
 -- the program, which wants a subcommand
 abbrev pub top_app : App

@@ -8,4 +8,4 @@ mod subcommands;
 mod word;
 
 pub use limits::{AT_ONCE_MAX, COUNT_MAX, IDLE_MAX, MODE_MAX, TIMEOUT_MAX, WAIT_MAX};
-pub use subcommands::command;
+pub use subcommands::{VERSION, command};

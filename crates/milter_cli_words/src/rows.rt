@@ -49,7 +49,7 @@ pub(crate) const CHECK: Word<'static> = Word {
     kind: Kind::Flag,
     name: "check",
     value: "",
-    help: "Prints what is wrong with the rules, and which of them can't do what they seem to",
+    help: "Prints what is wrong with the rules in place of them",
 };
 
 pub(crate) const RULES: Word<'static> = Word {
@@ -63,14 +63,14 @@ pub(crate) const LENIENT: Word<'static> = Word {
     kind: Kind::Flag,
     name: "lenient",
     value: "",
-    help: "Has a greeting or a sender within a message end that message, as an abort does",
+    help: "Has a greeting or a sender end the message before it",
 };
 
 pub(crate) const IGNORE_CASE: Word<'static> = Word {
     kind: Kind::Flag,
     name: "ignore-case",
     value: "",
-    help: "Takes the texts of conditions without regard to the case of ASCII letters",
+    help: "Compares texts in any case of ASCII letters",
 };
 
 pub(crate) const LEAST_STAGES: Word<'static> = Word {
@@ -84,28 +84,28 @@ pub(crate) const ALL_STAGES: Word<'static> = Word {
     kind: Kind::Flag,
     name: "all-stages",
     value: "",
-    help: "Asks for all stages, and not only for those that the rules need",
+    help: "Asks for all stages, also those that no rule needs",
 };
 
 pub(crate) const COUNT: Word<'static> = Word {
     kind: Kind::Number(COUNT_MAX),
     name: "count",
     value: "N",
-    help: "How many connections to serve, from 1 to 1,000,000; without it one",
+    help: "How many connections, up to 1,000,000; without it one",
 };
 
 pub(crate) const AT_ONCE: Word<'static> = Word {
     kind: Kind::Number(AT_ONCE_MAX),
     name: "at-once",
     value: "N",
-    help: "How many connections are open at once, from 1 to 10,000; without it 200",
+    help: "Connections at once, up to 10,000; without it 200",
 };
 
 pub(crate) const IDLE: Word<'static> = Word {
     kind: Kind::Number(IDLE_MAX),
     name: "timeout",
     value: "SECONDS",
-    help: "After how long an idle connection is closed, from 1 to 86,400; without it 7,210",
+    help: "How long one may be idle, up to 86,400; else 7,210",
 };
 
 pub(crate) const MODE: Word<'static> = Word {
@@ -119,14 +119,14 @@ pub(crate) const LOG: Word<'static> = Word {
     kind: Kind::Flag,
     name: "log",
     value: "",
-    help: "Writes a line on standard error for each decision that isn't to go on",
+    help: "Logs each decision; with the word all each message",
 };
 
 pub(crate) const TIMEOUT: Word<'static> = Word {
     kind: Kind::Number(TIMEOUT_MAX),
     name: "timeout",
     value: "SECONDS",
-    help: "How long a read or a write may take, from 1 to 3,600; without it 30",
+    help: "For one read or write, up to 3,600; without it 30",
 };
 
 pub(crate) const ACTIONS: Word<'static> = Word {
@@ -147,21 +147,28 @@ pub(crate) const WAIT: Word<'static> = Word {
     kind: Kind::Number(WAIT_MAX),
     name: "wait",
     value: "SECONDS",
-    help: "For how long connecting is tried again at first, from 1 to 3,600; without it once",
+    help: "How long to try to connect at first; without it once",
 };
 
 pub(crate) const EXPECT: Word<'static> = Word {
     kind: Kind::Value,
     name: "expect",
     value: "FILE",
-    help: "The path of a file with the reports that are expected; nothing is printed where they are these",
+    help: "A file of expected reports: others alone are printed",
 };
 
 pub(crate) const EVENTS: Word<'static> = Word {
     kind: Kind::Value,
     name: "events",
     value: "FILE",
-    help: "The path of an event file; without one everything arrives",
+    help: "An event file; without one everything arrives",
+};
+
+pub(crate) const EXPLAIN: Word<'static> = Word {
+    kind: Kind::Flag,
+    name: "explain",
+    value: "",
+    help: "Explains a fault in words, as on a terminal",
 };
 
 /// Its words are given where it is made.

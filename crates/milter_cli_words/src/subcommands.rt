@@ -8,16 +8,16 @@ ghost use Rattle.milter_cli_words.specs.Words.{IsLocal, loss_rule};
 
 use crate::help_text;
 use crate::rows::{
-    ACTIONS, ADDRESS, ADDRESSES, ALL_STAGES, AT_ONCE, CHECK, COUNT, EVENTS, EXPECT, FILTER_ADDRESS,
-    IDLE, IGNORE_CASE, LEAST_STAGES, LENIENT, LOG, LOSS, MODE, PROTOCOL, RULE_FILE, RULES, SESSION,
-    SESSION_FILE, TIMEOUT, WAIT,
+    ACTIONS, ADDRESS, ADDRESSES, ALL_STAGES, AT_ONCE, CHECK, COUNT, EVENTS, EXPECT, EXPLAIN,
+    FILTER_ADDRESS, IDLE, IGNORE_CASE, LEAST_STAGES, LENIENT, LOG, LOSS, MODE, PROTOCOL, RULE_FILE,
+    RULES, SESSION, SESSION_FILE, TIMEOUT, WAIT,
 };
 use crate::word::{Help, choice, subcommand, with_words};
 use clap::{Arg, Command};
 use std::alloc::{AllocError, Global};
 
 /// The version of the program.
-const VERSION: &str = "0.1.0";
+pub const VERSION: &str = "0.1.0";
 
 /// The whole command line, whose `--loss` takes these words.
 pub fn command<'a>(alloc: Global, losses: &'a [&'a str]) -> Result<Command<'a>, AllocError>
@@ -54,9 +54,7 @@ fn top<'a>(alloc: Global) -> Result<Command<'a>, AllocError>
     let named = Command::new(alloc, "milter_tool").bin_name("milter_tool")?;
     Ok(
         named
-            .about(
-                "Looks at conversations of mail servers with filters, and plays either side, in the milter protocol",
-            )
+            .about("Looks at mail servers' conversations with filters, and plays either side")
             .version(VERSION)
             .subcommand_required(true),
     )
@@ -67,10 +65,10 @@ fn trace<'a>(alloc: Global) -> Result<Command<'a>, AllocError>
     ensures local { IfOk result IsLocal }
 {
     let help = Help {
-        about: "Prints a line for each packet of a captured conversation, read from standard input",
+        about: "Prints a line for each packet of the conversation on standard input",
         after: help_text::TRACE,
     };
-    subcommand(alloc, "trace", help, &[])
+    subcommand(alloc, "trace", help, &[EXPLAIN])
 }
 
 fn session<'a>(alloc: Global) -> Result<Command<'a>, AllocError>
@@ -81,7 +79,7 @@ fn session<'a>(alloc: Global) -> Result<Command<'a>, AllocError>
         about: "Prints what a session file has, in canonical form",
         after: help_text::SESSION,
     };
-    subcommand(alloc, "session", help, &[SESSION_FILE])
+    subcommand(alloc, "session", help, &[SESSION_FILE, EXPLAIN])
 }
 
 fn rules<'a>(alloc: Global) -> Result<Command<'a>, AllocError>
@@ -92,7 +90,7 @@ fn rules<'a>(alloc: Global) -> Result<Command<'a>, AllocError>
         about: "Prints what a rule file has, in canonical form",
         after: help_text::RULES,
     };
-    subcommand(alloc, "rules", help, &[RULE_FILE, CHECK])
+    subcommand(alloc, "rules", help, &[RULE_FILE, CHECK, EXPLAIN])
 }
 
 fn answer<'a>(alloc: Global) -> Result<Command<'a>, AllocError>
@@ -107,7 +105,7 @@ fn answer<'a>(alloc: Global) -> Result<Command<'a>, AllocError>
         alloc,
         "answer",
         help,
-        &[RULES, LENIENT, IGNORE_CASE, LEAST_STAGES],
+        &[RULES, LENIENT, IGNORE_CASE, LEAST_STAGES, EXPLAIN],
     )
 }
 
@@ -123,7 +121,15 @@ fn filter<'a>(alloc: Global) -> Result<Command<'a>, AllocError>
         alloc,
         "filter",
         help,
-        &[ADDRESS, RULES, COUNT, LENIENT, IGNORE_CASE, LEAST_STAGES],
+        &[
+            ADDRESS,
+            RULES,
+            COUNT,
+            LENIENT,
+            IGNORE_CASE,
+            LEAST_STAGES,
+            EXPLAIN,
+        ],
     )
 }
 
@@ -132,7 +138,7 @@ fn serve<'a>(alloc: Global) -> Result<Command<'a>, AllocError>
     ensures local { IfOk result IsLocal }
 {
     let help = Help {
-        about: "Serves many connections of mail servers at once, as a filter, until it is ended",
+        about: "Serves many connections at once, as a filter, until it is ended",
         after: help_text::SERVE,
     };
     subcommand(
@@ -148,6 +154,7 @@ fn serve<'a>(alloc: Global) -> Result<Command<'a>, AllocError>
             LOG,
             IGNORE_CASE,
             ALL_STAGES,
+            EXPLAIN,
         ],
     )
 }
@@ -157,12 +164,16 @@ fn mta<'a>(alloc: Global, losses: &'a [&'a str]) -> Result<Command<'a>, AllocErr
     ensures local { IfOk result IsLocal }
 {
     let help = Help {
-        about: "Plays a session to a filter, as a mail server, and prints what becomes of its messages",
+        about: "Plays a session to a filter, and prints what becomes of its messages",
         after: help_text::MTA,
     };
     let places = subcommand(alloc, "mta", help, &[FILTER_ADDRESS, SESSION])?;
     let command = places.arg(loss(alloc, losses))?;
-    with_words(alloc, command, &[TIMEOUT, ACTIONS, PROTOCOL, WAIT, EXPECT])
+    with_words(
+        alloc,
+        command,
+        &[TIMEOUT, ACTIONS, PROTOCOL, WAIT, EXPECT, EXPLAIN],
+    )
 }
 
 fn play<'a>(alloc: Global, losses: &'a [&'a str]) -> Result<Command<'a>, AllocError>
@@ -170,7 +181,7 @@ fn play<'a>(alloc: Global, losses: &'a [&'a str]) -> Result<Command<'a>, AllocEr
     ensures local { IfOk result IsLocal }
 {
     let help = Help {
-        about: "Plays a session to a filter in memory, and prints what becomes of its messages",
+        about: "Plays a session to rules, and prints what becomes of its messages",
         after: help_text::PLAY,
     };
     let words = &[
@@ -183,7 +194,7 @@ fn play<'a>(alloc: Global, losses: &'a [&'a str]) -> Result<Command<'a>, AllocEr
         EVENTS,
     ];
     let command = subcommand(alloc, "play", help, words)?.arg(loss(alloc, losses))?;
-    with_words(alloc, command, &[EXPECT])
+    with_words(alloc, command, &[EXPECT, EXPLAIN])
 }
 
 /// What becomes of a message whose filter is lost.

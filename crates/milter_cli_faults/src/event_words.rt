@@ -1,0 +1,96 @@
+//! What is said of the first fault of an event file.
+
+use crate::faulty_line::{Content, first_word, line_at};
+use crate::known_names::{has_name, say_unknown};
+use milter_rules::RuleFault;
+use milter_rules_faults::{Notes, Piece, say_fault};
+use milter_text::Word;
+use milter_wire::NoMemory;
+use milter_world_events::{EventFault, read_events};
+use std::alloc::Global;
+
+/// The first words of lines.
+const FIRST_WORDS: &str = "dial|send|to-filter|answer|to-mta|die|lose|timeout|round|rounds";
+
+/// The greatest number of a line.
+const NUMBER_MAX: u64 = 4_294_967_295;
+
+/// Says why a file with these bytes has no events.
+pub(crate) fn say_events(
+    alloc: Global,
+    notes: &mut Notes<'_>,
+    bytes: &[u8],
+) -> Result<(), NoMemory> {
+    let number = match read_events(alloc, bytes) {
+        Ok(_) => return Ok(()),
+        Err(EventFault::NoMemory) => return Err(NoMemory),
+        Err(EventFault::TooMany(number)) => {
+            notes.go_to(Some(number));
+            let text = b"with this line there are more than 10,000,000 events, the most of a file";
+            return notes.say(alloc, &[Piece::Plain(text)]);
+        }
+        Err(EventFault::UnknownLine(number)) => number,
+    };
+    notes.go_to(Some(number));
+    let line = line_at(alloc, bytes, number)?;
+    match &line.content {
+        Content::Words(words) => say_line(alloc, notes, words.as_slice()),
+        // A line that isn't in words is one of no file.
+        Content::NoWords | Content::End => {
+            say_fault(alloc, notes, bytes, RuleFault::UnknownWord(number))
+        }
+    }
+}
+
+/// Says what is wrong with a line of these words.
+fn say_line(alloc: Global, notes: &mut Notes<'_>, words: &[Word]) -> Result<(), NoMemory> {
+    if let Some(word) = words.iter().find(|word| word.quoted) {
+        let shown = Piece::Quoted(word.text.as_slice());
+        let end = Piece::Plain(b" is due without quotes");
+        return notes.say(alloc, &[shown, end]);
+    }
+    let first = first_word(words);
+    if !has_name(FIRST_WORDS, first) {
+        return say_unknown(alloc, notes, "first word", FIRST_WORDS, first);
+    }
+    match no_number(words) {
+        Some(word) => {
+            let shown = Piece::Quoted(word.text.as_slice());
+            let end = Piece::Plain(b" is no number up to 4,294,967,295, of ten digits at most");
+            notes.say(alloc, &[shown, end])
+        }
+        None => {
+            let begin = Piece::Plain(b"the line has too few words or too many; it is written ");
+            notes.say(alloc, &[begin, Piece::Plain(form_of(first).as_bytes())])
+        }
+    }
+}
+
+/// The first word after the first one that is no number.
+fn no_number(words: &[Word]) -> Option<&Word> {
+    match words {
+        [_, rest @ ..] => rest.iter().find(|word| !is_number(word)),
+        [] => None,
+    }
+}
+
+/// Whether the word is a number of a line.
+fn is_number(word: &Word) -> bool {
+    word.number().is_some_and(|number| number <= NUMBER_MAX)
+}
+
+/// How a line with this first word is written.
+fn form_of(first: &[u8]) -> &'static str {
+    match first {
+        b"dial" => "dial",
+        b"send" => "send N",
+        b"to-filter" => "to-filter N",
+        b"answer" => "answer N",
+        b"to-mta" => "to-mta N",
+        b"die" => "die",
+        b"lose" => "lose",
+        b"timeout" => "timeout",
+        b"round" => "round N",
+        _ => "rounds COUNT N",
+    }
+}

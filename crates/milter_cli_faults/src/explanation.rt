@@ -1,0 +1,263 @@
+//! The lines that follow the line of a fault on standard error.
+
+use crate::address_words::say_bad_address;
+use crate::answer_words::answer_meaning;
+use crate::event_words::say_events;
+use crate::failure::Failure;
+use crate::file_forms::fault_meaning;
+use crate::file_words::{bytes_again, unread_reason};
+use crate::option_words::{say_bad_mode, say_bad_names};
+use crate::request_paths::{actions_of, address_of, addresses_of, mode_of, path_of, protocol_of};
+use crate::rule_words::{say_rules, unread_lists};
+use crate::session_words::say_session;
+use crate::shown_name::shown_name;
+use crate::socket_words::{say_unbound, say_unconnected};
+use crate::trace_words::say_trace;
+use milter_cli_io::{AnswerError, FileError, InputFile, ToolError};
+use milter_cli_request::{Address, Request, UsageError};
+use milter_rules_faults::{Notes, Piece};
+use milter_trace::TraceFault;
+use milter_wire::NoMemory;
+use std::alloc::Global;
+use std::path::Path;
+use std::rt::Files;
+
+/// What is said of an output that wasn't written.
+const NOT_WRITTEN: &str = "it couldn't be written: it is closed, or full";
+
+/// What is said of words that aren't UTF-8.
+const NOT_UTF8: &str =
+    "the words of a command line are due in UTF-8; a file of another name is reached by a link to it";
+
+/// The lines that say why the request failed: what is wrong, where, and what is meant. Files that are at fault are read
+/// again; where they changed since, the lines say what the fault's number means.
+pub fn explain<R: Files>(
+    files: &R,
+    alloc: Global,
+    request: &Request<'_>,
+    failure: &Failure<'_>,
+) -> Result<Vec<u8>, NoMemory> {
+    match &failure.error {
+        ToolError::Usage(error) => explain_usage(alloc, request, error),
+        ToolError::File(error) => explain_request_file(files, alloc, request, *error),
+        ToolError::Trace(fault) => explain_trace(alloc, *fault),
+        ToolError::Answer(error) => explain_answer(alloc, *error),
+        ToolError::Listen | ToolError::Connect => explain_socket(files, alloc, failure),
+        ToolError::Differs { line } => explain_difference(alloc, request, *line),
+        // Findings were printed, and words take memory.
+        ToolError::Findings | ToolError::NoMemory => Ok(Vec::new(alloc)),
+        ToolError::Write => line(alloc, "standard output", NOT_WRITTEN),
+    }
+}
+
+/// The line that explains an error of the words of a command line, before there is a request; none where there is
+/// nothing more to be said.
+pub fn explain_words(alloc: Global, error: &ToolError) -> Result<Vec<u8>, NoMemory> {
+    match error {
+        ToolError::Usage(UsageError::NotUtf8) => line(alloc, "milter_tool", NOT_UTF8),
+        _ => Ok(Vec::new(alloc)),
+    }
+}
+
+/// The line of a trace that ended before its input.
+fn explain_trace(alloc: Global, fault: TraceFault) -> Result<Vec<u8>, NoMemory> {
+    match fault {
+        TraceFault::WriteFault => line(alloc, "standard output", NOT_WRITTEN),
+        // Words take memory.
+        TraceFault::NoMemory => Ok(Vec::new(alloc)),
+        fault => {
+            let mut notes = Notes::new(alloc, "standard input");
+            say_trace(alloc, &mut notes, fault)?;
+            text_of(alloc, &notes)
+        }
+    }
+}
+
+/// The line of a mail server that was not answered to its end.
+fn explain_answer(alloc: Global, error: AnswerError) -> Result<Vec<u8>, NoMemory> {
+    match error {
+        AnswerError::Write => line(alloc, "standard output", NOT_WRITTEN),
+        // Words take memory.
+        AnswerError::NoMemory => Ok(Vec::new(alloc)),
+        error => line(alloc, "standard input", answer_meaning(error)),
+    }
+}
+
+/// The lines that were said.
+fn text_of(alloc: Global, notes: &Notes<'_>) -> Result<Vec<u8>, NoMemory> {
+    Ok(Vec::from_slice(alloc, notes.text())?)
+}
+
+/// One line about what has this name.
+fn line(alloc: Global, name: &str, text: &str) -> Result<Vec<u8>, NoMemory> {
+    let name = shown_name(alloc, name)?;
+    let mut notes = Notes::new(alloc, name.as_str());
+    notes.say(alloc, &[Piece::Plain(text.as_bytes())])?;
+    text_of(alloc, &notes)
+}
+
+/// The lines of a wrong use of the program that has a request.
+fn explain_usage(
+    alloc: Global,
+    request: &Request<'_>,
+    error: &UsageError,
+) -> Result<Vec<u8>, NoMemory> {
+    let mut notes = Notes::new(alloc, place_of(error));
+    match error {
+        UsageError::BadActions => {
+            let names = actions_of(request).unwrap_or("");
+            say_bad_names(alloc, &mut notes, "actions", names)?;
+        }
+        UsageError::BadProtocol => {
+            let names = protocol_of(request).unwrap_or("");
+            say_bad_names(alloc, &mut notes, "protocol", names)?;
+        }
+        UsageError::BadMode => say_bad_mode(alloc, &mut notes, mode_of(request).unwrap_or(0))?,
+        UsageError::BadAddress => say_addresses(alloc, &mut notes, request)?,
+        // They say it themselves.
+        UsageError::CommandLine(_) | UsageError::NotUtf8 => {}
+    }
+    text_of(alloc, &notes)
+}
+
+/// What of the command line a wrong use is about.
+fn place_of(error: &UsageError) -> &'static str {
+    match error {
+        UsageError::BadActions => "--actions",
+        UsageError::BadProtocol => "--protocol",
+        UsageError::BadMode => "--mode",
+        UsageError::BadAddress => "ADDRESS",
+        UsageError::CommandLine(_) | UsageError::NotUtf8 => "milter_tool",
+    }
+}
+
+/// Says of each text of a request that is to be an address, and is none, which one is meant.
+fn say_addresses(
+    alloc: Global,
+    notes: &mut Notes<'_>,
+    request: &Request<'_>,
+) -> Result<(), NoMemory> {
+    if let Some(address) = address_of(request) {
+        return say_bad_address(alloc, notes, address);
+    }
+    for address in addresses_of(request) {
+        if Address::parse(address).is_none() {
+            say_bad_address(alloc, notes, address)?;
+        }
+    }
+    Ok(())
+}
+
+/// The lines of a socket that the system refused.
+fn explain_socket<R: Files>(
+    files: &R,
+    alloc: Global,
+    failure: &Failure<'_>,
+) -> Result<Vec<u8>, NoMemory> {
+    let Some(socket) = failure.socket else {
+        return line(
+            alloc,
+            "milter_tool",
+            "the system doesn't wait for connections",
+        );
+    };
+    let name = shown_name(alloc, socket.address)?;
+    let mut notes = Notes::new(alloc, name.as_str());
+    match &failure.error {
+        ToolError::Connect => say_unconnected(alloc, &mut notes, socket)?,
+        _ => say_unbound(files, alloc, &mut notes, socket)?,
+    }
+    text_of(alloc, &notes)
+}
+
+/// The line of reports that aren't the expected ones.
+fn explain_difference(
+    alloc: Global,
+    request: &Request<'_>,
+    number: u64,
+) -> Result<Vec<u8>, NoMemory> {
+    let path = path_of(request, InputFile::Reports).unwrap_or("reports");
+    let name = shown_name(alloc, path)?;
+    let mut notes = Notes::new(alloc, name.as_str());
+    notes.go_to(Some(number));
+    let text = b"the reports that were found differ from this line on; standard output has them";
+    notes.say(alloc, &[Piece::Plain(text)])?;
+    text_of(alloc, &notes)
+}
+
+/// The lines of an error of a file that a request names.
+fn explain_request_file<R: Files>(
+    files: &R,
+    alloc: Global,
+    request: &Request<'_>,
+    error: FileError,
+) -> Result<Vec<u8>, NoMemory> {
+    let path = match error {
+        FileError::Read(file) | FileError::Fault { file, .. } => path_of(request, file),
+        FileError::Write | FileError::NoMemory => None,
+    };
+    explain_file(files, alloc, path.unwrap_or(""), error)
+}
+
+/// The lines that say why the file at this path was not read, or is not of its form.
+pub fn explain_file<R: Files>(
+    files: &R,
+    alloc: Global,
+    path: &str,
+    error: FileError,
+) -> Result<Vec<u8>, NoMemory> {
+    match error {
+        FileError::Read(_) => line(alloc, path, unread_reason(files, Path::new(path))),
+        FileError::Fault { file, line, number } => {
+            let said = explain_bytes(files, alloc, path, file)?;
+            if said.is_empty() {
+                return explain_number(alloc, path, line, fault_meaning(file, number));
+            }
+            Ok(said)
+        }
+        FileError::Write => line(alloc, "standard output", NOT_WRITTEN),
+        // Words take memory.
+        FileError::NoMemory => Ok(Vec::new(alloc)),
+    }
+}
+
+/// The line that says what a fault means in this line of a file.
+fn explain_number(
+    alloc: Global,
+    path: &str,
+    number: u64,
+    meaning: &str,
+) -> Result<Vec<u8>, NoMemory> {
+    let name = shown_name(alloc, path)?;
+    let mut notes = Notes::new(alloc, name.as_str());
+    notes.go_to(Some(number));
+    notes.say(alloc, &[Piece::Plain(meaning.as_bytes())])?;
+    text_of(alloc, &notes)
+}
+
+/// The lines that say what is wrong with what the file at this path has; none where it can't be read again, or has
+/// nothing wrong now.
+fn explain_bytes<R: Files>(
+    files: &R,
+    alloc: Global,
+    path: &str,
+    file: InputFile,
+) -> Result<Vec<u8>, NoMemory> {
+    let name = shown_name(alloc, path)?;
+    let mut notes = Notes::new(alloc, name.as_str());
+    let Some(bytes) = bytes_again(files, alloc, file, path)? else {
+        return Ok(Vec::new(alloc));
+    };
+    match file {
+        InputFile::Session => say_session(alloc, &mut notes, bytes.as_slice())?,
+        InputFile::Events => say_events(alloc, &mut notes, bytes.as_slice())?,
+        InputFile::Rules => say_rules(files, alloc, &mut notes, path, bytes.as_slice())?,
+        InputFile::Reports => {}
+    }
+    let mut said = text_of(alloc, &notes)?;
+    if let InputFile::Rules = file {
+        let lists = unread_lists(files, alloc, path, bytes.as_slice())?;
+        said.extend_from_slice(lists.as_slice())?;
+    }
+    Ok(said)
+}

@@ -1,0 +1,83 @@
+//! What is said of a rule file that can't be used, and of its lists.
+
+use crate::file_words::unread_reason;
+use crate::shown_name::shown_name;
+use milter_cli_io::{list_paths, say_lists};
+use milter_rules::{RuleFault, read_rule_lines};
+use milter_rules_faults::{Notes, Piece, say_fault};
+use milter_wire::NoMemory;
+use std::alloc::Global;
+use std::fs;
+use std::path::Path;
+use std::rt::Files;
+
+/// Says why the rule file at this path, which has these bytes, can't be used: its first fault, or that of its lists,
+/// unless one of them is no file, whose end might never come.
+pub(crate) fn say_rules<R: Files>(
+    files: &R,
+    alloc: Global,
+    notes: &mut Notes<'_>,
+    path: &str,
+    bytes: &[u8],
+) -> Result<(), NoMemory> {
+    match read_rule_lines(alloc, bytes) {
+        Ok(rules) => {
+            drop(rules);
+            if has_endless_list(files, alloc, path, bytes)? {
+                return Ok(());
+            }
+            say_lists(files, alloc, notes, path, bytes)
+        }
+        Err(RuleFault::NoMemory) => Err(NoMemory),
+        Err(fault) => say_fault(alloc, notes, bytes, fault),
+    }
+}
+
+/// Whether something is in the place of a list of the rule file at this path, which has these bytes, that is neither a
+/// file nor a folder.
+fn has_endless_list<R: Files>(
+    files: &R,
+    alloc: Global,
+    path: &str,
+    bytes: &[u8],
+) -> Result<bool, NoMemory> {
+    let paths = list_paths(alloc, path, bytes)?;
+    for list in paths.as_slice() {
+        if is_endless(files, list.path.as_path()) {
+            return Ok(true);
+        }
+    }
+    Ok(false)
+}
+
+/// Whether there is something at this path that is neither a file nor a folder.
+fn is_endless<R: Files>(files: &R, path: Path<'_>) -> bool {
+    match fs::metadata(files, path) {
+        Ok(found) => !found.is_file() && !found.is_dir(),
+        Err(_) => false,
+    }
+}
+
+/// The lines that say why lists of the rule file at this path can't be read, which has these bytes.
+pub(crate) fn unread_lists<R: Files>(
+    files: &R,
+    alloc: Global,
+    path: &str,
+    bytes: &[u8],
+) -> Result<Vec<u8>, NoMemory> {
+    let paths = list_paths(alloc, path, bytes)?;
+    let mut said = Vec::new(alloc);
+    for list in paths.as_slice() {
+        let path = list.path.as_path();
+        if !path.is_file(files) || fs::open(files, path).is_err() {
+            let name = shown_name(alloc, path.as_str())?;
+            let mut notes = Notes::new(alloc, name.as_str());
+            notes.say(
+                alloc,
+                &[Piece::Plain(unread_reason(files, path).as_bytes())],
+            )?;
+            said.extend_from_slice(notes.text())?;
+        }
+    }
+    Ok(said)
+}
