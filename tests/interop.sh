@@ -11,9 +11,11 @@
 # of each kind, also by new ones. The filters in C and Python of examples/ are behind a Postfix, and the mail server's
 # side in C shows a message to OpenDKIM, on the library that tests/test_c_library.py built, or of the archive that
 # ARCHIVE names. `mta`: to filters on Sendmail's libmilter, one that does what its words say (interop/scripted.c) and
-# OpenDKIM. It needs Debian's packages miltertest, postfix, libmilter-dev and opendkim, a C compiler, openssl, and root,
-# as whom Postfix and Sendmail start. It isn't part of the test command. The program is built first where it has to be;
-# another one may be given. The last line is 'N passed, M failed'.
+# OpenDKIM. Where Debian's package haproxy is there, three `serve` are behind HAProxy with a Postfix under load, while
+# one is killed and comes back, and one is drained and started with other rules: a line 'proxied: N messages, ..'
+# counts what was refused, delivered and deferred. It needs Debian's packages miltertest, postfix, libmilter-dev and
+# opendkim, a C compiler, openssl, and root, as whom Postfix and Sendmail start. It isn't part of the test command.
+# The program is built first where it has to be; another one may be given. The last line is 'N passed, M failed'.
 #
 #     sudo [SENDMAIL_ROOT=FOLDER] bash tests/interop.sh [PROGRAM]
 #
@@ -24,7 +26,7 @@
 #     cd "$(mktemp -d)" && apt-get download sendmail-bin sendmail-cf
 #     for package in sendmail-*.deb; do sudo dpkg -x "$package" /opt/sendmail; done
 #
-# Without one a line 'sendmail: not run, ..' says so, and it is no failure.
+# Without one a line 'sendmail: not run, ..' says so, and it is no failure; and so with 'haproxy: not run, ..'.
 set -u
 cd "$(dirname "${BASH_SOURCE[0]}")/.."
 PATH=$PATH:/usr/sbin:/sbin

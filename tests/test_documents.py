@@ -4,7 +4,7 @@ docs/MAIL_SERVERS.md is lines of its examples' programs, each link between docum
 docs/PROOFS.md and each definition of docs/DEFINITIONS.md is in the crate under which it is listed. README.md and
 docs/PROOFS.md count the crates of the toolchain that are trusted, README.md and docs/HEADLINE.md the lines of definitions
 under the headline, and no proof speaks of the code of another crate but by what it promises. And no line of the code or of
-the definitions is too long, but imports, and no comment, document or module has a word that is no longer used.
+the definitions is too long, but imports, nor one of help, and no comment, document or module has a word that is no longer used.
 """
 import glob
 import os
@@ -41,6 +41,13 @@ def files_of(crate):
     kinds = [('src', '*.rt'), ('specs', '*.antt')]
     patterns = [os.path.join(TOP, 'crates', crate, folder, '**', name) for folder, name in kinds]
     return sorted(path for pattern in patterns for path in glob.glob(pattern, recursive=True))
+
+
+def help_lines():
+    """Whether each line of help fits 80 columns, but for one with all values of an option."""
+    for path in sorted(glob.glob(os.path.join(TOP, 'cases', 'help', '*', 'stdout'))):
+        wide = [line for line in text_of(path).splitlines() if len(line) > 80 and '[possible values' not in line]
+        yield '%s: wide lines %s' % (os.path.relpath(path, TOP), wide), not wide
 
 
 def blocks():
@@ -161,4 +168,4 @@ def play_of(check):
 
 if __name__ == '__main__':
     sys.exit(runner.run_all(play_of(check) for check in (
-        blocks, links, clauses, definitions, trusted, counts, lemmas, lines, vocabulary)))
+        blocks, links, clauses, definitions, trusted, counts, lemmas, lines, help_lines, vocabulary)))

@@ -133,10 +133,13 @@ BY_DEFAULT = {'tool': lost_by_default, 'mail server': mail_server_by_default, 'l
 
 
 def is_right_or_by_default(outputs_by_default, given, expected):
-    """Whether a run ended as expected, as one that is out of memory, or with one of these outputs, in which messages
-    were settled by default; for a run's end."""
+    """Whether a run ended as expected, perhaps without the lines that explain its fault, as one that is out of memory,
+    or with one of these outputs, in which messages were settled by default; for a run's end."""
     is_right, outputs = is_as_ever_or_out_of_memory(expected), set(outputs_by_default(given, expected[1]))
-    return lambda end: is_right(end) or (end[0] == 0 and not end[2] and end[1] in outputs)
+    status, out, errors = expected
+    unexplained = status, out, errors[:errors.find(b'\n') + 1]
+    return lambda end: (
+        is_right(end) or end == unexplained or (end[0] == 0 and not end[2] and end[1] in outputs))
 
 
 def play_of(refuser, name, command, given, is_right, is_as_ever):

@@ -6,6 +6,7 @@ then. So does it by the lists of the file, which are changed in the same ways. W
 
 Counted are the runs.
 """
+import hashlib
 import os
 import re
 import shutil
@@ -16,7 +17,7 @@ import time
 from lib import checks, preloaded, programs, serving
 from lib.checks import checked, expect
 from lib.programs import written
-from lib.talks import ABORT, CONTINUE, QUIT, opening, packet, quit_all, say
+from lib.talks import ABORT, CONTINUE, QUIT, opening, packet, quit_all, run_to_end, say
 
 # Files of the same size, and what is answered to a sender by each.
 REJECT, ACCEPT = 'at mail do reject\n', 'at mail do accept\n'
@@ -25,6 +26,11 @@ REJECTED, ACCEPTED = packet(b'r'), packet(b'a')
 # A file with a list, and lists of the same size: that has the sender, and that has another one.
 BY_LIST = 'rules 2\nlist senders addresses "senders"\nat mail when sender-address in senders do reject\nat mail do accept\n'
 SENDERS, OTHERS = 'a@x\n', 'b@x\n'
+# What is said of a line without an action.
+ACTIONS = b'continue, accept, reject, tempfail, discard, skip, code, add-header, insert-header, change-header, add-rcpt, ' \
+          b'add-rcpt-par, del-rcpt, change-from, replace-body, quarantine and progress'
+# What is said of a pipe and of a folder.
+ENDLESS, FOLDER = b"isn't read to an end, or has more than 134,217,728 bytes", b'is a folder, and a file is due'
 # Whoever may read nothing that isn't for all, and a time that is long over.
 NOBODY, LONG_AGO = 65534, 10 ** 18
 # For how many seconds the times of a file are too young to be trusted, and a little more.
@@ -84,15 +90,25 @@ def expect_answers(served, *replies):
 
 
 def expect_errors(served, lines):
-    """Ends the run, which has written these lines on standard error."""
+    """Ends the run, whose log has these errors, and after each the lines that explain it."""
     served.expect_all(b'quit')
-    served.process.kill()
-    expect('errors', served.process.stderr.read(), lines)
+    expect('errors', served.faults(), lines)
+
+
+def unread(path, reason):
+    """The lines of a rule file that isn't read for this reason."""
+    return b'cannot read rules\n%s: %s\n' % (path.encode(), reason)
+
+
+def at_fault(path, line, number, *explained):
+    """The lines of a rule file with a fault of this number in this line."""
+    said = b''.join(b'%s:%d: %s\n' % (path.encode(), line, text) for text in explained)
+    return b'rules line %d: fault %d\n' % (line, number) + said
 
 
 def run_with(program, folder, path, errors, play, started=None):
-    """A run with the rules of this file that is played so, and has written these lines on standard error. What
-    `started` has are options of serving.Service."""
+    """A run with the rules of this file that is played so, and whose log has these errors. What `started` has are options
+    of serving.Service."""
     with serving.Service(program, 'inet', folder, ['--rules', path], **(started or {})) as served:
         play(served)
         expect_errors(served, errors)
@@ -165,7 +181,8 @@ def two_parts(program, folder):
         return connection
 
     path = file_of(folder, REJECT)
-    yield checked('in two parts', run_with, program, folder, path, b'rules line 1: fault 4\n', longer)
+    yield checked('in two parts', run_with, program, folder, path,
+                  at_fault(path, 1, 4, b'action is missing after do; known are ' + ACTIONS), longer)
     path = file_of(folder, REJECT + 'at rcpt do reject\n')
     yield checked('over what it had', run_with, program, folder, path, b'', over)
 
@@ -203,9 +220,122 @@ def unreadable(program, folder):
         expect_answers(served, ACCEPTED)
 
     path = file_of(folder, REJECT)
-    yield checked('no permission', run_with, copy, folder, path, b'cannot read rules\n', permitted, started)
+    yield checked('no permission', run_with, copy, folder, path,
+                  unread(path, b'permission denied: the user who runs the program has to be allowed to read it'),
+                  permitted, started)
     path = file_of(folder, REJECT)
-    yield checked('no file', run_with, program, folder, path, b'cannot read rules\n', other)
+    yield checked('no file', run_with, program, folder, path, unread(path, FOLDER), other)
+
+
+def waits(program, folder):
+    """A pipe and a folder in the place of a rule file or of a list: neither is waited for, nor read."""
+
+    def piped(served):
+        expect_answers(served, REJECTED)
+        for make in (os.mkfifo, os.mkdir):
+            os.rename(path, path + '.kept')
+            make(path)
+            expect_answers(served, REJECTED, REJECTED)
+            (os.remove if make == os.mkfifo else os.rmdir)(path)
+            os.rename(path + '.kept', path)
+            expect_answers(served, REJECTED)
+        overwrite(path, ACCEPT)
+        expect_answers(served, ACCEPTED)
+
+    def listed(served):
+        expect_answers(served, REJECTED)
+        for make in (os.mkfifo, os.mkdir):
+            os.remove(senders)
+            make(senders)
+            expect_answers(served, REJECTED, REJECTED)
+            (os.remove if make == os.mkfifo else os.rmdir)(senders)
+            written(senders, OTHERS)
+            expect_answers(served, ACCEPTED)
+            written(senders, SENDERS)
+            expect_answers(served, REJECTED)
+
+    path = file_of(folder, REJECT)
+    yield checked('a pipe and a folder', run_with, program, folder, path, unread(path, ENDLESS) + unread(path, FOLDER),
+                  piped)
+    path = file_of(folder, BY_LIST)
+    senders = aged(written(os.path.join(os.path.dirname(path), 'senders'), SENDERS))
+    shown = senders.encode()
+    gone = at_fault(path, 2, 8, b'list senders: "%s" can\'t be read, or has more than 134,217,728 bytes' % shown)
+    yield checked('a list that is one', run_with, program, folder, path,
+                  at_fault(path, 2, 8) + b'%s: %s\n' % (shown, ENDLESS) + gone + b'%s: %s\n' % (shown, FOLDER), listed)
+    path = os.path.join(tempfile.mkdtemp(dir=folder), 'pipe')
+    os.mkfifo(path)
+    yield checked('a pipe at the start', run_to_end, program,
+                  ['unix:' + path + '.socket', '--rules', path], (1, b'', b'cannot read rules\n'))
+
+
+def logged(program, folder):
+    """What the log says of a file: its path, quoted, its checksum, and how many rules it has or why it gives none."""
+
+    def event(name, rest):
+        with open(path, 'rb') as file:
+            checksum = hashlib.sha256(file.read()).hexdigest()
+        return ('event="%s" rules="%s" sha256="%s" %s\n' % (name, shown, checksum, rest)).encode()
+
+    def start(served):
+        address = 'inet:%d@%s' % served.at[::-1]
+        found = [served.process.stderr.readline() for _ in range(2)]
+        first = re.sub(rb'connections="[0-9]+"', b'connections="N"', found[0])
+        before = 'event="start" version="0.1.0" address="%s" at-once="200" connections="N" ' % address
+        expect('start', first, event('', 'count="1"').replace(b'event="" ', before.encode()))
+        expect('listen', found[1], ('event="listen" address="%s"\n' % address).encode())
+
+    def explained(served):
+        """A line of the log that explains an error, without the words for it."""
+        line, _, words = served.log_line().partition(b' why="')
+        expect('words', words[-2:], b'"\n')
+        return line + b'\n'
+
+    def run():
+        with serving.Service(program, 'inet', folder, ['--rules', path]) as served:
+            start(served)
+            expect_answers(served, REJECTED)
+            replace(path, ACCEPT + REJECT)
+            expect_answers(served, ACCEPTED)
+            expect('rules', served.log_line(), event('rules', 'count="2"'))
+            replace(path, FAULTY)
+            expect_answers(served, ACCEPTED)
+            expect('no rules', explained(served), event('no-rules', 'error="rules line 1: fault 4"'))
+            os.remove(path)
+            expect_answers(served, ACCEPTED, ACCEPTED)
+            gone = ('event="no-rules" rules="%s" error="cannot read rules"\n' % shown).encode()
+            expect('gone', explained(served), gone)
+            replace(path, REJECT)
+            expect_answers(served, REJECTED)
+            expect('there again', served.log_line(), event('rules', 'count="1"'))
+            served.expect_all(b'quit')
+            expect('all lines', served.log_lines(), [])
+
+    path = written(os.path.join(tempfile.mkdtemp(dir=folder), 'a "file"\n'), REJECT)
+    shown = path.replace('"', '\\"').replace('\n', '\\n')
+    yield checked('the log', run)
+
+
+def replaced(program, folder):
+    """Rules that were replaced leave no memory behind them, while connections come and go that use them."""
+    rules = ''.join('at mail when sender is "<%06d@example.org>" do reject\n' % at for at in range(9999))
+
+    def play(served):
+        kept = [begun(served, REJECTED)]
+        before = served.memory()
+        replace(path, rules + ACCEPT)
+        expect_answers(served, ACCEPTED)
+        one = served.memory() - before
+        for at in range(30):
+            replace(path, rules + (REJECT if at % 2 else ACCEPT) + '#%d\n' % at)
+            kept.append(begun(served, REJECTED if at % 2 else ACCEPTED))
+            quit_all([kept.pop(0)])
+        more = served.memory() - before
+        expect('memory of one set %d, after 30 %d' % (one, more), more < 4 * one, True)
+        quit_all(kept)
+
+    path = file_of(folder, REJECT)
+    yield checked('30 changes', run_with, program, folder, path, b'', play)
 
 
 def few_descriptors(program, folder):
@@ -223,7 +353,8 @@ def few_descriptors(program, folder):
         expect_answers(served, ACCEPTED)
 
     path = file_of(folder, REJECT)
-    yield checked('few descriptors', run_with, program, folder, path, b'cannot read rules\n', play, {'files': files})
+    yield checked('few descriptors', run_with, program, folder, path, unread(path, b"the system doesn't read it"),
+                  play, {'files': files})
 
 
 def faulty(program, folder):
@@ -242,7 +373,8 @@ def faulty(program, folder):
         expect_answers(served, ACCEPTED)
 
     path = file_of(folder, REJECT)
-    yield checked('faults', run_with, program, folder, path, 3 * b'rules line 1: fault 4\n', play)
+    yield checked('faults', run_with, program, folder, path,
+                  3 * at_fault(path, 1, 4, b'nothing is due after reject; an answer with a text is code TEXT'), play)
 
 
 def lists(program, folder):
@@ -273,7 +405,12 @@ def lists(program, folder):
     path = file_of(folder, BY_LIST)
     senders = aged(written(os.path.join(os.path.dirname(path), 'senders'), SENDERS))
     aged(written(os.path.join(os.path.dirname(path), 'all'), OTHERS + SENDERS))
-    yield checked('lists', run_with, program, folder, path, 2 * b'rules line 2: fault 8\n', play)
+    shown = senders.encode()
+    bad = b'list senders: line 1 of "%s" is no address' % shown
+    gone = b'list senders: "%s" can\'t be read, or has more than 134,217,728 bytes' % shown
+    missing = b'%s: no such file: its path begins in the folder where the program is started, or with /\n' % shown
+    yield checked('lists', run_with, program, folder, path, at_fault(path, 2, 8, bad) + at_fault(path, 2, 8, gone) + missing,
+                  play)
 
 
 def unchanged(program, folder):
@@ -314,14 +451,22 @@ def refused_memory(program, folder):
             answers = [answer_of(served)]
             replace(path, ACCEPT)
             answers += [answer_of(served) for _ in range(CONNECTIONS - 1)]
-            over = serving.waited_for(lambda: served.process.poll() or len(served.lines()) == CONNECTIONS and 'goes on')
+            over = serving.waited_for(lambda: state(served))
+            if not over:
+                # The last line is lost, and counted before the next one.
+                answer_of(served)
+                over = serving.waited_for(lambda: state(served))
             served.process.kill()
-            errors = served.process.stderr.read()
+            errors = serving.faults_in(served.process.stderr.read())
         if over == 'goes on':
             expect('answers', answers, right(answers))
             expect('errors', errors, errors if re.fullmatch(b'(out of memory\n)?', errors) else b'out of memory\n')
         else:
             expect('end', (over, errors), (1, b'out of memory\n'))
+
+    def state(served):
+        """Whether it goes on, once each connection has its line or that is lost; or the status with which it ended."""
+        return served.process.poll() or len(served.lines()) + served.lost() >= CONNECTIONS and 'goes on'
 
     def right(answers):
         """These answers, where each is as the file was then; but one is given up, or goes by the rules before."""
@@ -333,7 +478,9 @@ def refused_memory(program, folder):
     yield from checks.with_each_refused(lambda number: preloaded.is_refused(refuser, number, run)[1])
 
 
-GROUPS = [same_time, links, two_parts, unreadable, few_descriptors, faulty, lists, unchanged, refused_memory]
+GROUPS = [
+    replaced, same_time, links, two_parts, unreadable, waits, few_descriptors, faulty, lists, unchanged, logged,
+    refused_memory]
 
 
 def groups(folder):

@@ -23,6 +23,11 @@ from lib.talks import (
     ABORT, AGREED, CONTINUE, GREETED_AGAIN, KEYS, LENIENTLY, OFFER, QUIT, STRICTLY, filled, message, opening, options,
     packet, quit_all, rules_file, rules_of_keys, run_to_end, say)
 
+# What is said of a line of a rule file with another action, and without a stage.
+ACTIONS = b'continue, accept, reject, tempfail, discard, skip, code, add-header, insert-header, change-header, add-rcpt, ' \
+          b'add-rcpt-par, del-rcpt, change-from, replace-body, quarantine and progress'
+STAGES = b'connect, helo, mail, rcpt, data, header, eoh, body and eob'
+
 
 def is_lenient(lines):
     """Whether a row ends by a greeting or a sender within a message."""
@@ -358,7 +363,9 @@ LOGGED_RULES = (
     'at eob when sender is "<s2@x>" do accept\n')
 
 
-DISCARDED = b'stage="eob" verdict="discard"\n'
+# The end of the line of a message that the rule in the fourth line discards, and of one by that in the first.
+DISCARDED = b'stage="eob" line="4" verdict="discard"\n'
+DISCARDED_FIRST = b'stage="eob" line="1" verdict="discard"\n'
 
 
 def named_line(key, rest, number=None):
@@ -382,8 +389,7 @@ def logged(program, kind, folder):
         """The lines of each of these connections come in their order, beside those of the others."""
         rest = [list(lines) for lines in of_connections]
         while any(rest):
-            ready, _, _ = select.select([served.process.stderr], [], [], serving.SECONDS)
-            line = served.process.stderr.readline() if ready else b'none in time'
+            line = served.log_line()
             expect('log', line, line if [line] in [lines[:1] for lines in rest] else rest)
             next(lines for lines in rest if lines[:1] == [line]).pop(0)
 
@@ -391,18 +397,18 @@ def logged(program, kind, folder):
         with serving.Service(program, kind, folder, words + ['--log']) as served:
             with served.connected() as one, served.connected() as two:
                 side_by_side([one, two], [talk(1, b'd'), talk(2, b'a')])
-                no = b'stage="rcpt" verdict="code" text="550 5.1.1 \\"no\\""\n'
+                no = b'stage="rcpt" line="3" verdict="code" text="550 5.1.1 \\"no\\""\n'
                 expect_logged(served, [named_line(1, b'id="Q1" ' + end) for end in (no, DISCARDED)],
-                              [named_line(2, b'id="Q2" ' + end) for end in (no, b'stage="eob" verdict="accept"\n')])
+                              [named_line(2, b'id="Q2" ' + end) for end in (no, b'stage="eob" line="5" verdict="accept"\n')])
                 quit_all([one, two])
             served.expect_all(b'quit')
 
     def no_message():
         with serving.Service(program, kind, folder, ['--log'] + words) as served, served.connected() as one:
             say(one, opening(3)[:-1] + [(packet(b'H', b'h3'), packet(b'r'))])
-            expect_logged(served, [named_line(3, b'stage="helo" verdict="reject"\n', number=1)])
+            expect_logged(served, [named_line(3, b'stage="helo" line="1" verdict="reject"\n', number=1)])
             say(one, [(packet(b'H', b'h4'), CONTINUE), (packet(b'M', b'<s4@x>'), packet(b't'))])
-            expect_logged(served, [named_line(3, b'sender="<s4@x>" stage="mail" verdict="tempfail"\n', number=1)])
+            expect_logged(served, [named_line(3, b'sender="<s4@x>" stage="mail" line="2" verdict="tempfail"\n', number=1)])
 
     def named():
         # No rule looks at the client, the sender or a recipient, or stands at DATA. All are sent, and not replied to.
@@ -414,12 +420,12 @@ def logged(program, kind, folder):
             # As Sendmail names a message: before its sender.
             begun = client + packet(b'D', b'Mi', b'Q1') + sender + data
             say(one, [(OFFER, options(0, 0xff1f2)), (begun, b''), discarded])
-            expect_logged(served, [named_line(1, b'id="Q1" ' + DISCARDED)])
+            expect_logged(served, [named_line(1, b'id="Q1" ' + DISCARDED_FIRST)])
             # As Postfix names one: before DATA.
             say(one, [(sender + packet(b'D', b'Ti', b'Q2') + data, b''), discarded])
-            expect_logged(served, [named_line(1, b'id="Q2" ' + DISCARDED)])
+            expect_logged(served, [named_line(1, b'id="Q2" ' + DISCARDED_FIRST)])
             say(one, [(sender + data, b''), discarded])
-            expect_logged(served, [named_line(1, b'sender="<a@x>" recipient="<b\\"@y>" ' + DISCARDED)])
+            expect_logged(served, [named_line(1, b'sender="<a@x>" recipient="<b\\"@y>" ' + DISCARDED_FIRST)])
 
     def unknown():
         # Of a client of which nothing is known there is the name; without its stage there is nothing.
@@ -429,15 +435,45 @@ def logged(program, kind, folder):
         with serving.Service(program, kind, folder, words, all_stages=False) as served:
             with served.connected() as one, served.connected() as two:
                 say(one, [(OFFER, options(0, 0xfd1f0)), greeted])
-                expect_logged(served, [b'connection="1" stage="helo" verdict="reject"\n'])
+                expect_logged(served, [b'connection="1" stage="helo" line="1" verdict="reject"\n'])
                 say(two, [(OFFER, options(0, 0xfd1f0)), (client, b''), greeted])
-                expect_logged(served, [b'connection="2" host="unknown" stage="helo" verdict="reject"\n'])
+                expect_logged(served, [b'connection="2" host="unknown" stage="helo" line="1" verdict="reject"\n'])
 
     def no_log():
         with serving.Service(program, kind, folder, words) as served, served.connected() as one:
             say(one, talk(1, b'd'))
-            served.process.kill()
-            expect('log', served.process.stderr.read(), b'')
+            expect('log', served.log_lines(), [])
+
+    def edits():
+        # Edits are named in their order, also where the message goes on, and nothing else that does.
+        rules = rules_file(folder, (
+            'at eob when sender is "<s1@x>" do add-header "X" "y"\nat eob when sender is "<s1@x>" do quarantine "q"\n'
+            'at eob when sender is "<s2@x>" do del-rcpt "<b@y>"\nat eob when sender is "<s2@x>" do accept\n'))
+        added = packets.packet_of(b'hX\0y\0') + packets.packet_of(b'qq\0')
+        removed = packets.packet_of(b'-<b@y>\0')
+        # Header fields, recipients that are deleted, and quarantine.
+        begun = [(OFFER, options(0x29, 0))] + opening(1)[1:]
+        with serving.Service(program, kind, folder, rules + ['--log']) as served, served.connected() as one:
+            for key, replies in [(1, added + CONTINUE), (2, removed + packet(b'a')), (3, CONTINUE)]:
+                sent = [(packet(b'D', b'Mi', b'Q%d' % key) + packet(b'M', b'<s%d@x>' % key), CONTINUE),
+                        (packet(b'R', b'<b@y>'), CONTINUE), (packet(b'T'), CONTINUE), (packet(b'E'), replies)]
+                say(one, (begun if key == 1 else []) + sent)
+            end = b'id="Q%d" stage="eob"%s verdict="%s"%s\n'
+            expect_logged(served, [
+                named_line(1, end % (1, b'', b'continue', b' edit="add-header" edit="quarantine"')),
+                named_line(1, end % (2, b' line="4"', b'accept', b' edit="del-rcpt"'))])
+            quit_all([one])
+            expect('no more lines', served.log_lines(), [])
+
+    def messages():
+        # Each message has a line, also those that only go on; one that is ended before has that of its end alone.
+        with serving.Service(program, kind, folder, words + ['--log', 'all']) as served, served.connected() as one:
+            say(one, talk(5, b'c') + talk(1, b'd')[len(opening(1)):])
+            no = b'stage="rcpt" line="3" verdict="code" text="550 5.1.1 \\"no\\""\n'
+            end = [b'id="Q5" ' + no, b'id="Q5" stage="eob" verdict="continue"\n', b'id="Q1" ' + no, b'id="Q1" ' + DISCARDED]
+            expect_logged(served, [named_line(5, line, number=1) for line in end])
+            quit_all([one])
+            expect('no more lines', served.log_lines(), [])
 
     def unread():
         with serving.Service(program, kind, folder, words + ['--log']) as served, served.connected() as one:
@@ -451,6 +487,8 @@ def logged(program, kind, folder):
     yield checked('log of no message', no_message)
     yield checked('log of messages that no rule looks at', named)
     yield checked('log of clients that are not known', unknown)
+    yield checked('log of edits', edits)
+    yield checked('log of all messages', messages)
     yield checked('no log', no_log)
     yield checked('a log that nobody reads', unread)
 
@@ -474,11 +512,13 @@ def changed_rules(program, kind, folder):
     def answers(connection, reply):
         say(connection, [(sender, reply), (ABORT, b'')])
 
-    def expect_said(served, lines):
-        for line in lines:
-            ready, _, _ = select.select([served.process.stderr], [], [], serving.SECONDS)
-            expect('errors', served.process.stderr.readline() if ready else b'none in time', line)
-        expect('more errors', select.select([served.process.stderr], [], [], 0)[0], [])
+    def expect_said(served, *errors):
+        """The log has a line for each change: with this error, or, where there is none, of rules that were read."""
+        for error in errors:
+            line = served.log_line()
+            expect('log', line.split(b' ', 1)[0], b'event="no-rules"' if error else b'event="rules"')
+            expect('error', serving.faults_in(line), error)
+        expect('more lines', select.select([served.process.stderr], [], [], 0)[0], [])
 
     def play(served):
         def begun(reply):
@@ -491,14 +531,17 @@ def changed_rules(program, kind, folder):
         write('at mail do tempfail\n')
         connections.append(begun(packet(b't')))
         answers(connections[0], packet(b'r'))
-        expect_said(served, [])
-        for text, said in [('at mail do nothing\n', b'rules line 1: fault 4\n'), ('at', b'rules line 1: fault 2\n')]:
+        expect_said(served, b'')
+        for text, number, explained in [
+                ('at mail do nothing\n', 4, b'action "nothing" isn\'t known; known are ' + ACTIONS),
+                ('at', 2, b'stage is missing after at; known are ' + STAGES)]:
             write(text)
             connections += [begun(packet(b't')), begun(packet(b't'))]
-            expect_said(served, [said])
+            expect_said(served, b'rules line 1: fault %d\n%s:1: %s\n' % (number, path.encode(), explained))
         os.remove(path)
         connections += [begun(packet(b't')), begun(packet(b't'))]
-        expect_said(served, [b'cannot read rules\n'])
+        reason = b'no such file: its path begins in the folder where the program is started, or with /'
+        expect_said(served, b'cannot read rules\n%s: %s\n' % (path.encode(), reason))
         write('at mail do code "550 5.7.1 Other"\n')
         connections.append(begun(packet(b'y', b'550 5.7.1 Other')))
         write('')

@@ -6,7 +6,9 @@ ci` built; nothing is proved here.
 
 Counted are the connections and the runs.
 """
+import fcntl
 import os
+import re
 import resource
 import select
 import signal
@@ -30,6 +32,8 @@ from lib.talks import (
 WARMED, MOST, MANY = 2000, 98000, 18000
 # How many talk at once, and how many files this process may have open for that.
 CROWD, FILES = 1000, 4096
+# The line that says how many were lost.
+LOST = {'stdout': rb'lost ([0-9]+)\n', 'stderr': rb'event="lost" lines="([0-9]+)"\n'}
 BAD_MODES = ['8', '689', '768']
 BAD_OPTIONS = [
     ['--mode=1000'], ['--mode=rw'], ['--mode='], ['--mode=-1'], ['--at-once=0'], ['--at-once=10001'], ['--at-once=one'],
@@ -253,8 +257,8 @@ def released(program, kind, folder):
 
 
 def few_descriptors(program, kind, folder):
-    """Where descriptors are used up, connections wait until one ends; nothing is printed of them, and it doesn't
-    spin."""
+    """Where descriptors are used up, connections wait until one ends; one line of the log is about all of them, and it
+    doesn't spin. Where they allow fewer connections than are allowed at once, the log says it at the start."""
 
     def run():
         with serving.Service(program, kind, folder, files=10) as served:
@@ -279,8 +283,26 @@ def few_descriptors(program, kind, folder):
                 quit_all([before])
                 serving.expect_replies(connection, AGREED)
             served.expect_goes_on()
+            expect('log', served.log_lines(), [b'event="full" of="descriptors"\n'])
+
+    def said(files, allowed):
+        with serving.Service(program, kind, folder, ['--at-once', '5'], files=files) as served:
+            serving.listening(served)
+            line = b' at-once="5" connections="%d"' % allowed
+            expect('start', line + b' count="0"\n' in served.process.stderr.readline(), True)
+            if allowed < 5:
+                expect('limit', served.process.stderr.readline(), b'event="limit"' + line + b'\n')
+            expect('listen', served.process.stderr.readline()[:14], b'event="listen"')
+            if allowed:
+                connections = [served.connected() for _ in range(min(allowed, 5))]
+                for connection in connections:
+                    say(connection, [(OFFER, AGREED)])
+                quit_all(connections)
 
     yield checked('few descriptors', run)
+    # Standard input, output and error, the listener and the wait for sockets have one each.
+    for files, allowed in [(5, 0), (6, 1), (9, 4), (10, 5), (20, 15)]:
+        yield checked('%d descriptors' % files, said, files, allowed)
 
 
 def many(program, kind, folder):
@@ -358,27 +380,82 @@ def restarted(program, kind, folder):
 
 
 def unwritten(program, kind, folder):
-    """A line that isn't written ends the run."""
+    """Lines that can't be written, on standard output or standard error, or that nobody reads, end nothing, and hold
+    nothing: each connection is served. Lines that didn't go out are counted in the next one that does."""
+    words = rules_file(folder, 'at mail do reject\n') + ['--log']
+    refused = [(OFFER, AGREED), (packet(b'M', b'<a@x>'), packet(b'r')), (QUIT, b'')]
 
-    def run(stdout, before=None):
+    def served_once(place, process):
+        with serving.connected(place, lambda: process.poll() is not None) as connection:
+            say(connection, refused)
+            serving.expect_closed(connection)
+
+    def goes_on(streams, before=None):
         place, address = serving.place_of(kind, folder)
-        served = subprocess.Popen([program, 'serve', address], stdin=subprocess.DEVNULL, stdout=stdout,
-                                  stderr=subprocess.PIPE, preexec_fn=before)
-        os.close(stdout)
+        served = subprocess.Popen([program, 'serve', address, '--all-stages'] + words, preexec_fn=before, **streams)
         try:
-            with serving.connected(place, lambda: served.poll() is not None) as connection:
-                connection.sendall(OFFER + QUIT)
-                _, err = served.communicate(timeout=serving.SECONDS)
-            expect('end', (served.returncode, err), (1, b'write fault\n'))
+            for _ in range(5):
+                served_once(place, served)
+            expect('it goes on', served.poll(), None)
         finally:
             served.kill()
-            served.communicate()
+            served.wait()
 
-    yield checked('standard output is full', run, os.open('/dev/full', os.O_WRONLY))
-    reader, writer = os.pipe()
-    os.close(reader)
-    yield checked('nobody reads standard output', run, writer)
-    yield checked('standard output is closed', run, os.open(os.devnull, os.O_WRONLY), lambda: os.close(1))
+    def pipe_without_reader():
+        reader, writer = os.pipe()
+        os.close(reader)
+        return writer
+
+    def count_of(name, text):
+        """How many lines these are, and how many more they say were lost."""
+        lost = [int(number) for number in re.findall(LOST[name], text)]
+        return len(text.splitlines()) - len(lost), lost
+
+    def stopped(name):
+        """A reader that doesn't read until many lines are there."""
+        place, address = serving.place_of(kind, folder)
+        reader, writer = os.pipe()
+        fcntl.fcntl(writer, fcntl.F_SETPIPE_SZ, 8192)
+        streams = {'stdout': subprocess.DEVNULL, 'stderr': subprocess.DEVNULL, name: writer}
+        served = subprocess.Popen([program, 'serve', address, '--all-stages'] + words, **streams)
+        os.close(writer)
+        try:
+            for _ in range(500):
+                served_once(place, served)
+            text = os.read(reader, 1 << 16)
+            served_once(place, served)
+            text += read_until(reader, LOST[name] + b'.*\n')
+            lines, lost = count_of(name, text)
+            served.kill()
+            text = b''
+            while piece := os.read(reader, 1 << 16):
+                text += piece
+            expect('one count', len(lost), 1)
+            begun = 2 if name == 'stderr' else 0
+            expect('all lines', lines + len(text.splitlines()) + lost[0], 501 + begun)
+        finally:
+            served.kill()
+            served.wait()
+            os.close(reader)
+
+    def read_until(reader, pattern):
+        """What there is to read, up to a whole line after this pattern."""
+        text, until = b'', time.monotonic() + serving.SECONDS
+        while not re.search(pattern, text) and time.monotonic() < until:
+            if select.select([reader], [], [], 1)[0]:
+                text += os.read(reader, 1 << 16)
+        return text
+
+    null = {'stdout': subprocess.DEVNULL, 'stderr': subprocess.DEVNULL}
+    for name, number in [('stdout', 1), ('stderr', 2)]:
+        with open('/dev/full', 'wb') as full:
+            yield checked(name + ' is full', goes_on, {**null, name: full})
+        writer = pipe_without_reader()
+        yield checked('nobody reads ' + name, goes_on, {**null, name: writer})
+        os.close(writer)
+        yield checked(name + ' is closed', goes_on, null, lambda number=number: os.close(number))
+        yield checked(name + ' is not read', stopped, name)
+    yield checked('all are closed', goes_on, null, lambda: os.closerange(0, 3))
 
 
 def words_refused(program, folder):

@@ -27,7 +27,7 @@ at header when header "X-Spam" has "yes" and header "Subject" has "nothing" do r
 at body when body has "nothing" and header "Subject" lacks "of" do reject
 '''
 LOGGED = (rb'(connection="\d+" host="h\d+\.example" address="192\.0\.2\.1" id="\d+" '
-          rb'stage="(rcpt|eob)" verdict="code" text="[^"\n]*"\n)*')
+          rb'stage="(rcpt|eob)"( line="[0-9]+")? verdict="code" text="[^"\n]*"\n)*')
 
 
 def talk_of(key):
@@ -50,19 +50,26 @@ def replies_to(served, given):
 
 
 def is_over(served):
-    """Waits until each connection has its line, and answers whether the run is over instead."""
-    serving.waited_for(lambda: served.process.poll() is not None or len(served.lines()) == CONNECTIONS)
-    return len(served.lines()) < CONNECTIONS
+    """Waits until each connection has its line or that is lost, and answers whether the run is over instead. A line that
+    is lost is counted before the next one, which is that of one more connection."""
+    def is_known():
+        return served.process.poll() is not None or len(served.lines()) + served.lost() >= CONNECTIONS
+
+    if not serving.waited_for(is_known):
+        replies_to(served, QUIT)
+        serving.waited_for(is_known)
+    return served.process.poll() is not None
 
 
 def expect_lines(served, talks, found):
-    """A run that goes on has a line for each connection: at most one was given up, and the others have all replies."""
-    lines = served.lines()
-    expect('numbers', [number for number, _ in lines], [b'%d' % (at + 1) for at in range(len(talks))])
-    endings = [ending for _, ending in lines]
+    """A run that goes on has a line for each connection: at most one was given up or has none, and the others have all
+    replies."""
+    lines = dict(served.lines())
+    endings = [lines.get(b'%d' % (at + 1)) for at in range(len(talks))]
     whole = [b'quit' if found[at] == replies else b'failed 7' for at, (_, replies) in enumerate(talks)]
-    expect('endings', [one for one, two in zip(endings, whole) if one != two and one != b'failed 7'], [])
-    expect('how many are given up', endings.count(b'failed 7') <= 1, True)
+    expect('endings', [one for one, two in zip(endings, whole) if one not in (two, b'failed 7', None)], [])
+    expect('how many are lost', endings.count(None), served.lost())
+    expect('how many are given up', endings.count(b'failed 7') + served.lost() <= 1, True)
 
 
 def run(program, kind, folder, words, **started):
@@ -79,7 +86,7 @@ def run(program, kind, folder, words, **started):
         else:
             expect_lines(served, talks, found)
             served.process.kill()
-        errors = served.process.stderr.read()
+        errors = serving.faults_in(served.process.stderr.read())
         expected = LOGGED + b'out of memory\n' if over else LOGGED + b'(out of memory\n)?' + LOGGED
         expect('errors', errors, errors if re.fullmatch(expected, errors) else expected)
 

@@ -75,16 +75,21 @@ def smtp_reply(code, text):
     return '%d %s' % (code, text.decode()) if code >= 400 else 'taken'
 
 
+def data_said(client, message):
+    """The reply to DATA where that is refused, and else to the message."""
+    try:
+        return smtp_reply(*client.data(message.encode()))
+    except smtplib.SMTPDataError as error:
+        return smtp_reply(error.smtp_code, error.smtp_error)
+
+
 def said(client, sender, recipients, message=None):
     """The replies to a sender, to each recipient, and to a message, up to the one after which nothing is left."""
     replies = [smtp_reply(*client.docmd('MAIL FROM:' + sender))]
     if replies == ['taken']:
         replies += [smtp_reply(*client.docmd('RCPT TO:' + recipient)) for recipient in recipients]
         if message is not None and 'taken' in replies[1:]:
-            try:
-                replies.append(smtp_reply(*client.data(message.encode())))
-            except smtplib.SMTPDataError as error:
-                replies.append(smtp_reply(error.smtp_code, error.smtp_error))
+            replies.append(data_said(client, message))
     client.rset()
     return replies
 

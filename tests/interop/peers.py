@@ -1,5 +1,6 @@
 """What the parts of tests/interop.sh share: the filter under test, its addresses, and the count of checks."""
 import os
+import re
 import socket
 import subprocess
 import sys
@@ -11,6 +12,8 @@ TOP = os.path.dirname(os.path.dirname(HERE))
 # What imports this may import what tests/lib has.
 sys.path.insert(0, os.path.join(TOP, 'tests'))
 SECONDS = 60
+# The lines of its log with which `milter_tool serve` begins.
+STARTS = re.compile('event="(start|limit|listen)" ')
 
 
 class Checks:
@@ -132,13 +135,18 @@ class Service:
         self.process.wait()
 
     def ended(self, count=0):
-        """What it has printed; it is ended, once these are so many lines."""
+        """What it has printed but for the lines of the log with which it begins; it is ended, once these are so many
+        lines."""
         too_late = threading.Timer(SECONDS, self.process.kill)
         too_late.start()
-        lines = [self.process.stdout.readline() for _ in range(count)]
+        lines = []
+        while len(lines) < count and (line := self.process.stdout.readline()):
+            lines += [] if STARTS.match(line.decode(errors='replace')) else [line]
         too_late.cancel()
         self.process.terminate()
-        return b''.join(lines).decode(errors='replace') + finished(self.process)[0]
+        rest = finished(self.process)[0].splitlines(keepends=True)
+        rest = [line for line in rest if not STARTS.match(line)]
+        return b''.join(lines).decode(errors='replace') + ''.join(rest)
 
 
 def recording(recorder, address):

@@ -22,6 +22,7 @@ import many
 import mta
 import peers
 import postfix
+import proxied
 import sendmail
 
 AT_ONCE = 8
@@ -106,6 +107,11 @@ def main():
     checks.part('Postfix, lists', listed.play, program, postfix.Postfix)
     for part in (cookbook, cookbook_settings, cookbook_statements, first_rules):
         checks.part(part.__name__, part.play, program)
+    missing = proxied.missing()
+    if missing:
+        print('haproxy: not run, ' + missing)
+    else:
+        proxied.play(checks, program)
     root = os.environ.get('SENDMAIL_ROOT', sendmail.UNPACKED)
     missing = sendmail.missing(root)
     if missing:

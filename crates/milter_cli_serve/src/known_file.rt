@@ -72,6 +72,14 @@ impl KnownFile {
         }
     }
 
+    /// The bytes that the rule file had when it was last taken; `None` where nothing is known. Doesn't allocate.
+    pub fn file_bytes(&self) -> Option<&[u8]> {
+        match &self.bytes {
+            Some(known) => Some(known.file.as_slice()),
+            None => None,
+        }
+    }
+
     /// Forgets the file: its rules are given again at the next look, also where it and its lists have the same bytes.
     pub fn forget(&mut self)
         ensures { self.new ≡ nothing_known }

@@ -3,6 +3,8 @@
 use crate::file_stamp::current_second;
 use crate::known_file::{KnownFile, ReadFile, RuleBytes};
 use crate::read_stamps::{ReadStamps, stamp_of, stamps_at};
+use crate::rule_lines::RuleLines;
+use milter_cli_faults::explain_file;
 use milter_cli_io::{
     FILE_MAX, FileError, InputFile, ListPath, RuleUse, list_paths, open_list, read_error,
     read_file, read_list,
@@ -12,7 +14,18 @@ use milter_wire::{List, NoMemory, Text};
 use std::alloc::Global;
 use std::fs;
 use std::marker::Model;
+use std::os::unix::fs::FileTypeExt;
+use std::path::Path;
 use std::rt::{Clock, Files};
+
+/// A rule file as the log names it.
+#[derive(Clone, Copy)]
+pub struct RuleText<'a> {
+    /// Its path.
+    pub path: &'a str,
+    /// The bytes that were last taken of it, where they are meant.
+    pub bytes: Option<&'a [u8]>,
+}
 
 /// Where rules come from, which may change.
 pub trait RuleSource {
@@ -37,6 +50,13 @@ pub trait RuleSource {
     /// Has it give the rules again when it is asked next, also where they did not change: who asked didn't keep them.
     fn forget(&mut self)
         ensures { looks_again self.new };
+
+    /// The lines that explain in words why the rules can't be given.
+    fn explain(&self, alloc: Global, error: FileError) -> Result<Vec<u8>, NoMemory>;
+
+    /// The file of which the rules were last taken, or a fault of what it has; `None` where the rules are of none.
+    /// Doesn't allocate.
+    fn text(&self) -> Option<RuleText<'_>>;
 }
 
 /// A rule file, and its lists.
@@ -104,6 +124,17 @@ impl<'r, R: Files + Clock> RuleSource for RuleFile<'r, R> {
     fn forget(&mut self) {
         self.known.forget();
     }
+
+    fn explain(&self, alloc: Global, error: FileError) -> Result<Vec<u8>, NoMemory> {
+        explain_file(self.files, alloc, self.path.unwrap_or(""), error)
+    }
+
+    fn text(&self) -> Option<RuleText<'_>> {
+        Some(RuleText {
+            path: self.path?,
+            bytes: self.known.file_bytes(),
+        })
+    }
 }
 
 /// Reads the rule file at this path, and its lists, the paths of whose files take the place of those in `lists`.
@@ -131,14 +162,27 @@ fn read_files<R: Files + Clock>(
     })
 }
 
+/// Whether a file at this path can be opened and read without a wait, since it is no pipe, no socket and no folder, or
+/// the system doesn't say what it is.
+fn is_read_at_once<R: Files>(files: &R, path: Path<'_>) -> bool {
+    let Ok(found) = fs::metadata(files, path) else {
+        return true;
+    };
+    let kind = found.file_type();
+    !(kind.is_fifo() || kind.is_socket() || kind.is_dir())
+}
+
 /// Reads the rule file at this path, without its lists. Of a file that is too large nothing is read, since it is looked
-/// at again at each look.
+/// at again at each look; and one that isn't read at once isn't opened.
 fn read_rule_file<R: Files>(
     files: &R,
     alloc: Global,
     path: &str,
     stamps: &mut ReadStamps,
 ) -> Result<Vec<u8>, FileError> {
+    if !is_read_at_once(files, Path::new(path)) {
+        return Err(FileError::Read(InputFile::Rules));
+    }
     let file = match fs::open(files, path) {
         Ok(file) => file,
         Err(error) => return Err(read_error(InputFile::Rules, error.kind())),
@@ -172,17 +216,34 @@ fn read_lists<R: Files>(
     Ok(lists)
 }
 
-/// Reads the list at this path; none where it can't be read.
+/// Reads the list at this path; none where it can't be read, or not at once.
 fn read_list_at<R: Files>(
     files: &R,
     alloc: Global,
     path: &ListPath,
     stamps: &mut ReadStamps,
 ) -> Result<Option<Vec<u8>>, NoMemory> {
-    let Some(file) = open_list(files, path.path.as_path())? else {
+    let path = path.path.as_path();
+    if !is_read_at_once(files, path) {
+        stamps.push_missing()?;
+        return Ok(None);
+    }
+    let Some(file) = open_list(files, path)? else {
         stamps.push_missing()?;
         return Ok(None);
     };
     stamps.push_read(stamp_of(&file))?;
     read_list(alloc, file)
+}
+
+/// The lines of the rules of a file; none where there is no file, it wasn't read, or memory is refused.
+pub fn lines_in(alloc: Global, file: Option<RuleText<'_>>) -> RuleLines {
+    let bytes = match file {
+        Some(file) => file.bytes.unwrap_or(&[]),
+        None => &[],
+    };
+    match RuleLines::of(alloc, bytes) {
+        Ok(lines) => lines,
+        Err(NoMemory) => RuleLines::none(alloc),
+    }
 }

@@ -6,7 +6,9 @@ ghost use Rattle.milter_protocol.specs.Lawful.{AnswerFits};
 ghost use Rattle.milter_filter_answer.specs.declared.answer_fault.AnswerFault.TheVariants as refusals;
 ghost use Rattle.milter_filter_answer.specs.AnswerFaults.{Breaks};
 
-use milter_filter::{Answer, AnswerFault, Connection, Pattern, Policy, Seen, Wants};
+use milter_filter::{
+    Answer, AnswerFault, Connection, Needle, PathPart, Pattern, Policy, Seen, Wants,
+};
 use milter_wire::{NoMemory, Stage};
 use std::alloc::Global;
 use std::marker::Model;
@@ -51,10 +53,17 @@ impl AskedConnection {
     }
 
     /// Searches the header fields that are shown, as [`Seen::search_headers`] does.
-    pub fn search_headers(&mut self, place: usize, name: &[u8], pattern: &Pattern<'_>)
+    pub fn search_headers(&mut self, place: usize, name: &[u8], needle: &Needle<'_>)
         ensures { self.new ≡ self.old }
     {
-        self.inner.search_headers(place, name, pattern);
+        self.inner.search_headers(place, name, needle);
+    }
+
+    /// Searches the recipients that are shown, as [`Seen::search_recipients`] does.
+    pub fn search_recipients(&mut self, place: usize, part: PathPart, needle: &Needle<'_>)
+        ensures { self.new ≡ self.old }
+    {
+        self.inner.search_recipients(place, part, needle);
     }
 
     /// Searches the body that is shown, as [`Seen::search_body`] does.

@@ -93,6 +93,14 @@ impl<S: Drop> Clients<S> {
         self.connected.try_remove(place)
     }
 
+    /// Gives back the memory for clients that have ended. Those that are connected stay as they are.
+    pub(crate) fn shrink(&mut self)
+        ensures { (place : ℕ) → get self.new place ≡ get self.old place }
+    {
+        self.connected.shrink_to_fit();
+        self.queue.shrink_to_fit();
+    }
+
     /// How many wait for their turns.
     pub(crate) fn waiting(&self) -> usize {
         self.queue.len()

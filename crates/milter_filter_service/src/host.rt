@@ -4,6 +4,7 @@ use crate::asked_connection::AskedConnection;
 use crate::clients::Clients;
 use crate::key::{Key, QuestionKey};
 use crate::service_error::ServiceError;
+use crate::shortage::Shortage;
 use milter_filter::{Served, Wants};
 use milter_wire::{NoMemory, Stage, Verdict};
 use mio::{Registry, Token};
@@ -79,4 +80,8 @@ pub trait Host {
     fn refused(&mut self, _key: Key) -> Result<(), ServiceError> {
         Ok(())
     }
+
+    /// The system lacks this for a connection that comes, so that it waits. It is called once for all of them, until
+    /// none waits any more.
+    fn full(&mut self, _shortage: Shortage) {}
 }

@@ -12,6 +12,7 @@ mod limits;
 mod listener;
 mod service;
 mod service_error;
+mod shortage;
 
 pub use asked_connection::AskedConnection;
 pub use clients::Clients;
@@ -24,3 +25,4 @@ pub use milter_filter::policy_wants;
 pub use mio::{Interest, Registry, Token};
 pub use service::Service;
 pub use service_error::ServiceError;
+pub use shortage::Shortage;

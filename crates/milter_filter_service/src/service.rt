@@ -11,6 +11,7 @@ use crate::key::Key;
 use crate::limits::Limits;
 use crate::listener::{Listener, Stream};
 use crate::service_error::ServiceError;
+use crate::shortage::Shortage;
 use milter_filter::{CommandOrder, Connection, FilterFault, Served, Wants, read_buffer};
 use mio::event::Event;
 use mio::{Events, Poll, Token};
@@ -29,8 +30,9 @@ const ACCEPTS_MAX: u32 = 64;
 const RETRY: u64 = 100;
 /// How many milliseconds pass between two looks at all clients.
 const CHECK: u64 = 1_000;
-/// The most connections that have ended whose memory is kept for others: for each of them room for one packet, 65,540
-/// bytes, up to the next look, and what else `Connection::restart` leaves it, which is less than 3 MB.
+/// The most connections that have ended whose memory is kept for others, up to a look at which no client is connected:
+/// for each of them room for one packet, 65,540 bytes, up to the next look, and what else `Connection::restart` leaves
+/// it, which is less than 3 MB.
 const SPARE_MAX: usize = 16;
 /// The tokens of listeners: the highest is that of the first.
 const LISTENER_TOKENS: usize = usize::MAX;
@@ -60,6 +62,8 @@ pub struct Service<'r, R: Net + Clock, S: Drop> {
     count: u32,
     // Whether the system had no room for a connection.
     is_full: bool,
+    // Whether the host knows that it had none, since connections waited last.
+    is_known_full: bool,
     // The second at which all clients are looked at again.
     next_check: u64,
 }
@@ -98,6 +102,7 @@ impl<'r, R: Net + Clock, S: Drop> Service<'r, R, S> {
             is_released: true,
             count: 0,
             is_full: false,
+            is_known_full: false,
             next_check: 0,
         })
     }
@@ -216,7 +221,19 @@ impl<'r, R: Net + Clock, S: Drop> Service<'r, R, S> {
         for place in 0..self.sources.len() {
             self.accept_from(place, second, host)?;
         }
+        if !self.is_full && !self.sources.iter().any(|source| source.is_ready) {
+            self.is_known_full = false;
+        }
         Ok(())
+    }
+
+    /// Notes that the system has no room for a connection, and has the host know it where it doesn't.
+    fn on_full<H: Host<Session = S>>(&mut self, shortage: Shortage, host: &mut H) {
+        self.is_full = true;
+        if !self.is_known_full {
+            self.is_known_full = true;
+            host.full(shortage);
+        }
     }
 
     /// Takes connections that have come on one of the listeners.
@@ -242,7 +259,7 @@ impl<'r, R: Net + Clock, S: Drop> Service<'r, R, S> {
                     ErrorKind::WouldBlock => source.is_ready = false,
                     ErrorKind::ConnectionAborted | ErrorKind::ConnectionReset => {}
                     _ => {
-                        self.is_full = true;
+                        self.on_full(Shortage::of(&error), host);
                         return Ok(());
                     }
                 },
@@ -385,6 +402,9 @@ impl<'r, R: Net + Clock, S: Drop> Service<'r, R, S> {
         }
         self.next_check = second.saturating_add(1);
         self.release_spare();
+        if self.clients.is_empty() {
+            self.give_back();
+        }
         for place in 0..self.limits.at_once {
             self.look_at(place, second, host)?;
         }
@@ -397,6 +417,12 @@ impl<'r, R: Net + Clock, S: Drop> Service<'r, R, S> {
             connection.release();
         }
         self.is_released = true;
+    }
+
+    /// Gives back the memory that only clients need, where there is none.
+    fn give_back(&mut self) {
+        self.spare.clear();
+        self.clients.shrink();
     }
 
     /// Does what is due about a client.

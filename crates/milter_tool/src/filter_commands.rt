@@ -2,11 +2,12 @@
 
 use crate::files::rules_at;
 use milter_cli::{Connections, answer_run, filter_run};
+use milter_cli_faults::Failure;
 use milter_cli_io::{RuleUse, ToolError, ended_as, listen_error, output_error};
 use milter_cli_request::{Address, AnswerRequest, FilterRequest, UsageError};
 use milter_filter::{CommandOrder, serve_in_order};
 use milter_rules::Rules;
-use std::io;
+use std::io::{self, ErrorKind};
 use std::net::{Net, TcpListener, TcpStream};
 use std::os::unix::net::UnixListener;
 use std::rt::Files;
@@ -42,10 +43,11 @@ pub(crate) fn answer_mail_server<R: Input + Files + Print + AllocGlobal>(
 
 /// Serves connections of mail servers one after another, as a filter.
 pub(crate) fn serve_in_turn<
+    'x,
     R: Net<Listener = TcpListener, Stream = TcpStream> + Files + Print + AllocGlobal,
->(rt: &R, asked: FilterRequest<'_>) -> Result<(), ToolError> {
+>(rt: &R, asked: FilterRequest<'x>) -> Result<(), Failure<'x>> {
     let Some(address) = Address::parse(asked.address) else {
-        return Err(ToolError::Usage(UsageError::BadAddress));
+        return Err(Failure::from(ToolError::Usage(UsageError::BadAddress)));
     };
     let usage = RuleUse {
         ignore_case: asked.ignore_case,
@@ -57,23 +59,28 @@ pub(crate) fn serve_in_turn<
 }
 
 /// Serves so many of the connections at this address as are asked for, with these rules.
-fn serve_at<R: Net<Listener = TcpListener, Stream = TcpStream> + Files + Print + AllocGlobal>(
+fn serve_at<'x, R: Net<Listener = TcpListener, Stream = TcpStream> + Files + Print + AllocGlobal>(
     rt: &R,
     rules: &Rules,
-    address: Address<'_>,
-    asked: FilterRequest<'_>,
-) -> Result<(), ToolError> {
+    address: Address<'x>,
+    asked: FilterRequest<'x>,
+) -> Result<(), Failure<'x>> {
     let order = order_of(asked.lenient);
     match address {
         Address::Inet { port, host } => match TcpListener::bind(rt, (host, port)) {
-            Ok(listener) => serve_connections(rt, rules, listener, asked.count, order),
-            Err(error) => Err(listen_error(error.kind())),
+            Ok(listener) => Ok(serve_connections(rt, rules, listener, asked.count, order)?),
+            Err(error) => Err(unbound(asked.address, error.kind())),
         },
         Address::Unix { path } => match UnixListener::bind(rt, path) {
-            Ok(listener) => serve_connections(rt, rules, listener, asked.count, order),
-            Err(error) => Err(listen_error(error.kind())),
+            Ok(listener) => Ok(serve_connections(rt, rules, listener, asked.count, order)?),
+            Err(error) => Err(unbound(asked.address, error.kind())),
         },
     }
+}
+
+/// The failure of a socket that isn't bound at this address.
+pub(crate) fn unbound(address: &str, kind: ErrorKind) -> Failure<'_> {
+    Failure::of_socket(listen_error(kind), address, Some(kind))
 }
 
 /// Serves so many of these connections, as a filter with these rules.

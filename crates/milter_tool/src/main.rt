@@ -1,8 +1,9 @@
 //! `milter_tool`: looks at conversations between mail servers and their filters, and plays either side, in the milter
 //! protocol.
 //!
-//! Results go to standard output and fault lines to standard error. The program ends with status 0 where it did what
-//! it was asked, 1 after a fault, and 2 after a wrong use of the command line.
+//! Results go to standard output and fault lines to standard error. On a terminal, with `--explain` and of `serve`,
+//! lines follow that explain the fault in words. The program ends with status 0 where it did what it was asked, 1 after
+//! a fault, and 2 after a wrong use of the command line.
 #![tactic(auto)]
 
 mod files;
@@ -14,10 +15,11 @@ use crate::files::{check_rules_at, print_rule_file, print_session_file, print_tr
 use crate::filter_commands::{answer_mail_server, serve_in_turn};
 use crate::serve_command::serve_many;
 use crate::session_commands::{play_in_memory, play_session};
+use milter_cli_faults::{Failure, explain, explain_words};
 use milter_cli_io::{ToolError, argument_error, end_usage, report};
-use milter_cli_request::{Request, parse};
+use milter_cli_request::{Request, is_explained, parse};
 use std::env::{self, Env};
-use std::io::{self, Write};
+use std::io::{self, IsTerminal, Write};
 use std::net::{Net, TcpListener, TcpStream};
 use std::process::ExitCode;
 use std::rt::{Clock, Files};
@@ -30,22 +32,68 @@ fn words<R: Env + AllocGlobal>(rt: &R) -> Result<Vec<String>, ToolError> {
     }
 }
 
-/// Does what the command line asks for.
+/// Does what these words ask for, and ends the program. Faults are explained in words where standard error is a
+/// terminal, where `--explain` is given, and always of a command for which that is so.
 fn run<
     R: Net<Listener = TcpListener, Stream = TcpStream>
         + Input
         + Files
         + Clock
         + Print
-        + Env
         + AllocGlobal,
     E: Write,
->(rt: &R, errors: &mut E) -> Result<(), ToolError> {
-    let words = words(rt)?;
-    match parse(rt.alloc(), words.as_slice()) {
-        Ok(request) => run_request(rt, &request, errors),
-        Err(error) => end_usage(error, &mut io::writer(rt)),
+>(rt: &R, words: &[String], is_terminal: bool, errors: &mut E) -> ExitCode {
+    let request = match parse(rt.alloc(), words) {
+        Ok(request) => request,
+        Err(error) => return report(end_usage(error, &mut io::writer(rt)), errors),
+    };
+    let Err(failure) = run_request(rt, &request) else {
+        return report(Ok(()), errors);
+    };
+    if is_terminal || is_explained(words) || is_always_explained(&request) {
+        report_in_words(rt, &request, failure, errors)
+    } else {
+        report(Err(failure.error), errors)
     }
+}
+
+/// Whether the faults of a request are explained wherever standard error goes.
+fn is_always_explained(request: &Request<'_>) -> bool {
+    matches!(request, Request::Serve(_))
+}
+
+/// Ends the program: writes the line of a failure, and then those that explain it; the line alone where memory is
+/// refused for these.
+fn report_in_words<R: Files + AllocGlobal, E: Write>(
+    rt: &R,
+    request: &Request<'_>,
+    failure: Failure<'_>,
+    errors: &mut E,
+) -> ExitCode {
+    match explain(rt, rt.alloc(), request, &failure) {
+        Ok(lines) => report_with(failure.error, lines.as_slice(), errors),
+        Err(_) => report(Err(failure.error), errors),
+    }
+}
+
+/// Ends the program where its words can't be read: writes the line of that, and on a terminal the one that explains it.
+fn report_unread<R: AllocGlobal, E: Write>(
+    rt: &R,
+    error: ToolError,
+    is_terminal: bool,
+    errors: &mut E,
+) -> ExitCode {
+    match explain_words(rt.alloc(), &error) {
+        Ok(lines) if is_terminal => report_with(error, lines.as_slice(), errors),
+        _ => report(Err(error), errors),
+    }
+}
+
+/// Ends the program: writes the line of an error, and then these.
+fn report_with<E: Write>(error: ToolError, lines: &[u8], errors: &mut E) -> ExitCode {
+    let ended = report(Err(error), errors);
+    let _ = errors.write_all(lines);
+    ended
 }
 
 /// Does what a request asks for.
@@ -57,22 +105,24 @@ fn run_request<
         + Clock
         + Print
         + AllocGlobal,
-    E: Write,
->(rt: &'x R, request: &Request<'x>, errors: &mut E) -> Result<(), ToolError> {
+>(rt: &'x R, request: &Request<'x>) -> Result<(), Failure<'x>> {
     match request {
-        Request::Trace => print_trace(rt),
-        Request::Session { file } => print_session_file(rt, file),
-        Request::Rules { file, check: false } => print_rule_file(rt, file),
-        Request::Rules { file, check: true } => check_rules_at(rt, file),
-        Request::Answer(asked) => answer_mail_server(rt, *asked),
+        Request::Trace => Ok(print_trace(rt)?),
+        Request::Session { file } => Ok(print_session_file(rt, file)?),
+        Request::Rules { file, check: false } => Ok(print_rule_file(rt, file)?),
+        Request::Rules { file, check: true } => Ok(check_rules_at(rt, file)?),
+        Request::Answer(asked) => Ok(answer_mail_server(rt, *asked)?),
         Request::Filter(asked) => serve_in_turn(rt, *asked),
-        Request::Serve(asked) => serve_many(rt, asked, errors),
+        Request::Serve(asked) => serve_many(rt, asked),
         Request::Mta(asked) => play_session(rt, *asked),
-        Request::Play(asked) => play_in_memory(rt, *asked),
+        Request::Play(asked) => Ok(play_in_memory(rt, *asked)?),
     }
 }
 
 fn main(rt: HostRuntime) -> ExitCode {
-    let ended = run(&rt, &mut rt.stderr());
-    report(ended, &mut rt.stderr())
+    let is_terminal = rt.stderr().is_terminal();
+    match words(&rt) {
+        Ok(words) => run(&rt, words.as_slice(), is_terminal, &mut rt.stderr()),
+        Err(error) => report_unread(&rt, error, is_terminal, &mut rt.stderr()),
+    }
 }

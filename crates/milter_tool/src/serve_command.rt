@@ -1,73 +1,164 @@
 //! The subcommand `serve`.
 
-use bumpalo::Bump;
-use milter_cli_io::{RuleUse, ToolError, listen_error, service_error};
-use milter_cli_request::{Address, ServeRequest, UsageError, parse_mode};
-use milter_cli_serve::{DecisionLog, LoggedPolicy, RuleFile, RuleHost, RuleSource};
+use crate::filter_commands::unbound;
+use milter_cli_faults::Failure;
+use milter_cli_io::{RuleUse, ToolError, service_error};
+use milter_cli_request::{Address, ServeRequest, UsageError, VERSION, parse_mode};
+use milter_cli_serve::{
+    LineOutput, LogDetail, LoggedPolicy, LostWords, RuleFile, RuleHost, RuleSource, RuleText,
+    ServiceEvent, ServiceLog, ServiceStart, StandardStream, fill_standard, free_descriptors,
+    lines_in,
+};
 use milter_filter_service::{Host, Limits, Listener, Service};
 use milter_rules::Rules;
 use std::alloc::Global;
-use std::io::{self, Write};
 use std::net::{Net, TcpListener, TcpStream};
+use std::rc::Rc;
 use std::rt::{Clock, Files};
 
-/// What connections are served with at once.
+/// The word after `--log` by which each message has a line. It is no address.
+const ALL: &str = "all";
+
+/// The line on standard output of how many lines were lost there.
+const LOST_LINES: LostWords = LostWords {
+    before: "lost ",
+    after: "",
+};
+
+/// The same on standard error.
+const LOST_EVENTS: LostWords = LostWords {
+    before: "event=\"lost\" lines=\"",
+    after: "\"",
+};
+
+/// What the command line asks for, as far as it is right.
 #[derive(Drop)]
-struct Serving<'x, R: Files + Clock> {
+struct Serving<'x> {
+    addresses: Vec<&'x str>,
+    mode: u32,
+    detail: LogDetail,
     limits: Limits,
-    listeners: Vec<Listener>,
-    source: RuleFile<'x, R>,
-    logs: bool,
+    at_once: u32,
+    rules: Option<&'x str>,
+    usage: RuleUse,
 }
 
 /// Serves connections of mail servers at once, as a filter, until it is ended.
 pub(crate) fn serve_many<
     'x,
-    R: Net<Listener = TcpListener, Stream = TcpStream> + Files + Clock + Print + AllocGlobal,
-    E: Write,
->(rt: &'x R, asked: &ServeRequest<'x>, errors: &mut E) -> Result<(), ToolError> {
-    if !are_addresses(asked.addresses.as_slice()) {
+    R: Net<Listener = TcpListener, Stream = TcpStream> + Files + Clock + AllocGlobal,
+>(rt: &'x R, asked: &ServeRequest<'x>) -> Result<(), Failure<'x>> {
+    let serving = serving_of(rt.alloc(), asked)?;
+    let _filled = fill_standard(rt, rt.alloc());
+    let errors = LineOutput::new(rt.alloc(), StandardStream::errors(), LOST_EVENTS);
+    let log = ServiceLog::new(errors, serving.detail);
+    let mut source = RuleFile::new(rt, rt.alloc(), serving.rules, serving.usage);
+    let rules = first_rules(rt.alloc(), &mut source)?;
+    let free = free_descriptors(rt, rt.alloc());
+    let listeners = listeners_at(rt, serving.addresses.as_slice(), serving.mode)?;
+    log_start(rt.alloc(), &log, &serving, source.text(), &rules, free);
+    let ended = serve_rules(rt, &serving, listeners, source, rules, &log);
+    if let Err(error) = &ended {
+        log.write_event(rt.alloc(), &ServiceEvent::End(error));
+    }
+    Ok(ended?)
+}
+
+/// What the command line asks for; or why it is wrong.
+fn serving_of<'x>(alloc: Global, asked: &ServeRequest<'x>) -> Result<Serving<'x>, ToolError> {
+    let detail = detail_of(asked);
+    let addresses = addresses_of(alloc, asked.addresses.as_slice(), detail)?;
+    if addresses.is_empty() || !are_addresses(addresses.as_slice()) {
         return Err(ToolError::Usage(UsageError::BadAddress));
     }
     let mode = match parse_mode(asked.mode) {
         Ok(mode) => mode,
         Err(error) => return Err(ToolError::Usage(error)),
     };
-    let usage = RuleUse {
-        ignore_case: asked.ignore_case,
-        least_stages: !asked.all_stages,
-        names_messages: asked.log,
-    };
-    let mut source = RuleFile::new(rt, rt.alloc(), asked.rules, usage);
-    let rules = first_rules(rt.alloc(), &mut source)?;
-    serve_by_rules(rt, asked, mode, source, &rules, &DecisionLog::new(errors))
-}
-
-/// The same, on sockets of this mode, first with these rules.
-fn serve_by_rules<
-    'x,
-    R: Net<Listener = TcpListener, Stream = TcpStream> + Files + Clock + Print + AllocGlobal,
-    E: Write,
->(
-    rt: &'x R,
-    asked: &ServeRequest<'x>,
-    mode: u32,
-    source: RuleFile<'x, R>,
-    rules: &Rules,
-    log: &DecisionLog<E>,
-) -> Result<(), ToolError> {
-    let serving = Serving {
+    Ok(Serving {
+        addresses,
+        mode,
+        detail,
         limits: Limits {
             at_once: asked.at_once as usize,
             timeout: u64::from(asked.timeout),
             answer: u64::from(asked.timeout),
             progress: 0,
         },
-        listeners: listeners_at(rt, asked.addresses.as_slice(), mode)?,
-        source,
-        logs: asked.log,
+        at_once: asked.at_once,
+        rules: asked.rules,
+        usage: RuleUse {
+            ignore_case: asked.ignore_case,
+            least_stages: !asked.all_stages,
+            names_messages: asked.log,
+        },
+    })
+}
+
+/// Which answers have lines in the log: each message has one where the word `all` is there.
+fn detail_of(asked: &ServeRequest<'_>) -> LogDetail {
+    if !asked.log {
+        return LogDetail::Nothing;
+    }
+    for word in asked.addresses.as_slice() {
+        if *word == ALL {
+            return LogDetail::Messages;
+        }
+    }
+    LogDetail::Decisions
+}
+
+/// These words but for that of the log, where there is a log.
+fn addresses_of<'x>(
+    alloc: Global,
+    words: &[&'x str],
+    detail: LogDetail,
+) -> Result<Vec<&'x str>, ToolError> {
+    let mut addresses = Vec::new(alloc);
+    for word in words {
+        let is_of_log = detail == LogDetail::Messages && *word == ALL;
+        if !is_of_log && addresses.push(*word).is_err() {
+            return Err(ToolError::NoMemory);
+        }
+    }
+    Ok(addresses)
+}
+
+/// Logs with what the service begins, and each address at which it listens. Where so many descriptors were free before
+/// it listened that fewer connections can be open than are allowed, it says so: each listener has one, the waiting for
+/// sockets one, and the reading of rules one.
+fn log_start(
+    alloc: Global,
+    log: &ServiceLog<StandardStream>,
+    serving: &Serving<'_>,
+    file: Option<RuleText<'_>>,
+    rules: &Rules,
+    free: Option<u64>,
+) {
+    let own: u64 = if serving.rules.is_some() { 2 } else { 1 };
+    let taken = own.saturating_add(serving.addresses.len() as u64);
+    let allowed = match free {
+        Some(free) => Some(free.saturating_sub(taken)),
+        None => None,
     };
-    serve_rules(rt, serving, rules, log, &Bump::new(rt.alloc()))
+    let start = ServiceStart {
+        version: VERSION,
+        addresses: serving.addresses.as_slice(),
+        at_once: serving.at_once,
+        allowed,
+        file,
+        rules,
+    };
+    log.write_event(alloc, &ServiceEvent::Start(start));
+    if let Some(allowed) = allowed {
+        let at_once = serving.at_once;
+        if allowed < u64::from(at_once) {
+            log.write_event(alloc, &ServiceEvent::Limit { at_once, allowed });
+        }
+    }
+    for address in serving.addresses.as_slice() {
+        log.write_event(alloc, &ServiceEvent::Listen(address));
+    }
 }
 
 /// The rules that a source has when it is asked first; none where it has none.
@@ -79,32 +170,33 @@ fn first_rules<S: RuleSource>(alloc: Global, source: &mut S) -> Result<Rules, To
     }
 }
 
-/// Serves connections at once, first by these rules. The arena has the rules that come after them.
-fn serve_rules<'x, 's, R: Net + Files + Clock + Print + AllocGlobal, E: Write>(
+/// Serves connections at once, first by these rules.
+fn serve_rules<'s, R: Net + Files + Clock + AllocGlobal>(
     rt: &R,
-    serving: Serving<'s, R>,
-    rules: &'x Rules,
-    log: &'x DecisionLog<E>,
-    arena: &'x Bump,
+    serving: &Serving<'_>,
+    listeners: Vec<Listener>,
+    source: RuleFile<'s, R>,
+    rules: Rules,
+    log: &ServiceLog<StandardStream>,
 ) -> Result<(), ToolError> {
     let policy = LoggedPolicy {
         policy: rules,
-        log: if serving.logs { Some(log) } else { None },
+        lines: lines_in(rt.alloc(), source.text()),
+        log,
     };
-    let Ok(first) = arena.try_alloc(policy) else {
+    let Ok(current) = Rc::new(rt.alloc(), policy) else {
         return Err(ToolError::NoMemory);
     };
     let mut host = RuleHost {
         alloc: rt.alloc(),
-        source: serving.source,
-        first: &*first,
-        later: Vec::new(rt.alloc()),
-        arena,
-        writer: &mut io::writer(rt),
+        source,
+        current,
+        output: &mut LineOutput::new(rt.alloc(), StandardStream::output(), LOST_LINES),
         log,
         failed: None,
+        is_refusing: false,
     };
-    serve_listeners(rt, serving.limits, serving.listeners, &mut host)
+    serve_listeners(rt, serving.limits, listeners, &mut host)
 }
 
 /// Whether each of these texts is an address.
@@ -118,33 +210,36 @@ fn are_addresses(texts: &[&str]) -> bool {
 }
 
 /// Listeners on these addresses, on sockets of this mode where they have paths.
-fn listeners_at<R: Net<Listener = TcpListener, Stream = TcpStream> + Files + AllocGlobal>(
+fn listeners_at<'x, R: Net<Listener = TcpListener, Stream = TcpStream> + Files + AllocGlobal>(
     rt: &R,
-    addresses: &[&str],
+    addresses: &[&'x str],
     mode: u32,
-) -> Result<Vec<Listener>, ToolError> {
+) -> Result<Vec<Listener>, Failure<'x>> {
     let mut listeners = Vec::new(rt.alloc());
     for address in addresses {
         let listener = listener_at(rt, address, mode)?;
         if listeners.push(listener).is_err() {
-            return Err(ToolError::NoMemory);
+            return Err(Failure::from(ToolError::NoMemory));
         }
     }
     Ok(listeners)
 }
 
 /// A listener on this address.
-fn listener_at<R: Net<Listener = TcpListener, Stream = TcpStream> + Files>(
+fn listener_at<'x, R: Net<Listener = TcpListener, Stream = TcpStream> + Files>(
     rt: &R,
-    address: &str,
+    address: &'x str,
     mode: u32,
-) -> Result<Listener, ToolError> {
+) -> Result<Listener, Failure<'x>> {
     let bound = match Address::parse(address) {
         Some(Address::Inet { port, host }) => Listener::bind_inet(rt, host, port),
         Some(Address::Unix { path }) => Listener::bind_unix(rt, path, mode),
-        None => return Err(ToolError::Usage(UsageError::BadAddress)),
+        None => return Err(Failure::from(ToolError::Usage(UsageError::BadAddress))),
     };
-    bound.map_err(|error| listen_error(error.kind()))
+    match bound {
+        Ok(listener) => Ok(listener),
+        Err(error) => Err(unbound(address, error.kind())),
+    }
 }
 
 /// Serves the connections of these listeners at once, as a filter whose questions the host answers.

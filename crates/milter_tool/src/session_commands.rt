@@ -1,7 +1,10 @@
 //! The subcommands `mta` and `play`.
 
 use crate::files::{events_at, expected_at, open, rules_at, session_at};
-use milter_cli::{TcpDial, UnixDial, WaitingDial, check_reports, mta_run, play_run, schedule_run};
+use milter_cli::{
+    Connect, TcpDial, UnixDial, WaitingDial, check_reports, mta_run, play_run, schedule_run,
+};
+use milter_cli_faults::Failure;
 use milter_cli_io::{FileError, InputFile, RuleUse, ToolError, output_error};
 use milter_cli_request::{Address, MtaRequest, Offer, PlayRequest, Target};
 use milter_mail::Session;
@@ -15,13 +18,13 @@ use std::rt::{Clock, Files};
 use std::time::Duration;
 
 /// Plays the session of a file to a filter, as a mail server, and prints what becomes of its messages.
-pub(crate) fn play_session<R: Net<Stream = TcpStream> + Files + Clock + Print + AllocGlobal>(
+pub(crate) fn play_session<'x, R: Net<Stream = TcpStream> + Files + Clock + Print + AllocGlobal>(
     rt: &R,
-    asked: MtaRequest<'_>,
-) -> Result<(), ToolError> {
+    asked: MtaRequest<'x>,
+) -> Result<(), Failure<'x>> {
     let target = match Target::parse(asked.address, asked.actions, asked.protocol) {
         Ok(target) => target,
-        Err(error) => return Err(ToolError::Usage(error)),
+        Err(error) => return Err(Failure::from(ToolError::Usage(error))),
     };
     let config = Config::new(target.offer.actions, target.offer.protocol, asked.loss).unwrap();
     let limit = Duration::from_secs(u64::from(asked.timeout));
@@ -48,25 +51,25 @@ pub(crate) fn play_session<R: Net<Stream = TcpStream> + Files + Clock + Print + 
 
 /// Plays the session over the connections that `dial` makes. The reports are kept until it is known that there was a
 /// connection, or that they are the expected ones, where that is asked for.
-fn play_session_over<R: Files + Clock + Print + AllocGlobal, D: Dial + Drop>(
+fn play_session_over<'x, R: Files + Clock + Print + AllocGlobal, D: Connect + Drop>(
     rt: &R,
     config: Config,
-    asked: MtaRequest<'_>,
+    asked: MtaRequest<'x>,
     dial: D,
-) -> Result<(), ToolError> {
+) -> Result<(), Failure<'x>> {
     let mut dial = WaitingDial::new(rt, dial, asked.wait);
     if asked.wait == 0 && asked.expect.is_none() {
-        return play_file(rt, config, asked.session, &mut dial, &mut io::writer(rt));
+        return Ok(play_file(rt, config, asked.session, &mut dial, &mut io::writer(rt))?);
     }
     let expected = expected_at(rt, asked.expect)?;
     let mut found = Vec::new(rt.alloc());
     if let Err(error) = play_file(rt, config, asked.session, &mut dial, &mut found) {
-        return Err(kept_error(error));
+        return Err(Failure::from(kept_error(error)));
     }
     if dial.has_failed() {
-        return Err(ToolError::Connect);
+        return Err(Failure::of_socket(ToolError::Connect, asked.address, dial.refusal()));
     }
-    end_reports(rt, found.as_slice(), expected)
+    Ok(end_reports(rt, found.as_slice(), expected)?)
 }
 
 /// The error of reports that are kept in memory: there a write fails where memory is refused.
