@@ -1,0 +1,4 @@
+pub mod Blocks
+pub mod Occurrence
+pub mod Counted
+pub mod Fields
