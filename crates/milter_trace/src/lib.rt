@@ -2,7 +2,7 @@
 //!
 //! [`trace_run`] reads a trace and writes a line for each packet of either direction, with its fields. Where the trace
 //! ends before its input, a [`TraceFault`] says why. A [`PacketTrace`] prints the packets of a connection as their
-//! bytes come.
+//! bytes come. What both are made of, a line and the line of a packet, is for those who read traces otherwise.
 #![tactic(auto)]
 
 mod direction;
@@ -18,5 +18,9 @@ mod trace_printer;
 
 pub use direction::Direction;
 pub use fault::TraceFault;
+pub use packet_line::put_packet;
+pub use packet_stream::packet_fault;
 pub use packet_trace::PacketTrace;
 pub use trace::{trace_limits, trace_run};
+pub use trace_line::{UndecodedLine, line_end, parse_line};
+pub use trace_printer::decode_digits;

@@ -15,7 +15,7 @@ use std::alloc::Global;
 /// Appends the line of a packet: the direction, the code and the fields, with a blank between. The fault is
 /// `UnknownCode` or `Malformed`, and `text` is then as it was; after `NoMemory` a beginning of the line may have been
 /// appended.
-pub(crate) fn put_packet(
+pub fn put_packet(
     alloc: Global,
     direction: Direction,
     packet: &Packet<'_>,

@@ -42,8 +42,9 @@ pub(crate) fn print_packets(
     Ok(())
 }
 
-/// The fault of a packet in this line.
-fn packet_fault(line: u64, direction: Direction, fault: WireFault) -> TraceFault
+/// The fault of a trace by that of a packet that becomes whole in this line, or of a length: `NoMemory` where memory
+/// was refused. Doesn't allocate.
+pub fn packet_fault(line: u64, direction: Direction, fault: WireFault) -> TraceFault
     ensures { result ≡ packet_fault line direction fault }
 {
     match fault {

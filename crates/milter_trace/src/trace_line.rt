@@ -12,7 +12,7 @@ pub(crate) const LINE_MAX: usize = 262_144;
 
 /// A line of a trace whose digits are not decoded yet.
 #[derive(Clone, Copy)]
-pub(crate) enum UndecodedLine<'a> {
+pub enum UndecodedLine<'a> {
     /// A blank line or a comment.
     Skipped,
     /// A line that is too long, or begins with no direction.
@@ -21,8 +21,8 @@ pub(crate) enum UndecodedLine<'a> {
     Digits(Direction, &'a [u8]),
 }
 
-/// What a line is that has these bytes before its LF, or before the end of the input.
-pub(crate) fn parse_line(bytes: &[u8], ended: bool) -> UndecodedLine<'_>
+/// What a line is that has these bytes before its LF, or before the end of the input. Doesn't allocate.
+pub fn parse_line(bytes: &[u8], ended: bool) -> UndecodedLine<'_>
     ensures { decoded_line result ≡ parsed_line (record { bytes = bytes.now; ended = ended }) }
 {
     if bytes.len() > LINE_MAX {
@@ -39,8 +39,8 @@ pub(crate) fn parse_line(bytes: &[u8], ended: bool) -> UndecodedLine<'_>
     }
 }
 
-/// The index of the first LF.
-pub(crate) fn line_end(bytes: &[u8]) -> Option<usize>
+/// The index of the first LF. Doesn't allocate.
+pub fn line_end(bytes: &[u8]) -> Option<usize>
     ensures { result ≡ position (λ byte. byte == 10) bytes.now }
 {
     bytes.iter().position(|byte| *byte == b'\n')

@@ -123,8 +123,8 @@ impl TracePrinter {
     }
 }
 
-/// The bytes that the digits of a line encode.
-fn decode_digits(alloc: Global, digits: &[u8], line: u64) -> Result<Vec<u8>, TraceFault>
+/// The bytes that the digits of the line with this number encode; `BadLine` where they encode none.
+pub fn decode_digits(alloc: Global, digits: &[u8], line: u64) -> Result<Vec<u8>, TraceFault>
     ensures { DecodesDigits (decode_of digits.now) line result }
 {
     match hex::decode(alloc, digits) {

@@ -1,0 +1,5 @@
+pub mod Recordings
+pub mod ReadExchanges
+pub mod Sending
+pub mod ExchangeText
+pub mod Noted
