@@ -1,24 +1,24 @@
 -- Reports beside those that are expected.
-use Rattle.std.specs.Prelude.{◌≡◌, ◌≢◌, ◌==◌, ◌+◌, ℕ, List, Option, length, slice_get, take}
-use Rattle.std.specs.List.{filter}
+use Rattle.std.specs.Prelude.{◌≡◌, ◌+◌, ℕ, List, Option, true}
 use Rattle.std.specs.Io.KnownBytes.{Appends}
 use Rattle.milter_text.specs.WrittenText.{WritesPrefix}
+use Rattle.bstr.specs.Text.{lines_of}
+use Rattle.milter_report_patterns.specs.Patterns.{IsFirstDifference, stand_for}
 use Rattle.milter_cli_io.specs.declared.tool_error.ToolError.{ToolError}
-use Rattle.milter_cli_io.specs.declared.tool_error.ToolError.TheVariants.{Differs}
+use Rattle.milter_cli_io.specs.declared.tool_error.ToolError.TheVariants.{Differs, NoMemory}
 
--- how many lines end in these bytes
-abbrev pub line_feeds : List ℕ → ℕ
-line_feeds bytes = length (filter (λ byte. byte == 10) bytes)
+-- the lines that are expected stand for those of the reports
+abbrev pub AreExpected : List ℕ → List ℕ → Type 0
+AreExpected expected found = stand_for (lines_of expected) (lines_of found) ≡ true
 
--- two texts are the same up to a byte of this line, which is the first to differ
-pub record DiffersAt (found expected : List ℕ) (line : ℕ) : Type 0 where
-  pub same : ℕ
-  pub before : take same found ≡ take same expected
-  pub differs : slice_get found same ≢ slice_get expected same
-  pub number : line ≡ line_feeds (take same found) + 1
+-- the reports are what is expected up to this line, counted from 1, and not with it
+abbrev pub DifferAt : List ℕ → List ℕ → ℕ → Type 0
+DifferAt expected found line =
+    (place : ℕ) × (line ≡ place + 1) × IsFirstDifference (lines_of expected) (lines_of found) place
 
--- reports that aren't the expected ones were written, with the line in which they differ, or a prefix of them
+-- Reports that aren't what is expected were written, with the first line that isn't, or a prefix of them; where
+-- memory was refused, it may not be known whether they are.
 abbrev pub EndsBeside : List ℕ → List ℕ → Option (List ℕ) → Option (List ℕ) → ToolError → Type 0
-EndsBeside found expected before after (Differs line) =
-    DiffersAt found expected line × Appends before after found
-EndsBeside found expected before after _ = (found ≢ expected) × WritesPrefix found before after
+EndsBeside expected found before after (Differs line) = DifferAt expected found line × Appends before after found
+EndsBeside expected found before after NoMemory = WritesPrefix found before after
+EndsBeside expected found before after _ = (AreExpected expected found → ⊥) × WritesPrefix found before after

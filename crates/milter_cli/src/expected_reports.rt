@@ -1,11 +1,13 @@
 //! Reports that are compared with those that are expected.
 
-ghost use Rattle.std.specs.Prelude.{◌≡◌, ◌≢◌, ◌≤◌, IfErr, IfOk, IfSome, OnOk, length, slice_get, take};
-ghost use Rattle.milter_cli.specs.ExpectedReports.{DiffersAt, EndsBeside, line_feeds};
+ghost use Rattle.std.specs.Prelude.{◌≡◌, IfErr, IfOk, IfSome, MatchOption, OnOk};
+ghost use Rattle.milter_cli.specs.ExpectedReports.{AreExpected, DifferAt, EndsBeside};
 ghost use Rattle.milter_cli_io.specs.FileRun.{IsFileFault, IsOf};
 
 use milter_cli_io::{FileError, InputFile, ToolError, output_error, read_file};
+use milter_report_patterns::{first_difference, lines_of};
 use milter_text::write_text;
+use milter_wire_stream::NoMemory;
 use std::alloc::Global;
 use std::io::{Read, Write};
 
@@ -19,55 +21,39 @@ pub fn load_reports<R: Read + Drop>(alloc: Global, reader: R) -> Result<Vec<u8>,
     read_file(alloc, InputFile::Reports, reader)
 }
 
-/// Compares reports with those that are expected. It writes nothing where they are the same; else it writes the
-/// reports, of which the error names the line that differs. After another error a prefix of them may have been written.
+/// Compares reports with those that are expected, of which a line may stand for others: `...` for any lines, none
+/// too, and one that begins with `like ` for one that the rest of it is a pattern of. It writes nothing where they
+/// are so; else it writes the reports, and the error names the first line with which they aren't. After another error
+/// a prefix of them may have been written.
 pub fn check_reports<W: Write>(
+    alloc: Global,
     found: &[u8],
     expected: &[u8],
     writer: &mut W,
 ) -> Result<(), ToolError>
-    ensures same { OnOk result (found.now ≡ expected.now) }
+    ensures same { OnOk result (AreExpected expected.now found.now) }
     ensures silent { OnOk result (W.contents writer.new ≡ W.contents writer.old) }
-    ensures other { IfErr result (EndsBeside found.now expected.now (W.contents writer.old) (W.contents writer.new)) }
+    ensures other { IfErr result (EndsBeside expected.now found.now (W.contents writer.old) (W.contents writer.new)) }
 {
-    if found == expected {
-        return Ok(());
-    }
-    match write_text(writer, found) {
-        Ok(()) => Err(ToolError::Differs {
-            line: line_of_difference(found, expected),
-        }),
-        Err(fault) => Err(output_error(fault)),
+    match difference_line(alloc, found, expected) {
+        Ok(None) => Ok(()),
+        Ok(Some(line)) => match write_text(writer, found) {
+            Ok(()) => Err(ToolError::Differs { line }),
+            Err(fault) => Err(output_error(fault)),
+        },
+        Err(NoMemory) => Err(ToolError::NoMemory),
     }
 }
 
-/// The number of the line, from 1, in which two texts begin to differ.
-fn line_of_difference(found: &[u8], expected: &[u8]) -> u64
-    requires { found.now ≢ expected.now }
-    ensures { DiffersAt found.now expected.now result }
+/// The first line of reports, counted from 1, with which they aren't those that are expected.
+fn difference_line(alloc: Global, found: &[u8], expected: &[u8]) -> Result<Option<u64>, NoMemory>
+    ensures { IfOk result (λ line. MatchOption line (AreExpected expected.now found.now)
+        (DifferAt expected.now found.now)) }
 {
-    let same = same_len(found, expected);
-    line_feeds(&found[..same]) as u64 + 1
-}
-
-/// How many bytes two texts begin with that are the same.
-fn same_len(found: &[u8], expected: &[u8]) -> usize
-    requires { found.now ≢ expected.now }
-    ensures before { take result found.now ≡ take result expected.now }
-    ensures differs { slice_get found.now result ≢ slice_get expected.now result }
-    ensures within { result ≤ length found.now }
-{
-    let mut same = 0;
-    while same < found.len() && same < expected.len() && found[same] == expected[same] {
-        same += 1;
+    let expected = lines_of(alloc, expected)?;
+    let found = lines_of(alloc, found)?;
+    match first_difference(alloc, expected.as_slice(), found.as_slice())? {
+        None => Ok(None),
+        Some(place) => Ok(Some(place as u64 + 1)),
     }
-    same
-}
-
-/// How many lines end in these bytes.
-fn line_feeds(bytes: &[u8]) -> usize
-    ensures count { result ≡ line_feeds bytes.now }
-    ensures within { result ≤ length bytes.now }
-{
-    bytes.iter().filter(|byte| **byte == b'\n').count()
 }

@@ -15,6 +15,7 @@ use crate::socket_words::{say_unbound, say_unconnected};
 use crate::trace_words::say_trace;
 use milter_cli_io::{AnswerError, FileError, InputFile, ToolError};
 use milter_cli_request::{Address, Request, UsageError};
+use milter_report_patterns::{difference_text, lines_of};
 use milter_rules_faults::{Notes, Piece};
 use milter_trace::TraceFault;
 use milter_wire::NoMemory;
@@ -43,7 +44,7 @@ pub fn explain<R: Files>(
         ToolError::Trace(fault) => explain_trace(alloc, *fault),
         ToolError::Answer(error) => explain_answer(alloc, *error),
         ToolError::Listen | ToolError::Connect => explain_socket(files, alloc, failure),
-        ToolError::Differs { line } => explain_difference(alloc, request, *line),
+        ToolError::Differs { line } => explain_reports(alloc, request, *line, failure),
         // Findings were printed, and words take memory.
         ToolError::Findings | ToolError::NoMemory => Ok(Vec::new(alloc)),
         ToolError::Write => line(alloc, "standard output", NOT_WRITTEN),
@@ -183,6 +184,23 @@ fn explain_difference(
     let text = b"the reports that were found differ from this line on; standard output has them";
     notes.say(alloc, &[Piece::Plain(text)])?;
     text_of(alloc, &notes)
+}
+
+/// The same, and the difference line by line.
+fn explain_reports(
+    alloc: Global,
+    request: &Request<'_>,
+    number: u64,
+    failure: &Failure<'_>,
+) -> Result<Vec<u8>, NoMemory> {
+    let mut said = explain_difference(alloc, request, number)?;
+    if let Some(reports) = &failure.reports {
+        let expected = lines_of(alloc, reports.expected.as_slice())?;
+        let found = lines_of(alloc, reports.found.as_slice())?;
+        let difference = difference_text(alloc, expected.as_slice(), found.as_slice())?;
+        said.extend_from_slice(difference.as_slice())?;
+    }
+    Ok(said)
 }
 
 /// The lines of an error of a file that a request names.

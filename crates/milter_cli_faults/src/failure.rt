@@ -12,13 +12,24 @@ pub struct SocketFault<'a> {
     pub kind: Option<ErrorKind>,
 }
 
-/// Why the program did not do what it was asked, and the socket that this is about.
+/// Reports that aren't the expected ones, and these.
+#[derive(Debug, Drop)]
+pub struct DifferingReports {
+    /// The reports that were found.
+    pub found: Vec<u8>,
+    /// Those that are expected, of which lines may be patterns.
+    pub expected: Vec<u8>,
+}
+
+/// Why the program did not do what it was asked, and the socket or the reports that this is about.
 #[derive(Debug, Drop)]
 pub struct Failure<'a> {
     /// The error, which has the line on standard error and the status.
     pub error: ToolError,
     /// The socket, where there is one.
     pub socket: Option<SocketFault<'a>>,
+    /// The reports, where they aren't the expected ones.
+    pub reports: Option<DifferingReports>,
 }
 
 impl<'a> Failure<'a> {
@@ -27,6 +38,16 @@ impl<'a> Failure<'a> {
         Failure {
             error,
             socket: Some(SocketFault { address, kind }),
+            reports: None,
+        }
+    }
+
+    /// The failure by reports that aren't the expected ones.
+    pub fn of_reports(error: ToolError, reports: DifferingReports) -> Self {
+        Failure {
+            error,
+            socket: None,
+            reports: Some(reports),
         }
     }
 }
@@ -36,6 +57,7 @@ impl<'a> From<ToolError> for Failure<'a> {
         Failure {
             error,
             socket: None,
+            reports: None,
         }
     }
 }

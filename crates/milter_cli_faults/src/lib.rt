@@ -23,4 +23,4 @@ mod socket_words;
 mod trace_words;
 
 pub use explanation::{explain, explain_file, explain_words};
-pub use failure::{Failure, SocketFault};
+pub use failure::{DifferingReports, Failure, SocketFault};

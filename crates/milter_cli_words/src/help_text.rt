@@ -370,7 +370,8 @@ timeout, memory, or fault K. OUTCOME is released, discarded, refused TEXT,
 no-recipients or refused-at-connection. A released message follows as it is sent
 on, in lines as those of a session file, after a line quarantine TEXT where it
 is quarantined. With --expect nothing is printed where this is the text of the
-FILE.
+FILE, in which a line ... stands for any lines, and a line like PATTERN for one
+line, where * in the PATTERN is any characters and ? any one.
 
   fault 1                        a packet has length 0 or above 65536, an
                                  unknown code, or a payload that isn't in its
@@ -434,7 +435,8 @@ Blank lines, and lines that begin with #, are skipped. A file has at most
 
 What is printed has the form that milter_tool help mta explains, for the
 messages that are settled; the events need not settle all. With --expect nothing
-is printed where that is the text of the FILE. With the rules
+is printed where that is the text of the FILE, in which lines stand for others
+as milter_tool help mta says. With the rules
 
   at eob do add-header \"X-One\" \"1\"
   at eob do add-header \"X-Two\" \"2\"

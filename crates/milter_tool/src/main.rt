@@ -115,7 +115,7 @@ fn run_request<
         Request::Filter(asked) => serve_in_turn(rt, *asked),
         Request::Serve(asked) => serve_many(rt, asked),
         Request::Mta(asked) => play_session(rt, *asked),
-        Request::Play(asked) => Ok(play_in_memory(rt, *asked)?),
+        Request::Play(asked) => play_in_memory(rt, *asked),
     }
 }
 

@@ -4,7 +4,7 @@ use crate::files::{events_at, expected_at, open, rules_at, session_at};
 use milter_cli::{
     Connect, TcpDial, UnixDial, WaitingDial, check_reports, mta_run, play_run, schedule_run,
 };
-use milter_cli_faults::Failure;
+use milter_cli_faults::{DifferingReports, Failure};
 use milter_cli_io::{FileError, InputFile, RuleUse, ToolError, output_error};
 use milter_cli_request::{Address, MtaRequest, Offer, PlayRequest, Target};
 use milter_mail::Session;
@@ -69,7 +69,7 @@ fn play_session_over<'x, R: Files + Clock + Print + AllocGlobal, D: Connect + Dr
     if dial.has_failed() {
         return Err(Failure::of_socket(ToolError::Connect, asked.address, dial.refusal()));
     }
-    Ok(end_reports(rt, found.as_slice(), expected)?)
+    end_reports(rt, found, expected)
 }
 
 /// The error of reports that are kept in memory: there a write fails where memory is refused.
@@ -93,25 +93,33 @@ fn play_file<R: Files + AllocGlobal, D: Dial, W: Write>(
 }
 
 /// Prints these reports; only where they aren't the expected ones, if some are expected.
-fn end_reports<R: Print>(rt: &R, found: &[u8], expected: Option<Vec<u8>>) -> Result<(), ToolError> {
-    match expected {
-        Some(expected) => check_reports(found, expected.as_slice(), &mut io::writer(rt)),
-        None => match write_text(&mut io::writer(rt), found) {
+fn end_reports<'x, R: Print + AllocGlobal>(
+    rt: &R,
+    found: Vec<u8>,
+    expected: Option<Vec<u8>>,
+) -> Result<(), Failure<'x>> {
+    let Some(expected) = expected else {
+        return match write_text(&mut io::writer(rt), found.as_slice()) {
             Ok(()) => Ok(()),
-            Err(fault) => Err(output_error(fault)),
-        },
+            Err(fault) => Err(Failure::from(output_error(fault))),
+        };
+    };
+    let writer = &mut io::writer(rt);
+    match check_reports(rt.alloc(), found.as_slice(), expected.as_slice(), writer) {
+        Ok(()) => Ok(()),
+        Err(error) => Err(Failure::of_reports(error, DifferingReports { found, expected })),
     }
 }
 
 /// Plays the session of a file to a filter in memory, and prints what becomes of its messages; only where that isn't
 /// what is expected, if something is.
-pub(crate) fn play_in_memory<R: Files + Print + AllocGlobal>(
+pub(crate) fn play_in_memory<'x, R: Files + Print + AllocGlobal>(
     rt: &R,
-    asked: PlayRequest<'_>,
-) -> Result<(), ToolError> {
+    asked: PlayRequest<'x>,
+) -> Result<(), Failure<'x>> {
     let offer = match Offer::parse(asked.actions, asked.protocol) {
         Ok(offer) => offer,
-        Err(error) => return Err(ToolError::Usage(error)),
+        Err(error) => return Err(Failure::from(ToolError::Usage(error))),
     };
     let config = Config::new(offer.actions, offer.protocol, asked.loss).unwrap();
     let usage = RuleUse {
@@ -124,18 +132,18 @@ pub(crate) fn play_in_memory<R: Files + Print + AllocGlobal>(
 }
 
 /// The same with these rules.
-fn play_with_rules<R: Files + Print + AllocGlobal>(
+fn play_with_rules<'x, R: Files + Print + AllocGlobal>(
     rt: &R,
     config: Config,
-    asked: PlayRequest<'_>,
+    asked: PlayRequest<'x>,
     rules: &Rules,
-) -> Result<(), ToolError> {
+) -> Result<(), Failure<'x>> {
     if asked.expect.is_none() {
-        return play_by_rules(rt, config, asked, rules, &mut io::writer(rt));
+        return Ok(play_by_rules(rt, config, asked, rules, &mut io::writer(rt))?);
     }
     let expected = expected_at(rt, asked.expect)?;
     let found = reports_found(rt, config, asked, rules)?;
-    end_reports(rt, found.as_slice(), expected)
+    end_reports(rt, found, expected)
 }
 
 /// The reports of a session that is played in memory.

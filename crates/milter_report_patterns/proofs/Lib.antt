@@ -1,0 +1,4 @@
+pub mod Advance
+pub mod Differences
+pub mod Ends
+pub mod Open
