@@ -8,6 +8,7 @@ Counted are the connections and the runs.
 """
 import fcntl
 import os
+import random
 import re
 import resource
 import select
@@ -254,6 +255,33 @@ def released(program, kind, folder):
             served.expect_all(b'quit')
 
     yield checked('%d packets that are cut' % count, run)
+
+
+def given_back(program, kind, folder):
+    """After a load of connections, each of which ends within a packet, their memory goes back to the system, whichever
+    ends first: with what the unit of `serve` sets for the C library."""
+    count, room, kept = 500, 55, 4096
+    begun = OFFER + b''.join(given for given, _ in opening(0)[1:]) + packet(b'M', b'<a@x>') + packet(b'R', b'<b@y>')
+    cut = packet(b'B', 60000 * b'x')[:-1]
+
+    def run():
+        started = {'env': {**os.environ, 'MALLOC_MMAP_THRESHOLD_': '32768'}}
+        with serving.Service(program, kind, folder, ['--at-once=%d' % count], **started) as served:
+            with served.connected() as connection:
+                say(connection, [(OFFER, AGREED)])
+            time.sleep(2.5)
+            before = served.memory()
+            connections = [served.connected() for _ in range(count)]
+            for connection in connections:
+                connection.sendall(begun + cut)
+            expect('under load', serving.waited_for(lambda: served.memory() - before >= count * room), True)
+            random.Random(1).shuffle(connections)
+            for connection in connections:
+                connection.close()
+            left = serving.waited_for(lambda: served.memory() - before < kept)
+            expect('%d KiB are left' % (served.memory() - before), left, True)
+
+    yield checked('%d connections whose memory goes back' % count, run)
 
 
 def few_descriptors(program, kind, folder):
@@ -572,8 +600,8 @@ def groups(folder):
         program = programs.tool(build)
         name = os.path.basename(program)
         for kind in serving.KINDS:
-            for group in [many, idle, released, crowd, unread, flooded, few_descriptors, queue, stopped, restarted,
-                          unwritten]:
+            for group in [many, idle, released, given_back, crowd, unread, flooded, few_descriptors, queue, stopped,
+                          restarted, unwritten]:
                 found.append(('%s at %s' % (name, kind), group, (program, kind, tempfile.mkdtemp(dir=folder))))
         for group in [sockets, words_refused]:
             found.append((name, group, (program, tempfile.mkdtemp(dir=folder))))

@@ -54,7 +54,8 @@ pub struct Service<'r, R: Net + Clock, S: Drop> {
     start: Instant,
     sources: Vec<Source>,
     clients: Clients<S>,
-    // Connections that have ended, begun again for those that come.
+    // Connections that have ended, begun again for those that come. The list has its memory from the start: one that
+    // grew behind the memory of many clients would keep that from going back to the system.
     spare: Vec<Connection>,
     // Whether none of them has memory for a packet.
     is_released: bool,
@@ -76,6 +77,7 @@ impl<'r, R: Net + Clock, S: Drop> Service<'r, R, S> {
         limits: Limits,
         listeners: Vec<Listener>,
     ) -> Result<Self, ServiceError> {
+        let spare = Vec::with_capacity(alloc, SPARE_MAX)?;
         let poll = Poll::new(rt)?;
         let mut sources = Vec::new(alloc);
         for listener in listeners {
@@ -98,7 +100,7 @@ impl<'r, R: Net + Clock, S: Drop> Service<'r, R, S> {
             start: Instant::now(rt)?,
             sources,
             clients: Clients::new(alloc),
-            spare: Vec::new(alloc),
+            spare,
             is_released: true,
             count: 0,
             is_full: false,
