@@ -66,8 +66,25 @@ def looked_at(root, folder_of_program, units_at=None):
         is_well = started.count(folder_of_program + '/milter_tool') == len(started)
         is_well &= bool(started) == unit.endswith('.service')
         yield None if is_well else '%s starts %s' % (unit, started)
-    for name in ['README.md', 'docs/HEADLINE.md', 'examples/conversation.trace']:
+    for name in ['docs/TESTING.md', 'examples/conversation.trace']:
         yield None if read(TOP, name) == read(root, 'share', 'doc', 'deiruska', name) else '%s differs' % name
+    yield from documented(os.path.join(root, 'share', 'doc', 'deiruska'), 20)
+
+
+def documented(folder, least):
+    """Whether there are so many documents at least, and each link of theirs leads to a file of the folder; and each but
+    for its links is a document of the repository."""
+    documents = glob.glob(os.path.join(folder, '**', '*.md'), recursive=True)
+    yield None if len(documents) >= least else 'documents: %s' % documents
+    for document in documents:
+        name = os.path.relpath(document, folder)
+        for target in re.findall(r'\]\(([^)#:\s]+)', read(document)):
+            path = os.path.join(os.path.dirname(document), target)
+            yield None if os.path.isfile(path) else '%s: a link to %s' % (name, target)
+        given = [path for path in [os.path.join(TOP, name), os.path.join(TOP, 'docs', name)] if os.path.exists(path)]
+        whole, lines = read(given[0]).splitlines(), read(document).splitlines()
+        same = len(whole) == len(lines) and all(one == other for one, other in zip(whole, lines) if '](' not in one)
+        yield None if same else '%s differs in more than its links' % name
 
 
 def linted(folder, names):
@@ -104,6 +121,7 @@ def library(prefix, target, libdir, documents, python, folder):
     yield 'the manual page lacks %s' % missing if missing else None
     for name in ['C.md', 'examples/filter.c', 'examples/filter.rs', 'examples/test_filter.py']:
         yield None if os.path.isfile(os.path.join(prefix, 'share/doc', documents, name)) else '%s is missing' % name
+    yield from documented(os.path.join(prefix, 'share/doc', documents), 1)
     wanted = [(0, b'', b''), (0, b'', b''), (target, '${prefix}/' + libdir, '${prefix}/include')]
     found = list(compiled(prefix, libdir, folder))
     yield None if found == wanted else 'what is compiled: %s' % found

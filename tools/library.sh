@@ -90,9 +90,7 @@ install)
     put_library "$made/lib" "$2$3" "$3"
     install -d "$2$3/share/man/man3"
     python3 tools/header_page.py | gzip -n9 >"$2$3/share/man/man3/deiruska.3.gz"
-    install -D -m 644 -t "$2$3/share/doc/libdeiruska" docs/C.md
-    find examples/{c,cpp,go,python,rust} -type f -not -name '*.pyc' \
-        -exec install -D -m 644 -t "$2$3/share/doc/libdeiruska/examples" {} +
+    python3 tools/documents.py library "$2$3/share/doc/libdeiruska"
     ;;
 *)
     sed -n '2,/^set/{/^set/d;s/^# \{0,1\}//;p}' "${BASH_SOURCE[0]}" >&2

@@ -51,8 +51,7 @@ put_completions() {
 put() {
     local root=$1 bin=$2 unit page
     install -D -m 755 "$program" "$root/bin/milter_tool"
-    install -d "$root/share/man/man1" "$root/share/man/man5" "$root/lib/systemd/system" \
-        "$root/share/doc/deiruska/docs" "$root/share/doc/deiruska/examples"
+    install -d "$root/share/man/man1" "$root/share/man/man5" "$root/lib/systemd/system"
     python3 tools/man_page.py "$program" | gzip -n9 >"$root/share/man/man1/milter_tool.1.gz"
     for page in milter_rules milter_session; do
         format_page "$page" | gzip -n9 >"$root/share/man/man5/$page.5.gz"
@@ -61,9 +60,7 @@ put() {
     for unit in systemd/*; do
         sed "s|/usr/local/bin/|$bin/|" "$unit" >"$root/lib/systemd/system/$(basename "$unit")"
     done
-    install -m 644 README.md CHANGELOG.md SECURITY.md "$root/share/doc/deiruska"
-    install -m 644 docs/*.md "$root/share/doc/deiruska/docs"
-    find examples -maxdepth 1 -type f -exec install -m 644 -t "$root/share/doc/deiruska/examples" {} +
+    python3 tools/documents.py program "$root/share/doc/deiruska"
 }
 
 # Packs a tar file, with $1 as the folder to work in.
