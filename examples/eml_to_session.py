@@ -1,12 +1,14 @@
 #!/usr/bin/env python3
 """Makes a session file of a mail, for `milter_tool mta` and `milter_tool play`.
 
-    python3 examples/eml_to_session.py [--from ADDR] [--to ADDR ..] [--helo NAME] [--client NAME ADDRESS] FILE.eml
+    python3 examples/eml_to_session.py [--from ADDR] [--to ADDR ..] [--helo NAME] [--client NAME ADDRESS]
+        [--macro STAGE NAME VALUE ..] FILE.eml
 
 The file has one mail, as RFC 5322 has it, with line ends of either kind. Where no sender is given it is that of the
 field Return-Path, else the first one of From; where no recipient is given they are all of To and Cc, each once. An
 empty sender is given as `--from ''`. The client is mail.example.org at 192.0.2.1 where none is given, and greets with
-its name. Its address is one of IPv4, one of IPv6, or a path.
+its name. Its address is one of IPv4, one of IPv6, or a path. `--macro STAGE NAME VALUE`, as often as it is wanted,
+gives a macro before the stage, which is connect, helo, mail, rcpt, data, eoh or eom: `--macro mail i 4XYZ`.
 
 The header fields are those of the file, in order. Their values are as mail servers send them to a filter, but with the
 blank after the colon, as session files have it: a line end within a value is LF. A line that is no header field ends
@@ -26,6 +28,8 @@ CHARACTERS = {byte: '\\x%02x' % byte for byte in range(256)} | {byte: chr(byte) 
 LENIENT = {'strict': False} if getattr(email.utils, 'supports_strict_parsing', False) else {}
 # The port of the client, which no mail says.
 PORT = 49152
+# The stages that have macros, in the order of session files.
+STAGES = ['connect', 'helo', 'mail', 'rcpt', 'data', 'eoh', 'eom']
 # The greatest payload of a packet, and the most bytes that the packets of a message have.
 PAYLOAD, MESSAGE = 65535, 16777216
 
@@ -91,6 +95,17 @@ def client_line(name, address):
     return line('%s %d' % (line('client %s' % family, os.fsencode(name)), port), os.fsencode(address))
 
 
+def macro_lines(macros):
+    """The lines of macros, each a stage, a name and a value, in the order of the stages."""
+    lines = []
+    for stage in STAGES:
+        pairs = [list(map(os.fsencode, pair)) for place, *pair in macros if place == stage]
+        if 1 + sum(len(text) + 1 for pair in pairs for text in pair) > PAYLOAD:
+            sys.exit('no packet has room for the macros of %s' % stage)
+        lines += [line('macro ' + stage, *pair) for pair in pairs]
+    return lines
+
+
 def check(fields, body, texts):
     """Ends the program where a session file can't have this mail, with these other texts of its connection."""
     for name, value in fields:
@@ -109,11 +124,12 @@ def given_words():
     if len(sys.argv) < 2 or sys.argv[-1] in ('-h', '--help'):
         sys.exit(__doc__)
     parser = argparse.ArgumentParser(
-        add_help=False, usage=__doc__.splitlines()[2].strip().removeprefix('python3 examples/'))
+        add_help=False, usage=' '.join(map(str.strip, __doc__.splitlines()[2:4])).removeprefix('python3 examples/'))
     parser.add_argument('--from', dest='sender', type=os.fsencode)
     parser.add_argument('--to', nargs='+', action='extend', type=os.fsencode)
     parser.add_argument('--helo', type=os.fsencode)
     parser.add_argument('--client', nargs=2, default=['mail.example.org', '192.0.2.1'])
+    parser.add_argument('--macro', nargs=3, action='append', default=[])
     return parser.parse_args(sys.argv[1:-1]), sys.argv[-1]
 
 
@@ -125,8 +141,14 @@ def main():
     helo = os.fsencode(client) if given.helo is None else given.helo
     sender = in_brackets(sender_of(fields) if given.sender is None else given.sender)
     recipients = [in_brackets(recipient) for recipient in given.to or recipients_of(fields)]
-    check(fields, body, [*map(os.fsencode, given.client), helo, sender, *recipients])
-    lines = [client_line(client, address), line('helo', helo), 'message', line('sender', sender)]
+    texts = []
+    for stage, *pair in given.macro:
+        if stage not in STAGES:
+            sys.exit('no stage with macros is called %s: %s' % (stage, ', '.join(STAGES)))
+        texts += list(map(os.fsencode, pair)) * (len(recipients) if stage == 'rcpt' else 1)
+    check(fields, body, [*map(os.fsencode, given.client), helo, sender, *recipients, *texts])
+    lines = [client_line(client, address), line('helo', helo), *macro_lines(given.macro)]
+    lines += ['message', line('sender', sender)]
     lines += [line('recipient', recipient) for recipient in recipients]
     lines += [line('header', *field) for field in fields]
     print('\n'.join(lines + [line('body', body), 'end']))

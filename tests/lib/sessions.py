@@ -135,6 +135,28 @@ recipient "<b@y>"
 body "Hi\r\n"
 end
 '''),
+    ('with macros', [
+        '--macro', 'eoh', 'e', '7', '--macro', 'rcpt', '{rcpt_addr}', 'b@y', '--macro', 'eom', 'm', '6',
+        '--macro', 'mail', 'i', '4"X', '--macro', 'data', 'd', '5', '--macro', 'rcpt', 'x', '',
+        '--macro', 'connect', 'j', 'mx', '--macro', 'helo', 'h', '2'],
+     b'From: a@x\nTo: b@y\n\nHi\n', r'''client 4 "mail.example.org" 49152 "192.0.2.1"
+helo "mail.example.org"
+macro connect "j" "mx"
+macro helo "h" "2"
+macro mail "i" "4\"X"
+macro rcpt "{rcpt_addr}" "b@y"
+macro rcpt "x" ""
+macro data "d" "5"
+macro eoh "e" "7"
+macro eom "m" "6"
+message
+sender "<a@x>"
+recipient "<b@y>"
+header "From" " a@x"
+header "To" " b@y"
+body "Hi\r\n"
+end
+'''),
 ]
 # Mails of which there is no session: a name, the words, the mail, and what is said.
 NO_SESSIONS = [
@@ -145,6 +167,10 @@ NO_SESSIONS = [
      'no packet has room for the header field Subject\n'),
     ('a great mail', [], b'From: a@x\nTo: b@y\n\n' + b'x' * (1 << 24),
      'the packets of the mail have more than 16777216 bytes\n'),
+    ('a stage without macros', ['--macro', 'body', 'i', '1'], b'From: a@x\nTo: b@y\n\n',
+     'no stage with macros is called body: connect, helo, mail, rcpt, data, eoh, eom\n'),
+    ('great macros', ['--macro', 'mail', 'i', 'x' * 65533], b'From: a@x\nTo: b@y\n\n',
+     'no packet has room for the macros of mail\n'),
     ('no address', ['--client', 'h', 'h'], b'From: a@x\nTo: b@y\n\n',
      "'h' does not appear to be an IPv4 or IPv6 address\n"),
 ]
