@@ -35,6 +35,9 @@ bench:
 	bash bench/mta.sh
 	bash bench/texts.sh
 	bash bench/world.sh
+	bash bench/rules.sh
+	bash bench/python.sh
+	python3 bench/hostile.py $(PROGRAM)
 
 install: all lib
 	bash tools/package.sh install "$(DESTDIR)" "$(PREFIX)"

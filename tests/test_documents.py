@@ -26,8 +26,9 @@ NUMBERS = ['ten', 'eleven', 'twelve', 'thirteen', 'fourteen', 'fifteen', 'sixtee
 HEADLINE = 'crates/milter_world/src/any_schedule.rt', 'run'
 ITS_WORDS = {'dialogues', 'resets', 'timeouts', 'causes'}
 ITS_PREMISES = {('milter_protocol', 'Lawful', 'IsLawful'), ('milter_mail', 'MailSession', 'IsSession')}
-DOCUMENTS = ['README.md', 'CHANGELOG.md', 'SECURITY.md', 'cases/README.md', 'cases/tables/README.md'] + sorted(
-    os.path.relpath(path, TOP) for path in glob.glob(os.path.join(TOP, 'docs', '*.md')))
+DOCUMENTS = [
+    'README.md', 'CHANGELOG.md', 'SECURITY.md', 'bench/README.md', 'cases/README.md', 'cases/tables/README.md',
+    'tests/README.md'] + sorted(os.path.relpath(path, TOP) for path in glob.glob(os.path.join(TOP, 'docs', '*.md')))
 
 
 def text_of(path):
@@ -96,6 +97,19 @@ def definitions():
         for name in re.findall(r'`([^`]+)`', cells[1]):
             found = re.search(r'(?<!\w)%s(?!\w)' % re.escape(name), source) is not None
             yield 'docs/DEFINITIONS.md: %s: %s' % (crate, name), found
+
+
+def cited():
+    """Whether each definition that a contract of a public function names is in docs/DEFINITIONS.md, in its crate's
+    section."""
+    crate, named = None, set()
+    for line in text_of('docs/DEFINITIONS.md').splitlines():
+        section = re.match(r'## .*`(\w+)`', line)
+        crate = section[1] if section else crate
+        cells = line.split(' | ')
+        named |= {(crate, name) for name in re.findall(r'`([^`]+)`', cells[1])} if len(cells) == 3 else set()
+    for crate, file, name in sorted(specs.cited()):
+        yield 'docs/DEFINITIONS.md lacks %s: %s, %s' % (crate, file, name), (crate, name) in named
 
 
 def trusted():
@@ -168,4 +182,4 @@ def play_of(check):
 
 if __name__ == '__main__':
     sys.exit(runner.run_all(play_of(check) for check in (
-        blocks, links, clauses, definitions, trusted, counts, lemmas, lines, help_lines, vocabulary)))
+        blocks, links, clauses, definitions, cited, trusted, counts, lemmas, lines, help_lines, vocabulary)))

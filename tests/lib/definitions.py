@@ -75,6 +75,23 @@ def named_by(path, function, clauses=None):
     return {used[word] for word in words if word in used}
 
 
+def cited():
+    """The definitions that clauses of public functions of the libraries name: of each its crate, its file and its
+    name. Generated ones aren't among them."""
+    found = set()
+    for path in glob.glob(os.path.join(TOP, 'crates', 'milter_*', 'src', '**', '*.rt'), recursive=True):
+        text = text_of(path)
+        used = names_used(text)
+        for head in re.findall(r'(?s)\n *pub (?:unsafe )?(?:extern "C" )?fn \w+.*?\n *\{\}?\n', text):
+            for clause in re.findall(r'(?s)(?:ensures|requires)\*?(?: \w+)? \{(.*?)\}\n', head):
+                found |= {used[word] for word in NAME.findall(clause) if word in used}
+                found |= {(*used['@' + other][:2], word) for other, word in re.findall(r'\b(\w+)\.(\w+)', clause)
+                          if '@' + other in used}
+    return {(crate, file, name) for crate, file, name in found
+            if crate.startswith('milter_') and not crate.startswith('milter_tests')
+            and name in definitions_of(crate, file.replace('.', '/'))[0]}
+
+
 def shared_lemmas():
     """The files of proofs/ that another crate uses, and those that they use; of each its crate, its file, and whether it
     speaks of definitions and of such lemmas alone."""
