@@ -18,6 +18,7 @@ PROGRAMS = {
     'greylist': ('example_greylist', []),
     'host': ('milter_tests_host', []),
     'edits': ('milter_tests_driver', ['edits', 'text']),
+    'edit lists': ('milter_tests_edits', ['lists']),
     'filter faults': ('milter_tests_driver', ['faults']),
     'payloads': ('milter_tests_driver', ['packets']),
     'mail server': ('milter_tests_driver', ['mta']),

@@ -5,3 +5,5 @@ pub mod EditsFit
 pub mod EditSequences
 pub mod HeaderChanges
 pub mod KeptRecipients
+pub mod NameNumbering
+pub mod IndexedFields

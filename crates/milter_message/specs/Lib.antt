@@ -5,3 +5,5 @@ pub mod EditedMessage
 pub mod Occurrences
 pub mod Chunks
 pub mod Deletions
+pub mod NameNumbers
+pub mod EditedFields

@@ -26,10 +26,11 @@ use std::alloc::Global;
 /// Where leading spaces aren't sent, each value that is put gets the blank that a value begins with in a message, an
 /// empty added one too.
 ///
-/// An edit looks at each header field at most once. All edits of recipients take time in the number of recipients and
-/// edits times the logarithm of the number of deletions. No text is copied twice, and a new body is appended to as its
-/// chunks come. The given message stays as it was, and after `NoMemory` nothing is left. Source: the libmilter
-/// callback documentation (message modification functions).
+/// Few edits of header fields go over the fields once each; of many, the time of each grows as the root of the number
+/// of fields. All edits of recipients take time in the number of recipients and edits times the logarithm of the number
+/// of deletions. No text is copied twice, and a new body is appended to as its chunks come. The given message stays as
+/// it was, and after `NoMemory` nothing is left. Source: the libmilter callback documentation (message modification
+/// functions).
 pub fn apply(
     alloc: Global,
     message: &Message,

@@ -7,12 +7,36 @@ ghost use Rattle.milter_message.specs.EditedMessage.{added_field, change, occurr
 
 use crate::copies::copy_headers;
 use crate::edit::Edit;
+use crate::indexed_edits::headers_after_by_index;
 use crate::leading_space::{put_copy, put_value};
 use milter_wire::{Header, NoMemory, Text};
 use std::alloc::Global;
 
-/// The header fields after the edits, one after the other. Each text is copied once.
+/// The most header fields that edits may go over in a plain list.
+const STEPS_MAX: usize = 65_536;
+
+/// The header fields after the edits, one after the other. Few fields and edits stay in a plain list, and others get an
+/// index.
 pub(crate) fn headers_after(
+    alloc: Global,
+    headers: &[Header],
+    edits: &[Edit],
+    leading_space: bool,
+) -> Result<Vec<Header>, NoMemory>
+    ensures { IfOk result (λ changed. changed.items ≡ headers_after leading_space headers.now edits.now) }
+{
+    let steps = headers
+        .len()
+        .saturating_add(edits.len())
+        .saturating_mul(edits.len());
+    if steps > STEPS_MAX {
+        return headers_after_by_index(alloc, headers, edits, leading_space);
+    }
+    headers_after_in_list(alloc, headers, edits, leading_space)
+}
+
+/// The header fields after the edits, each of which goes over the fields once. Each text is copied once.
+fn headers_after_in_list(
     alloc: Global,
     headers: &[Header],
     edits: &[Edit],

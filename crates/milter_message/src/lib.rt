@@ -8,10 +8,13 @@ mod application;
 mod copies;
 mod deletions;
 mod edit;
+mod edited_fields;
 mod header_edits;
+mod indexed_edits;
 mod laws;
 mod leading_space;
 mod message;
+mod name_numbers;
 mod recipient_edits;
 
 pub use application::apply;

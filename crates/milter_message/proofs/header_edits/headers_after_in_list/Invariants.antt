@@ -1,6 +1,6 @@
 use Rattle.std.proofs.Common.{◌≡◌, drop}
 use Rattle.milter_message.specs.EditedMessage.{headers_after}
-use Rattle.milter_message.proofs.header_edits.headers_after.Given as goal
+use Rattle.milter_message.proofs.header_edits.headers_after_in_list.Given as goal
 
 -- the rest of the edits makes of these fields what all make of the first
 abbrev pub invariant-loop-edit : goal.invariant-loop-edit

@@ -1,0 +1,43 @@
+-- Numbers for the names of header fields: two names have the same number where they differ by case alone.
+use Rattle.std.specs.Prelude.{◌≡◌, ℕ, ◌-◌, ◌<◌, ◌==◌, ⊤, List, Option, None, Some, IsSome, slice_get}
+use Rattle.std.specs.Borrow.{Bor}
+use Rattle.std.specs.BTreeMap.{BTreeMap, get_by}
+use Rattle.std.specs.Cmp.Lexicographic.{slice_cmp}
+use Rattle.std.specs.List.{All}
+use Rattle.std.specs.Ordering.{nat_cmp}
+use Rattle.std.specs.Str.{str_eq_ignore_ascii_case, str_to_ascii_lowercase}
+use Rattle.milter_message.specs.declared.edit.Edit.{Edit}
+use Rattle.milter_message.specs.declared.edit.Edit.TheVariants.{ChangeHeader}
+
+-- the name, in lower case, of a field that an edit changes or deletes
+abbrev pub changed_name : Edit → Option (List ℕ)
+changed_name (ChangeHeader index header) = Some (str_to_ascii_lowercase header.name)
+changed_name other = None
+
+-- what the map has for a text
+abbrev pub found : BTreeMap (Bor (List ℕ)) ℕ → List ℕ → Option ℕ
+found numbers text = get_by (λ k. slice_cmp nat_cmp text k.now) numbers
+
+abbrev pub number_or_zero : Option ℕ → ℕ
+number_or_zero None = 0
+number_or_zero (Some number) = number
+
+-- the number of a name, in any case; 0 where it has none of its own
+abbrev pub number_of : BTreeMap (Bor (List ℕ)) ℕ → List ℕ → ℕ
+number_of numbers name = number_or_zero (found numbers (str_to_ascii_lowercase name))
+
+-- each of the names has a number, which is its place among them or that of an equal one, counted from 1
+pub record HasNumbers (names : List (List ℕ)) (numbers : BTreeMap (Bor (List ℕ)) ℕ) : Type 0 where
+  pub some : All (λ name. IsSome (found numbers name)) names
+  pub positive : (name : List ℕ) (number : ℕ) → found numbers name ≡ Some number → 0 < number
+  pub place : (name : List ℕ) (number : ℕ) → found numbers name ≡ Some number → slice_get names (number - 1) ≡ Some name
+
+-- no other name has the number of this one
+abbrev pub HasOwnNumber : BTreeMap (Bor (List ℕ)) ℕ → List ℕ → Type 0
+HasOwnNumber numbers name = (other : List ℕ) →
+    (number_of numbers other == number_of numbers name) ≡ str_eq_ignore_ascii_case other name
+
+-- an edit finds the field that it changes by the number of its name
+abbrev pub IsNumbered : BTreeMap (Bor (List ℕ)) ℕ → Edit → Type 0
+IsNumbered numbers (ChangeHeader index header) = HasOwnNumber numbers header.name
+IsNumbered numbers other = ⊤

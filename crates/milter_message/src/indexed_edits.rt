@@ -1,0 +1,168 @@
+//! What edits make of header fields that stand in an index.
+
+ghost use Rattle.std.specs.Prelude.{◌≡◌, ◌<◌, ◌≤◌, ◌++◌, IfOk, length};
+ghost use Rattle.std.specs.List.{insert};
+ghost use Rattle.milter_message.specs.EditedFields.{IsNumberedBy, changed, headers_of, numbered_fields, shown};
+ghost use Rattle.milter_message.specs.EditedMessage.{added_field, change, edit_headers, headers_after, set_field};
+ghost use Rattle.milter_message.specs.LeadingSpace.{change_header, put_header};
+ghost use Rattle.milter_message.specs.NameNumbers.{HasOwnNumber, IsNumbered};
+
+use crate::edit::Edit;
+use crate::edited_fields::{EditedFields, Source};
+use crate::name_numbers::{NameNumbers, changed_names, name_numbers, number_of};
+use milter_wire::{Header, NoMemory};
+use std::alloc::Global;
+
+/// The header fields after the edits, one after the other. The time of an edit grows as the root of how many fields
+/// there are. Each text that stays is copied once.
+pub(crate) fn headers_after_by_index(
+    alloc: Global,
+    headers: &[Header],
+    edits: &[Edit],
+    leading_space: bool,
+) -> Result<Vec<Header>, NoMemory>
+    ensures { IfOk result (λ changed. changed.items ≡ headers_after leading_space headers.now edits.now) }
+{
+    let names = changed_names(alloc, edits)?;
+    let numbers = name_numbers(alloc, names.as_slice())?;
+    let mut fields = fields_of(alloc, headers, &numbers)?;
+    for edit in edits {
+        fields = edit_field(alloc, fields, edit, leading_space, &numbers)?;
+    }
+    fields.to_headers(alloc)
+}
+
+/// The header fields of a message.
+fn fields_of<'a>(
+    alloc: Global,
+    headers: &'a [Header],
+    numbers: &NameNumbers<'_>,
+) -> Result<EditedFields<'a>, NoMemory>
+    ensures { IfOk result (λ fields. fields ≡ numbered_fields numbers.now headers.now) }
+{
+    let mut fields = EditedFields::new(alloc)?;
+    for header in headers {
+        let position = fields.len();
+        fields = insert_field(alloc, fields, position, put(header, true), numbers)?;
+    }
+    Ok(fields)
+}
+
+/// The texts of a header field that an edit puts.
+fn put(header: &Header, leading_space: bool) -> Source<'_>
+    ensures put { shown result ≡ put_header leading_space header.now }
+    ensures changed { changed result ≡ change_header leading_space header.now }
+{
+    Source {
+        name: &header.name,
+        value: &header.value,
+        leading_space,
+    }
+}
+
+/// Changes the fields as the edit asks.
+fn edit_field<'a>(
+    alloc: Global,
+    fields: EditedFields<'a>,
+    edit: &'a Edit,
+    leading_space: bool,
+    numbers: &NameNumbers<'_>,
+) -> Result<EditedFields<'a>, NoMemory>
+    requires fields { IsNumberedBy numbers.now fields }
+    requires edit { IsNumbered numbers.now edit.now }
+    ensures { IfOk result (λ after. after
+        ≡ numbered_fields numbers.now (edit_headers leading_space (headers_of fields.entry) edit.now)) }
+{
+    match edit {
+        Edit::AddHeader(header) => {
+            let position = fields.len();
+            insert_field(alloc, fields, position, put(header, leading_space), numbers)
+        }
+        Edit::InsertHeader { index, header } => {
+            let position = fields.len().min(*index as usize);
+            insert_field(alloc, fields, position, put(header, leading_space), numbers)
+        }
+        Edit::ChangeHeader { index, header } => {
+            change_field(alloc, fields, *index, put(header, leading_space), numbers)
+        }
+        _ => Ok(fields),
+    }
+}
+
+/// Inserts a field after so many others.
+fn insert_field<'a>(
+    alloc: Global,
+    fields: EditedFields<'a>,
+    position: usize,
+    source: Source<'a>,
+    numbers: &NameNumbers<'_>,
+) -> Result<EditedFields<'a>, NoMemory>
+    requires fields { IsNumberedBy numbers.now fields }
+    requires within { position ≤ length fields }
+    ensures { IfOk result (λ after. after
+        ≡ numbered_fields numbers.now (insert (headers_of fields.entry) position (shown source.entry))) }
+{
+    let name = number_of(alloc, numbers, source.name)?;
+    fields.insert(alloc, position, name, source)
+}
+
+/// Gives the occurrence of this name another value, or deletes it; or adds it, where there are fewer.
+fn change_field<'a>(
+    alloc: Global,
+    fields: EditedFields<'a>,
+    index: u32,
+    source: Source<'a>,
+    numbers: &NameNumbers<'_>,
+) -> Result<EditedFields<'a>, NoMemory>
+    requires fields { IsNumberedBy numbers.now fields }
+    requires name { HasOwnNumber numbers.now source.name.now }
+    ensures { IfOk result (λ after. after
+        ≡ numbered_fields numbers.now (change index (changed source.entry) (headers_of fields.entry))) }
+{
+    let name = number_of(alloc, numbers, source.name)?;
+    match fields.nth(name, (index as usize).saturating_sub(1)) {
+        Some(position) => set_field(alloc, fields, position, source, numbers),
+        None => add_field(alloc, fields, source, numbers),
+    }
+}
+
+/// Gives the field at a position another value, or deletes it where that is empty. It keeps its name.
+fn set_field<'a>(
+    alloc: Global,
+    fields: EditedFields<'a>,
+    position: usize,
+    source: Source<'a>,
+    numbers: &NameNumbers<'_>,
+) -> Result<EditedFields<'a>, NoMemory>
+    requires fields { IsNumberedBy numbers.now fields }
+    requires within { position < length fields }
+    ensures { IfOk result (λ after. after
+        ≡ numbered_fields numbers.now (set_field position (changed source.entry).value (headers_of fields.entry))) }
+{
+    let mut fields = fields;
+    match fields.remove(position) {
+        Some(old) if !source.value.as_slice().is_empty() => {
+            let name = old.name;
+            insert_field(alloc, fields, position, Source { name, ..source }, numbers)
+        }
+        _ => Ok(fields),
+    }
+}
+
+/// Adds a field as the last, unless its value is empty.
+fn add_field<'a>(
+    alloc: Global,
+    fields: EditedFields<'a>,
+    source: Source<'a>,
+    numbers: &NameNumbers<'_>,
+) -> Result<EditedFields<'a>, NoMemory>
+    requires fields { IsNumberedBy numbers.now fields }
+    ensures { IfOk result (λ after. after
+        ≡ numbered_fields numbers.now (headers_of fields.entry ++ added_field (changed source.entry))) }
+{
+    if source.value.as_slice().is_empty() {
+        return Ok(fields);
+    }
+    let position = fields.len();
+    insert_field(alloc, fields, position, source, numbers)
+}
