@@ -3,7 +3,7 @@ use Rattle.std.proofs.Common.{◌≡◌, [], ◌∷◌, refl}
 use Rattle.std.specs.Prelude.{codes}
 use Rattle.milter_text_set.specs.Entries.{bytes_of, entries_of}
 
-in_any_order : entries_of (codes "abc") (record { start = 2; len = 1 } ∷ record { start = 0; len = 2 } ∷ record { start = 3; len = 0 } ∷ [])
+in_any_order : entries_of (codes "abc") (record { key = 0; start = 2; len = 1 } ∷ record { key = 0; start = 0; len = 2 } ∷ record { key = 0; start = 3; len = 0 } ∷ [])
     ≡ codes "c" ∷ codes "ab" ∷ [] ∷ []
 in_any_order = refl
 

@@ -21,7 +21,7 @@ get_mapped f (x ∷ xs) zero d e below = refl
 get_mapped f (x ∷ xs) (suc k) d e below = get_mapped f xs k d e (omega arith)
 
 nowhere : Span
-nowhere = record { start = 0; len = 0 }
+nowhere = record { key = 0; start = 0; len = 0 }
 
 not_true : false ≡ true → ⊥
 not_true e = cc

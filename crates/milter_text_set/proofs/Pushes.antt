@@ -30,7 +30,7 @@ entry_added : (bytes entry : List ℕ) → take (length entry) (drop (length byt
 entry_added bytes entry = ap (take (length entry)) (drop-append_seam bytes entry) ∙ take-length entry
 
 abbrev span_of : List ℕ → List ℕ → Span
-span_of bytes entry = record { start = length bytes; len = length entry }
+span_of bytes entry = record { key = 0; start = length bytes; len = length entry }
 
 -- the entries with the new one
 entries_added : (bytes entry : List ℕ) (spans : List Span) → All (IsWithin bytes) spans
@@ -78,11 +78,11 @@ pub record IsPushed (bytes entry : List ℕ) (spans : List Span) (bytes' : List 
 pub pushed : (bytes entry bytes' : List ℕ) (spans spans' : List Span) (start : ℕ) → HasEntries bytes spans
     → length spans < 1000000 → length bytes + length entry ≤ 209715200
     → start ≡ length bytes → bytes' ≡ bytes ++ entry
-    → spans' ≡ spans ++ record { start = start; len = length entry } ∷ []
+    → spans' ≡ spans ++ record { key = 0; start = start; len = length entry } ∷ []
     → IsPushed bytes entry spans bytes' spans'
 pushed bytes entry bytes' spans spans' start has few short start_is bytes_is spans_is =
     let span_is : spans' ≡ spans ++ span_of bytes entry ∷ [] =
-    spans_is ∙ ap (λ s. spans ++ record { start = s; len = length entry } ∷ []) start_is in
+    spans_is ∙ ap (λ s. spans ++ record { key = 0; start = s; len = length entry } ∷ []) start_is in
     let P : List ℕ → Type 0 = λ b. IsPushed bytes entry spans b spans' in
     let Q : List Span → Type 0 = λ s. IsPushed bytes entry spans (bytes ++ entry) s in
     subst P (sym bytes_is) (subst Q (sym span_is) record {

@@ -9,7 +9,8 @@ ghost use Rattle.milter_text_set.specs.declared.entry_fault.EntryFault.TheVarian
 use crate::entry_fault::EntryFault;
 use crate::limits::{BYTES_MAX, ENTRIES_MAX};
 use crate::set::TextSet;
-use crate::span::{Span, sort_spans};
+use crate::sort::sort_spans;
+use crate::span::Span;
 use std::alloc::Global;
 use std::marker::Model;
 
@@ -58,6 +59,7 @@ impl TextSetBuilder {
             return Err(EntryFault::TooManyBytes);
         }
         let span = Span {
+            key: 0,
             start: self.bytes.len() as u32,
             len: entry.len() as u32,
         };

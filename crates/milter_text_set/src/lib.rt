@@ -3,8 +3,10 @@
 
 mod builder;
 mod entry_fault;
+mod key;
 mod limits;
 mod set;
+mod sort;
 mod span;
 #[cfg(test)]
 mod tests;

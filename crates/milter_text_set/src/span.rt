@@ -1,17 +1,21 @@
 //! Where the entries stand among their bytes, and the search among them.
 
-ghost use Rattle.std.specs.Prelude.{◌≡◌, ◌↔◌, ◌≤◌, IsTrue, length};
+ghost use Rattle.std.specs.Prelude.{◌≡◌, ◌↔◌, ◌≤◌, IsTrue, drop, length};
 ghost use Rattle.std.specs.Cmp.Lexicographic.{slice_cmp};
 ghost use Rattle.std.specs.List.{All, Contains};
-ghost use Rattle.std.specs.List.Sorted.{IsPermutation, IsSortedByKey};
+ghost use Rattle.std.specs.List.Sorted.{IsSortedByKey};
 ghost use Rattle.std.specs.Ordering.{nat_cmp};
 ghost use Rattle.milter_text_set.specs.Entries.{entries_of, entry_of};
+ghost use Rattle.milter_text_set.specs.Keys.{key_of, keyed_cmp};
 
+use crate::key::key_of;
 use std::cmp::Ordering;
 
 /// Where the bytes of an entry stand.
 #[derive(Clone, Copy, Debug, PartialEq, Eq)]
 pub(crate) struct Span {
+    /// A number that the spans are sorted by; 0 before.
+    pub(crate) key: u64,
     /// The place of the first byte.
     pub(crate) start: u32,
     /// How many bytes there are.
@@ -20,7 +24,7 @@ pub(crate) struct Span {
 
 impl Span {
     /// The bytes of the entry.
-    fn of(self, bytes: &[u8]) -> &[u8]
+    pub(crate) fn of(self, bytes: &[u8]) -> &[u8]
         ensures { result.now ≡ entry_of bytes.now self }
     {
         let start = bytes.len().min(self.start as usize);
@@ -34,14 +38,30 @@ impl Span {
     {
         self.of(bytes).cmp(&text)
     }
-}
 
-/// Puts the spans in the order of their entries.
-pub(crate) fn sort_spans(bytes: &[u8], spans: &mut Vec<Span>)
-    ensures permutation { IsPermutation spans.old.items spans.new.items }
-    ensures sorted { IsSortedByKey (entry_of bytes.now) (slice_cmp nat_cmp) spans.new.items }
-{
-    spans.sort_unstable_by(|a, b| a.compare(bytes, b.of(bytes)));
+    /// The span with the key of its entry behind so many bytes.
+    pub(crate) fn keyed(self, bytes: &[u8], shared: usize) -> Span
+        ensures entry { entry_of bytes.now result ≡ entry_of bytes.now self }
+        ensures key { result.key ≡ key_of (drop shared (entry_of bytes.now result)) }
+    {
+        let text = self.of(bytes);
+        let rest = &text[text.len().min(shared)..];
+        Span {
+            key: key_of(rest),
+            start: self.start,
+            len: self.len,
+        }
+    }
+
+    /// How the entry compares with another, first by their keys.
+    pub(crate) fn compare_keyed(self, other: Span, bytes: &[u8]) -> Ordering
+        ensures { result ≡ keyed_cmp bytes.now self other }
+    {
+        if self.key == other.key {
+            return self.of(bytes).cmp(&other.of(bytes));
+        }
+        self.key.cmp(&other.key)
+    }
 }
 
 /// Whether the text is one of the entries, which are in order.

@@ -1,13 +1,14 @@
+use Rattle.std.proofs.Common.{List, subst, ℕ}
 use Rattle.std.specs.List.Sorted.{IsPermutation}
-use Rattle.std.proofs.lemmas.List.Sorted.{Contains-permutation, IsPermutation-map, IsPermutation-sym}
-use Rattle.milter_text_set.specs.Entries.{entry_of}
+use Rattle.std.proofs.lemmas.List.Sorted.{Contains-permutation, IsPermutation-sym}
+use Rattle.milter_text_set.specs.Entries.{entries_of}
 use Rattle.milter_text_set.proofs.builder.TextSetBuilder.finish.Goals as goal
 use Rattle.milter_text_set.proofs.builder.TextSetBuilder.finish.Goals.{After-new}
 
 in_order : (c : After-new) → IsPermutation c.args.self c.new.result
 in_order c =
-    rw (← c.self.view_is, c.new.ensures)
-    (IsPermutation-map (entry_of c.self.inside.bytes.items) _ _ c.sort_spans.ensures.permutation)
+    let P = λ (bytes : List ℕ). IsPermutation (entries_of bytes c.self.inside.spans.items) (entries_of bytes c.sort_spans.new.spans.items) in
+    rw (← c.self.view_is, c.new.ensures) (subst P c.as_slice.ensures.value c.sort_spans.ensures.permutation)
 
 pub returns-clause-order : goal.returns-clause-order
 returns-clause-order c = in_order c

@@ -11,8 +11,8 @@ after_push c =
     let short : length c.self.inside.bytes.items + length c.args.entry.now ≤ 209715200 =
     grind (arith, common_steps, c.self.invariant.short) in
     let start : c.len-3.result ≡ length c.self.inside.bytes.items = search rules in
-    let spans : c.push.new.self.items ≡ c.self.inside.spans.items ++ record { start = c.len-3.result; len = length c.args.entry.now } ∷ [] =
-    c.in_ok-push.ensures.items ∙ ap (λ s. s ++ record { start = c.len-3.result; len = length c.args.entry.now } ∷ []) c.in_ok-reserve.ensures.items in
+    let spans : c.push.new.self.items ≡ c.self.inside.spans.items ++ record { key = 0; start = c.len-3.result; len = length c.args.entry.now } ∷ [] =
+    c.in_ok-push.ensures.items ∙ ap (λ s. s ++ record { key = 0; start = c.len-3.result; len = length c.args.entry.now } ∷ []) c.in_ok-reserve.ensures.items in
     pushed c.self.inside.bytes.items c.args.entry.now _ c.self.inside.spans.items _ c.len-3.result c.self.invariant
     few short start c.in_ok-extend_from_slice.ensures.items spans
 
