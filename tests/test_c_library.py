@@ -18,10 +18,11 @@ filter's end in C exchange packets in memory, with each allocation refused in tu
 tables `trace_*` are printed by the binding as there, and what they are decoded to gives the same lines
 (lib/c_traces.py); those of a capture are decoded in C with each allocation refused (lib/c_packets.c).
 
-The first filter of docs/C.md and the filters of examples/ are played to by `milter_tool mta` and by miltertest, and the
-one in C by the mail server's side beside it; the server of the binding has handlers that raise, take long, and are
-left by their mail server, and its player of messages filters that edit, refuse and are lost (lib/c_plays.py). Programs
-that aren't installed are skipped, with a line for each.
+The first filter of docs/C.md, the one in Python of README.md and the filters of examples/ are played to by
+`milter_tool mta`, those of examples/ also by miltertest, and the one in C by the mail server's side beside it; the
+server of the binding has handlers that raise, take long, and are left by their mail server, and its player of messages
+filters that edit, refuse and are lost (lib/c_plays.py). Programs that aren't installed are skipped, with a line for
+each.
 
 Counted are the runs and what is compared.
 """
@@ -532,6 +533,7 @@ def plays(library, folder):
             yield checked('the example in ' + language, c_plays.example, TOOL, library, folder, language)
     for kind in serving.KINDS:
         yield checked('the example in Python at %s' % kind, c_plays.example_in_python, TOOL, library, folder, kind)
+    yield checked('the filter in Python of README.md', c_plays.readme_in_python, TOOL, library, folder)
     yield checked('the tests in Python', c_plays.tests_in_python, library)
     deiruska = binding(library)
     logging.disable(logging.CRITICAL)

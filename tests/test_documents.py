@@ -1,15 +1,19 @@
 #!/usr/bin/env python3
-"""Checks the documents against the repository: each block of code in docs/LIBRARY.md, docs/FILTERS.md and
-docs/MAIL_SERVERS.md is lines of its examples' programs, each link between documents leads to a file, and each clause of
-docs/PROOFS.md and each definition of docs/DEFINITIONS.md is in the crate under which it is listed. README.md and
-docs/PROOFS.md count the crates of the toolchain that are trusted, README.md and docs/HEADLINE.md the lines of definitions
-under the headline, and no proof speaks of the code of another crate but by what it promises. And no line of the code or of
-the definitions is too long, but imports, nor one of help, and no comment, document or module has a word that is no longer used.
+"""Checks the documents against the repository: each block of code in README.md, docs/LIBRARY.md, docs/FILTERS.md and
+docs/MAIL_SERVERS.md is lines of a program that is tested, each paragraph of README.md has at most four lines, each link
+between documents and each path in the recipes of docs/CONTRIBUTING.md leads to a file, docs/ARCHITECTURE.md has each
+crate, and the functions of its paths are in the files that it names. The lines of docs/RULE_CHECK.md are printed by
+runs of cases/rules_check. Below docs/proofs each clause of PROOFS.md and each definition of DEFINITIONS.md is in the
+crate under which it is listed. README.md and PROOFS.md count the crates of the toolchain that are trusted, README.md
+and HEADLINE.md the lines of definitions under the headline, and no proof speaks of the code of another crate but by
+what it promises. And no line of the code or of the definitions is too long, but imports, nor one of help, and no
+comment, document or module has a word that is no longer used.
 """
 import glob
 import os
 import re
 import sys
+import textwrap
 
 from lib import definitions as specs
 from lib import runner
@@ -17,18 +21,29 @@ from lib.programs import TOP
 
 # The documents with code, and the crates whose it is.
 EXAMPLES = {
+    'README.md': ['example_loop_guard'],
     'docs/LIBRARY.md': ['example_mail'],
     'docs/FILTERS.md': ['example_loop_guard', 'example_greylist', 'milter_filter_service'],
     'docs/MAIL_SERVERS.md': ['example_smtp_server', 'milter_tests_pair']}
+# The files that tests/test_c_library.py plays, of which the blocks of README.md in other languages are parts.
+PLAYED = {'c': 'docs/C.md', 'python': 'bindings/python/deiruska/__init__.py'}
+# Words of rules in rows of docs/RULE_CHECK.md, in whose place others may stand.
+RULE_WORDS = re.compile(r'\b(?:CONDITION|WORD|NAMES?|KIND|STAGE|FIELD|TEST|TEXT|NUMBER|OTHER|PATH|N|add-header|'
+                        r'continue|partners|helo|rcpt|rcpt-address|domains?|connect and data|'
+                        r'within "10\.0\.0\.0/16")(?!\w)')
 COLUMNS = 120
+PARAGRAPH_LINES = 4
 NUMBERS = ['ten', 'eleven', 'twelve', 'thirteen', 'fourteen', 'fifteen', 'sixteen']
 # The call whose contract is the headline, the clauses that are its words, and what its types promise of their values.
 HEADLINE = 'crates/milter_world/src/any_schedule.rt', 'run'
 ITS_WORDS = {'dialogues', 'resets', 'timeouts', 'causes'}
 ITS_PREMISES = {('milter_protocol', 'Lawful', 'IsLawful'), ('milter_mail', 'MailSession', 'IsSession')}
+PROOFS, DEFINITIONS, HEADLINES = ['docs/proofs/%s.md' % name for name in ('PROOFS', 'DEFINITIONS', 'HEADLINE')]
 DOCUMENTS = [
     'README.md', 'CHANGELOG.md', 'SECURITY.md', 'bench/README.md', 'cases/README.md', 'cases/tables/README.md',
-    'tests/README.md'] + sorted(os.path.relpath(path, TOP) for path in glob.glob(os.path.join(TOP, 'docs', '*.md')))
+    'tests/README.md']
+DOCUMENTS += sorted(os.path.relpath(path, TOP) for path in glob.glob(os.path.join(TOP, 'docs', '**', '*.md'),
+                                                                     recursive=True))
 
 
 def text_of(path):
@@ -59,6 +74,89 @@ def blocks():
             yield '%s: %s' % (document, block.strip().splitlines()[0]), any(block in text for text in texts)
 
 
+def pasted():
+    """Whether each block of README.md in another language is in the file of which it is a part."""
+    for language, path in PLAYED.items():
+        text = text_of(path)
+        for block in re.findall(r'```%s\n(.*?)```' % language, text_of('README.md'), re.DOTALL):
+            is_there = block in text or textwrap.indent(block, '    ') in text
+            yield 'README.md: a block of %s is in %s' % (language, path), is_there
+
+
+def paragraphs():
+    """Whether each paragraph and each item of a list in README.md is short. Code is none."""
+    text = re.sub(r'(?s)```.*?```', '', text_of('README.md'))
+    for part in re.split(r'\n\n+|\n(?=- )', text):
+        lines = part.strip('\n').splitlines()
+        is_code = all(line.startswith('    ') for line in lines)
+        yield 'README.md: %s: %d lines' % (part[:40], len(lines)), is_code or len(lines) <= PARAGRAPH_LINES
+
+
+def paths():
+    """Whether each path that a recipe of docs/CONTRIBUTING.md names is there: in a crate that its step names, or in the
+    one that the recipe names first; or in the repository."""
+    for recipe in text_of('docs/CONTRIBUTING.md').split('\n## Recipes\n')[1].split('\n## ')[0].split('\n### ')[1:]:
+        first = []
+        for step in re.split(r'\n(?=\d+\. |\n)', recipe):
+            names = re.findall(r'`([^`\s]+)`', step)
+            named = [name.split('/')[1] if name.startswith('crates/') else name for name in names]
+            crates = [name for name in named if os.path.isdir(os.path.join(TOP, 'crates', name))]
+            first = first or crates[:1]
+            for name in [name for name in names if '/' in name]:
+                is_of_crate = re.match(r'(src|specs|proofs|must-fail)/', name)
+                places = [os.path.join('crates', crate, name) for crate in first + crates] if is_of_crate else [name]
+                is_there = any(os.path.exists(os.path.join(TOP, place)) for place in places)
+                yield 'docs/CONTRIBUTING.md: %s: %s' % (recipe.splitlines()[0], name), is_there
+
+
+def code_blocks(document):
+    """The blocks of a document without a language: of each its lines."""
+    return [block.splitlines() for block in re.findall(r'(?ms)^```\n(.*?)^```', text_of(document))]
+
+
+def used_by():
+    """The crates that each crate uses, by crates.txt."""
+    lines_of = [line for line in text_of('crates.txt').splitlines() if ':' in line and not line.startswith('#')]
+    return {name.split()[0]: names.split() for name, names in (line.split(':') for line in lines_of)}
+
+
+def diagrams():
+    """Whether docs/ARCHITECTURE.md has each crate in its first diagram, or as one of tests in its table; and whether
+    each arrow of the second leads to a crate that is used, and each double arrow to a crate."""
+    uses, (layers, arrows) = used_by(), code_blocks('docs/ARCHITECTURE.md')
+    named, text = set(re.findall(r'\w+', '\n'.join(layers))), text_of('docs/ARCHITECTURE.md')
+    for crate in uses:
+        is_there = crate in named or crate.startswith('milter_tests') and '\n| `%s` |' % crate in text
+        yield 'docs/ARCHITECTURE.md: the diagram lacks ' + crate, is_there
+    for caller, arrow, callees in re.findall(r'(?m)^(\w+) +([-=]>) ((?:.*,\n +)*.*)$', '\n'.join(arrows)):
+        for callee in re.findall(r'[a-z]\w+', re.sub(r'\(\w+\)', '', callees)):
+            is_there = callee in uses.get(caller, []) if arrow == '->' else callee in uses
+            yield 'docs/ARCHITECTURE.md: %s %s %s' % (caller, arrow, callee), is_there
+
+
+def calls():
+    """Whether each function of a path in docs/ARCHITECTURE.md is in the file that is named before it."""
+    text = text_of('docs/ARCHITECTURE.md').split('\n## Two paths through the code\n')[1].split('\n## ')[0]
+    for path, rest in re.findall(r'`(\w+/src/\w+\.rt)`:((?:(?!`\w+/src/).)*)', ' '.join(text.split())):
+        place = os.path.join('crates', path)
+        source = text_of(place) if os.path.exists(os.path.join(TOP, place)) else ''
+        for name in re.findall(r'`(\w+)`', rest):
+            yield 'docs/ARCHITECTURE.md: %s: %s' % (path, name), re.search(r'\bfn %s\b' % name, source) is not None
+
+
+def said():
+    """Whether each row of docs/RULE_CHECK.md is in what is printed of a run in cases/rules_check, with other words of
+    rules. A list of a million entries is none of these."""
+    runs = glob.glob(os.path.join(TOP, 'cases', 'rules_check', '*', 'stdout'))
+    printed = '\n'.join(text_of(path) for path in runs)
+    for line in text_of('docs/RULE_CHECK.md').splitlines():
+        cells = re.split(r'(?<!\\) \| ', line.strip('| '))
+        if line.startswith('| ') and len(cells) == 2 and cells[1].startswith('`') and '1,000,000' not in line:
+            text = re.findall(r'`([^`]*)`', cells[1])[0].replace('\\|', '|').replace('..', 'N')
+            parts = [re.escape(part) for part in RULE_WORDS.split(text)]
+            yield 'docs/RULE_CHECK.md: ' + text, re.search('.+?'.join(parts), printed) is not None
+
+
 def links():
     """Whether each link leads to a file."""
     for document in DOCUMENTS:
@@ -68,25 +166,25 @@ def links():
 
 
 def clauses():
-    """Whether each clause of a table of docs/PROOFS.md stands in the section's crate."""
+    """Whether each clause of a table of PROOFS.md stands in the section's crate."""
     crate, source = None, ''
-    for line in text_of('docs/PROOFS.md').splitlines():
+    for line in text_of(PROOFS).splitlines():
         if re.match('## [a-z]', line):
             crate = line[3:].split(',')[0]
             files = glob.glob(os.path.join(TOP, 'crates', crate, 'src', '**', '*.rt'), recursive=True)
             source = '\n'.join(text_of(file) for file in files)
-            yield 'docs/PROOFS.md: ' + crate, bool(files)
+            yield '%s: %s' % (PROOFS, crate), bool(files)
         cells = line.split(' | ')
         if line.startswith('| `') and len(cells) == 3:
             for name in re.findall(r'`(\w+)`', cells[2]):
                 found = re.search(r'ensures\*? %s \{' % re.escape(name), source) is not None
-                yield 'docs/PROOFS.md: %s: clause %s' % (crate, name), found
+                yield '%s: %s: clause %s' % (PROOFS, crate, name), found
 
 
 def definitions():
-    """Whether each definition of docs/DEFINITIONS.md stands in the files of specs/ that its row names."""
+    """Whether each definition of DEFINITIONS.md stands in the files of specs/ that its row names."""
     crate = None
-    for line in text_of('docs/DEFINITIONS.md').splitlines():
+    for line in text_of(DEFINITIONS).splitlines():
         section = re.match(r'## .*`(\w+)`', line)
         crate = section[1] if section else crate
         cells = line.split(' | ')
@@ -96,43 +194,42 @@ def definitions():
         source = '\n'.join(text_of(path) for path in paths if os.path.exists(os.path.join(TOP, path)))
         for name in re.findall(r'`([^`]+)`', cells[1]):
             found = re.search(r'(?<!\w)%s(?!\w)' % re.escape(name), source) is not None
-            yield 'docs/DEFINITIONS.md: %s: %s' % (crate, name), found
+            yield '%s: %s: %s' % (DEFINITIONS, crate, name), found
 
 
 def cited():
-    """Whether each definition that a contract of a public function names is in docs/DEFINITIONS.md, in its crate's
+    """Whether each definition that a contract of a public function names is in DEFINITIONS.md, in its crate's
     section."""
     crate, named = None, set()
-    for line in text_of('docs/DEFINITIONS.md').splitlines():
+    for line in text_of(DEFINITIONS).splitlines():
         section = re.match(r'## .*`(\w+)`', line)
         crate = section[1] if section else crate
         cells = line.split(' | ')
         named |= {(crate, name) for name in re.findall(r'`([^`]+)`', cells[1])} if len(cells) == 3 else set()
     for crate, file, name in sorted(specs.cited()):
-        yield 'docs/DEFINITIONS.md lacks %s: %s, %s' % (crate, file, name), (crate, name) in named
+        yield '%s lacks %s: %s, %s' % (DEFINITIONS, crate, file, name), (crate, name) in named
 
 
 def trusted():
-    """Whether the crates of the toolchain that docs/PROOFS.md names, and README.md counts, are those of crates.txt."""
-    listed = [line.split(':') for line in text_of('crates.txt').splitlines() if ':' in line and not line.startswith('#')]
-    own = {name for name, _ in listed}
-    used = sorted({name for _, names in listed for name in names.split()} - own)
-    sentence = re.search(r'(?s)by their contracts\nthe crates (.*?);', text_of('docs/PROOFS.md'))[1]
-    yield 'docs/PROOFS.md: the crates of the toolchain are %s' % used, re.findall('`(.*?)`', sentence) == used
+    """Whether the crates of the toolchain that PROOFS.md names, and README.md counts, are those of crates.txt."""
+    listed = used_by()
+    used = sorted({name for names in listed.values() for name in names} - set(listed))
+    sentence = re.search(r'(?s)by their contracts\nthe crates (.*?);', text_of(PROOFS))[1]
+    yield '%s: the crates of the toolchain are %s' % (PROOFS, used), re.findall('`(.*?)`', sentence) == used
     number = NUMBERS[len(used) - 10]
-    yield 'README.md: %s crates of the toolchain' % number, '[%s crates of the toolchain]' % number in text_of('README.md')
+    counted = '[%s crates of the toolchain]' % number
+    yield 'README.md: ' + counted, counted in ' '.join(text_of('README.md').split())
 
 
 def counts():
-    """Whether README.md and docs/HEADLINE.md have the lines of definitions under the headline, under all clauses of its
+    """Whether README.md and HEADLINE.md have the lines of definitions under the headline, under all clauses of its
     function, and under these and the premises of its types."""
     words = specs.under(specs.named_by(*HEADLINE, ITS_WORDS))
     clauses = specs.under(specs.named_by(*HEADLINE))
     premises = {**clauses, **specs.under(ITS_PREMISES)}
     for document, found, text in [
-            ('README.md', words, 'over %d lines of definitions'), ('docs/HEADLINE.md', words, 'stand %d lines of definitions'),
-            ('docs/HEADLINE.md', clauses, '%d stand under all clauses'),
-            ('docs/HEADLINE.md', premises, '%d with the premises')]:
+            ('README.md', words, 'over %d lines of definitions'), (HEADLINES, words, 'stand %d lines of definitions'),
+            (HEADLINES, clauses, '%d stand under all clauses'), (HEADLINES, premises, '%d with the premises')]:
         text %= sum(found.values())
         yield '%s: %s' % (document, text), text in ' '.join(text_of(document).split())
 
@@ -164,7 +261,7 @@ def vocabulary():
         found = sorted({match.lower() for match in pattern.findall(comments + '. ' + names)})
         yield '%s: %s' % (os.path.relpath(path, TOP), found), not found
     for path in DOCUMENTS:
-        text = text_of(path) if path != 'CHANGELOG.md' else ''
+        text = text_of(path)
         if path == 'docs/CONTRIBUTING.md':
             text = text.replace(table, '')
         found = sorted({match.lower() for match in pattern.findall(' '.join(text.split()))})
@@ -182,4 +279,5 @@ def play_of(check):
 
 if __name__ == '__main__':
     sys.exit(runner.run_all(play_of(check) for check in (
-        blocks, links, clauses, definitions, cited, trusted, counts, lemmas, lines, help_lines, vocabulary)))
+        blocks, pasted, paragraphs, paths, diagrams, calls, said, links, clauses, definitions, cited, trusted, counts,
+        lemmas, lines, help_lines, vocabulary)))

@@ -25,7 +25,8 @@ def found(*patterns):
 def places(kind):
     """The place of each file that is put somewhere, by its path in the sources."""
     if kind == 'program':
-        return {path: path for path in found('README.md', 'CHANGELOG.md', 'SECURITY.md', 'docs/*.md', 'examples/*')}
+        return {path: path for path in found(
+            'README.md', 'CHANGELOG.md', 'SECURITY.md', 'docs/**/*.md', 'examples/*')}
     examples = found(*('examples/%s/**' % name for name in ['c', 'cpp', 'go', 'python', 'rust']))
     return {'docs/C.md': 'C.md', **{path: os.path.join('examples', os.path.basename(path)) for path in examples}}
 

@@ -1,5 +1,5 @@
-"""Plays of filters on the library for C: those of examples/ and of docs/C.md, as programs, and handlers of the Python
-binding's server."""
+"""Plays of filters on the library for C: those of examples/, docs/C.md and README.md, as programs, and handlers of the
+Python binding's server."""
 import asyncio
 import contextlib
 import importlib
@@ -109,9 +109,9 @@ def mail_server(library, folder):
     expect('no filter', shown('<bob@example.net>', MESSAGE)[:2], (2, b''))
 
 
-def blocks_of(language):
-    """The blocks of docs/C.md in a language."""
-    with open(os.path.join(programs.TOP, 'docs', 'C.md'), encoding='utf-8') as document:
+def blocks_of(language, path=os.path.join('docs', 'C.md')):
+    """The blocks of a document in a language."""
+    with open(os.path.join(programs.TOP, path), encoding='utf-8') as document:
         return re.findall(r'(?s)```%s\n(.*?)```' % language, document.read())
 
 
@@ -147,6 +147,17 @@ def example_in_python(tool, library, folder, kind):
         process.wait(serving.SECONDS)
         said.seek(0)
         expect('what it says', said.read(), b'')
+
+
+def readme_in_python(tool, library, folder):
+    """The filter in Python of README.md, at another address than there."""
+    [block] = blocks_of('python', 'README.md')
+    place, address = serving.place_of('unix', folder)
+    text = block.replace('inet:8891@127.0.0.1', address)
+    program = programs.written(os.path.join(folder, 'readme.py'), text)
+    with running([sys.executable, program], place, env=of_binding(library)) as process:
+        by_mta(tool, address, PYTHON_STAGES, '', folder)
+        expect('it runs', process.poll(), None)
 
 
 def first_in_c(tool, library, folder):
