@@ -5,7 +5,7 @@ use Rattle.std.specs.Ordering.{nat_cmp, ordering_then}
 use Rattle.std.specs.declared.cmp.Ordering.TheVariants.{Less, Equal}
 use Rattle.std.proofs.lemmas.Cmp.{by_ranked, nat_cmp_total, ranked, tied_itself}
 use Rattle.std.proofs.lemmas.List.{get_or-drop}
-use Rattle.milter_text_set.specs.Keys.{spelled}
+use Rattle.milter_text_set.specs.Keys.{number_from}
 
 abbrev pub AreBytes : List ℕ → Type 0
 AreBytes xs = (k : ℕ) → get_or xs k 0 < 256
@@ -18,8 +18,8 @@ pub no_bytes : AreBytes []
 no_bytes = λ k. omega arith
 
 -- the digits before count more than all bytes behind
-rises : (n a b : ℕ) (xs ys : List ℕ) → AreBytes xs → a < b → spelled a xs n < spelled b ys n
-unfolding spelled
+rises : (n a b : ℕ) (xs ys : List ℕ) → AreBytes xs → a < b → number_from a xs n < number_from b ys n
+unfolding number_from
 rises zero a b xs ys bytes less = less
 rises (suc n) a b xs ys bytes less =
     let first : get_or xs 0 0 < 256 = bytes 0 in
@@ -27,37 +27,37 @@ rises (suc n) a b xs ys bytes less =
     (omega (arith, first))
 
 -- the end of a text is not above a byte
-end_is_least : (n a : ℕ) (xs : List ℕ) → spelled a [] n ≤ spelled a xs n
-unfolding spelled
+end_is_least : (n a : ℕ) (xs : List ℕ) → number_from a [] n ≤ number_from a xs n
+unfolding number_from
 end_is_least zero a xs = omega arith
 end_is_least (suc n) a [] = omega arith
 end_is_least (suc n) a (zero ∷ xs) = end_is_least n (a * 256 + 0) xs
 end_is_least (suc n) a (suc x ∷ xs) =
-    let above : spelled (a * 256 + 0) [] n < spelled (a * 256 + suc x) xs n =
+    let above : number_from (a * 256 + 0) [] n < number_from (a * 256 + suc x) xs n =
     rises n (a * 256 + 0) (a * 256 + suc x) [] xs no_bytes (omega arith) in
     omega (arith, above)
 
 -- texts are as their keys, where those differ
-pub less_by_key : (n a : ℕ) (xs ys : List ℕ) → AreBytes xs → AreBytes ys → spelled a xs n < spelled a ys n
+pub less_by_key : (n a : ℕ) (xs ys : List ℕ) → AreBytes xs → AreBytes ys → number_from a xs n < number_from a ys n
     → slice_cmp nat_cmp xs ys ≡ Less
-unfolding spelled
+unfolding number_from
 less_by_key zero a xs ys bytes_x bytes_y less = absurd (omega arith)
 less_by_key (suc n) a [] [] bytes_x bytes_y less = absurd (omega arith)
 less_by_key (suc n) a [] (y ∷ ys) bytes_x bytes_y less = refl
 less_by_key (suc n) a (x ∷ xs) [] bytes_x bytes_y less =
-    let least : spelled a [] (suc n) ≤ spelled a (x ∷ xs) (suc n) = end_is_least (suc n) a (x ∷ xs) in
+    let least : number_from a [] (suc n) ≤ number_from a (x ∷ xs) (suc n) = end_is_least (suc n) a (x ∷ xs) in
     absurd (omega (arith, least))
 less_by_key (suc n) a (x ∷ xs) (y ∷ ys) bytes_x bytes_y less =
     let rest = slice_cmp nat_cmp xs ys in
     by_ranked (x < y) (x ≡ y) (y < x) (nat_cmp x y) (ranked x y (nat_cmp x y) refl)
     (λ e below. ap (λ first. ordering_then first rest) e)
     (λ e same.
-    let Q : ℕ → Type 0 = λ z. spelled (a * 256 + x) xs n < spelled (a * 256 + z) ys n in
+    let Q : ℕ → Type 0 = λ z. number_from (a * 256 + x) xs n < number_from (a * 256 + z) ys n in
     ap (λ first. ordering_then first rest) e
     ∙ less_by_key n (a * 256 + x) xs ys (behind_first (x ∷ xs) bytes_x) (behind_first (y ∷ ys) bytes_y)
     (subst Q (sym same) less))
     (λ e above.
-    let back : spelled (a * 256 + y) ys n < spelled (a * 256 + x) xs n =
+    let back : number_from (a * 256 + y) ys n < number_from (a * 256 + x) xs n =
     rises n (a * 256 + y) (a * 256 + x) ys xs (behind_first (y ∷ ys) bytes_y) (omega (arith, above)) in
     absurd (omega (arith, back, less)))
 
@@ -77,6 +77,6 @@ cmp_behind (suc n) (x ∷ xs) (y ∷ ys) same =
 -- eight bytes, each with what it counts
 pub eight_bytes : (xs : List ℕ) → get_or xs 0 0 * 72057594037927936 + get_or xs 1 0 * 281474976710656
     + get_or xs 2 0 * 1099511627776 + get_or xs 3 0 * 4294967296 + get_or xs 4 0 * 16777216
-    + get_or xs 5 0 * 65536 + get_or xs 6 0 * 256 + get_or xs 7 0 ≡ spelled 0 xs 8
-unfolding spelled
+    + get_or xs 5 0 * 65536 + get_or xs 6 0 * 256 + get_or xs 7 0 ≡ number_from 0 xs 8
+unfolding number_from
 eight_bytes xs = simp get_or-drop (omega arith)

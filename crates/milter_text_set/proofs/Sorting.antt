@@ -12,7 +12,7 @@ use Rattle.std.proofs.lemmas.List.Elements.{All-map}
 use Rattle.std.proofs.lemmas.List.Sorted.{All-permutation}
 use Rattle.milter_text_set.specs.declared.span.Span.{Span}
 use Rattle.milter_text_set.specs.Entries.{entries_of, entry_of}
-use Rattle.milter_text_set.specs.Keys.{AreKeyed, BeginWith, key_of, keyed_cmp, spelled}
+use Rattle.milter_text_set.specs.Keys.{AreKeyed, BeginWith, key_of, keyed_cmp, number_from}
 use Rattle.milter_text_set.proofs.Keys.{AreBytes, cmp_behind, less_by_key, no_bytes}
 
 bytes_behind : (n : ℕ) (xs : List ℕ) → AreBytes xs → AreBytes (drop n xs)
@@ -41,7 +41,7 @@ not_before n xs ys i j bytes_x bytes_y same key_x key_y not =
     absurd (cc))
     (λ e tied. sym (ap (λ first. is_lt (ordering_then first rest)) e) ∙ not)
     (λ e above.
-    let keys : spelled 0 (drop n ys) 8 < spelled 0 (drop n xs) 8 = omega arith in
+    let keys : number_from 0 (drop n ys) 8 < number_from 0 (drop n xs) 8 = omega arith in
     let less : slice_cmp nat_cmp (drop n ys) (drop n xs) ≡ Less =
     less_by_key 8 0 (drop n ys) (drop n xs) (bytes_behind n ys bytes_y) (bytes_behind n xs bytes_x) keys in
     ap is_lt (cmp_behind n xs ys same ∙ nat_list_cmp_total.antisymm (drop n xs) (drop n ys) ∙ ap ordering_reverse less))

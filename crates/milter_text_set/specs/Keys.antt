@@ -7,14 +7,14 @@ use Rattle.std.specs.Ordering.{nat_cmp, ordering_then}
 use Rattle.milter_text_set.specs.declared.span.Span.{Span}
 use Rattle.milter_text_set.specs.Entries.{entry_of}
 
--- the number that so many bytes of the text spell after these digits; behind its end they are zeros
-unfoldable pub spelled : ℕ → List ℕ → ℕ → ℕ
-spelled digits text zero = digits
-spelled digits text (suc n) = spelled (digits * 256 + slice_index text 0) (drop 1 text) n
+-- the number whose digits, to the base 256, are these and so many bytes of the text; behind its end they are zeros
+unfoldable pub number_from : ℕ → List ℕ → ℕ → ℕ
+number_from digits text zero = digits
+number_from digits text (suc n) = number_from (digits * 256 + slice_index text 0) (drop 1 text) n
 
 -- the number of the text's first eight bytes
 abbrev pub key_of : List ℕ → ℕ
-key_of text = spelled 0 text 8
+key_of text = number_from 0 text 8
 
 -- all entries begin with these bytes
 abbrev pub BeginWith : List ℕ → List ℕ → List Span → Type 0
