@@ -16,6 +16,17 @@ parts bs t within =
     ∙ flat_map-append (λ (b : List ℕ). b) (take t bs) (drop t bs)
     ∙ ap (λ rest. joined (take t bs) ++ joined rest) (drop_more bs t [] within)
 
+-- a block is no longer than the whole
+pub block-le_joined : (bs : List (List ℕ)) (t : ℕ) → t < length bs → length (at bs t) ≤ length (joined bs)
+block-le_joined bs t within =
+    let rest = joined (drop (t + 1) bs) in
+    omega (
+      arith,
+      ap length (parts bs t within),
+      length-append (joined (take t bs)) (at bs t ++ rest),
+      length-append (at bs t) rest,
+    )
+
 pub parts-set : (bs : List (List ℕ)) (t : ℕ) (b : List ℕ) → t < length bs
     → joined (set bs t b) ≡ joined (take t bs) ++ (b ++ joined (drop (t + 1) bs))
 parts-set bs t b within =

@@ -87,6 +87,21 @@ impl Blocks {
         find_new(self.lens.as_slice(), index)
     }
 
+    /// The place of a new number after so many others: its block is split if it is full.
+    pub(crate) fn place_for(&mut self, alloc: Global, index: usize) -> Result<Place, AllocError>
+        requires { index ≤ length (joined self.old) }
+        ensures same { joined self.new ≡ joined self.old }
+        ensures found { IfOk result (λ p. IsPlace (lengths self.new) p.block p.offset index) }
+        ensures inside { IfOk result (λ p. p.offset ≤ length (at self.new p.block)) }
+    {
+        let place = self.find_new(index);
+        if self.lens[place.block] < BLOCK_LEN {
+            return Ok(place);
+        }
+        self.split(alloc, place.block)?;
+        Ok(self.find_new(index))
+    }
+
     /// Inserts a number at a place. After an `Err` all is as before.
     pub(crate) fn insert(&mut self, place: Place, number: u32) -> Result<(), AllocError>
         requires block { place.block < length self.old }

@@ -1,17 +1,37 @@
 //! Occurrences of a symbol in a list.
 
-ghost use Rattle.std.specs.Prelude.{◌≡◌, ◌==◌, ◌≤◌, drop, length};
+ghost use Rattle.std.specs.Prelude.{◌≡◌, ◌<◌, ◌==◌, ◌≤◌, ◌^◌, drop, length, take};
 ghost use Rattle.milter_field_index.specs.Blocks.{count_of};
 ghost use Rattle.milter_field_index.specs.Occurrence.{nth, shifted};
 
 /// The number of symbols that are counted at once.
 const CHUNK_LEN: usize = 64;
 
-/// How often a symbol occurs.
+/// How often a symbol occurs. The count has the width of a symbol, so that several are compared at once.
 pub(crate) fn count_in(symbols: &[u32], symbol: u32) -> usize
+    requires { length symbols.now < 2 ^ 32 }
     ensures { result ≡ count_of symbol symbols.now }
 {
-    symbols.iter().filter(|other| **other == symbol).count()
+    let mut count: u32 = 0;
+    for other in symbols {
+        if *other == symbol {
+            count += 1;
+        }
+    }
+    count as usize
+}
+
+/// How often a symbol occurs before an offset, where it occurs `total` times in all. It counts from the nearer end.
+pub(crate) fn count_before(symbols: &[u32], offset: usize, symbol: u32, total: usize) -> usize
+    requires within { offset ≤ length symbols.now }
+    requires few { length symbols.now < 2 ^ 32 }
+    requires total { total ≡ count_of symbol symbols.now }
+    ensures { result ≡ count_of symbol (take offset symbols.now) }
+{
+    if offset <= symbols.len() / 2 {
+        return count_in(&symbols[..offset], symbol);
+    }
+    total - count_in(&symbols[offset..], symbol)
 }
 
 /// The index of the occurrence of a symbol with this number, counted from 0.

@@ -2,12 +2,13 @@
 
 ghost use Rattle.std.specs.Prelude.{◌≡◌, ◌+◌, ◌-◌, ◌<◌, ◌≤◌, ◌^◌, ◌==◌, [], IfOk, OnErr, OnOk, if◌then◌else◌, is_some, length, slice_get, take};
 ghost use Rattle.std.specs.List.{insert, remove};
-ghost use Rattle.milter_field_index.specs.Blocks.{count_of};
+ghost use Rattle.milter_field_index.specs.Blocks.{IsPlace, at, count_of, insert_in, joined, lengths};
+ghost use Rattle.milter_field_index.specs.Counted.{Counted};
 ghost use Rattle.milter_field_index.specs.Occurrence.{nth};
 
 use crate::blocks::{BLOCK_LEN, Blocks, HALF_LEN};
-use crate::occurrence::{count_in, nth_in};
-use crate::row::{find, sum_of};
+use crate::occurrence::{count_before, nth_in};
+use crate::row::{Place, find, sum_of};
 use crate::rows::Rows;
 use std::alloc::{AllocError, Global};
 use std::marker::Model;
@@ -53,8 +54,10 @@ impl Ranked {
             return 0;
         }
         let place = self.blocks.find_new(index);
-        let before = sum_of(&self.rows.row(symbol)[..place.block]);
-        before + count_in(&self.blocks.block(place.block)[..place.offset], symbol)
+        let row = self.rows.row(symbol);
+        let total = row[place.block] as usize;
+        let block = self.blocks.block(place.block);
+        sum_of(&row[..place.block]) + count_before(block, place.offset, symbol, total)
     }
 
     /// The index of the occurrence of a symbol with this number, counted from 0.
@@ -77,39 +80,10 @@ impl Ranked {
         ensures ok { OnOk result (self.new ≡ insert self.old index symbol) }
         ensures err { OnErr result (self.new ≡ self.old) }
     {
-        self.make_room(alloc, index)?;
-        self.put(alloc, index, symbol)
-    }
-
-    /// Splits the block of this index if it is full.
-    fn make_room(&mut self, alloc: Global, index: usize) -> Result<(), AllocError>
-        requires { index ≤ length self.old }
-        ensures { self.new ≡ self.old }
-    {
-        let place = self.blocks.find_new(index);
-        if self.blocks.lens()[place.block] < BLOCK_LEN {
-            return Ok(());
-        }
-        let (low, high) = self.blocks.block(place.block).split_at(HALF_LEN as usize);
-        let rows = self.rows.split(alloc, place.block, low, high)?;
-        self.blocks.split(alloc, place.block)?;
-        self.rows = rows;
-        Ok(())
-    }
-
-    /// Inserts a symbol into the block of the index, however long that is.
-    fn put(&mut self, alloc: Global, index: usize, symbol: u32) -> Result<(), AllocError>
-        requires within { index ≤ length self.old }
-        requires few { length self.old < 2 ^ 32 - 1 }
-        ensures ok { OnOk result (self.new ≡ insert self.old index symbol) }
-        ensures err { OnErr result (self.new ≡ self.old) }
-    {
-        self.rows.grow(alloc, symbol, self.blocks.lens().len())?;
-        let place = self.blocks.find_new(index);
-        let count = self.rows.row(symbol)[place.block];
-        self.blocks.insert(place, symbol)?;
-        self.rows.set(symbol, place.block, count + 1);
-        Ok(())
+        let Ranked { blocks, rows } = self;
+        rows.grow(alloc, symbol, blocks.lens().len())?;
+        let place = place_for(alloc, blocks, rows, index)?;
+        put(blocks, rows, place, symbol)
     }
 
     /// Deletes the symbol at an index, and returns it; `None` past the end.
@@ -127,4 +101,66 @@ impl Ranked {
             None => None,
         }
     }
+}
+
+/// The place of a new symbol after so many others: its block is split if it is full.
+fn place_for(
+    alloc: Global,
+    blocks: &mut Blocks,
+    rows: &mut Rows,
+    index: usize,
+) -> Result<Place, AllocError>
+    requires counted { Counted rows.old blocks.old }
+    requires within { index ≤ length (joined blocks.old) }
+    ensures counted { Counted rows.new blocks.new }
+    ensures same { joined blocks.new ≡ joined blocks.old }
+    ensures rows { length rows.new ≡ length rows.old }
+    ensures found { IfOk result (λ p. IsPlace (lengths blocks.new) p.block p.offset index) }
+    ensures inside { IfOk result (λ p. p.offset ≤ length (at blocks.new p.block)) }
+{
+    let place = blocks.find_new(index);
+    if blocks.lens()[place.block] < BLOCK_LEN {
+        return Ok(place);
+    }
+    split(alloc, blocks, rows, place.block)?;
+    Ok(blocks.find_new(index))
+}
+
+/// Makes two blocks of one. After an `Err` all is as before.
+fn split(
+    alloc: Global,
+    blocks: &mut Blocks,
+    rows: &mut Rows,
+    block: usize,
+) -> Result<(), AllocError>
+    requires counted { Counted rows.old blocks.old }
+    requires block { block < length blocks.old }
+    requires few { length (joined blocks.old) < 2 ^ 32 }
+    requires long { HALF_LEN ≤ length (at blocks.old block) }
+    ensures counted { Counted rows.new blocks.new }
+    ensures same { joined blocks.new ≡ joined blocks.old }
+    ensures rows { length rows.new ≡ length rows.old }
+{
+    let (low, high) = blocks.block(block).split_at(HALF_LEN as usize);
+    let split = rows.split(alloc, block, low, high)?;
+    blocks.split(alloc, block)?;
+    *rows = split;
+    Ok(())
+}
+
+/// Inserts a symbol at a place. After an `Err` all is as before.
+fn put(blocks: &mut Blocks, rows: &mut Rows, place: Place, symbol: u32) -> Result<(), AllocError>
+    requires counted { Counted rows.old blocks.old }
+    requires row { symbol < length rows.old }
+    requires block { place.block < length blocks.old }
+    requires offset { place.offset ≤ length (at blocks.old place.block) }
+    requires few { length (joined blocks.old) < 2 ^ 32 - 1 }
+    ensures counted { Counted rows.new blocks.new }
+    ensures ok { OnOk result (blocks.new ≡ insert_in blocks.old place.block place.offset symbol) }
+    ensures err { OnErr result (blocks.new ≡ blocks.old) }
+{
+    let count = rows.row(symbol)[place.block];
+    blocks.insert(place, symbol)?;
+    rows.set(symbol, place.block, count + 1);
+    Ok(())
 }

@@ -3,7 +3,7 @@
 ghost use Rattle.std.specs.Prelude.{◌≡◌, ◌+◌, ◌-◌, ◌<◌, ◌≤◌, ◌^◌, [], IfOk, OnErr, OnOk, if◌then◌else◌, is_some, length, slice_get};
 ghost use Rattle.std.specs.List.{insert, remove};
 
-use crate::blocks::{BLOCK_LEN, Blocks};
+use crate::blocks::Blocks;
 use std::alloc::{AllocError, Global};
 use std::marker::Model;
 
@@ -57,21 +57,8 @@ impl Sequence {
         ensures ok { OnOk result (self.new ≡ insert self.old index number) }
         ensures err { OnErr result (self.new ≡ self.old) }
     {
-        self.make_room(alloc, index)?;
-        let place = self.blocks.find_new(index);
+        let place = self.blocks.place_for(alloc, index)?;
         self.blocks.insert(place, number)
-    }
-
-    /// Splits the block of this index if it is full.
-    fn make_room(&mut self, alloc: Global, index: usize) -> Result<(), AllocError>
-        requires { index ≤ length self.old }
-        ensures { self.new ≡ self.old }
-    {
-        let place = self.blocks.find_new(index);
-        if self.blocks.lens()[place.block] < BLOCK_LEN {
-            return Ok(());
-        }
-        self.blocks.split(alloc, place.block)
     }
 
     /// Deletes the number with this index, and returns it; `None` past the end.

@@ -13,20 +13,15 @@ use Rattle.std.proofs.lemmas.Option.{none-some, same_Some, slice_get-get_or, sli
 use Rattle.std.proofs.lemmas.Slice.Eq.{bytes_eq-Decides}
 use Rattle.milter_message.specs.declared.edit.Edit.{Edit}
 use Rattle.milter_message.specs.declared.edit.Edit.TheVariants.{ChangeHeader}
-use Rattle.milter_message.specs.NameNumbers.{HasNumbers, HasOwnNumber, IsNumbered, changed_name, found, number_or_zero}
+use Rattle.milter_message.specs.NameNumbers.{AreUpTo, HasNumbers, HasOwnNumber, IsNumbered, changed_name, found, number_or_zero}
 
 abbrev Numbers : Type 0
 Numbers = BTreeMap (Bor (List ℕ)) ℕ
 
-abbrev HasNumber : Numbers → List ℕ → Type 0
+abbrev pub HasNumber : Numbers → List ℕ → Type 0
 HasNumber numbers name = IsSome (found numbers name)
 
 -- ---- a number of one name alone
-
-same_text : (names : List (List ℕ)) (numbers : Numbers) (a b : List ℕ) (number : ℕ) → HasNumbers names numbers
-    → found numbers a ≡ Some number → found numbers b ≡ Some number → a ≡ b
-same_text names numbers a b number has first second =
-    same_Some a b (sym (has.place a number first) ∙ has.place b number second)
 
 differ : (numbers : Numbers) (a b : List ℕ) → (found numbers a ≡ found numbers b → ⊥) → bytes_eq a b ≡ false
 differ numbers a b apart =
@@ -52,7 +47,7 @@ compared names numbers a b None (Some n) has first second some =
 compared names numbers a b (Some m) (Some n) has first second some =
     elim (cases_Bool (m == n)) [
       | inl e ↦
-          let same = same_text names numbers a b n has (first ∙ ap Some (eqb-true m n e)) second in
+          let same = has.apart a b n (first ∙ ap Some (eqb-true m n e)) second in
           e ∙ sym ((bytes_eq-Decides a b).1 same)
       | inr e ↦
           e ∙ sym (differ numbers a b (λ same. eqb-false m n e (same_Some m n (sym first ∙ same ∙ second))))
@@ -84,48 +79,49 @@ edits_numbered names numbers edits has is =
 
 -- ---- one name more
 
-kept : (names : List (List ℕ)) (text name : List ℕ) (number : ℕ) → slice_get names (number - 1) ≡ Some name
-    → slice_get (names ++ text ∷ []) (number - 1) ≡ Some name
-kept names text name number is =
-    let within = slice_get_within names (number - 1) name is in
-    let longer = length_push names text in
-    slice_get-get_or (names ++ text ∷ []) (number - 1) [] (omega (arith, within, longer))
-    ∙ ap Some (get_or_append_left names (text ∷ []) [] (number - 1) within
-    ∙ get_or_from_slice_get names (number - 1) name [] is)
-
-added : (names : List (List ℕ)) (text : List ℕ) (number : ℕ) → number ≡ length names + 1
-    → slice_get (names ++ text ∷ []) (number - 1) ≡ Some text
-added names text number is =
-    let longer = length_push names text in
-    let place : number - 1 ≡ length names = omega (arith, is) in
-    ap (slice_get (names ++ text ∷ [])) place
-    ∙ slice_get-get_or (names ++ text ∷ []) (length names) [] (omega (arith, longer))
-    ∙ ap Some (get_or_push names text [] (length names) refl)
-
-one_more : (names : List (List ℕ)) (text : List ℕ) (number : ℕ) (numbers more : Numbers) → number ≡ length names + 1
-    → ((name : List ℕ) → found more name ≡ update bytes_eq (found numbers) text (Some number) name)
-    → HasNumbers names numbers → HasNumbers (names ++ text ∷ []) more
-one_more names text number numbers more is put has = record {
-  some = All-push (HasNumber more) names text
-      (All-weaker (HasNumber numbers) (HasNumber more) still names has.some)
-      (ap is_some (here text ((bytes_eq-Decides text text).1 refl)));
-  positive = λ name n e. elim (cases_Bool (bytes_eq text name)) [
-    | inl same ↦ let eq = same_Some number n (sym (here name same) ∙ e) in omega (arith, is, eq)
-    | inr other ↦ has.positive name n (sym (elsewhere name other) ∙ e)
-  ];
-  place = λ name n e. elim (cases_Bool (bytes_eq text name)) [
-    | inl same ↦
-        let eq = same_Some number n (sym (here name same) ∙ e) in
-        added names text n (sym eq ∙ is) ∙ ap Some ((bytes_eq-Decides text name).0 same)
-    | inr other ↦ kept names text name n (has.place name n (sym (elsewhere name other) ∙ e))
-  ];
+again : (names : List (List ℕ)) (text : List ℕ) (numbers : Numbers) → HasNumber numbers text
+    → HasNumbers names numbers → HasNumbers (names ++ text ∷ []) numbers
+again names text numbers present has = record {
+  some = All-push (HasNumber numbers) names text has.some present;
+  positive = has.positive;
+  apart = has.apart;
 }
+
+one_more : (names : List (List ℕ)) (text : List ℕ) (most : ℕ) (numbers more : Numbers)
+    → ((name : List ℕ) → found more name ≡ update bytes_eq (found numbers) text (Some (most + 1)) name)
+    → AreUpTo most numbers → HasNumbers names numbers
+    → HasNumbers (names ++ text ∷ []) more × AreUpTo (most + 1) more
+one_more names text most numbers more put few has = (
+  record {
+    some = All-push (HasNumber more) names text
+        (All-weaker (HasNumber numbers) (HasNumber more) still names has.some)
+        (ap is_some (here text ((bytes_eq-Decides text text).1 refl)));
+    positive = λ name n e. elim (cases_Bool (bytes_eq text name)) [
+      | inl same ↦ let eq = same_Some (most + 1) n (sym (here name same) ∙ e) in omega (arith, eq)
+      | inr other ↦ has.positive name n (sym (elsewhere name other) ∙ e)
+    ];
+    apart = λ a b n first second. elim (cases_Bool (bytes_eq text a)) [
+      | inl one ↦ elim (cases_Bool (bytes_eq text b)) [
+        | inl two ↦ sym ((bytes_eq-Decides text a).0 one) ∙ (bytes_eq-Decides text b).0 two
+        | inr two ↦ absurd (new_one a b n one two first second)
+      ]
+      | inr one ↦ elim (cases_Bool (bytes_eq text b)) [
+        | inl two ↦ absurd (new_one b a n two one second first)
+        | inr two ↦ has.apart a b n (sym (elsewhere a one) ∙ first) (sym (elsewhere b two) ∙ second)
+      ]
+    ];
+  },
+  λ name n e. elim (cases_Bool (bytes_eq text name)) [
+    | inl same ↦ let eq = same_Some (most + 1) n (sym (here name same) ∙ e) in omega (arith, eq)
+    | inr other ↦ let low = few name n (sym (elsewhere name other) ∙ e) in omega (arith, low)
+  ],
+)
   where
-    here : (name : List ℕ) → bytes_eq text name ≡ true → found more name ≡ Some number
-    here name same = put name ∙ ap (λ (b : Bool). if b then Some number else found numbers name) same
+    here : (name : List ℕ) → bytes_eq text name ≡ true → found more name ≡ Some (most + 1)
+    here name same = put name ∙ ap (λ (b : Bool). if b then Some (most + 1) else found numbers name) same
 
     elsewhere : (name : List ℕ) → bytes_eq text name ≡ false → found more name ≡ found numbers name
-    elsewhere name other = put name ∙ ap (λ (b : Bool). if b then Some number else found numbers name) other
+    elsewhere name other = put name ∙ ap (λ (b : Bool). if b then Some (most + 1) else found numbers name) other
 
     still : (name : List ℕ) → IsSome (found numbers name) → IsSome (found more name)
     still name some =
@@ -134,13 +130,36 @@ one_more names text number numbers more is put has = record {
           | inr other ↦ ap is_some (elsewhere name other) ∙ some
         ]
 
--- a step of the loop
-pub numbered_more : (names : List (List ℕ)) (index number : ℕ) (name : List ℕ) (numbers more : Numbers)
-    → index < length names → name ≡ get_or names index name → number ≡ index + 1
+    new_one : (a b : List ℕ) (n : ℕ) → bytes_eq text a ≡ true → bytes_eq text b ≡ false → found more a ≡ Some n
+        → found more b ≡ Some n → ⊥
+    new_one a b n one two first second =
+        let eq = same_Some (most + 1) n (sym (here a one) ∙ first) in
+        let low = few b n (sym (elsewhere b two) ∙ second) in
+        omega (arith, eq, low)
+
+-- the names up to one more
+next_taken : (names : List (List ℕ)) (index : ℕ) (name : List ℕ) → index < length names
+    → name ≡ get_or names index name → take index names ++ name ∷ [] ≡ take (index + 1) names
+next_taken names index name within here =
+    sym (take_more names index name within ∙ ap (λ n. take index names ++ n ∷ []) (sym here))
+
+-- the steps of the loop
+pub numbered_again : (names : List (List ℕ)) (index : ℕ) (name : List ℕ) (numbers : Numbers)
+    → index < length names → name ≡ get_or names index name → HasNumber numbers name
+    → HasNumbers (take index names) numbers → HasNumbers (take (index + 1) names) numbers
+numbered_again names index name numbers within here present has =
+    subst (λ ns. HasNumbers ns numbers) (next_taken names index name within here)
+    (again (take index names) name numbers present has)
+
+pub numbered_more : (names : List (List ℕ)) (index most number : ℕ) (name : List ℕ) (numbers more : Numbers)
+    → index < length names → name ≡ get_or names index name → number ≡ most + 1
     → ((text : List ℕ) → found more text ≡ update bytes_eq (found numbers) name (Some number) text)
-    → HasNumbers (take index names) numbers → HasNumbers (take (index + 1) names) more
-numbered_more names index number name numbers more within here is put has =
-    let len : length (take index names) ≡ index = length-take index names ∙ (let e : min index (length names) ≡ index = omega (arith, within) in e) in
-    subst (λ ns. HasNumbers ns more)
-    (sym (take_more names index name within ∙ ap (λ n. take index names ++ n ∷ []) (sym here)))
-    (one_more (take index names) name number numbers more (is ∙ ap (λ n. n + 1) (sym len)) put has)
+    → AreUpTo most numbers → HasNumbers (take index names) numbers
+    → HasNumbers (take (index + 1) names) more × AreUpTo number more
+numbered_more names index most number name numbers more within here is put few has =
+    let next =
+    one_more (take index names) name most numbers more
+    (λ text. put text ∙ ap (λ n. update bytes_eq (found numbers) name (Some n) text) is) few has in (
+      subst (λ ns. HasNumbers ns more) (next_taken names index name within here) next.0,
+      subst (λ n. AreUpTo n more) (sym is) next.1,
+    )

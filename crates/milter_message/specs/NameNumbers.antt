@@ -1,5 +1,5 @@
 -- Numbers for the names of header fields: two names have the same number where they differ by case alone.
-use Rattle.std.specs.Prelude.{◌≡◌, ℕ, ◌-◌, ◌<◌, ◌==◌, ⊤, List, Option, None, Some, IsSome, slice_get}
+use Rattle.std.specs.Prelude.{◌≡◌, ℕ, ◌<◌, ◌≤◌, ◌==◌, ⊤, List, Option, None, Some, IsSome}
 use Rattle.std.specs.Borrow.{Bor}
 use Rattle.std.specs.BTreeMap.{BTreeMap, get_by}
 use Rattle.std.specs.Cmp.Lexicographic.{slice_cmp}
@@ -26,11 +26,16 @@ number_or_zero (Some number) = number
 abbrev pub number_of : BTreeMap (Bor (List ℕ)) ℕ → List ℕ → ℕ
 number_of numbers name = number_or_zero (found numbers (str_to_ascii_lowercase name))
 
--- each of the names has a number, which is its place among them or that of an equal one, counted from 1
+-- each of the names has a number, and no two have the same one
 pub record HasNumbers (names : List (List ℕ)) (numbers : BTreeMap (Bor (List ℕ)) ℕ) : Type 0 where
   pub some : All (λ name. IsSome (found numbers name)) names
   pub positive : (name : List ℕ) (number : ℕ) → found numbers name ≡ Some number → 0 < number
-  pub place : (name : List ℕ) (number : ℕ) → found numbers name ≡ Some number → slice_get names (number - 1) ≡ Some name
+  pub apart : (name other : List ℕ) (number : ℕ) → found numbers name ≡ Some number → found numbers other ≡ Some number
+      → name ≡ other
+
+-- the numbers go up to this one
+abbrev pub AreUpTo : ℕ → BTreeMap (Bor (List ℕ)) ℕ → Type 0
+AreUpTo most numbers = (name : List ℕ) (number : ℕ) → found numbers name ≡ Some number → number ≤ most
 
 -- no other name has the number of this one
 abbrev pub HasOwnNumber : BTreeMap (Bor (List ℕ)) ℕ → List ℕ → Type 0

@@ -15,8 +15,8 @@ use std::alloc::Global;
 /// The most header fields that edits may go over in a plain list.
 const STEPS_MAX: usize = 65_536;
 
-/// The header fields after the edits, one after the other. Few fields and edits stay in a plain list, and others get an
-/// index.
+/// The header fields after the edits, one after the other. They stay in a plain list where few fields are gone over, and
+/// get an index where these are more.
 pub(crate) fn headers_after(
     alloc: Global,
     headers: &[Header],
@@ -25,14 +25,24 @@ pub(crate) fn headers_after(
 ) -> Result<Vec<Header>, NoMemory>
     ensures { IfOk result (λ changed. changed.items ≡ headers_after leading_space headers.now edits.now) }
 {
-    let steps = headers
-        .len()
-        .saturating_add(edits.len())
-        .saturating_mul(edits.len());
-    if steps > STEPS_MAX {
+    let fields = headers.len().saturating_add(edits.len());
+    if fields.saturating_mul(steps_of(edits)) > STEPS_MAX {
         return headers_after_by_index(alloc, headers, edits, leading_space);
     }
     headers_after_in_list(alloc, headers, edits, leading_space)
+}
+
+/// How many of the edits go over the fields in a plain list.
+fn steps_of(edits: &[Edit]) -> usize {
+    edits.iter().filter(|edit| goes_over_fields(edit)).count()
+}
+
+/// Whether the edit goes over the fields in a plain list: one that inserts, changes or deletes a field does.
+fn goes_over_fields(edit: &Edit) -> bool {
+    matches!(
+        edit,
+        Edit::InsertHeader { .. } | Edit::ChangeHeader { .. }
+    )
 }
 
 /// The header fields after the edits, each of which goes over the fields once. Each text is copied once.

@@ -1,9 +1,9 @@
 //! Numbers for the names of header fields, by which an index finds them.
 
-ghost use Rattle.std.specs.Prelude.{◌≡◌, ◌+◌, IfOk};
+ghost use Rattle.std.specs.Prelude.{◌≡◌, ◌+◌, IfOk, is_some};
 ghost use Rattle.std.specs.List.{filter_map};
 ghost use Rattle.std.specs.Str.{str_to_ascii_lowercase};
-ghost use Rattle.milter_message.specs.NameNumbers.{HasNumbers, changed_name, number_of};
+ghost use Rattle.milter_message.specs.NameNumbers.{HasNumbers, changed_name, found, number_of};
 
 use crate::edit::Edit;
 use milter_wire::{NoMemory, Text};
@@ -33,17 +33,26 @@ fn lower_case(alloc: Global, name: &Text) -> Result<Text, NoMemory>
     Ok(Text::new(name.as_slice().to_ascii_lowercase(alloc)?))
 }
 
-/// Numbers for these names, which are in lower case.
+/// Numbers for these names, which are in lower case: 1, 2, 3 .. in the order in which they first stand here.
 pub(crate) fn name_numbers(alloc: Global, names: &[Text]) -> Result<NameNumbers<'_>, NoMemory>
     ensures { IfOk result (HasNumbers names.now) }
 {
     let mut numbers = BTreeMap::new(alloc);
     let mut number: u32 = 0;
     for name in names {
-        number = next(number)?;
-        numbers.insert(name.as_slice(), number)?;
+        if !has_number(&numbers, name) {
+            number = next(number)?;
+            numbers.insert(name.as_slice(), number)?;
+        }
     }
     Ok(numbers)
+}
+
+/// Whether a name in lower case has a number. Doesn't allocate.
+fn has_number(numbers: &NameNumbers<'_>, name: &Text) -> bool
+    ensures { result ≡ is_some (found numbers.now name.now) }
+{
+    numbers.get(name.as_slice()).is_some()
 }
 
 /// The number after this one.

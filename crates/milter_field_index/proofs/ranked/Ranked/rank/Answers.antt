@@ -2,6 +2,7 @@ use Rattle.std.proofs.Common.{◌≡◌, ◌+◌, ◌<◌, ◌≤◌, ◌==◌, 
 use Rattle.std.specs.List.{sum}
 use Rattle.std.proofs.lemmas.List.Sums.{sum_by-take-le, count_by-le-length}
 use Rattle.milter_field_index.specs.Blocks.{joined, at, count_of, counts}
+use Rattle.milter_field_index.proofs.Joins.{block-le_joined, place_within}
 use Rattle.milter_field_index.proofs.Counts.{count-past, row-few}
 use Rattle.milter_field_index.proofs.Occurrences.{count-blocks}
 use Rattle.milter_field_index.proofs.ranked.Ranked.rank.Goals as goal
@@ -14,16 +15,28 @@ returns-then-symbol-len c =
     sym (ap (λ l. count_of c.args.symbol (take c.args.index l)) (sym c.self.view_is)
     ∙ count-past rows bs c.args.symbol c.args.index c.self.invariant past)
 
-pub sum_of-before-requires : goal.sum_of-before-requires
-sum_of-before-requires c =
+pub sum_of-requires : goal.sum_of-requires
+sum_of-requires c =
     let rows : List (List ℕ) = c.self.inside.rows in
     let bs : List (List ℕ) = c.self.inside.blocks in
     let low : c.args.symbol < length rows = omega (arith, c.if-symbol-len.false, c.len.ensures) in
     omega (
       arith,
-      sum_by-take-le (λ x. x) c.row.result.now c.find_new-place.result.block,
-      ap sum c.row.ensures,
+      sum_by-take-le (λ x. x) c.row-row.result.now c.find_new-place.result.block,
+      ap sum c.row-row.ensures,
       row-few rows bs c.args.symbol c.self.invariant low,
+      c.find_new-place.ensures.few,
+    )
+
+pub count_before-requires-clause-few : goal.count_before-requires-clause-few
+count_before-requires-clause-few c =
+    let bs : List (List ℕ) = c.self.inside.blocks in
+    let t : ℕ = c.find_new-place.result.block in
+    let within = place_within bs t c.find_new-place.result.offset c.args.index c.find_new-place.ensures.found in
+    omega (
+      arith,
+      ap length c.block-block.ensures,
+      block-le_joined bs t within,
       c.find_new-place.ensures.few,
     )
 
@@ -35,12 +48,12 @@ returns c =
     let t : ℕ = c.find_new-place.result.block in
     let o : ℕ = c.find_new-place.result.offset in
     let low : s < length rows = omega (arith, c.if-symbol-len.false, c.len.ensures) in
-    let first : c.sum_of-before.result ≡ sum (take t (counts s bs)) = c.sum_of-before.ensures
-    ∙ ap (λ l. sum (take t l)) (c.row.ensures ∙ c.self.invariant.each s low) in
-    let second : c.count_in.result ≡ count_of s (take o (at bs t)) = c.count_in.ensures
-    ∙ ap (λ l. count_of s (take o l)) c.block.ensures in
+    let first : c.sum_of.result ≡ sum (take t (counts s bs)) = c.sum_of.ensures
+    ∙ ap (λ l. sum (take t l)) (c.row-row.ensures ∙ c.self.invariant.each s low) in
+    let second : c.count_before.result ≡ count_of s (take o (at bs t)) = c.count_before.ensures
+    ∙ ap (λ l. count_of s (take o l)) c.block-block.ensures in
     let whole = count-blocks s bs t o c.args.index c.find_new-place.ensures.found c.find_new-place.ensures.inside in
-    ap (λ n. n + c.count_in.result) first ∙ ap (λ n. sum (take t (counts s bs)) + n) second ∙ sym whole
+    ap (λ n. n + c.count_before.result) first ∙ ap (λ n. sum (take t (counts s bs)) + n) second ∙ sym whole
     ∙ ap (λ l. count_of s (take c.args.index l)) c.self.view_is
 
 pub overflow_add-result : goal.overflow_add-result
@@ -51,10 +64,10 @@ overflow_add-result c =
     let t : ℕ = c.find_new-place.result.block in
     let o : ℕ = c.find_new-place.result.offset in
     let low : s < length rows = omega (arith, c.if-symbol-len.false, c.len.ensures) in
-    let first : c.sum_of-before.result ≡ sum (take t (counts s bs)) = c.sum_of-before.ensures
-    ∙ ap (λ l. sum (take t l)) (c.row.ensures ∙ c.self.invariant.each s low) in
-    let second : c.count_in.result ≡ count_of s (take o (at bs t)) = c.count_in.ensures
-    ∙ ap (λ l. count_of s (take o l)) c.block.ensures in
+    let first : c.sum_of.result ≡ sum (take t (counts s bs)) = c.sum_of.ensures
+    ∙ ap (λ l. sum (take t l)) (c.row-row.ensures ∙ c.self.invariant.each s low) in
+    let second : c.count_before.result ≡ count_of s (take o (at bs t)) = c.count_before.ensures
+    ∙ ap (λ l. count_of s (take o l)) c.block-block.ensures in
     let whole = count-blocks s bs t o c.args.index c.find_new-place.ensures.found c.find_new-place.ensures.inside in
     omega (
       arith,
