@@ -258,9 +258,10 @@ def released(program, kind, folder):
 
 
 def given_back(program, kind, folder):
-    """After a load of connections, each of which ends within a packet, their memory goes back to the system, whichever
-    ends first: with what the unit of `serve` sets for the C library."""
-    count, room, kept = 500, 55, 4096
+    """After a load of connections, each of which ends within a packet, most of their memory goes back to the system,
+    whichever ends first: with what the unit of `serve` sets for the C library. Without it nearly all of it stays."""
+    count, room = 500, 55
+    kept = count * room // 3
     begun = OFFER + b''.join(given for given, _ in opening(0)[1:]) + packet(b'M', b'<a@x>') + packet(b'R', b'<b@y>')
     cut = packet(b'B', 60000 * b'x')[:-1]
 
