@@ -15,8 +15,8 @@ use std::alloc::Global;
 /// The most header fields that edits may go over in a plain list.
 const STEPS_MAX: usize = 65_536;
 
-/// The header fields after the edits, one after the other. They stay in a plain list where few fields are gone over, and
-/// get an index where these are more.
+/// The header fields after the edits, one after the other. They stay in a plain list where few fields are gone over,
+/// and get an index where these are more.
 pub(crate) fn headers_after(
     alloc: Global,
     headers: &[Header],
@@ -39,10 +39,7 @@ fn steps_of(edits: &[Edit]) -> usize {
 
 /// Whether the edit goes over the fields in a plain list: one that inserts, changes or deletes a field does.
 fn goes_over_fields(edit: &Edit) -> bool {
-    matches!(
-        edit,
-        Edit::InsertHeader { .. } | Edit::ChangeHeader { .. }
-    )
+    matches!(edit, Edit::InsertHeader { .. } | Edit::ChangeHeader { .. })
 }
 
 /// The header fields after the edits, each of which goes over the fields once. Each text is copied once.
