@@ -56,6 +56,12 @@ play_app losses =
     ∷ option_rule (codes "events") ∷ loss_rule losses ∷ option_rule (codes "expect")
     ∷ flag_rule (codes "explain") ∷ [])
 
+abbrev pub replay_app : App
+replay_app =
+    app_with (codes "replay")
+    (place_rule (codes "address") ∷ place_rule (codes "trace") ∷ number_rule (codes "timeout") TIMEOUT_MAX
+    ∷ number_rule (codes "wait") WAIT_MAX ∷ flag_rule (codes "explain") ∷ [])
+
 -- the program, which wants a subcommand
 abbrev pub top_app : App
 top_app =
@@ -73,4 +79,6 @@ filtering_app =
 
 -- the whole command line
 abbrev pub tool_app : BorrowedWords → App
-tool_app losses = with_subcommand (with_subcommand filtering_app (mta_app losses).top) (play_app losses).top
+tool_app losses =
+    with_subcommand (with_subcommand (with_subcommand filtering_app (mta_app losses).top) (play_app losses).top)
+    replay_app.top

@@ -3,6 +3,7 @@
 
 mod help_text;
 mod limits;
+mod replay_help;
 mod rows;
 mod subcommands;
 mod word;

@@ -45,6 +45,13 @@ pub(crate) const SESSION: Word<'static> = Word {
     help: "The path of the session file",
 };
 
+pub(crate) const TRACE: Word<'static> = Word {
+    kind: Kind::Place,
+    name: "trace",
+    value: "TRACE",
+    help: "The path of the trace",
+};
+
 pub(crate) const CHECK: Word<'static> = Word {
     kind: Kind::Flag,
     name: "check",

@@ -3,16 +3,16 @@
 ghost use Rattle.std.specs.Prelude.{◌≡◌, IfOk, false};
 ghost use Rattle.clap.specs.Words.{app_of, rule_of};
 ghost use Rattle.milter_cli_words.specs.Subcommands.{answer_app, filter_app, filtering_app, mta_app, play_app, reading_app};
-ghost use Rattle.milter_cli_words.specs.Subcommands.{rules_app, serve_app, session_app, tool_app, top_app, trace_app};
+ghost use Rattle.milter_cli_words.specs.Subcommands.{replay_app, rules_app, serve_app, session_app, tool_app, top_app, trace_app};
 ghost use Rattle.milter_cli_words.specs.Words.{IsLocal, loss_rule};
 
-use crate::help_text;
 use crate::rows::{
     ACTIONS, ADDRESS, ADDRESSES, ALL_STAGES, AT_ONCE, CHECK, COUNT, EVENTS, EXPECT, EXPLAIN,
     FILTER_ADDRESS, IDLE, IGNORE_CASE, LEAST_STAGES, LENIENT, LOG, LOSS, MODE, PROTOCOL, RULE_FILE,
-    RULES, SESSION, SESSION_FILE, TIMEOUT, WAIT,
+    RULES, SESSION, SESSION_FILE, TIMEOUT, TRACE, WAIT,
 };
 use crate::word::{Help, choice, subcommand, with_words};
+use crate::{help_text, replay_help};
 use clap::{Arg, Command};
 use std::alloc::{AllocError, Global};
 
@@ -25,7 +25,8 @@ pub fn command<'a>(alloc: Global, losses: &'a [&'a str]) -> Result<Command<'a>, 
 {
     filtering(alloc)?
         .subcommand(mta(alloc, losses)?)?
-        .subcommand(play(alloc, losses)?)
+        .subcommand(play(alloc, losses)?)?
+        .subcommand(replay(alloc)?)
 }
 
 /// The command line with the subcommands that read files, and those that are a filter's end.
@@ -195,6 +196,22 @@ fn play<'a>(alloc: Global, losses: &'a [&'a str]) -> Result<Command<'a>, AllocEr
     ];
     let command = subcommand(alloc, "play", help, words)?.arg(loss(alloc, losses))?;
     with_words(alloc, command, &[EXPECT, EXPLAIN])
+}
+
+fn replay<'a>(alloc: Global) -> Result<Command<'a>, AllocError>
+    ensures shape { IfOk result (λ c. app_of c ≡ replay_app) }
+    ensures local { IfOk result IsLocal }
+{
+    let help = Help {
+        about: "Sends a trace's commands to a filter, and compares what it replies",
+        after: replay_help::REPLAY,
+    };
+    subcommand(
+        alloc,
+        "replay",
+        help,
+        &[FILTER_ADDRESS, TRACE, TIMEOUT, WAIT, EXPLAIN],
+    )
 }
 
 /// What becomes of a message whose filter is lost.

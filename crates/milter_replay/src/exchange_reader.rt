@@ -8,24 +8,20 @@ ghost use Rattle.milter_replay.specs.ReadExchanges.{HasFitting};
 
 use crate::conversation::{Exchange, RecordedCommand, Recording, ReplyPacket};
 use crate::packets::reply_of;
+use crate::recorded_answers::RecordedAnswers;
 use crate::recording_fault::RecordingFault;
 use milter_trace::{Direction, packet_fault, put_packet};
-use milter_wire::{Command, NoMemory, Options, Packet, WireFault};
+use milter_wire::{Command, NoMemory, Packet, WireFault};
 use std::alloc::Global;
-use std::mem;
 
 /// The exchanges that were read.
 #[derive(Drop)]
 pub(crate) struct ExchangeReader {
     pub(crate) alloc: Global,
-    /// The mail server's offer, once it was read.
-    pub(crate) offer: Option<Options>,
-    /// The exchanges before the last command.
-    pub(crate) before: Vec<Exchange>,
-    /// The last command.
-    pub(crate) last: Option<RecordedCommand>,
-    /// The packets of the filter since then.
-    pub(crate) replies: Vec<ReplyPacket>,
+    /// Which command the filter answers, once the mail server's offer was read.
+    pub(crate) answers: Option<RecordedAnswers>,
+    /// The exchanges, of which the last one has the last command.
+    pub(crate) exchanges: Vec<Exchange>,
 }
 
 impl ExchangeReader {
@@ -37,10 +33,8 @@ impl ExchangeReader {
     {
         ExchangeReader {
             alloc,
-            offer: None,
-            before: Vec::new(alloc),
-            last: None,
-            replies: Vec::new(alloc),
+            answers: None,
+            exchanges: Vec::new(alloc),
         }
     }
 
@@ -71,11 +65,24 @@ impl ExchangeReader {
             Ok(reply) => reply,
             Err(fault) => return Err(fault_of(line, Direction::ToMta, fault)),
         };
-        if self.offer.is_none() {
-            return Err(RecordingFault::NoOffer { line });
-        }
-        if let Some(reply) = reply {
-            self.replies.push(reply)?;
+        let Some(answers) = &mut self.answers else {
+            return Err(RecordingFault::NoOffer(line));
+        };
+        let Some(reply) = reply else {
+            return Ok(());
+        };
+        let place = answers.answered(self.exchanges.as_slice())?;
+        answers.note(packet)?;
+        Ok(self.push_reply(place, reply)?)
+    }
+
+    /// Puts a packet of the filter to the exchange with this index.
+    fn push_reply(&mut self, place: usize, reply: ReplyPacket) -> Result<(), NoMemory>
+        requires { HasFitting self.old }
+        ensures { OnOk result (HasFitting self.new) }
+    {
+        if let Some(exchange) = self.exchanges.get_mut(place) {
+            exchange.replies.push(reply)?;
         }
         Ok(())
     }
@@ -90,20 +97,25 @@ impl ExchangeReader {
             Ok(recorded) => recorded,
             Err(fault) => return Err(fault_of(line, Direction::ToFilter, fault)),
         };
-        self.offer = Some(offer_after(self.offer, &recorded)?);
+        match (&self.answers, &recorded.command) {
+            (None, Command::Options(offer)) => {
+                self.answers = Some(RecordedAnswers::new(self.alloc, *offer));
+            }
+            (None, _) => return Err(RecordingFault::NoOffer(line)),
+            (Some(_), Command::Options(_)) => return Err(RecordingFault::SecondOffer(line)),
+            (Some(_), _) => {}
+        }
         Ok(self.begin(recorded)?)
     }
 
     /// Begins the exchange of the next command.
-    fn begin(&mut self, next: RecordedCommand) -> Result<(), NoMemory>
-        requires fits { Fits next.command }
+    fn begin(&mut self, recorded: RecordedCommand) -> Result<(), NoMemory>
+        requires fits { Fits recorded.command }
         requires fitting { HasFitting self.old }
         ensures { OnOk result (HasFitting self.new) }
     {
-        let replies = mem::replace(&mut self.replies, Vec::new(self.alloc));
-        if let Some(recorded) = mem::replace(&mut self.last, Some(next)) {
-            self.before.push(Exchange { recorded, replies })?;
-        }
+        let replies = Vec::new(self.alloc);
+        self.exchanges.push(Exchange { recorded, replies })?;
         Ok(())
     }
 
@@ -114,17 +126,16 @@ impl ExchangeReader {
     {
         let ExchangeReader {
             alloc: _,
-            offer,
-            before,
-            last,
-            replies,
+            answers,
+            exchanges,
         } = self;
-        let mut exchanges = before;
-        let (Some(offer), Some(recorded)) = (offer, last) else {
-            return Err(RecordingFault::NoOffer { line });
-        };
-        exchanges.push(Exchange { recorded, replies })?;
-        Ok(Recording { offer, exchanges })
+        match answers {
+            Some(answers) => Ok(Recording {
+                offer: answers.offer(),
+                exchanges,
+            }),
+            None => Err(RecordingFault::NoOffer(line)),
+        }
     }
 }
 
@@ -141,20 +152,6 @@ fn recorded_of(alloc: Global, line: u64, packet: &Packet<'_>) -> Result<Recorded
         command,
         text,
     })
-}
-
-/// The offer of a conversation that goes on with this command: the first one has to be the offer, and no other may be.
-fn offer_after(
-    before: Option<Options>,
-    recorded: &RecordedCommand,
-) -> Result<Options, RecordingFault> {
-    let line = recorded.line;
-    match (before, &recorded.command) {
-        (None, Command::Options(offer)) => Ok(*offer),
-        (Some(_), Command::Options(_)) => Err(RecordingFault::SecondOffer { line }),
-        (Some(offer), _) => Ok(offer),
-        (None, _) => Err(RecordingFault::NoOffer { line }),
-    }
 }
 
 /// The fault of a packet that became whole in this line, and can't be read.

@@ -1,16 +1,17 @@
 //! One command to a filter, and what it replies.
 
-ghost use Rattle.std.specs.Prelude.{◌≡◌, [], None, OnOk};
+ghost use Rattle.std.specs.Prelude.{◌≡◌, None};
 ghost use Rattle.milter_wire.specs.Command.{Fits, encoding};
 ghost use Rattle.milter_text.specs.WrittenText.{WritesText};
 ghost use Rattle.milter_replay.specs.Sending.{Sends, is_due};
 
+use crate::command_queue::queue_command;
 use crate::conversation::ReplyPacket;
 use crate::packets::keep_replies;
 use milter_mta_channel::{ExpectedReply, MtaChannel};
 use milter_mta_outcome::Loss;
 use milter_text::write_text;
-use milter_wire::{Command, CommandRef, Negotiated, NoMemory, Options, Splitter, read_buffer};
+use milter_wire::{Command, Negotiated, NoMemory, Options, Splitter, read_buffer};
 use std::alloc::Global;
 use std::io::{ErrorKind, Read, Write};
 
@@ -108,7 +109,7 @@ impl FilterEnd {
         ensures { WritesText (encoding command.now) (L.contents link.old) (L.contents link.new) result }
     {
         self.channel.clear();
-        if self.queue(command).is_err() {
+        if queue_command(&mut self.channel, command).is_err() {
             return Err(Loss::Memory);
         }
         let written = write_text(link, self.channel.pending());
@@ -117,22 +118,6 @@ impl FilterEnd {
         match written {
             Ok(()) => Ok(()),
             Err(_) => Err(Loss::Reset),
-        }
-    }
-
-    /// Queues a command: the reply to an offer are options.
-    fn queue(&mut self, command: &Command) -> Result<(), NoMemory>
-        requires fits { Fits command.now }
-        requires idle { self.old.channel.pending ≡ [] }
-        ensures { OnOk result (self.new.channel.pending ≡ encoding command.now) }
-    {
-        let command = command.as_ref();
-        match command {
-            CommandRef::Options(_) => {
-                self.channel
-                    .queue_expecting(&command, ExpectedReply::Options)
-            }
-            _ => self.channel.queue(&command),
         }
     }
 

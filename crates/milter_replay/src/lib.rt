@@ -1,15 +1,17 @@
 //! The mail server's side of a recorded conversation, played to a filter again.
 //!
-//! [`read_trace`] reads a trace, as `milter_trace` prints them, into a [`Recording`]: each command with the replies
-//! that were recorded for it. [`replay`] sends the commands to a filter, one after the other, and writes what is
+//! [`read_trace`] reads a trace, in the form that `milter_trace` reads, into a [`Recording`]: each command with the
+//! replies that were recorded to it. [`replay`] sends the commands to a filter, one after the other, and writes what is
 //! replied beside what was recorded.
 #![tactic(auto)]
 
+mod command_queue;
 mod conversation;
 mod exchange_reader;
 mod exchange_text;
 mod filter_end;
 mod packets;
+mod recorded_answers;
 mod recording_fault;
 mod replay_run;
 mod trace_reader;

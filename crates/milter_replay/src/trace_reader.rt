@@ -21,10 +21,12 @@ struct TraceReader {
     exchanges: ExchangeReader,
 }
 
-/// Reads a trace to its end: the commands of the mail server, each with what the filter sent between it and the next
-/// one, but for progress. The form of a trace is that of [`milter_trace::trace_run`].
+/// Reads a trace to its end: the commands of the mail server, each with the packets of the filter that answer it, but
+/// for progress. A packet answers the first command to which a reply is still due, by what was negotiated in the
+/// recording, up to its verdict; where none is due it is put to the last command before it. The form of a trace is that
+/// of [`milter_trace::trace_run`].
 ///
-/// The fault is the first one of the trace: `Trace` with that of `trace_run`, `NoOffer` or `SecondOffer`.
+/// The fault is the first one of the trace.
 pub fn read_trace(alloc: Global, bytes: &[u8]) -> Result<Recording, RecordingFault>
     // Each command has an encoding.
     ensures { IfOk result (λ recording. AllFit recording.exchanges.items) }
@@ -115,9 +117,8 @@ fn finish(reader: TraceReader, line: u64) -> Result<Recording, RecordingFault>
         to_mta,
         exchanges,
     } = reader;
-    let (to_filter, to_mta) = (to_filter.unread(), to_mta.unread());
-    if to_filter != 0 || to_mta != 0 {
-        return Err(RecordingFault::Trace(TraceFault::Truncated { to_filter, to_mta }));
+    if to_filter.unread() != 0 || to_mta.unread() != 0 {
+        return Err(RecordingFault::Truncated(line));
     }
     exchanges.finish(line)
 }
