@@ -1,5 +1,5 @@
 //! What the subcommands of `milter_tool` do: the answering to mail servers over any reader and writer and over sockets,
-//! and the playing of sessions to filters over sockets and in memory. What they are asked for is read by
+//! the playing of sessions to filters over sockets and in memory, and the sending of traces to filters again. What they are asked for is read by
 //! `milter_cli_request`, the files are read by `milter_cli_io`, and rules that change are those of `milter_cli_serve`.
 #![tactic(auto)]
 
@@ -9,6 +9,7 @@ mod expected_reports;
 mod filter_command;
 mod in_memory;
 mod mta_command;
+mod replay_command;
 mod socket_dial;
 mod waiting_dial;
 
@@ -18,5 +19,6 @@ pub use expected_reports::{check_reports, load_reports};
 pub use filter_command::{Connections, filter_run};
 pub use in_memory::play_run;
 pub use mta_command::mta_run;
+pub use replay_command::{load_recording, replay_run};
 pub use socket_dial::{Connect, TcpDial, UnixDial};
 pub use waiting_dial::WaitingDial;

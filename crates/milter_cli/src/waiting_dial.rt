@@ -46,12 +46,19 @@ impl<'r, R: Clock, D: Connect> WaitingDial<'r, R, D> {
         self.has_failed
     }
 
-    /// Why the first connection was not made at the last try; none where it was made at once, or not waited for.
+    /// Why the first connection was not made at the last try; none where it was made at once, or where
+    /// [`Dial::dial`] tried it once.
     pub fn refusal(&self) -> Option<ErrorKind> {
         self.refusal
     }
 
-    /// Tries to connect for so long.
+    /// Makes the first connection, also where it is tried once.
+    pub fn connect_first(&mut self) -> Result<D::Link, DialFault> {
+        let wait = self.wait.take().unwrap_or(Duration::from_secs(0));
+        self.connect_within(wait)
+    }
+
+    /// Tries to connect for so long, and once at least.
     fn connect_within(&mut self, wait: Duration) -> Result<D::Link, DialFault> {
         let Ok(start) = Instant::now(self.clock) else {
             return Err(DialFault);

@@ -12,7 +12,7 @@ use crate::rule_words::{say_rules, unread_lists};
 use crate::session_words::say_session;
 use crate::shown_name::shown_name;
 use crate::socket_words::{say_unbound, say_unconnected};
-use crate::trace_words::say_trace;
+use crate::trace_words::{say_recording, say_trace};
 use milter_cli_io::{AnswerError, FileError, InputFile, ToolError};
 use milter_cli_request::{Address, Request, UsageError};
 use milter_report_patterns::{difference_text, lines_of};
@@ -25,6 +25,15 @@ use std::rt::Files;
 
 /// What is said of an output that wasn't written.
 const NOT_WRITTEN: &str = "it couldn't be written: it is closed, or full";
+
+/// What is said of reports that aren't the expected ones.
+const OTHER_REPORTS: &str =
+    "the reports that were found differ from this line on; standard output has them";
+
+/// What is said of a filter that doesn't answer as it was recorded.
+const ANSWERED_OTHERWISE: &str =
+    "the first command that isn't answered as it was recorded ends in this line; \
+     standard output has the replies, those that came behind + and those that were recorded behind -";
 
 /// What is said of words that aren't UTF-8.
 const NOT_UTF8: &str =
@@ -171,19 +180,19 @@ fn explain_socket<R: Files>(
     text_of(alloc, &notes)
 }
 
-/// The line of reports that aren't the expected ones.
+/// The line of reports that aren't the expected ones, or of a filter that doesn't answer as it was recorded.
 fn explain_difference(
     alloc: Global,
     request: &Request<'_>,
     number: u64,
 ) -> Result<Vec<u8>, NoMemory> {
-    let path = path_of(request, InputFile::Reports).unwrap_or("reports");
-    let name = shown_name(alloc, path)?;
-    let mut notes = Notes::new(alloc, name.as_str());
-    notes.go_to(Some(number));
-    let text = b"the reports that were found differ from this line on; standard output has them";
-    notes.say(alloc, &[Piece::Plain(text)])?;
-    text_of(alloc, &notes)
+    match request {
+        Request::Replay(asked) => explain_number(alloc, asked.trace, number, ANSWERED_OTHERWISE),
+        _ => {
+            let path = path_of(request, InputFile::Reports).unwrap_or("reports");
+            explain_number(alloc, path, number, OTHER_REPORTS)
+        }
+    }
 }
 
 /// The same, and the difference line by line.
@@ -239,7 +248,7 @@ pub fn explain_file<R: Files>(
     }
 }
 
-/// The line that says what a fault means in this line of a file.
+/// The line that says this of a line of a file.
 fn explain_number(
     alloc: Global,
     path: &str,
@@ -271,6 +280,7 @@ fn explain_bytes<R: Files>(
         InputFile::Events => say_events(alloc, &mut notes, bytes.as_slice())?,
         InputFile::Rules => say_rules(files, alloc, &mut notes, path, bytes.as_slice())?,
         InputFile::Reports => {}
+        InputFile::Trace => say_recording(alloc, &mut notes, bytes.as_slice())?,
     }
     let mut said = text_of(alloc, &notes)?;
     if let InputFile::Rules = file {

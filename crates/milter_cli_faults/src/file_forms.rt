@@ -2,6 +2,17 @@
 
 use milter_cli_io::InputFile;
 
+/// What is said of a trace that ends within a packet.
+pub(crate) const TRUNCATED: &str = "the trace ends within a packet: bytes are missing at its end";
+
+/// What is said of a trace that doesn't begin with the mail server's offer.
+pub(crate) const NO_OFFER: &str =
+    "a conversation begins with the mail server's offer, a packet O to the filter: the beginning is missing";
+
+/// What is said of a second offer.
+pub(crate) const SECOND_OFFER: &str =
+    "a second offer begins another connection: a trace that is sent again has one, so divide it before this line";
+
 /// What is wrong with a line of a file of this kind that has the fault of this number.
 pub(crate) fn fault_meaning(file: InputFile, number: u8) -> &'static str {
     match file {
@@ -9,6 +20,7 @@ pub(crate) fn fault_meaning(file: InputFile, number: u8) -> &'static str {
         InputFile::Rules => rule_fault(number),
         InputFile::Events => event_fault(number),
         InputFile::Reports => "the line isn't one of reports",
+        InputFile::Trace => trace_fault(number),
     }
 }
 
@@ -40,5 +52,16 @@ fn event_fault(number: u8) -> &'static str {
     match number {
         1 => "the line is unknown, or has another form; milter_tool help play has the forms",
         _ => "a file has at most 10,000,000 events",
+    }
+}
+
+fn trace_fault(number: u8) -> &'static str {
+    match number {
+        1 =>
+            "a line is > DIGITS or < DIGITS, with one blank and an even number of hexadecimal digits",
+        2 => "a packet that becomes whole in this line is at fault; milter_tool trace says how",
+        3 => TRUNCATED,
+        4 => NO_OFFER,
+        _ => SECOND_OFFER,
     }
 }

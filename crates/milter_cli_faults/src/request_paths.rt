@@ -10,6 +10,7 @@ pub(crate) fn path_of<'a>(request: &Request<'a>, file: InputFile) -> Option<&'a 
         InputFile::Rules => rules_path(request),
         InputFile::Events => events_path(request),
         InputFile::Reports => reports_path(request),
+        InputFile::Trace => trace_path(request),
     }
 }
 
@@ -48,6 +49,13 @@ fn reports_path<'a>(request: &Request<'a>) -> Option<&'a str> {
     }
 }
 
+fn trace_path<'a>(request: &Request<'a>) -> Option<&'a str> {
+    match request {
+        Request::Replay(asked) => Some(asked.trace),
+        _ => None,
+    }
+}
+
 /// The addresses that a request names.
 pub(crate) fn addresses_of<'r, 'a>(request: &'r Request<'a>) -> &'r [&'a str] {
     match request {
@@ -61,6 +69,7 @@ pub(crate) fn address_of<'a>(request: &Request<'a>) -> Option<&'a str> {
     match request {
         Request::Filter(asked) => Some(asked.address),
         Request::Mta(asked) => Some(asked.address),
+        Request::Replay(asked) => Some(asked.address),
         _ => None,
     }
 }

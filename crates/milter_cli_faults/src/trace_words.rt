@@ -1,5 +1,7 @@
-//! What is said of faults of a trace.
+//! What is said of faults of a trace, and of one that can't be sent again.
 
+use crate::file_forms::{NO_OFFER, SECOND_OFFER, TRUNCATED};
+use milter_replay::{RecordingFault, read_trace};
 use milter_rules_faults::{Notes, Piece};
 use milter_trace::TraceFault;
 use milter_wire::{NoMemory, WireFault};
@@ -13,6 +15,26 @@ pub(crate) fn say_trace(
 ) -> Result<(), NoMemory> {
     notes.go_to(line_of(fault));
     notes.say(alloc, &[Piece::Plain(meaning(fault).as_bytes())])
+}
+
+/// Says why a trace with these bytes can't be sent again.
+pub(crate) fn say_recording(
+    alloc: Global,
+    notes: &mut Notes<'_>,
+    bytes: &[u8],
+) -> Result<(), NoMemory> {
+    let Err(fault) = read_trace(alloc, bytes) else {
+        return Ok(());
+    };
+    let text = match fault {
+        RecordingFault::Trace(TraceFault::NoMemory) => return Err(NoMemory),
+        RecordingFault::Trace(fault) => return say_trace(alloc, notes, fault),
+        RecordingFault::Truncated(_) => TRUNCATED,
+        RecordingFault::NoOffer(_) => NO_OFFER,
+        RecordingFault::SecondOffer(_) => SECOND_OFFER,
+    };
+    notes.go_to(fault.line());
+    notes.say(alloc, &[Piece::Plain(text.as_bytes())])
 }
 
 /// The number of the line that is at fault.

@@ -19,6 +19,8 @@ pub enum InputFile {
     Events,
     /// A file of the reports that are expected.
     Reports,
+    /// A trace that is sent to a filter again.
+    Trace,
 }
 
 impl fmt::Display for InputFile {
@@ -30,6 +32,7 @@ impl fmt::Display for InputFile {
             InputFile::Rules => "rules",
             InputFile::Events => "events",
             InputFile::Reports => "reports",
+            InputFile::Trace => "trace",
         })
     }
 }

@@ -32,16 +32,19 @@ pub enum ToolError {
     Listen,
     /// A filter to which no connection was made for as long as that was waited for.
     Connect,
-    /// Reports that aren't the expected ones.
+    /// Reports that aren't the expected ones, or a filter that doesn't answer as it was recorded.
     Differs {
-        /// The number of the line, from 1, in which they begin to differ.
+        /// The number of the line, from 1, in which the reports begin to differ; or of the line of the trace in which
+        /// the first command ends that was answered otherwise.
         line: u64,
     },
     /// Rules of which a warning was said.
     Findings,
-    /// Help, the version, the line of a connection or the reports of a session were not written.
+    /// Help, the version, the line of a connection, the reports of a session or the lines of a conversation that is sent
+    /// again were not written.
     Write,
-    /// Memory was refused before there was a subcommand, for the line of a connection, or in the playing of a session.
+    /// Memory was refused before there was a subcommand, for the line of a connection, in the playing of a session, or
+    /// for the lines of a conversation that is sent again.
     NoMemory,
 }
 

@@ -17,7 +17,7 @@ use Rattle.clap.specs.declared.error.kind.ErrorKind.{ErrorKind}
 use Rattle.clap.specs.declared.parser.matches.Found.{Found}
 use Rattle.clap.specs.declared.parser.matches.ArgMatches.{ArgMatches}
 use Rattle.milter_cli_request.specs.declared.command_line.Request.{Request}
-use Rattle.milter_cli_words.specs.Subcommands.{answer_app, filter_app, mta_app, play_app, rules_app, serve_app, session_app, tool_app, trace_app}
+use Rattle.milter_cli_words.specs.Subcommands.{answer_app, filter_app, mta_app, play_app, replay_app, rules_app, serve_app, session_app, tool_app, trace_app}
 use Rattle.milter_cli_words.specs.Words.{BorrowedWords}
 use Rattle.milter_cli_request.specs.CommandLine.{HasMatches, IsFlag, IsNumberOr, IsRequestOf, IsUnasked, text_of}
 use Rattle.milter_cli_request.proofs.FaultlessRows.{AreFilled, Each, Fills, IsFilled, find_each, no_faults, settled_filled, some_fault}
@@ -74,7 +74,8 @@ no_session f none = (
   (λ e. (let other : 115 ≡ 102 = head (codes "session") (codes "filter") e in absurd (omega (arith, other)))),
   (λ e. (let other : 115 ≡ 114 = letter 2 (codes "session") (codes "serve") e in absurd (omega (arith, other)))),
   (λ e. (let other : 115 ≡ 109 = head (codes "session") (codes "mta") e in absurd (omega (arith, other)))),
-  λ e. (let other : 115 ≡ 112 = head (codes "session") (codes "play") e in absurd (omega (arith, other))),
+  (λ e. (let other : 115 ≡ 112 = head (codes "session") (codes "play") e in absurd (omega (arith, other)))),
+  λ e. (let other : 115 ≡ 114 = head (codes "session") (codes "replay") e in absurd (omega (arith, other))),
 )
 
 pub no_rules : (f : Found) → None ≡ first_value f (codes "file") → IsUnasked (codes "rules", rows_of f)
@@ -86,7 +87,8 @@ no_rules f none = (
   (λ e. (let other : 114 ≡ 102 = head (codes "rules") (codes "filter") e in absurd (omega (arith, other)))),
   (λ e. (let other : 114 ≡ 115 = head (codes "rules") (codes "serve") e in absurd (omega (arith, other)))),
   (λ e. (let other : 114 ≡ 109 = head (codes "rules") (codes "mta") e in absurd (omega (arith, other)))),
-  λ e. (let other : 114 ≡ 112 = head (codes "rules") (codes "play") e in absurd (omega (arith, other))),
+  (λ e. (let other : 114 ≡ 112 = head (codes "rules") (codes "play") e in absurd (omega (arith, other)))),
+  λ e. (let other : 117 ≡ 101 = letter 1 (codes "rules") (codes "replay") e in absurd (omega (arith, other))),
 )
 
 pub no_filter : (f : Found) → None ≡ first_value f (codes "address") → IsUnasked (codes "filter", rows_of f)
@@ -98,7 +100,8 @@ no_filter f none = (
   (λ e. no_value f (codes "address") none),
   (λ e. (let other : 102 ≡ 115 = head (codes "filter") (codes "serve") e in absurd (omega (arith, other)))),
   (λ e. (let other : 102 ≡ 109 = head (codes "filter") (codes "mta") e in absurd (omega (arith, other)))),
-  λ e. (let other : 102 ≡ 112 = head (codes "filter") (codes "play") e in absurd (omega (arith, other))),
+  (λ e. (let other : 102 ≡ 112 = head (codes "filter") (codes "play") e in absurd (omega (arith, other)))),
+  λ e. (let other : 102 ≡ 114 = head (codes "filter") (codes "replay") e in absurd (omega (arith, other))),
 )
 
 pub no_serve : (f : Found) → None ≡ option_map raw_values (matched_of f (codes "address")) → IsUnasked (codes "serve", rows_of f)
@@ -110,7 +113,8 @@ no_serve f none = (
   (λ e. (let other : 115 ≡ 102 = head (codes "serve") (codes "filter") e in absurd (omega (arith, other)))),
   (λ e. no_values f (codes "address") none),
   (λ e. (let other : 115 ≡ 109 = head (codes "serve") (codes "mta") e in absurd (omega (arith, other)))),
-  λ e. (let other : 115 ≡ 112 = head (codes "serve") (codes "play") e in absurd (omega (arith, other))),
+  (λ e. (let other : 115 ≡ 112 = head (codes "serve") (codes "play") e in absurd (omega (arith, other)))),
+  λ e. (let other : 115 ≡ 114 = head (codes "serve") (codes "replay") e in absurd (omega (arith, other))),
 )
 
 no_mta : (values : List Row) → (first_of (codes "address") values ≡ None) ⊎ (first_of (codes "session") values ≡ None) → IsUnasked (codes "mta", values)
@@ -122,7 +126,8 @@ no_mta values none = (
   (λ e. (let other : 109 ≡ 102 = head (codes "mta") (codes "filter") e in absurd (omega (arith, other)))),
   (λ e. (let other : 109 ≡ 115 = head (codes "mta") (codes "serve") e in absurd (omega (arith, other)))),
   (λ e. none),
-  λ e. (let other : 109 ≡ 112 = head (codes "mta") (codes "play") e in absurd (omega (arith, other))),
+  (λ e. (let other : 109 ≡ 112 = head (codes "mta") (codes "play") e in absurd (omega (arith, other)))),
+  λ e. (let other : 109 ≡ 114 = head (codes "mta") (codes "replay") e in absurd (omega (arith, other))),
 )
 
 pub no_mta_address : (f : Found) → None ≡ first_value f (codes "address") → IsUnasked (codes "mta", rows_of f)
@@ -140,8 +145,28 @@ no_play f none = (
   (λ e. (let other : 112 ≡ 102 = head (codes "play") (codes "filter") e in absurd (omega (arith, other)))),
   (λ e. (let other : 112 ≡ 115 = head (codes "play") (codes "serve") e in absurd (omega (arith, other)))),
   (λ e. (let other : 112 ≡ 109 = head (codes "play") (codes "mta") e in absurd (omega (arith, other)))),
-  λ e. no_value f (codes "session") none,
+  (λ e. no_value f (codes "session") none),
+  λ e. (let other : 112 ≡ 114 = head (codes "play") (codes "replay") e in absurd (omega (arith, other))),
 )
+
+no_replay : (values : List Row) → (first_of (codes "address") values ≡ None) ⊎ (first_of (codes "trace") values ≡ None) → IsUnasked (codes "replay", values)
+no_replay values none = (
+  (λ e. (let other : 114 ≡ 116 = head (codes "replay") (codes "trace") e in absurd (omega (arith, other)))),
+  (λ e. (let other : 114 ≡ 97 = head (codes "replay") (codes "answer") e in absurd (omega (arith, other)))),
+  (λ e. (let other : 114 ≡ 115 = head (codes "replay") (codes "session") e in absurd (omega (arith, other)))),
+  (λ e. (let other : 101 ≡ 117 = letter 1 (codes "replay") (codes "rules") e in absurd (omega (arith, other)))),
+  (λ e. (let other : 114 ≡ 102 = head (codes "replay") (codes "filter") e in absurd (omega (arith, other)))),
+  (λ e. (let other : 114 ≡ 115 = head (codes "replay") (codes "serve") e in absurd (omega (arith, other)))),
+  (λ e. (let other : 114 ≡ 109 = head (codes "replay") (codes "mta") e in absurd (omega (arith, other)))),
+  (λ e. (let other : 114 ≡ 112 = head (codes "replay") (codes "play") e in absurd (omega (arith, other)))),
+  λ e. none,
+)
+
+pub no_replay_address : (f : Found) → None ≡ first_value f (codes "address") → IsUnasked (codes "replay", rows_of f)
+no_replay_address f none = no_replay (rows_of f) (inl (no_value f (codes "address") none))
+
+pub no_replay_trace : (f : Found) → None ≡ first_value f (codes "trace") → IsUnasked (codes "replay", rows_of f)
+no_replay_trace f none = no_replay (rows_of f) (inr (no_value f (codes "trace") none))
 
 first_given : (o : Option Row) → option_map_or (λ r. explicit_source r.source) o false ≡ true → IfSome o IsFilled → option_and_then (λ r. slice_get r.values 0) o ≡ None → ⊥
 first_given None given f none = true≢false (sym given)
@@ -212,6 +237,9 @@ module _ (losses : BorrowedWords) where
   abbrev play_shape : Shape
   play_shape = built_leaf (inherited (with_leaf_noted (marked_built (tool_app losses).top)) (play_app losses).top)
 
+  abbrev replay_shape : Shape
+  replay_shape = built_leaf (inherited (with_leaf_noted (marked_built (tool_app losses).top)) replay_app.top)
+
   mta_fills : Each Fills mta_shape.rules
   mta_fills = (inr (inl refl), (inr (inl refl), (inr (inl refl), (inr (inl refl), (inr (inl refl), (inr (inl refl), (inr (inl refl), (inr (inl refl), (inr (inr refl), (inl refl, tt))))))))))
 
@@ -221,15 +249,18 @@ module _ (losses : BorrowedWords) where
   play_fills : Each Fills play_shape.rules
   play_fills = (inr (inl refl), (inr (inl refl), (inr (inr refl), (inr (inr refl), (inr (inl refl), (inr (inl refl), (inr (inl refl), (inr (inl refl), (inr (inl refl), (inr (inr refl), (inl refl, tt)))))))))))
 
+  replay_fills : Each Fills replay_shape.rules
+  replay_fills = (inr (inl refl), (inr (inl refl), (inr (inl refl), (inr (inl refl), (inr (inr refl), (inl refl, tt))))))
+
   -- the shape of the subcommand whose test is the first to hold
   abbrev pick : List (Bool × Shape) → Option Shape
   pick [] = None
   pick (t ∷ tests) = cond t.0 (Some t.1) (pick tests)
 
-  abbrev shapes : (trace session rules answer filter serve mta play help : Bool) → List (Bool × Shape)
-  shapes trace session rules answer filter serve mta play help =
+  abbrev shapes : (trace session rules answer filter serve mta play replay help : Bool) → List (Bool × Shape)
+  shapes trace session rules answer filter serve mta play replay help =
       (trace, trace_shape) ∷ (session, session_shape) ∷ (rules, rules_shape) ∷ (answer, answer_shape) ∷ (filter, filter_shape) ∷ (serve, serve_shape)
-      ∷ (mta, mta_shape) ∷ (play, play_shape) ∷ (help, built_leaf help_shape) ∷ []
+      ∷ (mta, mta_shape) ∷ (play, play_shape) ∷ (replay, replay_shape) ∷ (help, built_leaf help_shape) ∷ []
 
   abbrev asked_below : Option Shape → List Text → Kinds
   asked_below o words = option_map_or (λ s. level_fault s [] nothing_held words false []) o []
@@ -242,31 +273,37 @@ module _ (losses : BorrowedWords) where
   mta_asks words below (inl none) = is_there (codes "address") mta_shape words mta_fills (λ rows e. first_here _ _ _ e) below none
   mta_asks words below (inr none) = is_there (codes "session") mta_shape words mta_fills (λ rows e. second_here _ _ _ e) below none
 
+  replay_asks : (words : List Text) → level_fault replay_shape [] nothing_held words false [] ≡ []
+      → (first_of (codes "address") (rows_after replay_shape.rules [] words) ≡ None) ⊎ (first_of (codes "trace") (rows_after replay_shape.rules [] words) ≡ None) → ⊥
+  replay_asks words below (inl none) = is_there (codes "address") replay_shape words replay_fills (λ rows e. first_here _ _ _ e) below none
+  replay_asks words below (inr none) = is_there (codes "trace") replay_shape words replay_fills (λ rows e. second_here _ _ _ e) below none
+
   -- a subcommand that is entered without a fault asks for something
-  picked_asks : (words : List Text) (rows : List Row) (trace session rules answer filter serve mta play help : Bool) → (help ≡ true → ⊥) → asked_below (pick (shapes trace session rules answer filter serve mta play help)) words ≡ []
-      → check_fault (built (tool_app losses)).top rows (is_some (entered_by (pick (shapes trace session rules answer filter serve mta play help)) words)) ≡ [] → IsRequestOf (entered_by (pick (shapes trace session rules answer filter serve mta play help)) words) None → ⊥
-  picked_asks words rows true session rules answer filter serve mta play help none below check unasked = unasked.0 refl
-  picked_asks words rows false true rules answer filter serve mta play help none below check unasked =
+  picked_asks : (words : List Text) (rows : List Row) (trace session rules answer filter serve mta play replay help : Bool) → (help ≡ true → ⊥) → asked_below (pick (shapes trace session rules answer filter serve mta play replay help)) words ≡ []
+      → check_fault (built (tool_app losses)).top rows (is_some (entered_by (pick (shapes trace session rules answer filter serve mta play replay help)) words)) ≡ [] → IsRequestOf (entered_by (pick (shapes trace session rules answer filter serve mta play replay help)) words) None → ⊥
+  picked_asks words rows true session rules answer filter serve mta play replay help none below check unasked = unasked.0 refl
+  picked_asks words rows false true rules answer filter serve mta play replay help none below check unasked =
       is_there (codes "file") session_shape words (inr (inl refl), (inr (inr refl), (inl refl, tt))) (λ rows e. required_here _ _ e) below (unasked.2 refl)
-  picked_asks words rows false false true answer filter serve mta play help none below check unasked =
+  picked_asks words rows false false true answer filter serve mta play replay help none below check unasked =
       is_there (codes "file") rules_shape words (inr (inl refl), (inr (inr refl), (inr (inr refl), (inl refl, tt)))) (λ rows e. required_here _ _ e) below (unasked.3 refl)
-  picked_asks words rows false false false true filter serve mta play help none below check unasked = unasked.1 refl
-  picked_asks words rows false false false false true serve mta play help none below check unasked =
+  picked_asks words rows false false false true filter serve mta play replay help none below check unasked = unasked.1 refl
+  picked_asks words rows false false false false true serve mta play replay help none below check unasked =
       is_there (codes "address") filter_shape words (inr (inl refl), (inr (inl refl), (inr (inl refl), (inr (inr refl), (inr (inr refl), (inr (inr refl), (inr (inr refl), (inl refl, tt)))))))) (λ rows e. required_here _ _ e) below (unasked.4 refl)
-  picked_asks words rows false false false false false true mta play help none below check unasked =
+  picked_asks words rows false false false false false true mta play replay help none below check unasked =
       is_there (codes "address") serve_shape words serve_fills (λ rows e. required_here _ _ e) below (unasked.5 refl)
-  picked_asks words rows false false false false false false true play help none below check unasked = mta_asks words below (unasked.6 refl)
-  picked_asks words rows false false false false false false false true help none below check unasked =
+  picked_asks words rows false false false false false false true play replay help none below check unasked = mta_asks words below (unasked.6 refl)
+  picked_asks words rows false false false false false false false true replay help none below check unasked =
       is_there (codes "session") play_shape words play_fills (λ rows e. required_here _ _ e) below (unasked.7 refl)
-  picked_asks words rows false false false false false false false false true none below check unasked = none refl
-  picked_asks words rows false false false false false false false false false none below check unasked = some_fault _ _ check
+  picked_asks words rows false false false false false false false false true help none below check unasked = replay_asks words below (unasked.8 refl)
+  picked_asks words rows false false false false false false false false false true none below check unasked = none refl
+  picked_asks words rows false false false false false false false false false false none below check unasked = some_fault _ _ check
 
   entered_asks : (stop : Option (Text × List Text)) (rows : List Row) → StopsBeforeHelp stop → entered_fault (built (tool_app losses)) stop ≡ []
       → check_fault (built (tool_app losses)).top rows (is_some (entered (built (tool_app losses)) stop)) ≡ [] → IsRequestOf (entered (built (tool_app losses)) stop) None → ⊥
   entered_asks None rows other below check unasked = some_fault _ _ check
   entered_asks (Some p) rows other below check unasked =
       picked_asks p.1 rows (answers_to p.0 (label_of trace_shape)) (answers_to p.0 (label_of session_shape)) (answers_to p.0 (label_of rules_shape)) (answers_to p.0 (label_of answer_shape))
-      (answers_to p.0 (label_of filter_shape)) (answers_to p.0 (label_of serve_shape)) (answers_to p.0 (label_of mta_shape)) (answers_to p.0 (label_of play_shape)) (answers_to p.0 (label_of (built_leaf help_shape)))
+      (answers_to p.0 (label_of filter_shape)) (answers_to p.0 (label_of serve_shape)) (answers_to p.0 (label_of mta_shape)) (answers_to p.0 (label_of play_shape)) (answers_to p.0 (label_of replay_shape)) (answers_to p.0 (label_of (built_leaf help_shape)))
       (never_help p.0 other) below check unasked
 
   -- words without a fault ask for something

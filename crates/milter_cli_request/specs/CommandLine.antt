@@ -15,7 +15,7 @@ use Rattle.milter_cli_request.specs.declared.command_line.TheConstants.{AT_ONCE_
 use Rattle.milter_cli_request.specs.declared.command_line.TheConstants.{MODE_DEFAULT, TIMEOUT_DEFAULT}
 use Rattle.milter_cli_request.specs.declared.command_line.Request.{Request}
 use Rattle.milter_cli_request.specs.declared.command_line.Request.TheVariants.{Trace, Session, Rules, Answer, Filter}
-use Rattle.milter_cli_request.specs.declared.command_line.Request.TheVariants.{Serve, Mta, Play}
+use Rattle.milter_cli_request.specs.declared.command_line.Request.TheVariants.{Serve, Mta, Play, Replay}
 use Rattle.milter_mta_outcome.specs.declared.fallback.OnLoss.{OnLoss}
 use Rattle.milter_mta_outcome.specs.declared.fallback.OnLoss.TheVariants.{Accept, Tempfail, Reject}
 
@@ -99,6 +99,11 @@ IsAsked (name, values) (Play asked) =
     × (first_of (codes "events") values ≡ text_of asked.events)
     × IsLoss (first_of (codes "loss") values) asked.loss
     × (first_of (codes "expect") values ≡ text_of asked.expect)
+IsAsked (name, values) (Replay asked) =
+    (name ≡ codes "replay") × (first_of (codes "address") values ≡ Some asked.address.now)
+    × (first_of (codes "trace") values ≡ Some asked.trace.now)
+    × IsTimeout (first_of (codes "timeout") values) asked.timeout
+    × IsNumberOr 0 1 WAIT_MAX (first_of (codes "wait") values) asked.wait
 
 -- the subcommand of this name, with these values, asks for nothing
 abbrev pub IsUnasked : Text × List Row → Type 0
@@ -110,6 +115,7 @@ IsUnasked (name, values) =
     × (name ≡ codes "serve" → first_of (codes "address") values ≡ None)
     × (name ≡ codes "mta" → (first_of (codes "address") values ≡ None) ⊎ (first_of (codes "session") values ≡ None))
     × (name ≡ codes "play" → first_of (codes "session") values ≡ None)
+    × (name ≡ codes "replay" → (first_of (codes "address") values ≡ None) ⊎ (first_of (codes "trace") values ≡ None))
 
 -- the request of the subcommand, or that it has none
 abbrev pub IsRequestOf : Option (Text × List Row) → Option Request → Type 0

@@ -81,6 +81,8 @@ pub enum Request<'a> {
     Mta(MtaRequest<'a>),
     /// To play the session of a file to a filter in memory, and to print what becomes of its messages.
     Play(PlayRequest<'a>),
+    /// To send the mail server's commands of a trace to a filter, and to print what it replies beside what is recorded.
+    Replay(ReplayRequest<'a>),
 }
 
 /// A connection that is served by standard input and output.
@@ -178,6 +180,19 @@ pub struct PlayRequest<'a> {
     pub expect: Option<&'a str>,
 }
 
+/// A trace that is to be sent to a filter again.
+#[derive(Clone, Copy, Debug, PartialEq, Eq)]
+pub struct ReplayRequest<'a> {
+    /// The text of the address of the filter's socket.
+    pub address: &'a str,
+    /// The path of the trace.
+    pub trace: &'a str,
+    /// How many seconds a read or a write may take, from 1 to 3,600.
+    pub timeout: u32,
+    /// For how many seconds connecting is tried again, up to 3,600; 0 where it is tried once.
+    pub wait: u32,
+}
+
 /// What the words of a command line ask for, the program's name first. An error has a text and a kind: a wrong use,
 /// what was asked for (help, the version), or memory that was refused.
 pub fn parse<'a, S: AsStr>(alloc: Global, words: &'a [S]) -> Result<Request<'a>, Error>
@@ -224,6 +239,7 @@ fn request_of<'a>(
         Some(("serve", given)) => serve_request(alloc, given),
         Some(("mta", given)) => Ok(mta_request(given)),
         Some(("play", given)) => Ok(play_request(given)),
+        Some(("replay", given)) => Ok(replay_request(given)),
         _ => Ok(None),
     }
 }
@@ -334,6 +350,20 @@ fn play_request<'a>(given: &ArgMatches<'a>) -> Option<Request<'a>>
         events: given.get_str("events"),
         loss: loss_named(given.get_str("loss")),
         expect: given.get_str("expect"),
+    }))
+}
+
+/// What the words after `replay` ask for.
+fn replay_request<'a>(given: &ArgMatches<'a>) -> Option<Request<'a>>
+    ensures { IsRequestOfNamed (codes "replay") (rows_of (found_of given.now)) result }
+{
+    let address = given.get_str("address")?;
+    let trace = given.get_str("trace")?;
+    Some(Request::Replay(ReplayRequest {
+        address,
+        trace,
+        timeout: number_or(TIMEOUT_DEFAULT, given.get_str("timeout")),
+        wait: number_or(0, given.get_str("wait")),
     }))
 }
 

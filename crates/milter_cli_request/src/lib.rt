@@ -10,7 +10,7 @@ mod usage_error;
 
 pub use address::Address;
 pub use command_line::{
-    AnswerRequest, FilterRequest, MtaRequest, PlayRequest, Request, ServeRequest,
+    AnswerRequest, FilterRequest, MtaRequest, PlayRequest, ReplayRequest, Request, ServeRequest,
     command_line_limits, is_explained, parse,
 };
 pub use milter_cli_words::VERSION;

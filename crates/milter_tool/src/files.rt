@@ -1,11 +1,15 @@
 //! The files that are named on the command line, and what is printed of them.
 
-use milter_cli::{load_events, load_reports};
+ghost use Rattle.std.specs.Prelude.{IfOk};
+ghost use Rattle.milter_replay.specs.Recordings.{AllFit};
+
+use milter_cli::{load_events, load_recording, load_reports};
 use milter_cli_io::{
     FileError, InputFile, RuleUse, ToolError, check_rule_file, load_session, print_rules,
     print_session, read_error, read_file, read_lists, rules_of, used_rules,
 };
 use milter_mail::Session;
+use milter_replay::Recording;
 use milter_rules::Rules;
 use milter_trace::trace_run;
 use milter_world::Event;
@@ -104,4 +108,16 @@ pub(crate) fn expected_at<R: Files + AllocGlobal>(
         Ok(reports) => Ok(Some(reports)),
         Err(error) => Err(ToolError::File(error)),
     }
+}
+
+/// The recorded conversation of the trace at this path.
+pub(crate) fn recording_at<R: Files + AllocGlobal>(
+    rt: &R,
+    path: &str,
+) -> Result<Recording, ToolError>
+    // Each command has an encoding.
+    ensures { IfOk result (λ recording. AllFit recording.exchanges.items) }
+{
+    let file = open(rt, InputFile::Trace, path)?;
+    load_recording(rt.alloc(), file).map_err(ToolError::File)
 }

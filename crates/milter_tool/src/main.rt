@@ -8,11 +8,13 @@
 
 mod files;
 mod filter_commands;
+mod replay_command;
 mod serve_command;
 mod session_commands;
 
 use crate::files::{check_rules_at, print_rule_file, print_session_file, print_trace};
 use crate::filter_commands::{answer_mail_server, serve_in_turn};
+use crate::replay_command::replay_trace;
 use crate::serve_command::serve_many;
 use crate::session_commands::{play_in_memory, play_session};
 use milter_cli_faults::{Failure, explain, explain_words};
@@ -116,6 +118,7 @@ fn run_request<
         Request::Serve(asked) => serve_many(rt, asked),
         Request::Mta(asked) => play_session(rt, *asked),
         Request::Play(asked) => play_in_memory(rt, *asked),
+        Request::Replay(asked) => replay_trace(rt, *asked),
     }
 }
 

@@ -1,0 +1,72 @@
+//! The subcommand `replay`.
+
+ghost use Rattle.milter_replay.specs.Recordings.{AllFit};
+
+use crate::files::recording_at;
+use milter_cli::{Connect, TcpDial, UnixDial, WaitingDial, replay_run};
+use milter_cli_faults::Failure;
+use milter_cli_io::ToolError;
+use milter_cli_request::{Address, ReplayRequest, UsageError};
+use milter_replay::Recording;
+use std::io::{self, Read, Write};
+use std::net::{Net, TcpStream};
+use std::rt::{Clock, Files};
+use std::time::Duration;
+
+/// Sends the commands of a trace to a filter, as a mail server, and prints what it replies beside what was recorded.
+pub(crate) fn replay_trace<'x, R: Net<Stream = TcpStream> + Files + Clock + Print + AllocGlobal>(
+    rt: &R,
+    asked: ReplayRequest<'x>,
+) -> Result<(), Failure<'x>> {
+    let Some(address) = Address::parse(asked.address) else {
+        return Err(Failure::from(ToolError::Usage(UsageError::BadAddress)));
+    };
+    let recording = recording_at(rt, asked.trace)?;
+    let limit = Duration::from_secs(u64::from(asked.timeout));
+    match address {
+        Address::Inet { port, host } => {
+            let dial = TcpDial {
+                net: rt,
+                port,
+                host,
+                limit,
+            };
+            let link = connected(rt, asked, dial)?;
+            Ok(replay_over(rt, &recording, &mut &link, &mut &link)?)
+        }
+        Address::Unix { path } => {
+            let dial = UnixDial {
+                net: rt,
+                path,
+                limit,
+            };
+            let link = connected(rt, asked, dial)?;
+            Ok(replay_over(rt, &recording, &mut &link, &mut &link)?)
+        }
+    }
+}
+
+/// The connection that `dial` makes, for which it is tried as long as is asked for.
+fn connected<'x, R: Clock, D: Connect + Drop>(
+    rt: &R,
+    asked: ReplayRequest<'x>,
+    dial: D,
+) -> Result<D::Link, Failure<'x>> {
+    let mut dial = WaitingDial::new(rt, dial, asked.wait);
+    match dial.connect_first() {
+        Ok(link) => Ok(link),
+        Err(_) => Err(Failure::of_socket(ToolError::Connect, asked.address, dial.refusal())),
+    }
+}
+
+/// Sends the commands of a recording over a connection, and prints the lines of both sides.
+fn replay_over<R: Print + AllocGlobal, I: Read, O: Write>(
+    rt: &R,
+    recording: &Recording,
+    reader: &mut I,
+    link: &mut O,
+) -> Result<(), ToolError>
+    requires { AllFit recording.now.exchanges.items }
+{
+    replay_run(rt.alloc(), recording, reader, link, &mut io::writer(rt))
+}
