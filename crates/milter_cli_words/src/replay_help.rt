@@ -19,17 +19,18 @@ out. All else is sent as it was recorded, also macros and aborts. With --wait
 connecting is tried again until a filter listens.
 
 Each packet is printed in a line as milter_tool trace has it, a command and then
-the replies to it, behind a mark:
+the replies to it, each behind two characters:
 
-  two blanks   what was sent, and a reply that is as it was recorded
-  -            what was recorded, and was not sent or did not come
-  +            a reply that came and was not recorded
-  !            after the mark, why the filter was lost at the command above:
-               reset, timeout, memory, or fault K as in milter_tool help mta
+  two blanks                     it was sent, or came as it was recorded
+  - and a blank                  it was recorded, and was not sent or did not
+                                 come
+  + and a blank                  it came, and was not recorded
+  ! and a blank                  in place of a packet, why the filter was lost:
+                                 reset, timeout, memory, or fault K as in
+                                 milter_tool help mta
 
-The marks - + and ! are followed by a blank. A recorded reply belongs to the
-first command to which one was still due by what was negotiated in the
-recording. Progress is left out.
+A recorded reply belongs to the first command to which one was still due by what
+was negotiated in the recording, and is printed with it. Progress is left out.
 
 A fault is printed on standard error:
 
