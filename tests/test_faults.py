@@ -20,10 +20,10 @@ from lib.checks import checked, expect
 
 # Whoever may read nothing that isn't for all.
 NOBODY = 65534
-# The rows of which each allocation is refused in turn: of an address, a session, events, and a list of rules.
+# The rows of which each allocation is refused in turn: of an address, a session, events, a list of rules, and a trace.
 REFUSED = [
     'an address as Postfix writes it', 'a recipient that is misspelt', 'an event that is misspelt',
-    'a list with a bad entry']
+    'a list with a bad entry', 'a packet of no known code in a trace that is sent again']
 # What is said of a word that isn't UTF-8.
 NOT_UTF8 = 'error: invalid UTF-8 was detected in one or more arguments'
 NOT_UTF8_EXPLAINED = \

@@ -1,6 +1,7 @@
 //! What the subcommands of `milter_tool` do: the answering to mail servers over any reader and writer and over sockets,
-//! the playing of sessions to filters over sockets and in memory, and the sending of traces to filters again. What they are asked for is read by
-//! `milter_cli_request`, the files are read by `milter_cli_io`, and rules that change are those of `milter_cli_serve`.
+//! the playing of sessions to filters over sockets and in memory, and the sending of traces to filters again. What is
+//! asked for is read by `milter_cli_request`, the files are read by `milter_cli_io`, and rules that change are those of
+//! `milter_cli_serve`.
 #![tactic(auto)]
 
 mod answer_command;

@@ -40,8 +40,8 @@ pub enum ToolError {
     },
     /// Rules of which a warning was said.
     Findings,
-    /// Help, the version, the line of a connection, the reports of a session or the lines of a conversation that is sent
-    /// again were not written.
+    /// Help, the version, the line of a connection, the reports of a session, or the lines of a conversation that is
+    /// sent again were not written.
     Write,
     /// Memory was refused before there was a subcommand, for the line of a connection, in the playing of a session, or
     /// for the lines of a conversation that is sent again.

@@ -24,8 +24,8 @@ pub struct RecordedCommand {
     pub text: Vec<u8>,
 }
 
-/// A command, and the packets of the filter that answer it, but for progress. A packet that answers none, since no reply
-/// was due by what was negotiated in the recording, is with the last command before it.
+/// A command, and the packets of the filter that answer it, but for progress. A packet that answers none, since no
+/// reply was due by what was negotiated in the recording, is with the last command before it.
 #[derive(Debug, Drop)]
 pub struct Exchange {
     /// The command.

@@ -8,8 +8,8 @@ ghost use Rattle.std.specs.Prelude.{◌≡◌};
 use milter_trace::TraceFault;
 use milter_wire::RefusedMemory;
 
-/// Why a trace can't be played again. Lines are numbered from 1, the skipped ones too; what is missing at the end of the
-/// trace has the number after that of the last line that ends in an LF.
+/// Why a trace can't be played again. Lines are numbered from 1, the skipped ones too; what is missing at the end of
+/// the trace has the number after that of the last line that ends in an LF.
 #[derive(Clone, Copy, Debug, PartialEq, Eq)]
 pub enum RecordingFault {
     /// It is no trace: a line is none of a trace, or a packet is at fault; or memory was refused.
