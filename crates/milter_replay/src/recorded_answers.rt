@@ -1,6 +1,6 @@
 //! Which command each packet of a recorded filter answers.
 
-ghost use Rattle.std.specs.Prelude.{◌≡◌, ◌≤◌, [], length};
+ghost use Rattle.std.specs.Prelude.{◌≡◌};
 ghost use Rattle.milter_wire_stream.specs.Packet.{IsPayload};
 ghost use Rattle.milter_wire.specs.Command.{Fits};
 ghost use Rattle.milter_replay.specs.Recordings.{AllFit};
@@ -48,20 +48,21 @@ impl RecordedAnswers {
             let Some(exchange) = exchanges.get(self.queued) else {
                 break;
             };
+            self.queued += 1;
             self.queue(&exchange.recorded.command)?;
         }
         Ok(self.queued.saturating_sub(1))
     }
 
-    /// Queues the next command, where no reply is due to one before it.
+    /// Queues a command, where no reply is due to one before it.
     fn queue(&mut self, command: &Command) -> Result<(), NoMemory>
         requires { Fits command.now }
+        ensures { self.new.queued ≡ self.old.queued }
     {
         self.channel.clear();
         queue_command(&mut self.channel, command)?;
         let count = self.channel.pending().len();
         self.channel.sent(count);
-        self.queued = self.queued.saturating_add(1);
         Ok(())
     }
 
