@@ -34,8 +34,8 @@ AGREED = packet_of(b'O' + struct.pack('>III', 6, 0, 0)), '< O version 6 actions 
 # The codes of the commands to which a filter without rules replies.
 REPLIED = b'CHMRTLNBEU'
 # How an own filter may end, with the cause that is printed, and the seconds that it may take.
-ENDS = [('closes', 'reset', '30'), ('resets', 'reset', '30'), ('is silent', 'timeout', '1'),
-        ('replies twice', 'fault 8', '30')]
+ENDS = [('closes', 'connection lost', '30'), ('resets', 'connection lost', '30'), ('is silent', 'timeout', '1'),
+        ('replies twice', 'reply before its command', '30')]
 
 
 # ---- what is sent and printed

@@ -26,8 +26,8 @@ the replies to it, each behind two characters:
                                  come
   + and a blank                  it came, and was not recorded
   ! and a blank                  in place of a packet, why the filter was lost:
-                                 reset, timeout, memory, or fault K as in
-                                 milter_tool help mta
+                                 connection lost, timeout, out of memory, or
+                                 what it sent that can't be taken
 
 A recorded reply belongs to the first command to which one was still due by what
 was negotiated in the recording, and is printed with it. Progress is left out.
