@@ -44,12 +44,10 @@ impl RecordedAnswers {
     pub(crate) fn answered(&mut self, exchanges: &[Exchange]) -> Result<usize, NoMemory>
         requires { AllFit exchanges.now }
     {
-        while self.channel.expected() == ExpectedReply::Nothing {
-            let Some(exchange) = exchanges.get(self.queued) else {
-                break;
-            };
+        while self.queued < exchanges.len() && self.channel.expected() == ExpectedReply::Nothing {
+            let command = &exchanges[self.queued].recorded.command;
             self.queued += 1;
-            self.queue(&exchange.recorded.command)?;
+            self.queue(command)?;
         }
         Ok(self.queued.saturating_sub(1))
     }
