@@ -6,17 +6,30 @@
 //! a fault, and 2 after a wrong use of the command line.
 #![tactic(auto)]
 
-mod files;
-mod filter_commands;
+mod answer_command;
+mod command_order;
+mod filter_command;
+mod mta_command;
+mod opened_file;
+mod play_command;
 mod replay_command;
+mod rule_file;
+mod rules_command;
 mod serve_command;
-mod session_commands;
+mod session_command;
+mod session_reports;
+mod trace_command;
+mod unbound_socket;
 
-use crate::files::{check_rules_at, print_rule_file, print_session_file, print_trace};
-use crate::filter_commands::{answer_mail_server, serve_in_turn};
+use crate::answer_command::answer_mail_server;
+use crate::filter_command::serve_in_turn;
+use crate::mta_command::play_session;
+use crate::play_command::play_in_memory;
 use crate::replay_command::replay_trace;
+use crate::rules_command::{check_rules_at, print_rule_file};
 use crate::serve_command::serve_many;
-use crate::session_commands::{play_in_memory, play_session};
+use crate::session_command::print_session_file;
+use crate::trace_command::print_trace;
 use milter_cli_faults::{Failure, explain, explain_words};
 use milter_cli_io::{ToolError, argument_error, end_usage, report};
 use milter_cli_request::{Request, is_explained, parse};

@@ -1,11 +1,12 @@
 //! The subcommand `replay`.
 
+ghost use Rattle.std.specs.Prelude.{IfOk};
 ghost use Rattle.milter_replay.specs.Recordings.{AllFit};
 
-use crate::files::recording_at;
-use milter_cli::{Connect, TcpDial, UnixDial, WaitingDial, replay_run};
+use crate::opened_file::open;
+use milter_cli::{Connect, TcpDial, UnixDial, WaitingDial, load_recording, replay_run};
 use milter_cli_faults::Failure;
-use milter_cli_io::ToolError;
+use milter_cli_io::{InputFile, ToolError};
 use milter_cli_request::{Address, ReplayRequest, UsageError};
 use milter_replay::Recording;
 use std::io::{self, Read, Write};
@@ -69,4 +70,13 @@ fn replay_over<R: Print + AllocGlobal, I: Read, O: Write>(
     requires { AllFit recording.now.exchanges.items }
 {
     replay_run(rt.alloc(), recording, reader, link, &mut io::writer(rt))
+}
+
+/// The recorded conversation of the trace at this path.
+fn recording_at<R: Files + AllocGlobal>(rt: &R, path: &str) -> Result<Recording, ToolError>
+    // Each command has an encoding.
+    ensures { IfOk result (λ recording. AllFit recording.exchanges.items) }
+{
+    let file = open(rt, InputFile::Trace, path)?;
+    load_recording(rt.alloc(), file).map_err(ToolError::File)
 }

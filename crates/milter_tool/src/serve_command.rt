@@ -1,6 +1,6 @@
 //! The subcommand `serve`.
 
-use crate::filter_commands::unbound;
+use crate::unbound_socket::unbound;
 use milter_cli_faults::Failure;
 use milter_cli_io::{RuleUse, ToolError, service_error};
 use milter_cli_request::{Address, ServeRequest, UsageError, VERSION, parse_mode};

@@ -1,0 +1,123 @@
+//! The subcommand `play`.
+
+use crate::opened_file::open;
+use crate::rule_file::rules_at;
+use crate::session_reports::{end_reports, expected_at, kept_error};
+use milter_cli::{load_events, play_run, schedule_run};
+use milter_cli_faults::Failure;
+use milter_cli_io::{InputFile, RuleUse, ToolError, load_session, output_error};
+use milter_cli_request::{Offer, PlayRequest};
+use milter_mail::Session;
+use milter_mta::Config;
+use milter_rules::Rules;
+use milter_world::Event;
+use std::io::{self, Write};
+use std::rt::Files;
+
+/// Plays the session of a file to a filter in memory, and prints what becomes of its messages; only where that isn't
+/// what is expected, if something is.
+pub(crate) fn play_in_memory<'x, R: Files + Print + AllocGlobal>(
+    rt: &R,
+    asked: PlayRequest<'x>,
+) -> Result<(), Failure<'x>> {
+    let offer = match Offer::parse(asked.actions, asked.protocol) {
+        Ok(offer) => offer,
+        Err(error) => return Err(Failure::from(ToolError::Usage(error))),
+    };
+    let config = Config::new(offer.actions, offer.protocol, asked.loss).unwrap();
+    let usage = RuleUse {
+        ignore_case: asked.ignore_case,
+        least_stages: asked.least_stages,
+        names_messages: false,
+    };
+    let rules = rules_at(rt, asked.rules, usage)?;
+    play_with_rules(rt, config, asked, &rules)
+}
+
+/// The same with these rules.
+fn play_with_rules<'x, R: Files + Print + AllocGlobal>(
+    rt: &R,
+    config: Config,
+    asked: PlayRequest<'x>,
+    rules: &Rules,
+) -> Result<(), Failure<'x>> {
+    if asked.expect.is_none() {
+        return Ok(play_by_rules(rt, config, asked, rules, &mut io::writer(rt))?);
+    }
+    let expected = expected_at(rt, asked.expect)?;
+    let found = reports_found(rt, config, asked, rules)?;
+    end_reports(rt, found, expected)
+}
+
+/// The reports of a session that is played in memory.
+fn reports_found<R: Files + Print + AllocGlobal>(
+    rt: &R,
+    config: Config,
+    asked: PlayRequest<'_>,
+    rules: &Rules,
+) -> Result<Vec<u8>, ToolError> {
+    let mut found = Vec::new(rt.alloc());
+    match play_by_rules(rt, config, asked, rules, &mut found) {
+        Ok(()) => Ok(found),
+        Err(error) => Err(kept_error(error)),
+    }
+}
+
+/// Plays the session of a file to a filter with these rules.
+fn play_by_rules<R: Files + AllocGlobal, W: Write>(
+    rt: &R,
+    config: Config,
+    asked: PlayRequest<'_>,
+    rules: &Rules,
+    writer: &mut W,
+) -> Result<(), ToolError> {
+    let session = session_at(rt, asked.session)?;
+    match asked.events {
+        Some(path) => play_by_events(rt, config, session, rules, path, writer),
+        None => match play_run(rt.alloc(), config, session, rules, writer) {
+            Ok(()) => Ok(()),
+            Err(fault) => Err(output_error(fault)),
+        },
+    }
+}
+
+/// Plays a session to a filter with these rules while the events of the file at this path happen.
+fn play_by_events<R: Files + AllocGlobal, W: Write>(
+    rt: &R,
+    config: Config,
+    session: Session,
+    rules: &Rules,
+    path: &str,
+    writer: &mut W,
+) -> Result<(), ToolError> {
+    let events = match events_at(rt, path) {
+        Ok(events) => events,
+        Err(error) => {
+            drop(session);
+            return Err(error);
+        }
+    };
+    match schedule_run(
+        rt.alloc(),
+        config,
+        session,
+        rules,
+        events.as_slice(),
+        writer,
+    ) {
+        Ok(()) => Ok(()),
+        Err(fault) => Err(output_error(fault)),
+    }
+}
+
+/// The session of the file at this path.
+fn session_at<R: Files + AllocGlobal>(rt: &R, path: &str) -> Result<Session, ToolError> {
+    let file = open(rt, InputFile::Session, path)?;
+    load_session(rt.alloc(), file).map_err(ToolError::File)
+}
+
+/// The events of the file at this path.
+fn events_at<R: Files + AllocGlobal>(rt: &R, path: &str) -> Result<Vec<Event>, ToolError> {
+    let file = open(rt, InputFile::Events, path)?;
+    load_events(rt.alloc(), file).map_err(ToolError::File)
+}
