@@ -5,7 +5,7 @@ use crate::answer_words::answer_meaning;
 use crate::event_words::say_events;
 use crate::failure::Failure;
 use crate::file_forms::fault_meaning;
-use crate::file_words::{bytes_again, unread_reason};
+use crate::file_words::{bytes_again, unread_reason, unstreamed_reason};
 use crate::option_words::{say_bad_mode, say_bad_names};
 use crate::request_paths::{actions_of, address_of, addresses_of, mode_of, path_of, protocol_of};
 use crate::rule_words::{say_rules, unread_lists};
@@ -49,8 +49,8 @@ pub fn explain<R: Files>(
 ) -> Result<Vec<u8>, NoMemory> {
     match &failure.error {
         ToolError::Usage(error) => explain_usage(alloc, request, error),
-        ToolError::File(error) => explain_request_file(files, alloc, request, *error),
-        ToolError::Trace(fault) => explain_trace(alloc, *fault),
+        ToolError::File(error) => explain_failed_file(files, alloc, request, failure.file, *error),
+        ToolError::Trace(fault) => explain_trace(alloc, failure.file, *fault),
         ToolError::Answer(error) => explain_answer(alloc, *error),
         ToolError::Listen | ToolError::Connect => explain_socket(files, alloc, failure),
         ToolError::Differs { line } => explain_reports(alloc, request, *line, failure),
@@ -69,14 +69,19 @@ pub fn explain_words(alloc: Global, error: &ToolError) -> Result<Vec<u8>, NoMemo
     }
 }
 
-/// The line of a trace that ended before its input.
-fn explain_trace(alloc: Global, fault: TraceFault) -> Result<Vec<u8>, NoMemory> {
+/// The line of a trace that ended before its input: the file at this path, or standard input where there is none.
+fn explain_trace(
+    alloc: Global,
+    path: Option<&str>,
+    fault: TraceFault,
+) -> Result<Vec<u8>, NoMemory> {
     match fault {
         TraceFault::WriteFault => line(alloc, "standard output", NOT_WRITTEN),
         // Words take memory.
         TraceFault::NoMemory => Ok(Vec::new(alloc)),
         fault => {
-            let mut notes = Notes::new(alloc, "standard input");
+            let name = shown_name(alloc, path.unwrap_or("standard input"))?;
+            let mut notes = Notes::new(alloc, name.as_str());
             say_trace(alloc, &mut notes, fault)?;
             text_of(alloc, &notes)
         }
@@ -210,6 +215,22 @@ fn explain_reports(
         said.extend_from_slice(difference.as_slice())?;
     }
     Ok(said)
+}
+
+/// The lines of an error of the file at this path, which is read piece by piece; or of the one that a request names.
+fn explain_failed_file<R: Files>(
+    files: &R,
+    alloc: Global,
+    request: &Request<'_>,
+    path: Option<&str>,
+    error: FileError,
+) -> Result<Vec<u8>, NoMemory> {
+    match (path, error) {
+        (Some(path), FileError::Read(_)) => {
+            line(alloc, path, unstreamed_reason(files, Path::new(path)))
+        }
+        (_, error) => explain_request_file(files, alloc, request, error),
+    }
 }
 
 /// The lines of an error of a file that a request names.

@@ -21,11 +21,13 @@ pub struct DifferingReports {
     pub expected: Vec<u8>,
 }
 
-/// Why the program did not do what it was asked, and the socket or the reports that this is about.
+/// Why the program did not do what it was asked, and the file, the socket or the reports that this is about.
 #[derive(Debug, Drop)]
 pub struct Failure<'a> {
     /// The error, which has the line on standard error and the status.
     pub error: ToolError,
+    /// The path of the file, where it is one of several.
+    pub file: Option<&'a str>,
     /// The socket, where there is one.
     pub socket: Option<SocketFault<'a>>,
     /// The reports, where they aren't the expected ones.
@@ -33,10 +35,21 @@ pub struct Failure<'a> {
 }
 
 impl<'a> Failure<'a> {
+    /// The failure by the file at this path, which is one of several.
+    pub fn of_file(error: ToolError, path: &'a str) -> Self {
+        Failure {
+            error,
+            file: Some(path),
+            socket: None,
+            reports: None,
+        }
+    }
+
     /// The failure by a socket.
     pub fn of_socket(error: ToolError, address: &'a str, kind: Option<ErrorKind>) -> Self {
         Failure {
             error,
+            file: None,
             socket: Some(SocketFault { address, kind }),
             reports: None,
         }
@@ -46,6 +59,7 @@ impl<'a> Failure<'a> {
     pub fn of_reports(error: ToolError, reports: DifferingReports) -> Self {
         Failure {
             error,
+            file: None,
             socket: None,
             reports: Some(reports),
         }
@@ -56,6 +70,7 @@ impl<'a> From<ToolError> for Failure<'a> {
     fn from(error: ToolError) -> Self {
         Failure {
             error,
+            file: None,
             socket: None,
             reports: None,
         }

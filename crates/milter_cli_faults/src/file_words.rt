@@ -19,6 +19,16 @@ pub(crate) fn unread_reason<R: Files>(files: &R, path: Path<'_>) -> &'static str
     }
 }
 
+/// The same of a file of any size, which is read piece by piece.
+pub(crate) fn unstreamed_reason<R: Files>(files: &R, path: Path<'_>) -> &'static str {
+    match fs::metadata(files, path) {
+        Ok(found) if found.is_dir() => "is a folder, and a file is due",
+        Ok(found) if found.is_file() => unopened_reason(files, path),
+        Ok(_) => "isn't read to an end",
+        Err(error) => missing_reason(files, path, error.kind()),
+    }
+}
+
 /// Why the file at this path, which is there, can't be read.
 fn unopened_reason<R: Files>(files: &R, path: Path<'_>) -> &'static str {
     match fs::open(files, path) {

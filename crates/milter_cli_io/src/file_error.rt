@@ -19,7 +19,7 @@ pub enum InputFile {
     Events,
     /// A file of the reports that are expected.
     Reports,
-    /// A trace that is sent to a filter again.
+    /// A trace.
     Trace,
 }
 
@@ -38,10 +38,11 @@ impl fmt::Display for InputFile {
 }
 
 /// Why a file was not read, or what it has not printed to its end. The text of each is its fault line, without the LF.
-/// After `Write` and `NoMemory` a prefix of the text may have been printed, after the others nothing was.
+/// After `Write` and `NoMemory` a prefix of the text may have been printed, and also after `Read` of a trace, which is
+/// printed as it is read; after the others nothing was.
 #[derive(Clone, Copy, Debug, PartialEq, Eq)]
 pub enum FileError {
-    /// The file couldn't be read, or has more than 134,217,728 bytes.
+    /// The file couldn't be read, or has more than 134,217,728 bytes where it is read as a whole.
     Read(InputFile),
     /// The file isn't of its form.
     Fault {

@@ -3,11 +3,11 @@ use Rattle.std.proofs.Common.{◌≡◌, ◌<◌, ◌≤◌, ◌-◌, ◌^◌, �
 use Rattle.std.proofs.lemmas.Option.{none-some}
 use Rattle.std.proofs.lemmas.Slice.Eq.{bytes_eq-Decides}
 use Rattle.std.specs.Prelude.{find, slice_get}
-use Rattle.std.specs.Option.{option_and_then, option_map_or}
+use Rattle.std.specs.Option.{option_and_then, option_map_or, unwrap_or}
 use Rattle.std.specs.Str.{bytes_eq}
 use Rattle.clap.specs.Facts.{explicit_source}
 use Rattle.clap.specs.Words.{Row, Shape, Text, built, fault_of, all_of, first_of, first_value, matched_of, raw_values, rows_of, subcommand_of, subcommand_rows_of}
-use Rattle.clap.specs.Walk.{answers_to, finished, nothing_held, rows_after, settled, walk, walk_from}
+use Rattle.clap.specs.Walk.{answers_to, finished, nothing_held, rows_after, settled, texts, walk, walk_from}
 use Rattle.clap.specs.Simple.{argument_words, built_leaf, entered, help_shape, inherited, label_of, marked_built, names_of, rows_at, with_leaf_noted}
 use Rattle.clap.specs.Takes.{is_given}
 use Rattle.clap.specs.Kinds.{Kinds}
@@ -19,7 +19,7 @@ use Rattle.clap.specs.declared.parser.matches.ArgMatches.{ArgMatches}
 use Rattle.milter_cli_request.specs.declared.command_line.Request.{Request}
 use Rattle.milter_cli_words.specs.Subcommands.{answer_app, filter_app, mta_app, play_app, replay_app, rules_app, serve_app, session_app, tool_app, trace_app}
 use Rattle.milter_cli_words.specs.Words.{BorrowedWords}
-use Rattle.milter_cli_request.specs.CommandLine.{HasMatches, IsFlag, IsNumberOr, IsRequestOf, IsUnasked, text_of}
+use Rattle.milter_cli_request.specs.CommandLine.{HasMatches, IsFlag, IsNumberOr, IsRequestOf, IsUnasked, given_values, text_of}
 use Rattle.milter_cli_request.proofs.FaultlessRows.{AreFilled, Each, Fills, IsFilled, find_each, no_faults, settled_filled, some_fault}
 use Rattle.milter_cli_request.proofs.FaultlessWalk.{StopsBeforeHelp, defaults_filled, walk_rows, walk_stops}
 
@@ -51,6 +51,12 @@ no_value f id none = sym (none ∙ first_value-rows f id)
 -- the values that are given
 pub values_given : (f : Found) (id : Text) (values : List Text) → Some values ≡ option_map raw_values (matched_of f id) → all_of id (rows_of f) ≡ Some values
 values_given f id values is = sym (is ∙ raw_values-rows f id)
+
+-- the values of an argument that may be given any number of times
+pub any_values_given : (f : Found) (id : Text) (o : Option BorrowedWords) (default : BorrowedWords) → default.now ≡ [] → option_map (λ s. texts s.now) o ≡ option_map raw_values (matched_of f id)
+    → given_values id (rows_of f) ≡ texts (unwrap_or o default).now
+any_values_given f id None default none is = ap (λ given. option_map_or (λ values. values) given []) (sym (is ∙ raw_values-rows f id)) ∙ sym (ap texts none)
+any_values_given f id (Some s) default none is = ap (λ given. option_map_or (λ values. values) given []) (sym (is ∙ raw_values-rows f id))
 
 pub no_values : (f : Found) (id : Text) → None ≡ option_map raw_values (matched_of f id) → first_of id (rows_of f) ≡ None
 no_values f id none = go (find (λ r. bytes_eq r.id id) (rows_of f)) (sym (none ∙ raw_values-rows f id))

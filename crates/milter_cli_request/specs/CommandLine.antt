@@ -1,6 +1,7 @@
 -- The command line: what it asks for.
 use Rattle.std.specs.Prelude.{◌≡◌, ◌≢◌, ℕ, List, [], codes, Option, None, Some, Result, Ok, Err, IfErr, IfOk, IfSome}
 use Rattle.std.specs.Prelude.{◌⊎◌, ◌↔◌, Bool, IsSomeAnd, IsTrue, option_map}
+use Rattle.std.specs.Option.{option_map_or}
 use Rattle.std.specs.Borrow.{Bor}
 use Rattle.std.specs.Str.Parse.{digits_value, without_leading_plus}
 use Rattle.clap.specs.Values.{IsUnsignedIn}
@@ -51,9 +52,14 @@ IsLoss (Some text) loss = (named : OnLoss) → text ≡ loss_word named → loss
 abbrev pub IsFlag : Option Text → Bool → Type 0
 IsFlag text flag = IsTrue flag ↔ (text ≡ Some (codes "true"))
 
+-- the values of an argument; none where it isn't given
+abbrev pub given_values : Text → List Row → List Text
+given_values id values = option_map_or (λ given. given) (all_of id values) []
+
 -- the subcommand of this name, with these values, asks for it
 abbrev pub IsAsked : Text × List Row → Request → Type 0
-IsAsked (name, values) Trace = name ≡ codes "trace"
+IsAsked (name, values) (Trace files) =
+    (name ≡ codes "trace") × (given_values (codes "file") values ≡ texts files.items)
 IsAsked (name, values) (Session file) =
     (name ≡ codes "session") × (first_of (codes "file") values ≡ Some file.now)
 IsAsked (name, values) (Rules file check) =

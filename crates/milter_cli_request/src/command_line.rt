@@ -57,8 +57,11 @@ const LOSS_WORDS: &[&str] = &["accept", "tempfail", "reject"];
 /// What the program is asked to do.
 #[derive(Debug, PartialEq, Eq, Drop)]
 pub enum Request<'a> {
-    /// To print the packets of the trace on standard input.
-    Trace,
+    /// To print the packets of traces.
+    Trace {
+        /// The paths of the files, which are read in this order; none where standard input is read.
+        files: Vec<&'a str>,
+    },
     /// To print the session of a file in canonical form.
     Session {
         /// The path of the file.
@@ -231,7 +234,7 @@ fn request_of<'a>(
     ensures { IfOk result (IsRequestOf (subcommand_rows_of matches.now)) }
 {
     match matches.subcommand() {
-        Some(("trace", _)) => Ok(Some(Request::Trace)),
+        Some(("trace", given)) => Ok(Some(trace_request(alloc, given)?)),
         Some(("session", given)) => Ok(session_request(given)),
         Some(("rules", given)) => Ok(rules_request(given)),
         Some(("answer", given)) => Ok(Some(answer_request(given))),
@@ -242,6 +245,15 @@ fn request_of<'a>(
         Some(("replay", given)) => Ok(replay_request(given)),
         _ => Ok(None),
     }
+}
+
+/// What the words after `trace` ask for.
+fn trace_request<'a>(alloc: Global, given: &ArgMatches<'a>) -> Result<Request<'a>, AllocError>
+    ensures { IfOk result (λ request. IsRequestOfNamed (codes "trace") (rows_of (found_of given.now)) (Some request)) }
+{
+    let paths = given.get_strs("file").unwrap_or(&[]);
+    let files = Vec::from_slice(alloc, paths)?;
+    Ok(Request::Trace { files })
 }
 
 /// What the words after `session` ask for.

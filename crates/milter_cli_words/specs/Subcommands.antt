@@ -2,14 +2,15 @@
 use Rattle.std.specs.Prelude.{List, [], ◌∷◌, codes, true}
 use Rattle.clap.specs.Words.{App, Rule, Text, new_app, with_subcommand}
 use Rattle.milter_cli_words.specs.declared.limits.TheConstants.{AT_ONCE_MAX, COUNT_MAX, IDLE_MAX, MODE_MAX, TIMEOUT_MAX, WAIT_MAX}
-use Rattle.milter_cli_words.specs.Words.{BorrowedWords, flag_rule, loss_rule, number_rule, option_rule, place_rule, places_rule, with_rules}
+use Rattle.milter_cli_words.specs.Words.{BorrowedWords, any_places_rule, flag_rule, loss_rule, number_rule, option_rule}
+use Rattle.milter_cli_words.specs.Words.{place_rule, places_rule, with_rules}
 
 -- a subcommand with these words
 abbrev pub app_with : Text → List Rule → App
 app_with name rules = with_rules (new_app name) rules
 
 abbrev pub trace_app : App
-trace_app = app_with (codes "trace") (flag_rule (codes "explain") ∷ [])
+trace_app = app_with (codes "trace") (any_places_rule (codes "file") ∷ flag_rule (codes "explain") ∷ [])
 
 abbrev pub session_app : App
 session_app = app_with (codes "session") (place_rule (codes "file") ∷ flag_rule (codes "explain") ∷ [])

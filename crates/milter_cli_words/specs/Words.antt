@@ -8,7 +8,7 @@ use Rattle.clap.specs.declared.builder.command.Command.{Command}
 use Rattle.clap.specs.declared.builder.command.Command.TheViews.{out-Command}
 use Rattle.clap.specs.declared.builder.value_parser.ValueParser.TheVariants.{Names, Unsigned}
 use Rattle.milter_cli_words.specs.declared.word.Kind.{Kind}
-use Rattle.milter_cli_words.specs.declared.word.Kind.TheVariants.{Place, Places, Value, Number, Flag}
+use Rattle.milter_cli_words.specs.declared.word.Kind.TheVariants.{Place, Places, AnyPlaces, Value, Number, Flag}
 use Rattle.milter_cli_words.specs.declared.word.Word.{Word}
 
 -- a word that has to be there
@@ -18,6 +18,10 @@ place_rule name = record (new_rule name) { action = Some Set; value_names = 1; r
 -- a word that has to be there, and may be there more than once
 abbrev pub places_rule : Text → Rule
 places_rule name = record (place_rule name) { action = Some Append }
+
+-- a word that may be there any number of times
+abbrev pub any_places_rule : Text → Rule
+any_places_rule name = record (new_rule name) { action = Some Append; value_names = 1 }
 
 -- an option with a value
 abbrev pub option_rule : Text → Rule
@@ -43,6 +47,7 @@ flag_rule name = record (new_rule name) { long = Some name; action = Some SetTru
 unfoldable pub rule_of_kind : Kind → Text → Rule
 rule_of_kind Place name = place_rule name
 rule_of_kind Places name = places_rule name
+rule_of_kind AnyPlaces name = any_places_rule name
 rule_of_kind Value name = option_rule name
 rule_of_kind (Number most) name = number_rule name most
 rule_of_kind Flag name = flag_rule name

@@ -2,7 +2,10 @@
 
 /// The form of a trace, what is printed of it, and its fault lines.
 pub(crate) const TRACE: &str = "\
-The input is lines, of at most 262,144 bytes each:
+Without a FILE standard input is read. Files are read one after another, each as
+an input of its own, and what is printed of them follows in the same order.
+
+An input is lines, of at most 262,144 bytes each:
 
   > DIGITS  bytes from the mail server (MTA) to the filter
   < DIGITS  bytes from the filter to the mail server
@@ -24,8 +27,9 @@ the program prints
   > O version 6 actions 000001ff protocol 001fffff
   < O version 6 actions 00000011 protocol 00000000
 
-The first fault ends the trace. It is printed on standard error, with the number
-N of its line, from 1, and the direction D of its packet:
+The first fault ends the program. It is printed on standard error, with the
+number N of its line, from 1, and the direction D of its packet; --explain says
+in which file it is:
 
   line N: bad line               line N has another form
   line N: D zero length          a packet has length 0
@@ -36,11 +40,12 @@ N of its line, from 1, and the direction D of its packet:
   end: D truncated B bytes       the input ends after B bytes of a packet; a
                                  line for each direction
   read fault                     standard input was not read
+  cannot read trace              a file was not read
   write fault                    standard output was not written
   out of memory                  memory was refused
   turn limit                     the input goes on after 1,073,741,824 reads
 
-Status: 0 after the end of the input, 1 after a fault, 2 after a wrong use of
+Status: 0 after the end of each input, 1 after a fault, 2 after a wrong use of
 the command line.";
 
 /// The form of a session file, its limits, and its fault lines.

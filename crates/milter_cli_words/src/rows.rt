@@ -45,6 +45,13 @@ pub(crate) const SESSION: Word<'static> = Word {
     help: "The path of the session file",
 };
 
+pub(crate) const TRACE_FILES: Word<'static> = Word {
+    kind: Kind::AnyPlaces,
+    name: "file",
+    value: "FILE",
+    help: "The path of a trace; without one standard input is read",
+};
+
 pub(crate) const TRACE: Word<'static> = Word {
     kind: Kind::Place,
     name: "trace",

@@ -9,7 +9,7 @@ ghost use Rattle.milter_cli_words.specs.Words.{IsLocal, loss_rule};
 use crate::rows::{
     ACTIONS, ADDRESS, ADDRESSES, ALL_STAGES, AT_ONCE, CHECK, COUNT, EVENTS, EXPECT, EXPLAIN,
     FILTER_ADDRESS, IDLE, IGNORE_CASE, LEAST_STAGES, LENIENT, LOG, LOSS, MODE, PROTOCOL, RULE_FILE,
-    RULES, SESSION, SESSION_FILE, TIMEOUT, TRACE, WAIT,
+    RULES, SESSION, SESSION_FILE, TIMEOUT, TRACE, TRACE_FILES, WAIT,
 };
 use crate::word::{Help, choice, subcommand, with_words};
 use crate::{help_text, replay_help};
@@ -66,10 +66,10 @@ fn trace<'a>(alloc: Global) -> Result<Command<'a>, AllocError>
     ensures local { IfOk result IsLocal }
 {
     let help = Help {
-        about: "Prints a line for each packet of the conversation on standard input",
+        about: "Prints a line for each packet of recorded conversations",
         after: help_text::TRACE,
     };
-    subcommand(alloc, "trace", help, &[EXPLAIN])
+    subcommand(alloc, "trace", help, &[TRACE_FILES, EXPLAIN])
 }
 
 fn session<'a>(alloc: Global) -> Result<Command<'a>, AllocError>

@@ -2,7 +2,7 @@
 
 ghost use Rattle.std.specs.Prelude.{◌≡◌, IfOk, false, map};
 ghost use Rattle.clap.specs.Words.{app_of, new_app, rule_of};
-ghost use Rattle.milter_cli_words.specs.Words.{IsLocal, choice_rule, flag_rule, number_rule, option_rule};
+ghost use Rattle.milter_cli_words.specs.Words.{IsLocal, any_places_rule, choice_rule, flag_rule, number_rule, option_rule};
 ghost use Rattle.milter_cli_words.specs.Words.{place_rule, places_rule, rule_of_word, with_rules};
 
 use clap::builder::ValueParser;
@@ -16,6 +16,8 @@ pub(crate) enum Kind {
     Place,
     /// A word that has to be there, and may be there more than once.
     Places,
+    /// A word that may be there any number of times.
+    AnyPlaces,
     /// An option with a value.
     Value,
     /// An option with a number from 1 to this one.
@@ -96,6 +98,7 @@ fn arg_of<'a>(alloc: Global, word: Word<'a>) -> Arg<'a>
     match word.kind {
         Kind::Place => place(alloc, word),
         Kind::Places => places(alloc, word),
+        Kind::AnyPlaces => any_places(alloc, word),
         Kind::Value => option(alloc, word),
         Kind::Number(most) => number(alloc, word, most),
         Kind::Flag => flag(alloc, word),
@@ -120,6 +123,17 @@ fn places<'a>(alloc: Global, word: Word<'a>) -> Arg<'a>
     ensures local { result.global ≡ false }
 {
     place(alloc, word).action(ArgAction::Append)
+}
+
+/// A word that may be there any number of times.
+fn any_places<'a>(alloc: Global, word: Word<'a>) -> Arg<'a>
+    ensures rule { rule_of result ≡ any_places_rule word.entry.name.now }
+    ensures local { result.global ≡ false }
+{
+    Arg::new(alloc, word.name)
+        .value_name(word.value)
+        .action(ArgAction::Append)
+        .help(word.help)
 }
 
 /// An option with a value.

@@ -29,7 +29,7 @@ use crate::replay_command::replay_trace;
 use crate::rules_command::{check_rules_at, print_rule_file};
 use crate::serve_command::serve_many;
 use crate::session_command::print_session_file;
-use crate::trace_command::print_trace;
+use crate::trace_command::print_traces;
 use milter_cli_faults::{Failure, explain, explain_words};
 use milter_cli_io::{ToolError, argument_error, end_usage, report};
 use milter_cli_request::{Request, is_explained, parse};
@@ -122,7 +122,7 @@ fn run_request<
         + AllocGlobal,
 >(rt: &'x R, request: &Request<'x>) -> Result<(), Failure<'x>> {
     match request {
-        Request::Trace => Ok(print_trace(rt)?),
+        Request::Trace { files } => print_traces(rt, files.as_slice()),
         Request::Session { file } => Ok(print_session_file(rt, file)?),
         Request::Rules { file, check: false } => Ok(print_rule_file(rt, file)?),
         Request::Rules { file, check: true } => Ok(check_rules_at(rt, file)?),

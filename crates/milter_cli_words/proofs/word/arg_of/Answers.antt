@@ -9,6 +9,10 @@ pub returns-in-Places-clause-rule : goal.returns-in-Places-clause-rule
 unfolding rule_of_kind
 returns-in-Places-clause-rule c = rw c.in-Places.is c.places.ensures.rule
 
+pub returns-in-AnyPlaces-clause-rule : goal.returns-in-AnyPlaces-clause-rule
+unfolding rule_of_kind
+returns-in-AnyPlaces-clause-rule c = rw c.in-AnyPlaces.is c.any_places.ensures.rule
+
 pub returns-in-Value-clause-rule : goal.returns-in-Value-clause-rule
 unfolding rule_of_kind
 returns-in-Value-clause-rule c = rw c.in-Value.is c.option.ensures.rule
