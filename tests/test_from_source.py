@@ -68,12 +68,13 @@ def says_that_it_was_cut_off(top):
 
 
 def plays(top):
-    """All that is run: a trace, files by relative and absolute paths, faults, and a wrong use of the command line."""
+    """All that is run: traces, files by relative and absolute paths, faults, and a wrong use of the command line."""
     yield as_the_program(top, ['trace'], read('examples/conversation.trace'))
     yield as_the_program(top, ['trace'], read('examples/conversation.trace') + b'> zz\n')
     yield as_the_program(top, ['play', 'examples/policy.session', '--rules=examples/mail.rules'])
     yield as_the_program(top, ['session', os.path.join(TOP, 'examples', 'mail.rules')])
-    yield as_the_program(top, ['trace', 'examples/conversation.trace'])
+    yield as_the_program(top, ['trace', 'examples/conversation.trace', 'examples/no.trace'])
+    yield as_the_program(top, ['trace', '--no'])
     yield says_that_it_was_cut_off(top)
     yield asks_for_the_proved_program(top, ['filter', 'inet:8891@127.0.0.1'])
     yield asks_for_the_proved_program(top, ['serve', 'inet:8891@127.0.0.1'])

@@ -86,7 +86,7 @@ def commands_of(program):
     """The subcommands of a program."""
     for name, summary in re.findall(r"(?m)^  (\w+) +(\S.*)$", section(printed(program, "--help"), "Commands")):
         text = printed(program, "help", name)
-        entries = re.findall(r"(?m)^ +<(\w+)>(\.\.\.)?\s+(\S.*)$", section(text, "Arguments"))
+        entries = re.findall(r"(?m)^ +[<[](\w+)[>\]](\.\.\.)?\s+(\S.*)$", section(text, "Arguments"))
         arguments = [Argument(it, bool(more), "path" in said) for it, more, said in entries]
         yield Command(name, summary, list(options_of(text)), arguments)
 
