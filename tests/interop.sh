@@ -1,21 +1,23 @@
 #!/usr/bin/env bash
 # Has `milter_tool` talk to real peers, over TCP and over Unix sockets. `filter`, `serve` and `answer`: to miltertest,
 # which plays the scripts of interop/, to `serve` several at once beside a connection that says nothing, and to a
-# Postfix of its own on the loopback, which takes mail and delivers it edited or refuses it. With `serve` a Postfix has
-# a chrooted smtpd, and a Postfix and a Sendmail have many clients at once, one of which is idle after its greeting, and
-# random sequences of SMTP commands with greetings within a transaction, of which each reply has to be what the rules
-# say. A Postfix has the filter example_greylist. A Postfix is played the sessions of the recipes of docs/COOKBOOK.md,
-# and what that says of Postfix, with its lines for main.cf, master.cf and tables; those of the kind `lmdb:` where the
-# package postfix-lmdb is there. The rule files of README.md and docs/DEPLOY.md have to refuse an address however it is
-# written. What both mail servers make of edits is compared with the table of docs/PROTOCOL.md, and both refuse by lists
-# of each kind, also by new ones. The filters in C and Python of examples/ are behind a Postfix, and the mail server's
-# side in C shows a message to OpenDKIM, on the library that tests/test_c_library.py built, or of the archive that
-# ARCHIVE names. `mta`: to filters on Sendmail's libmilter, one that does what its words say (interop/scripted.c) and
-# OpenDKIM. Where Debian's package haproxy is there, three `serve` are behind HAProxy with a Postfix under load, while
-# one is killed and comes back, and one is drained and started with other rules: a line 'proxied: N messages, ..'
-# counts what was refused, delivered and deferred. It needs Debian's packages miltertest, postfix, libmilter-dev and
-# opendkim, a C compiler, openssl, and root, as whom Postfix and Sendmail start. It isn't part of the test command.
-# The program is built first where it has to be; another one may be given. The last line is 'N passed, M failed'.
+# Postfix of its own on the loopback, which takes mail and delivers it edited or refuses it. With `serve` a Postfix
+# has a chrooted smtpd, and a Postfix and a Sendmail have many clients at once, one of which is idle after its
+# greeting, and random sequences of SMTP commands with greetings within a transaction, of which each reply has to be
+# what the rules say. A Postfix has the filter example_greylist. What a Postfix sent to a filter, of a message with
+# two recipients, is sent again by `replay`. A Postfix is played the sessions of the recipes of docs/COOKBOOK.md, and
+# what that says of Postfix, with its lines for main.cf, master.cf and tables; those of the kind `lmdb:` where the
+# package postfix-lmdb is there. The rule files of README.md and docs/DEPLOY.md have to refuse an address however it
+# is written. What both mail servers make of edits is compared with the table of docs/PROTOCOL.md, and both refuse by
+# lists of each kind, also by new ones. The filters in C and Python of examples/ are behind a Postfix, and the mail
+# server's side in C shows a message to OpenDKIM, on the library that tests/test_c_library.py built, or of the archive
+# that ARCHIVE names. `mta`: to filters on Sendmail's libmilter, one that does what its words say (interop/scripted.c)
+# and OpenDKIM. Where Debian's package haproxy is there, three `serve` are behind HAProxy with a Postfix under load,
+# while one is killed and comes back, and one is drained and started with other rules: a line 'proxied: N messages,
+# ..' counts what was refused, delivered and deferred. It needs Debian's packages miltertest, postfix, libmilter-dev
+# and opendkim, a C compiler, openssl, and root, as whom Postfix and Sendmail start. It isn't part of the test
+# command. The program is built first where it has to be; another one may be given. The last line is 'N passed, M
+# failed'.
 #
 #     sudo [SENDMAIL_ROOT=FOLDER] bash tests/interop.sh [PROGRAM]
 #

@@ -76,8 +76,8 @@ def lines_of(exchange, came, is_sent=True):
 
 
 def end_of(exchanges, came, lost=None):
-    """The status, output and errors of a run in which these replies came to the first commands, one list for each; after
-    the last of them the filter is lost for this cause, if it is."""
+    """The status, output and errors of a run in which these replies came to the first commands, one list for each;
+    after the last of them the filter is lost for this cause, if it is."""
     lines, differs = [], None
     for exchange, replies in zip(exchanges, came):
         lines += lines_of(exchange, replies)
@@ -148,8 +148,8 @@ def renumbered(exchanges):
 # ---- filters
 
 class Filter:
-    """A filter that takes one connection, reads these commands, and after each of them sends these replies, byte by byte
-    where it is to; then it does this."""
+    """A filter that takes one connection, reads these commands, and after each of them sends these replies, byte by
+    byte where it is to; then it does this."""
 
     def __init__(self, kind, folder, commands, came, then, by_bytes=False):
         place, self.address = serving.place_of(kind, folder)

@@ -23,6 +23,7 @@ import mta
 import peers
 import postfix
 import proxied
+import replayed
 import sendmail
 
 AT_ONCE = 8
@@ -101,6 +102,7 @@ def main():
     checks.part('Postfix, chrooted', postfix.play_chrooted, program)
     checks.part('Postfix, many at once', many.play, program, postfix.Postfix)
     checks.part('Postfix, greylist', greylist.play)
+    checks.part('Postfix, replayed', replayed.play, program)
     checks.part('library', library.play)
     checks.part('edits in memory', edit_rules.play, program)
     checks.part('Postfix, edits', edit_rules.play, program, postfix.Postfix)
