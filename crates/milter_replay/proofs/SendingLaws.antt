@@ -7,7 +7,7 @@ use Rattle.std.proofs.KnownBytes.{Appends-nil, Appends-trans}
 use Rattle.milter_mta_outcome.specs.declared.loss.Loss.{Loss}
 use Rattle.milter_text.specs.WrittenText.{WritesPrefix}
 use Rattle.milter_replay.specs.Recordings.{AllFit}
-use Rattle.milter_replay.specs.Sending.{Plays, PlaysPrefix, Sends, SendsAll, SendsSome, bytes_after, bytes_to_send, sent_bytes}
+use Rattle.milter_replay.specs.Sending.{Plays, PlaysPrefix, Sends, SendsSome, bytes_after, bytes_to_send, sent_bytes}
 use Rattle.milter_replay.specs.declared.conversation.Exchange.{Exchange}
 use Rattle.milter_wire.specs.Command.{encoding}
 use Rattle.milter_wire.specs.declared.negotiation.Negotiated.{Negotiated}

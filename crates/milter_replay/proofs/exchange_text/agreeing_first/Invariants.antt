@@ -1,4 +1,4 @@
-use Rattle.std.proofs.Common.{ℕ, ◌-◌, ◌≤◌}
+use Rattle.std.proofs.Common.{◌-◌, ◌≤◌}
 use Rattle.milter_replay.proofs.exchange_text.agreeing_first.Given as goal
 
 abbrev pub invariant-loop-count : goal.invariant-loop-count
