@@ -6,3 +6,4 @@ pub mod Measures
 pub mod Occurrences
 pub mod Results
 pub mod TwoLevels
+pub mod Zeros

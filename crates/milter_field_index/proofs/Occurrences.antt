@@ -45,11 +45,11 @@ pub nth-first : {X : Type 0} (test : X → Bool) (x : X) (xs : List X) → test 
     → nth test zero (x ∷ xs) ≡ Some zero
 nth-first test x xs e = rw e refl
 
-count-same : {X : Type 0} (test : X → Bool) (x : X) (xs : List X) → test x ≡ true
+pub count-same : {X : Type 0} (test : X → Bool) (x : X) (xs : List X) → test x ≡ true
     → count_by test (x ∷ xs) ≡ 1 + count_by test xs
 count-same test x xs e = sum_by-cons (λ y. if test y then 1 else 0) x xs ∙ rw e refl
 
-count-other : {X : Type 0} (test : X → Bool) (x : X) (xs : List X) → test x ≡ false
+pub count-other : {X : Type 0} (test : X → Bool) (x : X) (xs : List X) → test x ≡ false
     → count_by test (x ∷ xs) ≡ count_by test xs
 count-other test x xs e = sum_by-cons (λ y. if test y then 1 else 0) x xs ∙ rw e (omega arith)
 

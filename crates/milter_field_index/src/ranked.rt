@@ -53,6 +53,10 @@ impl Ranked {
         if symbol as usize >= self.rows.len() {
             return 0;
         }
+        if self.rows.len() == 1 {
+            // All symbols are this one.
+            return index;
+        }
         let place = self.blocks.find_new(index);
         let row = self.rows.row(symbol);
         let total = row[place.block] as usize;
@@ -66,6 +70,10 @@ impl Ranked {
     {
         if symbol as usize >= self.rows.len() {
             return None;
+        }
+        if self.rows.len() == 1 {
+            // All symbols are this one.
+            return (number < self.blocks.len()).then_some(number);
         }
         let lens = self.blocks.lens();
         let place = find(self.rows.row(symbol), number)?;

@@ -5,6 +5,7 @@ use Rattle.milter_field_index.specs.Blocks.{joined, at, count_of, counts}
 use Rattle.milter_field_index.proofs.Joins.{block-le_joined, place_within}
 use Rattle.milter_field_index.proofs.Counts.{count-past, row-few}
 use Rattle.milter_field_index.proofs.Occurrences.{count-blocks}
+use Rattle.milter_field_index.proofs.Zeros.{HasZerosAlone, count-zeros}
 use Rattle.milter_field_index.proofs.ranked.Ranked.rank.Goals as goal
 
 pub returns-then-symbol-len : goal.returns-then-symbol-len
@@ -14,6 +15,17 @@ returns-then-symbol-len c =
     let past : length rows ≤ c.args.symbol = omega (arith, c.if-symbol-len.true, c.len.ensures) in
     sym (ap (λ l. count_of c.args.symbol (take c.args.index l)) (sym c.self.view_is)
     ∙ count-past rows bs c.args.symbol c.args.index c.self.invariant past)
+
+pub returns-then-len-eq1 : goal.returns-then-len-eq1
+returns-then-len-eq1 c =
+    let bs : List (List ℕ) = c.self.inside.blocks in
+    let symbol_is : c.args.symbol ≡ 0 =
+    omega (arith, c.if-symbol-len.false, c.len.ensures, c.if-len-eq1.true, c.len-2.ensures) in
+    let alone : HasZerosAlone (joined bs) =
+    λ s h. c.self.invariant.others s (omega (arith, h, c.if-len-eq1.true, c.len-2.ensures)) in
+    sym (count-zeros (joined bs) c.args.index alone (omega (arith, c.requires, ap length c.self.view_is)))
+    ∙ ap (λ s. count_of s (take c.args.index (joined bs))) (sym symbol_is)
+    ∙ ap (λ l. count_of c.args.symbol (take c.args.index l)) c.self.view_is
 
 pub sum_of-requires : goal.sum_of-requires
 sum_of-requires c =

@@ -1,12 +1,15 @@
-use Rattle.std.proofs.Common.{◌≡◌, ◌+◌, ◌<◌, ◌≤◌, ◌==◌, ℕ, List, Option, Some, None, IfSome, length, get_or, take, sym, ap, subst, ◌∙◌, arith}
+use Rattle.std.proofs.Common.{◌≡◌, ◌+◌, Bool, inl, inr, ◌<◌, ◌≤◌, ◌==◌, ℕ, List, Option, Some, None, IfSome, length, get_or, take, sym, ap, subst, ◌∙◌, arith}
 use Rattle.std.specs.List.{sum}
-use Rattle.std.proofs.lemmas.List.Sums.{sum_by-take-le}
+use Rattle.std.specs.Bool.{then_some}
+use Rattle.std.proofs.lemmas.Bool.{cases_lt, le-ltb, lt-ltb}
+use Rattle.std.proofs.lemmas.List.Sums.{count_by-le-length, sum_by-take-le}
 use Rattle.milter_field_index.specs.Blocks.{joined, lengths, at, count_of, counts, IsPlace}
 use Rattle.milter_field_index.specs.Counted.{Counted}
 use Rattle.milter_field_index.specs.Occurrence.{nth, shifted}
 use Rattle.milter_field_index.proofs.Joins.{total}
 use Rattle.milter_field_index.proofs.Counts.{row-sum, row-few, row-length, row-at}
 use Rattle.milter_field_index.proofs.Occurrences.{nth-blocks, nth-below, nth_past, shifted-some, shifted-none}
+use Rattle.milter_field_index.proofs.Zeros.{HasZerosAlone, nth-zeros}
 use Rattle.milter_field_index.proofs.ranked.Ranked.select.Goals as goal
 
 -- the occurrence in the whole by the one in its block
@@ -28,6 +31,30 @@ returns-then-symbol-len c =
     let none = c.self.invariant.others c.args.symbol past in
     sym (nth_past (λ (x : ℕ). x == c.args.symbol) (joined bs) c.args.number (omega (arith, none)))
     ∙ ap (λ l. nth (λ x. x == c.args.symbol) c.args.number l) c.self.view_is
+
+pub returns-then-len-eq1 : goal.returns-then-len-eq1
+returns-then-len-eq1 c =
+    let bs : List (List ℕ) = c.self.inside.blocks in
+    let symbol : ℕ = c.args.symbol in
+    let number : ℕ = c.args.number in
+    let symbol_is : symbol ≡ 0 =
+    omega (arith, c.if-symbol-len.false, c.len.ensures, c.if-len-eq1.true, c.len-2.ensures) in
+    let alone : HasZerosAlone (joined bs) =
+    λ s h. c.self.invariant.others s (omega (arith, h, c.if-len-eq1.true, c.len-2.ensures)) in
+    let len = c.len-then-len-eq1.ensures in
+    let found : c.then_some.result ≡ nth (λ x. x == 0) number (joined bs) =
+    elim (cases_lt number c.len-then-len-eq1.result) [
+      | inl low ↦
+          c.then_some.ensures ∙ ap (λ (b : Bool). then_some b number) (lt-ltb number c.len-then-len-eq1.result low)
+          ∙ sym (nth-zeros (joined bs) number alone (omega (arith, low, len)))
+      | inr past ↦
+          c.then_some.ensures ∙ ap (λ (b : Bool). then_some b number) (le-ltb number c.len-then-len-eq1.result past)
+          ∙ sym (nth_past (λ x. x == 0) (joined bs) number
+          (omega (arith, past, len, count_by-le-length (λ (x : ℕ). x == 0) (joined bs))))
+    ] in
+    found
+    ∙ ap (λ s. nth (λ x. x == s) number (joined bs)) (sym symbol_is)
+    ∙ ap (λ l. nth (λ x. x == symbol) number l) c.self.view_is
 
 pub find-requires : goal.find-requires
 find-requires c =
