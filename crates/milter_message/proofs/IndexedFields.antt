@@ -1,26 +1,25 @@
 -- Header fields in an index, and those of a plain list.
-use Rattle.std.proofs.Common.{◌≡◌, ◌≢◌, ℕ, ◌+◌, ◌-◌, ◌<◌, ◌≤◌, ◌==◌, zero, suc, Bool, true, false, List, [], ◌∷◌, ◌++◌, Option, Some, None, get_or, length, map, take, drop, min, refl, sym, ap, subst, ◌∙◌, arith, inl, inr, add-one, zero-add}
-use Rattle.std.specs.Prelude.{option_map, slice_get, slice_index_or}
+use Rattle.std.proofs.Common.{◌≡◌, ◌≢◌, ℕ, ◌+◌, ◌-◌, ◌<◌, ◌≤◌, ◌==◌, zero, suc, Bool, true, false, if◌then◌else◌, List, [], ◌∷◌, ◌++◌, Option, Some, None, get_or, length, map, take, drop, min, refl, sym, ap, subst, ◌∙◌, arith, inl, inr, add-one, zero-add}
+use Rattle.std.specs.Prelude.{slice_index_or}
 use Rattle.std.specs.Borrow.{Bor}
 use Rattle.std.specs.BTreeMap.{BTreeMap}
-use Rattle.std.specs.List.{All, insert, remove}
+use Rattle.std.specs.List.{All, count_by, insert, remove}
 use Rattle.std.specs.Str.{str_eq_ignore_ascii_case}
-use Rattle.std.proofs.lemmas.Bool.{cases_Bool, cases_lt, eqb-true, eqb-false}
+use Rattle.std.proofs.lemmas.Bool.{cases_Bool, cases_eq, cases_lt, eq-eqb, eqb-true, eqb-false, ne_eqb}
 use Rattle.std.proofs.lemmas.List.{append-nil, drop_all, get_or_append_left, get_or_push, length-map, length_push, map-append, take_all}
+use Rattle.std.proofs.lemmas.List.Sums.{sum_by-cons, sum_by-insert}
 use Rattle.std.proofs.lemmas.List.Elements.{All-append, All-cons, All-drop, All-head, All-tail, All-take, All-weaker}
-use Rattle.std.proofs.lemmas.Option.{get_or_from_slice_get, none-some, same_Some, slice_get-map, slice_get_within}
 use Rattle.milter_field_index.specs.Fields.{Entry, Fields}
 use Rattle.milter_field_index.specs.Occurrence.{later, nth}
 use Rattle.milter_field_index.proofs.Edits.{map-insert, map-remove, nth-map, nth-same_test}
 use Rattle.milter_field_index.proofs.Occurrences.{nth-first, nth-other, nth-same}
 use Rattle.milter_wire_fields.specs.declared.header.Header.{Header}
-use Rattle.milter_message.specs.declared.edited_fields.Source.{Source}
-use Rattle.milter_message.specs.EditedFields.{IsNumberedBy, NumberedField, changed, field_of, fields_of, header_at, headers_of, numbered_fields, shown}
+use Rattle.milter_message.specs.declared.source.Source.{Source}
+use Rattle.milter_message.specs.EditedFields.{HasSources, IsNumberedBy, NumberedField, changed, field_of, fields_of, header_at, headers_of, numbered_fields, shown}
 use Rattle.milter_message.specs.EditedMessage.{added_field, changed_field, insert_at, occurrence, positions_from, set_field}
 use Rattle.milter_message.specs.LeadingSpace.{changed_value, put_value}
 use Rattle.milter_message.specs.NameNumbers.{HasOwnNumber, number_of}
 use Rattle.milter_message.proofs.EditFolds.{occurrence_within}
-use Rattle.milter_message.proofs.LeadingSpaces.{changed_is_put}
 
 abbrev Numbers : Type 0
 Numbers = BTreeMap (Bor (List ℕ)) ℕ
@@ -140,11 +139,11 @@ insert_within xs n position x is =
 
 -- ---- another value, or none
 
-no_drop : {X : Type 0} (xs : List X) → drop 0 xs ≡ xs
+pub no_drop : {X : Type 0} (xs : List X) → drop 0 xs ≡ xs
 no_drop [] = refl
 no_drop (x ∷ xs) = refl
 
-same_set : (headers : List Header) (position : ℕ) (value : List ℕ)
+pub same_set : (headers : List Header) (position : ℕ) (value : List ℕ)
     → set_field position value headers
     ≡ take position headers ++ changed_field value (drop position headers) ++ drop (suc position) headers
 same_set headers position value =
@@ -154,26 +153,6 @@ pub set_none : (headers : List Header) (position : ℕ) → remove headers posit
 set_none headers position =
     sym (same_set headers position []
     ∙ ap (λ l. l ++ drop (suc position) headers) (append-nil (take position headers)))
-
-set_at : (headers : List Header) (position : ℕ) (old : Header) (byte : ℕ) (bytes : List ℕ)
-    → slice_get headers position ≡ Some old
-    → insert (remove headers position) position (record { name = old.name; value = byte ∷ bytes })
-    ≡ take position headers ++ changed_field (byte ∷ bytes) (drop position headers) ++ drop (suc position) headers
-set_at [] position old byte bytes is = absurd (none-some old is)
-set_at (header ∷ headers) zero old byte bytes is =
-    let same : old ≡ header = sym (same_Some header old is) in
-    ap (λ l. record { name = old.name; value = byte ∷ bytes } ∷ l) (no_drop (drop 0 headers))
-    ∙ ap (λ (h : Header). record { name = h.name; value = byte ∷ bytes } ∷ drop 0 headers) same
-set_at (header ∷ headers) (suc position) old byte bytes is =
-    ap (λ l. header ∷ l) (set_at headers position old byte bytes is)
-
-pub set_some : (headers : List Header) (position : ℕ) (old : Header) (value : List ℕ)
-    → slice_get headers position ≡ Some old → (length value == 0) ≡ false
-    → insert (remove headers position) position (record { name = old.name; value = value })
-    ≡ set_field position value headers
-set_some headers position old [] is some = absurd cc
-set_some headers position old (byte ∷ bytes) is some =
-    set_at headers position old byte bytes is ∙ sym (same_set headers position (byte ∷ bytes))
 
 -- ---- borrowed texts
 
@@ -190,13 +169,13 @@ same_fields sources more (entry ∷ entries) within =
     ap (λ h. record { name = entry.name; header = h } ∷ fields_of (sources ++ more) entries) same
     ∙ ap (λ l. field_of (map shown sources) entry ∷ l) (same_fields sources more entries rest)
 
-pub all_removed : (P : Entry → Type 0) (entries : List Entry) (position : ℕ) → All P entries
+pub all_removed : {X : Type 0} (P : X → Type 0) (entries : List X) (position : ℕ) → All P entries
     → All P (remove entries position)
 all_removed P entries position all =
     All-append P (take position entries) (drop (suc position) entries) (All-take P position entries all)
     (All-drop P (suc position) entries all)
 
-pub all_inserted : (P : Entry → Type 0) (entries : List Entry) (position : ℕ) (entry : Entry) → All P entries → P entry
+pub all_inserted : {X : Type 0} (P : X → Type 0) (entries : List X) (position : ℕ) (entry : X) → All P entries → P entry
     → All P (insert entries position entry)
 all_inserted P entries position entry all new =
     All-append P (take position entries) (entry ∷ drop position entries) (All-take P position entries all)
@@ -205,56 +184,72 @@ all_inserted P entries position entry all new =
 abbrev pub IsWithin : List Source → Entry → Type 0
 IsWithin sources entry = entry.id < length sources
 
+abbrev pub has_id : ℕ → Entry → Bool
+has_id id entry = entry.id == id
+
 pub shown_at : (sources : List Source) (id : ℕ) (source : Source) → id < length sources → source ≡ get_or sources id source
     → shown source ≡ get_or (map shown sources) id (record { name = []; value = [] })
 shown_at [] id source within is = absurd (omega (arith, within))
 shown_at (first ∷ sources) zero source within is = ap shown is
 shown_at (first ∷ sources) (suc id) source within is = shown_at sources id source (omega (arith, within)) is
 
-pub removed_header : (sources : List Source) (entries : List Entry) (position id : ℕ) (source : Source)
-    → All (IsWithin sources) entries → Some id ≡ option_map (λ (e : Entry). e.id) (slice_get entries position)
-    → source ≡ get_or sources id source
-    → Some (shown source)
-    ≡ option_map (λ (f : NumberedField). f.header) (slice_get (fields_of sources entries) position)
-removed_header sources entries position id source all some is =
-    go (slice_get entries position) refl some
-    ∙ sym (ap (option_map (λ (f : NumberedField). f.header))
-    (slice_get-map (field_of (map shown sources)) entries position))
-  where
-    go : (o : Option Entry) → slice_get entries position ≡ o → Some id ≡ option_map (λ (e : Entry). e.id) o
-        → Some (shown source)
-        ≡ option_map (λ (f : NumberedField). f.header) (option_map (field_of (map shown sources)) o)
-    go None there some = absurd (none-some id (sym some))
-    go (Some entry) there some =
-        let same : id ≡ entry.id = same_Some id entry.id some in
-        let inside = slice_get_within entries position entry there in
-        let within : entry.id < length sources =
-        subst (IsWithin sources) (get_or_from_slice_get entries position entry entry there) (all position entry inside) in
-        ap Some (shown_at sources entry.id source within (is ∙ ap (λ i. get_or sources i source) same))
-
 -- a source more, and an entry that has its id
 pub record Added (sources more : List Source) (source : Source) (before after : Fields) (position name : ℕ) : Type 0 where
   pub pushed : more ≡ sources ++ source ∷ []
-  pub ids : before.inserted ≡ length sources
-  pub within : All (IsWithin sources) before.entries
+  pub has : HasSources sources before
   pub entry : after ≡ record {
     inserted = before.inserted + 1;
     entries = insert before.entries position (record { id = before.inserted; name = name });
   }
 
+no_entry : (sources : List Source) (id : ℕ) (entries : List Entry) → All (IsWithin sources) entries → length sources ≤ id
+    → count_by (has_id id) entries ≡ 0
+no_entry sources id [] within past = refl
+no_entry sources id (entry ∷ entries) within past =
+    let first = All-head (IsWithin sources) entry entries within in
+    let rest = no_entry sources id entries (All-tail (IsWithin sources) entry entries within) past in
+    let other : has_id id entry ≡ false = ne_eqb entry.id id (λ same. absurd (omega (arith, same, first, past))) in
+    let none : ◌≡◌ {A = ℕ} (if has_id id entry then 1 else 0) 0 = ap (λ (b : Bool). if b then 1 else 0) other in
+    omega (arith, sum_by-cons (λ (e : Entry). if has_id id e then 1 else 0) entry entries, none, rest)
+
+added_apart : (sources : List Source) (entries : List Entry) (position name id : ℕ) → All (IsWithin sources) entries
+    → count_by (has_id id) entries ≤ 1
+    → count_by (has_id id) (insert entries position (record { id = length sources; name = name })) ≤ 1
+added_apart sources entries position name id within few =
+    let new : Entry = record { id = length sources; name = name } in
+    let more = sum_by-insert (λ (e : Entry). if has_id id e then 1 else 0) entries position new in
+    elim (cases_eq (length sources) id) [
+      | inl same ↦
+          let one : ◌≡◌ {A = ℕ} (if has_id id new then 1 else 0) 1 =
+          ap (λ (b : Bool). if b then 1 else 0) (eq-eqb (length sources) id same) in
+          omega (arith, more, one, no_entry sources id entries within (omega (arith, same)))
+      | inr other ↦
+          let none : ◌≡◌ {A = ℕ} (if has_id id new then 1 else 0) 0 =
+          ap (λ (b : Bool). if b then 1 else 0) (ne_eqb (length sources) id other) in
+          omega (arith, more, none, few)
+    ]
+
 pub added_within : (sources more : List Source) (source : Source) (before after : Fields) (position name : ℕ)
-    → Added sources more source before after position name
-    → (after.inserted ≡ length more) × All (IsWithin more) after.entries
+    → Added sources more source before after position name → HasSources more after
 added_within sources more source before after position name a =
     let longer : length more ≡ length sources + 1 = ap length a.pushed ∙ length_push sources source in
-    let ids = a.ids in (
-      ap (λ (f : Fields). f.inserted) a.entry ∙ omega (arith, ids, longer),
-      subst (λ (f : Fields). All (IsWithin more) f.entries) (sym a.entry)
-          (all_inserted (IsWithin more) before.entries position (record { id = before.inserted; name = name })
+    let ids = a.has.inserted in
+    let new : Entry = record { id = before.inserted; name = name } in
+    let entries : after.entries ≡ insert before.entries position new = ap (λ (f : Fields). f.entries) a.entry in
+    record {
+      inserted = ap (λ (f : Fields). f.inserted) a.entry ∙ omega (arith, ids, longer);
+      within =
+          subst (All (IsWithin more)) (sym entries)
+          (all_inserted (IsWithin more) before.entries position new
           (All-weaker (IsWithin sources) (IsWithin more) (λ entry within. omega (arith, within, longer)) before.entries
-          a.within)
-          (omega (arith, ids, longer))),
-    )
+          a.has.within)
+          (omega (arith, ids, longer)));
+      apart =
+          λ id.
+          subst (λ (l : List Entry). count_by (has_id id) l ≤ 1)
+          (ap (λ n. insert before.entries position (record { id = n; name = name })) (sym ids) ∙ sym entries)
+          (added_apart sources before.entries position name id a.has.within (a.has.apart id));
+    }
 
 pub added_field_is : (sources more : List Source) (source : Source) (before after : Fields) (position name : ℕ)
     → Added sources more source before after position name
@@ -263,7 +258,7 @@ pub added_field_is : (sources more : List Source) (source : Source) (before afte
 added_field_is sources more source before after position name a =
     let new : Entry = record { id = before.inserted; name = name } in
     let long = length-map sources shown in
-    let ids = a.ids in
+    let ids = a.has.inserted in
     let last : header_at (map shown more) before.inserted ≡ shown source =
     ap (λ l. header_at (map shown l) before.inserted) a.pushed
     ∙ ap (λ l. header_at l before.inserted) (map-append shown sources (source ∷ []))
@@ -273,7 +268,7 @@ added_field_is sources more source before after position name a =
     ∙ map-insert (field_of (map shown more)) before.entries position new
     ∙ ap (λ h. insert (fields_of more before.entries) position (record { name = name; header = h })) last
     ∙ ap (λ l. insert l position (record { name = name; header = shown source }))
-    (ap (λ l. fields_of l before.entries) a.pushed ∙ same_fields sources (source ∷ []) before.entries a.within)
+    (ap (λ l. fields_of l before.entries) a.pushed ∙ same_fields sources (source ∷ []) before.entries a.has.within)
 
 -- ---- a change
 
@@ -295,42 +290,12 @@ position_within name index position fields is =
     let same = length-map fields (λ (f : NumberedField). f.header) in
     omega (arith, within, same)
 
-pub value_set : (numbers : Numbers) (fields less after : List NumberedField) (position : ℕ) (old source : Source)
-    → IsNumberedBy numbers fields → less ≡ remove fields position
-    → Some (shown old) ≡ option_map (λ (f : NumberedField). f.header) (slice_get fields position)
-    → (length source.value.now == 0) ≡ false
-    → after ≡ numbered_fields numbers (insert (headers_of less) position (record {
-      name = old.name.now;
-      value = put_value source.leading_space source.value.now;
-    }))
-    → after ≡ numbered_fields numbers (set_field position (changed source).value (headers_of fields))
-value_set numbers fields less after position old source by less_is there some is =
-    let headers = headers_of fields in
-    let put = changed_is_put source.leading_space source.value.now some in
-    let value = put_value source.leading_space source.value.now in
-    let rest = headers_are numbers less (remove headers position) (removed numbers fields less position by less_is) in
-    let here : slice_get headers position ≡ Some (shown old) =
-    slice_get-map (λ (f : NumberedField). f.header) fields position ∙ sym there in
-    is
-    ∙ ap (λ l. numbered_fields numbers (insert l position (record { name = old.name.now; value = value }))) rest
-    ∙ ap (numbered_fields numbers) (set_some headers position (shown old) value here put.1)
-    ∙ ap (λ v. numbered_fields numbers (set_field position v headers)) (sym put.0)
-
-none_changed : (leading_space : Bool) (value : List ℕ) → (length value == 0) ≡ true
+pub none_changed : (leading_space : Bool) (value : List ℕ) → (length value == 0) ≡ true
     → changed_value leading_space value ≡ []
 none_changed leading_space [] empty = refl
 none_changed leading_space (byte ∷ bytes) empty =
     let is = eqb-true (length (byte ∷ bytes)) 0 empty in
     absurd (omega (arith, is))
-
-pub value_removed : (numbers : Numbers) (fields less : List NumberedField) (position : ℕ) (source : Source)
-    → IsNumberedBy numbers fields → less ≡ remove fields position → (length source.value.now == 0) ≡ true
-    → less ≡ numbered_fields numbers (set_field position (changed source).value (headers_of fields))
-value_removed numbers fields less position source by less_is empty =
-    removed numbers fields less position by less_is
-    ∙ ap (numbered_fields numbers) (set_none (headers_of fields) position
-    ∙ ap (λ v. set_field position v (headers_of fields))
-    (sym (none_changed source.leading_space source.value.now empty)))
 
 some_added : (leading_space : Bool) (name value : List ℕ) → (length value == 0) ≡ false
     → added_field (record { name = name; value = changed_value leading_space value })

@@ -3,7 +3,9 @@ pub mod EditFolds
 pub mod LeadingSpaces
 pub mod EditsFit
 pub mod EditSequences
+pub mod FieldValues
 pub mod HeaderChanges
 pub mod KeptRecipients
 pub mod NameNumbering
+pub mod OrderedFields
 pub mod IndexedFields

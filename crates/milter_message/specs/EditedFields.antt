@@ -1,10 +1,11 @@
 -- Header fields that are edited by an index.
-use Rattle.std.specs.Prelude.{◌≡◌, ℕ, List, [], map, slice_index_or}
+use Rattle.std.specs.Prelude.{◌≡◌, ℕ, zero, suc, ◌<◌, ◌≤◌, ◌==◌, List, [], ◌∷◌, length, map, slice_index_or}
 use Rattle.std.specs.Borrow.{Bor}
 use Rattle.std.specs.BTreeMap.{BTreeMap}
-use Rattle.milter_field_index.specs.Fields.{Entry}
+use Rattle.std.specs.List.{All, count_by, remove}
+use Rattle.milter_field_index.specs.Fields.{Entry, Fields}
 use Rattle.milter_wire_fields.specs.declared.header.Header.{Header}
-use Rattle.milter_message.specs.declared.edited_fields.Source.{Source}
+use Rattle.milter_message.specs.declared.source.Source.{Source}
 use Rattle.milter_message.specs.LeadingSpace.{changed_value, put_value}
 use Rattle.milter_message.specs.NameNumbers.{number_of}
 
@@ -27,6 +28,32 @@ field_of headers entry = record { name = entry.name; header = header_at headers 
 
 abbrev pub fields_of : List Source → List Entry → List NumberedField
 fields_of sources entries = map (field_of (map shown sources)) entries
+
+-- each field that is there has a source of its own, by its id
+pub record HasSources (sources : List Source) (index : Fields) : Type 0 where
+  pub inserted : index.inserted ≡ length sources
+  pub within : All (λ entry. entry.id < length sources) index.entries
+  pub apart : (id : ℕ) → count_by (λ entry. entry.id == id) index.entries ≤ 1
+
+-- all ids of the sources, in an order
+pub record HasOrder (sources : List Source) (order : List ℕ) : Type 0 where
+  pub all : length order ≡ length sources
+  pub within : All (λ id. id < length sources) order
+
+-- a field with another value
+abbrev pub with_value : List ℕ → NumberedField → NumberedField
+with_value value field = record { name = field.name; header = record { name = field.header.name; value = value } }
+
+-- the field at a position gets another value
+abbrev pub with_value_at : ℕ → List ℕ → List NumberedField → List NumberedField
+with_value_at position value [] = []
+with_value_at zero value (field ∷ fields) = with_value value field ∷ fields
+with_value_at (suc position) value (field ∷ fields) = field ∷ with_value_at position value fields
+
+-- the field at a position gets another value, or is deleted where that is empty
+abbrev pub set_numbered : ℕ → List ℕ → List NumberedField → List NumberedField
+set_numbered position [] fields = remove fields position
+set_numbered position (byte ∷ bytes) fields = with_value_at position (byte ∷ bytes) fields
 
 -- without the numbers
 abbrev pub headers_of : List NumberedField → List Header

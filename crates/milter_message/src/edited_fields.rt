@@ -1,26 +1,15 @@
 //! Header fields that edits insert, delete and find by an index.
 
-ghost use Rattle.std.specs.Prelude.{◌≡◌, ◌<◌, ◌≤◌, ◌==◌, [], IfOk, if◌then◌else◌, is_some, length, map, option_map, slice_get};
-ghost use Rattle.std.specs.List.{All, insert, remove};
+ghost use Rattle.std.specs.Prelude.{◌≡◌, ◌≤◌, ◌==◌, [], IfOk, length};
+ghost use Rattle.std.specs.List.{insert, remove};
 ghost use Rattle.milter_field_index.specs.Occurrence.{nth};
-ghost use Rattle.milter_message.specs.EditedFields.{header_at, headers_of, shown};
+ghost use Rattle.milter_message.specs.EditedFields.{headers_of, shown, with_value_at};
 
-use crate::leading_space::put_value;
+use crate::source::{Source, copies_of};
 use milter_field_index::FieldIndex;
-use milter_wire::{Header, NoMemory, Text};
+use milter_wire::{Header, NoMemory};
 use std::alloc::Global;
 use std::marker::Model;
-
-/// A header field whose texts stand in the message or in an edit.
-#[derive(Clone, Copy, Debug)]
-pub(crate) struct Source<'a> {
-    /// The name.
-    pub(crate) name: &'a Text,
-    /// The value.
-    pub(crate) value: &'a Text,
-    /// Whether the value stays as it is; else it gets a blank.
-    pub(crate) leading_space: bool,
-}
 
 /// Header fields in order, each with the number of its name. Their texts are borrowed until they are copied at the end.
 #[derive(Debug, Drop)]
@@ -31,16 +20,14 @@ pub(crate) struct EditedFields<'a> {
 }
 
 impl<'a> Model for EditedFields<'a> {
-    ghost use Rattle.std.specs.Prelude.{◌≡◌, ◌<◌, List, length};
-    ghost use Rattle.std.specs.List.{All};
-    ghost use Rattle.milter_message.specs.EditedFields.{NumberedField, fields_of};
+    ghost use Rattle.std.specs.Prelude.{List};
+    ghost use Rattle.milter_message.specs.EditedFields.{HasSources, NumberedField, fields_of};
 
     ghost Value = { List NumberedField };
 
     ghost view = { λ f. fields_of f.sources.items f.index.entries };
 
-    ghost invariant = { λ f. (f.index.inserted ≡ length f.sources.items)
-        × All (λ entry. entry.id < length f.sources.items) f.index.entries };
+    ghost invariant = { λ f. HasSources f.sources.items f.index };
 }
 
 impl<'a> EditedFields<'a> {
@@ -89,13 +76,21 @@ impl<'a> EditedFields<'a> {
         Ok(EditedFields { sources, index })
     }
 
-    /// Deletes the field at a position, and returns it; `None` past the end.
-    pub(crate) fn remove(&mut self, position: usize) -> Option<Source<'a>>
-        ensures value { option_map shown result ≡ option_map (λ field. field.header) (slice_get self.old position) }
-        ensures rest { self.new ≡ (if is_some result then remove self.old position else self.old) }
+    /// Gives the field at a position another value; past the end nothing is done. It keeps its name.
+    pub(crate) fn set_value(&mut self, position: usize, source: Source<'a>)
+        ensures { self.new ≡ with_value_at position (shown source.entry).value self.old }
     {
-        let id = self.index.remove(position)?;
-        Some(self.sources[id as usize])
+        if let Some(id) = self.index.id(position) {
+            let name = self.sources[id as usize].name;
+            self.sources[id as usize] = Source { name, ..source };
+        }
+    }
+
+    /// Deletes the field at a position; past the end nothing is done.
+    pub(crate) fn remove(&mut self, position: usize)
+        ensures { self.new ≡ remove self.old position }
+    {
+        self.index.remove(position);
     }
 
     /// Copies of the fields, in order. Each text is copied once.
@@ -105,25 +100,4 @@ impl<'a> EditedFields<'a> {
         let ids = self.index.ids(alloc)?;
         copies_of(alloc, self.sources.as_slice(), ids.as_slice())
     }
-}
-
-/// Copies of the fields with these ids, in order.
-fn copies_of(alloc: Global, sources: &[Source<'_>], ids: &[u32]) -> Result<Vec<Header>, NoMemory>
-    requires { All (λ id. id < length sources.now) ids.now }
-    ensures { IfOk result (λ headers. headers.items ≡ map (header_at (map shown sources.now)) ids.now) }
-{
-    let mut headers = Vec::with_capacity(alloc, ids.len())?;
-    for id in ids {
-        headers.push(copy_of(alloc, sources[*id as usize])?)?;
-    }
-    Ok(headers)
-}
-
-/// A copy of the field.
-fn copy_of(alloc: Global, source: Source<'_>) -> Result<Header, NoMemory>
-    ensures { IfOk result (λ copy. copy ≡ shown source.entry) }
-{
-    let name = Text::copy_of(alloc, source.name.as_slice())?;
-    let value = put_value(alloc, source.value, source.leading_space)?;
-    Ok(Header { name, value })
 }

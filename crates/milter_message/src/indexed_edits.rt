@@ -1,15 +1,16 @@
 //! What edits make of header fields that stand in an index.
 
-ghost use Rattle.std.specs.Prelude.{◌≡◌, ◌<◌, ◌≤◌, ◌++◌, IfOk, length};
+ghost use Rattle.std.specs.Prelude.{◌≡◌, ◌≤◌, ◌++◌, IfOk, length};
 ghost use Rattle.std.specs.List.{insert};
-ghost use Rattle.milter_message.specs.EditedFields.{IsNumberedBy, changed, headers_of, numbered_fields, shown};
-ghost use Rattle.milter_message.specs.EditedMessage.{added_field, change, edit_headers, headers_after, set_field};
-ghost use Rattle.milter_message.specs.LeadingSpace.{change_header, put_header};
+ghost use Rattle.milter_message.specs.EditedFields.{IsNumberedBy, changed, headers_of, numbered_fields, set_numbered, shown};
+ghost use Rattle.milter_message.specs.EditedMessage.{added_field, change, edit_headers, headers_after};
 ghost use Rattle.milter_message.specs.NameNumbers.{HasOwnNumber, IsNumbered};
 
 use crate::edit::Edit;
-use crate::edited_fields::{EditedFields, Source};
+use crate::edited_fields::EditedFields;
+use crate::insertions::headers_after_insertions;
 use crate::name_numbers::{NameNumbers, changed_names, name_numbers, number_of};
+use crate::source::Source;
 use milter_wire::{Header, NoMemory};
 use std::alloc::Global;
 
@@ -24,6 +25,9 @@ pub(crate) fn headers_after_by_index(
     ensures { IfOk result (λ changed. changed.items ≡ headers_after leading_space headers.now edits.now) }
 {
     let names = changed_names(alloc, edits)?;
+    if names.is_empty() {
+        return headers_after_insertions(alloc, headers, edits, leading_space);
+    }
     let numbers = name_numbers(alloc, names.as_slice())?;
     let mut fields = fields_of(alloc, headers, &numbers)?;
     for edit in edits {
@@ -43,21 +47,9 @@ fn fields_of<'a>(
     let mut fields = EditedFields::new(alloc)?;
     for header in headers {
         let position = fields.len();
-        fields = insert_field(alloc, fields, position, put(header, true), numbers)?;
+        fields = insert_field(alloc, fields, position, Source::new(header, true), numbers)?;
     }
     Ok(fields)
-}
-
-/// The texts of a header field that an edit puts.
-fn put(header: &Header, leading_space: bool) -> Source<'_>
-    ensures put { shown result ≡ put_header leading_space header.now }
-    ensures changed { changed result ≡ change_header leading_space header.now }
-{
-    Source {
-        name: &header.name,
-        value: &header.value,
-        leading_space,
-    }
 }
 
 /// Changes the fields as the edit asks.
@@ -76,14 +68,32 @@ fn edit_field<'a>(
     match edit {
         Edit::AddHeader(header) => {
             let position = fields.len();
-            insert_field(alloc, fields, position, put(header, leading_space), numbers)
+            insert_field(
+                alloc,
+                fields,
+                position,
+                Source::new(header, leading_space),
+                numbers,
+            )
         }
         Edit::InsertHeader { index, header } => {
             let position = fields.len().min(*index as usize);
-            insert_field(alloc, fields, position, put(header, leading_space), numbers)
+            insert_field(
+                alloc,
+                fields,
+                position,
+                Source::new(header, leading_space),
+                numbers,
+            )
         }
         Edit::ChangeHeader { index, header } => {
-            change_field(alloc, fields, *index, put(header, leading_space), numbers)
+            change_field(
+                alloc,
+                fields,
+                *index,
+                Source::new(header, leading_space),
+                numbers,
+            )
         }
         _ => Ok(fields),
     }
@@ -120,32 +130,24 @@ fn change_field<'a>(
         ≡ numbered_fields numbers.now (change index (changed source.entry) (headers_of fields.entry))) }
 {
     let name = number_of(alloc, numbers, source.name)?;
+    let mut fields = fields;
     match fields.nth(name, (index as usize).saturating_sub(1)) {
-        Some(position) => set_field(alloc, fields, position, source, numbers),
+        Some(position) => {
+            set_field(&mut fields, position, source);
+            Ok(fields)
+        }
         None => add_field(alloc, fields, source, numbers),
     }
 }
 
 /// Gives the field at a position another value, or deletes it where that is empty. It keeps its name.
-fn set_field<'a>(
-    alloc: Global,
-    fields: EditedFields<'a>,
-    position: usize,
-    source: Source<'a>,
-    numbers: &NameNumbers<'_>,
-) -> Result<EditedFields<'a>, NoMemory>
-    requires fields { IsNumberedBy numbers.now fields }
-    requires within { position < length fields }
-    ensures { IfOk result (λ after. after
-        ≡ numbered_fields numbers.now (set_field position (changed source.entry).value (headers_of fields.entry))) }
+fn set_field<'a>(fields: &mut EditedFields<'a>, position: usize, source: Source<'a>)
+    ensures { fields.new ≡ set_numbered position (changed source.entry).value fields.old }
 {
-    let mut fields = fields;
-    match fields.remove(position) {
-        Some(old) if !source.value.as_slice().is_empty() => {
-            let name = old.name;
-            insert_field(alloc, fields, position, Source { name, ..source }, numbers)
-        }
-        _ => Ok(fields),
+    if source.value.as_slice().is_empty() {
+        fields.remove(position);
+    } else {
+        fields.set_value(position, source);
     }
 }
 

@@ -11,11 +11,14 @@ mod edit;
 mod edited_fields;
 mod header_edits;
 mod indexed_edits;
+mod insertions;
 mod laws;
 mod leading_space;
 mod message;
 mod name_numbers;
+mod ordered_fields;
 mod recipient_edits;
+mod source;
 
 pub use application::apply;
 pub use edit::Edit;

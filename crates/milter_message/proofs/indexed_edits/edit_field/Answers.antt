@@ -15,7 +15,7 @@ returns-in-AddHeader c =
     let header = put_header c.args.leading_space c.in-AddHeader.header in
     if_ok_then c.insert_field.result _ _ c.insert_field.ensures
     (λ after is. put_last numbers c.args.fields after c.len-position.result header c.len-position.ensures
-    (is ∙ ap (λ h. numbered_fields numbers (insert headers c.len-position.result h)) c.put.ensures.put)
+    (is ∙ ap (λ h. numbered_fields numbers (insert headers c.len-position.result h)) c.new.ensures.put)
     ∙ ap (λ (e : Edit). numbered_fields numbers (edit_headers c.args.leading_space headers e)) (sym c.in-AddHeader.is))
 
 pub returns-in-InsertHeader : goal.returns-in-InsertHeader
@@ -26,5 +26,5 @@ returns-in-InsertHeader c =
     let position = c.min-position.ensures ∙ ap (λ n. min n c.in-InsertHeader.index) c.len.ensures in
     if_ok_then c.insert_field-in-InsertHeader.result _ _ c.insert_field-in-InsertHeader.ensures
     (λ after is. put_within numbers c.args.fields after c.min-position.result c.in-InsertHeader.index header position
-    (is ∙ ap (λ h. numbered_fields numbers (insert headers c.min-position.result h)) c.put-in-InsertHeader.ensures.put)
+    (is ∙ ap (λ h. numbered_fields numbers (insert headers c.min-position.result h)) c.new-in-InsertHeader.ensures.put)
     ∙ ap (λ (e : Edit). numbered_fields numbers (edit_headers c.args.leading_space headers e)) (sym c.in-InsertHeader.is))

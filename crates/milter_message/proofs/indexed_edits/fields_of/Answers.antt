@@ -18,7 +18,7 @@ loop-header-preserved c =
     let fields = c.loop-header.fields in
     let header = c.header-item.result in
     let put = c.in_ok-fields-2.ensures
-    ∙ ap (λ h. numbered_fields numbers (insert (headers_of fields) c.len-position.result h)) c.put.ensures.put in
+    ∙ ap (λ h. numbered_fields numbers (insert (headers_of fields) c.len-position.result h)) c.new-in-loop-header.ensures.put in
     put_last numbers fields c.in_ok-fields-2.fields c.len-position.result header c.len-position.ensures put
     ∙ ap (λ l. numbered_fields numbers (l ++ header ∷ []))
     (headers_are numbers fields (take index headers) c.loop-header.invariant)

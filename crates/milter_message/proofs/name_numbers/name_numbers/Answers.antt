@@ -1,6 +1,5 @@
-use Rattle.std.proofs.Common.{◌≡◌, ◌+◌, ℕ, List, sym, ap, subst, ◌∙◌, arith, take}
+use Rattle.std.proofs.Common.{ℕ, arith}
 use Rattle.std.proofs.lemmas.Map.Text.{btree_map_updates_str}
-use Rattle.milter_message.specs.NameNumbers.{AreUpTo, HasNumbers}
 use Rattle.milter_message.proofs.NameNumbering.{HasNumber, numbered_again, numbered_more}
 use Rattle.milter_message.proofs.name_numbers.name_numbers.Goals as goal
 use Rattle.milter_message.proofs.name_numbers.name_numbers.Goals.{then-not-has_number+in_ok-number+in_ok-insert, else-not-has_number}

@@ -1,6 +1,6 @@
 use Rattle.std.proofs.Common.{◌≡◌, ◌++◌, drop, map}
 use Rattle.milter_message.specs.EditedFields.{header_at, shown}
-use Rattle.milter_message.proofs.edited_fields.copies_of.Given as goal
+use Rattle.milter_message.proofs.source.copies_of.Given as goal
 
 -- the fields so far and those of the rest of the ids
 abbrev pub invariant-loop-id : goal.invariant-loop-id

@@ -9,8 +9,7 @@ added : (c : In_ok-push) → Added c.self.inside.sources.items c.push.new.self.i
     c.in_ok-index.index c.args.position c.args.name
 added c = record {
   pushed = c.in_ok-push.ensures.items;
-  ids = c.self.invariant.0;
-  within = c.self.invariant.1;
+  has = c.self.invariant;
   entry = c.in_ok-index.ensures;
 }
 

@@ -3,7 +3,7 @@ use Rattle.std.specs.List.{All}
 use Rattle.std.proofs.lemmas.List.Elements.{All-map}
 use Rattle.milter_field_index.specs.Fields.{Entry}
 use Rattle.milter_field_index.proofs.Results.{if_ok_then}
-use Rattle.milter_message.specs.declared.edited_fields.Source.{Source}
+use Rattle.milter_message.specs.declared.source.Source.{Source}
 use Rattle.milter_message.specs.EditedFields.{header_at, headers_of, shown}
 use Rattle.milter_message.proofs.IndexedFields.{headers_shown}
 use Rattle.milter_message.proofs.edited_fields.EditedFields.to_headers.Goals as goal
@@ -17,7 +17,7 @@ copies_of-requires c =
     let entries = c.self.inside.index.entries in
     subst (All (within c.as_slice.result.now)) (sym (c.as_slice-2.ensures.value ∙ c.in_ok-ids.ensures))
     (subst (λ (s : List Source). All (within s) (map (λ (e : Entry). e.id) entries)) (sym c.as_slice.ensures.value)
-    (All-map (within sources) (λ (e : Entry). e.id) entries c.self.invariant.1))
+    (All-map (within sources) (λ (e : Entry). e.id) entries c.self.invariant.within))
 
 pub returns : goal.returns
 returns c =
