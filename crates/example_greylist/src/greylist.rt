@@ -5,7 +5,7 @@ use crate::store::Store;
 use crate::triple::Triple;
 use example_greylist_decision::{Standing, verdict_on};
 use milter_filter::{Answer, Served, VERSION_MAX, Wants};
-use milter_filter_service::{AskedConnection, Clients, Host, Key, QuestionKey, ServiceError};
+use milter_filter_service::{AskedConnection, Host, Key, MailServers, QuestionKey, ServiceError};
 use milter_wire::{Actions, NoMemory, Options, Protocol, Stage, SymLists, Verdict};
 use std::alloc::Global;
 use std::mem;
@@ -128,7 +128,11 @@ impl<'x> Host for Greylist<'x> {
         }
     }
 
-    fn due(&mut self, _now: Instant, clients: &mut Clients<()>) -> Result<(), ServiceError> {
+    fn due(
+        &mut self,
+        _now: Instant,
+        mail_servers: &mut MailServers<()>,
+    ) -> Result<(), ServiceError> {
         let questions = mem::replace(&mut self.questions, Vec::new(self.alloc));
         let triples = mem::replace(&mut self.triples, Vec::new(self.alloc));
         let standings = self.standings(triples.as_slice());
@@ -138,7 +142,7 @@ impl<'x> Host for Greylist<'x> {
                 None => None,
             };
             let verdict = verdict_on(self.alloc, standing, self.accepts_on_error);
-            clients.give(*question, Answer::of_verdict(self.alloc, verdict))?;
+            mail_servers.give(*question, Answer::of_verdict(self.alloc, verdict))?;
         }
         Ok(())
     }

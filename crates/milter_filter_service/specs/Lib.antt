@@ -1,1 +1,1 @@
-pub mod ClientStates
+pub mod MailServerStates

@@ -1,8 +1,8 @@
 //! Who has a service run.
 
 use crate::asked_connection::AskedConnection;
-use crate::clients::Clients;
 use crate::key::{Key, QuestionKey};
+use crate::mail_servers::MailServers;
 use crate::service_error::ServiceError;
 use crate::shortage::Shortage;
 use milter_filter::{Served, Wants};
@@ -29,7 +29,7 @@ pub trait Host {
     fn connect(&mut self, key: Key) -> Result<(Wants, Self::Session), NoMemory>;
 
     /// A question is open on a connection. It is answered now, by [`AskedConnection::answer`] or
-    /// [`AskedConnection::answer_by`], or later, by [`Clients::give`] with its key; it isn't asked again. After
+    /// [`AskedConnection::answer_by`], or later, by [`MailServers::give`] with its key; it isn't asked again. After
     /// `NoMemory` the connection is closed.
     fn asked(
         &mut self,
@@ -48,7 +48,7 @@ pub trait Host {
     fn ready(
         &mut self,
         _token: Token,
-        _clients: &mut Clients<Self::Session>,
+        _mail_servers: &mut MailServers<Self::Session>,
     ) -> Result<(), ServiceError> {
         Ok(())
     }
@@ -62,7 +62,7 @@ pub trait Host {
     fn due(
         &mut self,
         _now: Instant,
-        _clients: &mut Clients<Self::Session>,
+        _mail_servers: &mut MailServers<Self::Session>,
     ) -> Result<(), ServiceError> {
         Ok(())
     }

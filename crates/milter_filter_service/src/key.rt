@@ -8,7 +8,7 @@ use mio::Token;
 /// service have the same name only where a multiple of 4,294,967,296 connections came from the one to the other.
 #[derive(Clone, Copy, Debug, PartialEq, Eq)]
 pub struct Key {
-    /// Its place among the clients.
+    /// Its place among the mail servers.
     pub(crate) place: usize,
     /// Its number.
     pub(crate) number: u32,

@@ -3,24 +3,24 @@
 #![tactic(auto)]
 
 mod asked_connection;
-mod client;
-mod clients;
 mod given;
 mod host;
 mod key;
 mod limits;
 mod listener;
+mod mail_server;
+mod mail_servers;
 mod service;
 mod service_error;
 mod shortage;
 
 pub use asked_connection::AskedConnection;
-pub use clients::Clients;
 pub use given::Given;
 pub use host::Host;
 pub use key::{Key, QuestionKey};
 pub use limits::Limits;
 pub use listener::{Listener, Stream};
+pub use mail_servers::MailServers;
 pub use milter_filter::policy_wants;
 pub use mio::{Interest, Registry, Token};
 pub use service::Service;

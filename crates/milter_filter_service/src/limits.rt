@@ -1,8 +1,8 @@
 //! What a service allows.
 
 /// What a service allows. Times are whole seconds since the service began, without their fractions. While there are
-/// clients all of them are looked at once in each of these seconds. So each time has bounds of its own, as below, but
-/// for the time that a round of the service takes, with what its host does in it.
+/// mail servers all of them are looked at once in each of these seconds. So each time has bounds of its own, as below,
+/// but for the time that a round of the service takes, with what its host does in it.
 #[derive(Clone, Copy, Debug, PartialEq, Eq)]
 pub struct Limits {
     /// How many connections are open at once; others wait in the queues of the listeners.

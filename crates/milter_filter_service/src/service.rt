@@ -4,12 +4,12 @@ ghost use Rattle.std.specs.Prelude.{◌≡◌, ◌≤◌, ◌<◌, ◌⊎◌, �
 ghost use Rattle.milter_filter.specs.Connections.{fresh_connected};
 ghost use Rattle.milter_filter_service.specs.declared.service.TheConstants.{SPARE_MAX};
 
-use crate::client::{Client, Due, Next};
-use crate::clients::Clients;
 use crate::host::Host;
 use crate::key::Key;
 use crate::limits::Limits;
 use crate::listener::{Listener, Stream};
+use crate::mail_server::{Due, MailServer, Next};
+use crate::mail_servers::MailServers;
 use crate::service_error::ServiceError;
 use crate::shortage::Shortage;
 use milter_filter::{CommandOrder, Connection, FilterFault, Served, Wants, read_buffer};
@@ -28,11 +28,11 @@ const EVENTS_MAX: usize = 1_024;
 const ACCEPTS_MAX: u32 = 64;
 /// How many milliseconds the listeners are left alone after the system had no room for a connection.
 const RETRY: u64 = 100;
-/// How many milliseconds pass between two looks at all clients.
+/// How many milliseconds pass between two looks at all mail servers.
 const CHECK: u64 = 1_000;
-/// The most connections that have ended whose memory is kept for others, up to a look at which no client is connected:
-/// for each of them room for one packet, 65,540 bytes, up to the next look, and what else `Connection::restart` leaves
-/// it, which is less than 3 MB.
+/// The most connections that have ended whose memory is kept for others, up to a look at which no mail server is
+/// connected: for each of them room for one packet, 65,540 bytes, up to the next look, and what else
+/// `Connection::restart` leaves it, which is less than 3 MB.
 const SPARE_MAX: usize = 16;
 /// The tokens of listeners: the highest is that of the first.
 const LISTENER_TOKENS: usize = usize::MAX;
@@ -53,9 +53,9 @@ pub struct Service<'r, R: Net + Clock, S: Drop> {
     poll: Poll,
     start: Instant,
     sources: Vec<Source>,
-    clients: Clients<S>,
+    mail_servers: MailServers<S>,
     // Connections that have ended, begun again for those that come. The list has its memory from the start: one that
-    // grew behind the memory of many clients would keep that from going back to the system.
+    // grew behind the memory of many mail servers would keep that from going back to the system.
     spare: Vec<Connection>,
     // Whether none of them has memory for a packet.
     is_released: bool,
@@ -65,7 +65,7 @@ pub struct Service<'r, R: Net + Clock, S: Drop> {
     is_full: bool,
     // Whether the host knows that it had none, since connections waited last.
     is_known_full: bool,
-    // The second at which all clients are looked at again.
+    // The second at which all mail servers are looked at again.
     next_check: u64,
 }
 
@@ -99,7 +99,7 @@ impl<'r, R: Net + Clock, S: Drop> Service<'r, R, S> {
             poll,
             start: Instant::now(rt)?,
             sources,
-            clients: Clients::new(alloc),
+            mail_servers: MailServers::new(alloc),
             spare,
             is_released: true,
             count: 0,
@@ -128,7 +128,7 @@ impl<'r, R: Net + Clock, S: Drop> Service<'r, R, S> {
         Ok(())
     }
 
-    /// The tokens for sockets of the host: those of clients are below them, and those of listeners above.
+    /// The tokens for sockets of the host: those of mail servers are below them, and those of listeners above.
     fn host_tokens(&self) -> Range<usize> {
         self.limits.at_once..LISTENER_TOKENS - self.sources.len()
     }
@@ -148,13 +148,13 @@ impl<'r, R: Net + Clock, S: Drop> Service<'r, R, S> {
 
     /// The same, but for the time that the host asks for.
     fn own_time_to_wait(&self) -> Option<Duration> {
-        if self.clients.waiting() > 0 || self.can_accept() {
+        if self.mail_servers.waiting() > 0 || self.can_accept() {
             return Some(Duration::from_millis(0));
         }
         if self.is_full {
             return Some(Duration::from_millis(RETRY));
         }
-        if self.clients.is_empty() && self.is_released {
+        if self.mail_servers.is_empty() && self.is_released {
             return None;
         }
         Some(Duration::from_millis(CHECK))
@@ -163,7 +163,7 @@ impl<'r, R: Net + Clock, S: Drop> Service<'r, R, S> {
     /// Whether a connection may be there for which there is room.
     fn can_accept(&self) -> bool {
         !self.is_full
-            && self.clients.len() < self.limits.at_once
+            && self.mail_servers.len() < self.limits.at_once
             && self.sources.iter().any(|source| source.is_ready)
     }
 
@@ -179,7 +179,7 @@ impl<'r, R: Net + Clock, S: Drop> Service<'r, R, S> {
         Ok(())
     }
 
-    /// Passes on that a socket is ready: to its listener, its client or the host.
+    /// Passes on that a socket is ready: to its listener, its mail server or the host.
     fn on_event<H: Host<Session = S>>(
         &mut self,
         event: &Event,
@@ -191,14 +191,14 @@ impl<'r, R: Net + Clock, S: Drop> Service<'r, R, S> {
             return Ok(());
         }
         if place >= self.limits.at_once {
-            return host.ready(Token(place), &mut self.clients);
+            return host.ready(Token(place), &mut self.mail_servers);
         }
-        if let Some(client) = self.clients.at_mut(place) {
-            client.is_closed |= event.is_read_closed()
+        if let Some(mail_server) = self.mail_servers.at_mut(place) {
+            mail_server.is_closed |= event.is_read_closed()
                 || event.is_write_closed()
                 || event.is_error();
         }
-        self.clients.enqueue(place)
+        self.mail_servers.enqueue(place)
     }
 
     /// Calls the host, where the time has come that it asked for.
@@ -208,7 +208,7 @@ impl<'r, R: Net + Clock, S: Drop> Service<'r, R, S> {
         host: &mut H,
     ) -> Result<(), ServiceError> {
         match host.deadline() {
-            Some(deadline) if deadline <= now => host.due(now, &mut self.clients),
+            Some(deadline) if deadline <= now => host.due(now, &mut self.mail_servers),
             _ => Ok(()),
         }
     }
@@ -246,7 +246,7 @@ impl<'r, R: Net + Clock, S: Drop> Service<'r, R, S> {
         host: &mut H,
     ) -> Result<(), ServiceError> {
         for _ in 0..ACCEPTS_MAX {
-            if self.clients.len() >= self.limits.at_once {
+            if self.mail_servers.len() >= self.limits.at_once {
                 return Ok(());
             }
             let Some(source) = self.sources.get_mut(place) else {
@@ -270,7 +270,7 @@ impl<'r, R: Net + Clock, S: Drop> Service<'r, R, S> {
         Ok(())
     }
 
-    /// Adds a client.
+    /// Adds a mail server.
     fn add<H: Host<Session = S>>(
         &mut self,
         stream: Stream,
@@ -279,18 +279,22 @@ impl<'r, R: Net + Clock, S: Drop> Service<'r, R, S> {
     ) -> Result<(), ServiceError> {
         self.count = self.count.wrapping_add(1);
         let key = Key {
-            place: self.clients.next_place(),
+            place: self.mail_servers.next_place(),
             number: self.count,
         };
         let Ok((wants, session)) = host.connect(key) else {
             return host.refused(key);
         };
         let connection = self.connect(wants);
-        let client = Client::new(stream, connection, session, key.number, second);
-        match self.clients.add(client) {
+        let mail_server = MailServer::new(stream, connection, session, key.number, second);
+        match self.mail_servers.add(mail_server) {
             Ok(()) => self.watch(key, host),
-            Err(client) => {
-                host.ended(key, client.session, Served::Failed(FilterFault::NoMemory))
+            Err(mail_server) => {
+                host.ended(
+                    key,
+                    mail_server.session,
+                    Served::Failed(FilterFault::NoMemory),
+                )
             }
         }
     }
@@ -321,12 +325,12 @@ impl<'r, R: Net + Clock, S: Drop> Service<'r, R, S> {
         }
     }
 
-    /// Has the system say when a client is ready.
+    /// Has the system say when a mail server is ready.
     fn watch<H: Host<Session = S>>(&mut self, key: Key, host: &mut H) -> Result<(), ServiceError> {
-        let Some(client) = self.clients.at_mut(key.place) else {
+        let Some(mail_server) = self.mail_servers.at_mut(key.place) else {
             return Ok(());
         };
-        if client
+        if mail_server
             .stream
             .watch(self.poll.registry(), key.token())
             .is_err()
@@ -336,27 +340,27 @@ impl<'r, R: Net + Clock, S: Drop> Service<'r, R, S> {
         Ok(())
     }
 
-    /// Closes the connection of a client, and says how it ended.
+    /// Closes the connection of a mail server, and says how it ended.
     fn close<H: Host<Session = S>>(
         &mut self,
         place: usize,
         served: Served,
         host: &mut H,
     ) -> Result<(), ServiceError> {
-        match self.clients.remove(place) {
-            Some(client) => {
+        match self.mail_servers.remove(place) {
+            Some(mail_server) => {
                 let key = Key {
                     place,
-                    number: client.number,
+                    number: mail_server.number,
                 };
-                self.keep(client.connection.inner);
-                host.ended(key, client.session, served)
+                self.keep(mail_server.connection.inner);
+                host.ended(key, mail_server.session, served)
             }
             None => Ok(()),
         }
     }
 
-    /// Gives each client that waits for its turn one.
+    /// Gives each mail server that waits for its turn one.
     fn take_turns<H: Host<Session = S>>(
         &mut self,
         second: u64,
@@ -365,15 +369,15 @@ impl<'r, R: Net + Clock, S: Drop> Service<'r, R, S> {
     ) -> Result<(), ServiceError>
         requires { 0 < length buffer.old }
     {
-        for _ in 0..self.clients.waiting() {
-            if let Some(place) = self.clients.next_in_turn() {
+        for _ in 0..self.mail_servers.waiting() {
+            if let Some(place) = self.mail_servers.next_in_turn() {
                 self.take_turn(place, second, buffer, host)?;
             }
         }
         Ok(())
     }
 
-    /// Gives a client its turn.
+    /// Gives a mail server its turn.
     fn take_turn<H: Host<Session = S>>(
         &mut self,
         place: usize,
@@ -383,17 +387,17 @@ impl<'r, R: Net + Clock, S: Drop> Service<'r, R, S> {
     ) -> Result<(), ServiceError>
         requires { 0 < length buffer.old }
     {
-        let Some(client) = self.clients.at_mut(place) else {
+        let Some(mail_server) = self.mail_servers.at_mut(place) else {
             return Ok(());
         };
-        match client.take_turns(place, second, buffer, host) {
-            Next::Turn => self.clients.enqueue(place),
+        match mail_server.take_turns(place, second, buffer, host) {
+            Next::Turn => self.mail_servers.enqueue(place),
             Next::Wait => Ok(()),
             Next::Close(served) => self.close(place, served, host),
         }
     }
 
-    /// Looks at all clients, once a second: at those that are idle, and at questions that are open.
+    /// Looks at all mail servers, once a second: at those that are idle, and at questions that are open.
     fn look<H: Host<Session = S>>(
         &mut self,
         second: u64,
@@ -404,7 +408,7 @@ impl<'r, R: Net + Clock, S: Drop> Service<'r, R, S> {
         }
         self.next_check = second.saturating_add(1);
         self.release_spare();
-        if self.clients.is_empty() {
+        if self.mail_servers.is_empty() {
             self.give_back();
         }
         for place in 0..self.limits.at_once {
@@ -421,35 +425,35 @@ impl<'r, R: Net + Clock, S: Drop> Service<'r, R, S> {
         self.is_released = true;
     }
 
-    /// Gives back the memory that only clients need, where there is none.
+    /// Gives back the memory that only mail servers need, where there is none.
     fn give_back(&mut self) {
         self.spare.clear();
-        self.clients.shrink();
+        self.mail_servers.shrink();
     }
 
-    /// Does what is due about a client.
+    /// Does what is due about a mail server.
     fn look_at<H: Host<Session = S>>(
         &mut self,
         place: usize,
         second: u64,
         host: &mut H,
     ) -> Result<(), ServiceError> {
-        let Some(client) = self.clients.at_mut(place) else {
+        let Some(mail_server) = self.mail_servers.at_mut(place) else {
             return Ok(());
         };
-        match client.due(second, &self.limits) {
+        match mail_server.due(second, &self.limits) {
             Due::Nothing => Ok(()),
             Due::Release => {
-                client.connection.inner.release();
+                mail_server.connection.inner.release();
                 Ok(())
             }
             Due::Progress => {
-                client.report_progress(second);
-                self.clients.enqueue(place)
+                mail_server.report_progress(second);
+                self.mail_servers.enqueue(place)
             }
             Due::Default(stage) => {
                 let verdict = host.default_verdict(stage);
-                self.clients.give_default(self.alloc, place, verdict)
+                self.mail_servers.give_default(self.alloc, place, verdict)
             }
             Due::Close => self.close(place, Served::ReadFault, host),
         }

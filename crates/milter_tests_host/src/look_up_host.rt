@@ -2,7 +2,7 @@
 
 use milter_filter::{Answer, Pass, Served, Wants};
 use milter_filter_service::{
-    AskedConnection, Clients, Given, Host, Interest, Key, QuestionKey, Registry, ServiceError,
+    AskedConnection, Given, Host, Interest, Key, MailServers, QuestionKey, Registry, ServiceError,
     Token, policy_wants,
 };
 use milter_wire::{NoMemory, Stage, Verdict};
@@ -52,10 +52,14 @@ impl LookUpHost {
     }
 
     /// Takes what was read of the look-up server, and gives the answers in it.
-    fn take(&mut self, bytes: &[u8], clients: &mut Clients<u32>) -> Result<(), ServiceError> {
+    fn take(
+        &mut self,
+        bytes: &[u8],
+        mail_servers: &mut MailServers<u32>,
+    ) -> Result<(), ServiceError> {
         for byte in bytes {
             if *byte == b'\n' {
-                self.give(clients)?;
+                self.give(mail_servers)?;
                 self.line.clear();
             } else if self.line.push(*byte).is_err() {
                 return Err(ServiceError::NoMemory);
@@ -65,14 +69,14 @@ impl LookUpHost {
     }
 
     /// Gives the answer of a whole line, and writes what became of it.
-    fn give(&mut self, clients: &mut Clients<u32>) -> Result<(), ServiceError> {
+    fn give(&mut self, mail_servers: &mut MailServers<u32>) -> Result<(), ServiceError> {
         let Some((number, verdict)) = answer_in(self.line.as_slice()) else {
             return Ok(());
         };
         let Some(question) = self.questions.get(number).copied() else {
             return Ok(());
         };
-        let given = clients.give(question, Answer::of_verdict(self.alloc, verdict))?;
+        let given = mail_servers.give(question, Answer::of_verdict(self.alloc, verdict))?;
         let word = word_of(given);
         let line = format!(in self.alloc; "given {number} {word}\n")?;
         self.write_line(line.as_str());
@@ -124,12 +128,16 @@ impl Host for LookUpHost {
         }
     }
 
-    fn ready(&mut self, _token: Token, clients: &mut Clients<u32>) -> Result<(), ServiceError> {
+    fn ready(
+        &mut self,
+        _token: Token,
+        mail_servers: &mut MailServers<u32>,
+    ) -> Result<(), ServiceError> {
         let mut piece = [0; PIECE];
         for _ in 0..u64::MAX {
             match (&self.server).read(&mut piece) {
                 Ok(0) | Err(_) => return Ok(()),
-                Ok(count) => self.take(&piece[..count], clients)?,
+                Ok(count) => self.take(&piece[..count], mail_servers)?,
             }
         }
         Ok(())

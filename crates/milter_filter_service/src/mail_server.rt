@@ -16,7 +16,7 @@ use milter_wire::{Stage, Verdict};
 use std::alloc::Global;
 use std::marker::Model;
 
-/// The most questions that are answered in one turn of a client, before the others have theirs.
+/// The most questions that are answered in one turn of a mail server, before the others have theirs.
 const QUESTIONS_MAX: u32 = 256;
 
 /// A question that its host has.
@@ -28,7 +28,7 @@ pub(crate) struct OpenQuestion {
     reported: u64,
 }
 
-/// What a client needs next.
+/// What a mail server needs next.
 #[derive(Clone, Copy, Debug, PartialEq, Eq)]
 pub(crate) enum Next {
     /// Another turn, behind the others.
@@ -39,7 +39,7 @@ pub(crate) enum Next {
     Close(Served),
 }
 
-/// What is to be done about a client that has had no turn for a while.
+/// What is to be done about a mail server that has had no turn for a while.
 #[derive(Clone, Copy, Debug, PartialEq, Eq)]
 pub(crate) enum Due {
     /// Nothing.
@@ -56,7 +56,7 @@ pub(crate) enum Due {
 
 /// A mail server that is connected, and what the host keeps of it.
 #[derive(Drop)]
-pub(crate) struct Client<S: Drop> {
+pub(crate) struct MailServer<S: Drop> {
     pub(crate) stream: Stream,
     pub(crate) connection: AskedConnection,
     pub(crate) session: S,
@@ -64,7 +64,7 @@ pub(crate) struct Client<S: Drop> {
     pub(crate) number: u32,
     /// The second at which it last had a turn.
     pub(crate) last: u64,
-    /// Whether it had a turn since the last look at all clients.
+    /// Whether it had a turn since the last look at all mail servers.
     pub(crate) is_active: bool,
     /// Whether it waits for its turn.
     pub(crate) is_queued: bool,
@@ -76,11 +76,11 @@ pub(crate) struct Client<S: Drop> {
     pub(crate) question: Option<OpenQuestion>,
 }
 
-impl<S: Drop> Model for Client<S> {
+impl<S: Drop> Model for MailServer<S> {
     ghost use Rattle.std.specs.Prelude.{option_map};
-    ghost use Rattle.milter_filter_service.specs.ClientStates.{ClientState};
+    ghost use Rattle.milter_filter_service.specs.MailServerStates.{MailServerState};
 
-    ghost Value = { ClientState S };
+    ghost Value = { MailServerState S };
 
     ghost view = { λ c. record {
       number = c.number;
@@ -90,10 +90,10 @@ impl<S: Drop> Model for Client<S> {
     } };
 }
 
-impl<S: Drop> Client<S> {
-    ghost use Rattle.milter_filter_service.specs.ClientStates.{HasQuestion, answered_by};
+impl<S: Drop> MailServer<S> {
+    ghost use Rattle.milter_filter_service.specs.MailServerStates.{HasQuestion, answered_by};
 
-    /// A client that has just connected.
+    /// A mail server that has just connected.
     pub(crate) fn new(
         stream: Stream,
         connection: Connection,
@@ -101,7 +101,7 @@ impl<S: Drop> Client<S> {
         number: u32,
         second: u64,
     ) -> Self {
-        Client {
+        MailServer {
             stream,
             connection: AskedConnection { inner: connection },
             session,
@@ -274,7 +274,7 @@ impl<S: Drop> Client<S> {
 impl OpenQuestion {
     ghost use Rattle.std.specs.Prelude.{◌≤◌, ◌-◌, ◌⊎◌};
     ghost use Rattle.milter_wire.specs.declared.stage.Stage.TheVariants.{Eob};
-    ghost use Rattle.milter_filter_service.specs.declared.client.Due.TheVariants as dues;
+    ghost use Rattle.milter_filter_service.specs.declared.mail_server.Due.TheVariants as dues;
 
     /// What is to be done about this question, which is about this stage.
     fn due(&self, second: u64, stage: Stage, limits: &Limits) -> Due

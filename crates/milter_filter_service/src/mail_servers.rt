@@ -3,9 +3,9 @@
 ghost use Rattle.std.specs.Prelude.{◌≡◌, ◌≢◌, ◌↔◌, IfOk, None, Ok, Some, option_copied, option_map};
 ghost use Rattle.milter_filter_service.specs.declared.given.Given.TheVariants as givens;
 
-use crate::client::Client;
 use crate::given::Given;
 use crate::key::{Key, QuestionKey};
+use crate::mail_server::MailServer;
 use crate::service_error::ServiceError;
 use milter_filter::{Answer, Seen};
 use milter_wire::Verdict;
@@ -16,29 +16,29 @@ use std::marker::Model;
 
 /// The mail servers that are connected: where a host gives its answers later.
 #[derive(Drop)]
-pub struct Clients<S: Drop> {
-    connected: Slab<Client<S>>,
+pub struct MailServers<S: Drop> {
+    connected: Slab<MailServer<S>>,
     queue: VecDeque<usize>,
 }
 
-impl<S: Drop> Model for Clients<S> {
+impl<S: Drop> Model for MailServers<S> {
     ghost use Rattle.slab.specs.Slab.{Slab as Places};
-    ghost use Rattle.milter_filter_service.specs.ClientStates.{ClientState};
+    ghost use Rattle.milter_filter_service.specs.MailServerStates.{MailServerState};
 
     // Who is connected, each in a place.
-    ghost Value = { Places (ClientState S) };
+    ghost Value = { Places (MailServerState S) };
 
     ghost view = { λ c. c.connected };
 }
 
-impl<S: Drop> Clients<S> {
+impl<S: Drop> MailServers<S> {
     ghost use Rattle.std.specs.Prelude.{ℕ};
     ghost use Rattle.slab.specs.Slab.{get};
-    ghost use Rattle.milter_filter_service.specs.ClientStates.{HasQuestion, answered_by, ClientState};
+    ghost use Rattle.milter_filter_service.specs.MailServerStates.{HasQuestion, answered_by, MailServerState};
 
-    /// No clients. Doesn't allocate.
+    /// No mail servers. Doesn't allocate.
     pub(crate) fn new(alloc: Global) -> Self {
-        Clients {
+        MailServers {
             connected: Slab::new(alloc),
             queue: VecDeque::new(alloc),
         }
@@ -54,46 +54,46 @@ impl<S: Drop> Clients<S> {
         self.connected.is_empty()
     }
 
-    /// The place of the next client that is added.
+    /// The place of the next mail server that is added.
     pub(crate) fn next_place(&self) -> usize {
         self.connected.vacant_key()
     }
 
-    /// Adds a client, or gives it back where memory is refused.
-    pub(crate) fn add(&mut self, client: Client<S>) -> Result<(), Client<S>> {
-        match self.connected.insert(client) {
+    /// Adds a mail server, or gives it back where memory is refused.
+    pub(crate) fn add(&mut self, mail_server: MailServer<S>) -> Result<(), MailServer<S>> {
+        match self.connected.insert(mail_server) {
             Ok(_) => Ok(()),
             Err(failed) => Err(failed.value),
         }
     }
 
-    /// The client in this place.
-    pub(crate) fn at_mut(&mut self, place: usize) -> Option<&mut Client<S>> {
+    /// The mail server in this place.
+    pub(crate) fn at_mut(&mut self, place: usize) -> Option<&mut MailServer<S>> {
         self.connected.get_mut(place)
     }
 
-    /// The client whose connection has this name; `None` where it has ended.
-    pub(crate) fn get(&self, key: Key) -> Option<&Client<S>>
-        ensures found { (client : ClientState S) → get self.now key.place ≡ Some client → client.number ≡ key.number →
-            option_copied result ≡ Some client }
-        ensures other { (client : ClientState S) → get self.now key.place ≡ Some client → client.number ≢ key.number →
+    /// The mail server whose connection has this name; `None` where it has ended.
+    pub(crate) fn get(&self, key: Key) -> Option<&MailServer<S>>
+        ensures found { (peer : MailServerState S) → get self.now key.place ≡ Some peer → peer.number ≡ key.number →
+            option_copied result ≡ Some peer }
+        ensures other { (peer : MailServerState S) → get self.now key.place ≡ Some peer → peer.number ≢ key.number →
             result ≡ None }
         ensures gone { get self.now key.place ≡ None → result ≡ None }
     {
-        let client = self.connected.get(key.place)?;
-        if client.number == key.number {
-            Some(client)
+        let mail_server = self.connected.get(key.place)?;
+        if mail_server.number == key.number {
+            Some(mail_server)
         } else {
             None
         }
     }
 
-    /// Removes the client in this place.
-    pub(crate) fn remove(&mut self, place: usize) -> Option<Client<S>> {
+    /// Removes the mail server in this place.
+    pub(crate) fn remove(&mut self, place: usize) -> Option<MailServer<S>> {
         self.connected.try_remove(place)
     }
 
-    /// Gives back the memory for clients that have ended. Those that are connected stay as they are.
+    /// Gives back the memory for mail servers that have ended. Those that are connected stay as they are.
     pub(crate) fn shrink(&mut self)
         ensures { (place : ℕ) → get self.new place ≡ get self.old place }
     {
@@ -106,20 +106,20 @@ impl<S: Drop> Clients<S> {
         self.queue.len()
     }
 
-    /// The place of the client that has waited longest for its turn.
+    /// The place of the mail server that has waited longest for its turn.
     pub(crate) fn next_in_turn(&mut self) -> Option<usize> {
         self.queue.pop_front()
     }
 
-    /// Has a client wait for its turn.
+    /// Has a mail server wait for its turn.
     pub(crate) fn enqueue(&mut self, place: usize) -> Result<(), ServiceError>
         ensures { (other : ℕ) → get self.new other ≡ get self.old other }
     {
-        let Some(client) = self.connected.get_mut(place) else {
+        let Some(mail_server) = self.connected.get_mut(place) else {
             return Ok(());
         };
-        if !client.is_queued {
-            client.is_queued = true;
+        if !mail_server.is_queued {
+            mail_server.is_queued = true;
             if self.queue.push_back(place).is_err() {
                 return Err(ServiceError::NoMemory);
             }
@@ -129,46 +129,46 @@ impl<S: Drop> Clients<S> {
 
     /// What the host keeps of a connection; `None` where that has ended. Doesn't allocate.
     pub fn session(&self, key: Key) -> Option<&S>
-        ensures found { (client : ClientState S) → get self.now key.place ≡ Some client → client.number ≡ key.number →
-            option_copied result ≡ Some client.session }
-        ensures other { (client : ClientState S) → get self.now key.place ≡ Some client → client.number ≢ key.number →
+        ensures found { (peer : MailServerState S) → get self.now key.place ≡ Some peer → peer.number ≡ key.number →
+            option_copied result ≡ Some peer.session }
+        ensures other { (peer : MailServerState S) → get self.now key.place ≡ Some peer → peer.number ≢ key.number →
             result ≡ None }
         ensures gone { get self.now key.place ≡ None → result ≡ None }
     {
-        let client = self.get(key)?;
-        Some(&client.session)
+        let mail_server = self.get(key)?;
+        Some(&mail_server.session)
     }
 
     /// What is shown of a connection; `None` where that has ended. Doesn't allocate.
     pub fn seen(&self, key: Key) -> Option<&Seen>
-        ensures found { (client : ClientState S) → get self.now key.place ≡ Some client → client.number ≡ key.number →
+        ensures found { (peer : MailServerState S) → get self.now key.place ≡ Some peer → peer.number ≡ key.number →
             option_map (λ seen. seen.now.shown) result
-            ≡ Some client.connection.conversation.state.order_state.shown.seen }
-        ensures other { (client : ClientState S) → get self.now key.place ≡ Some client → client.number ≢ key.number →
+            ≡ Some peer.connection.conversation.state.order_state.shown.seen }
+        ensures other { (peer : MailServerState S) → get self.now key.place ≡ Some peer → peer.number ≢ key.number →
             result ≡ None }
         ensures gone { get self.now key.place ≡ None → result ≡ None }
     {
-        let client = self.get(key)?;
-        Some(client.connection.seen())
+        let mail_server = self.get(key)?;
+        Some(mail_server.connection.seen())
     }
 
     /// Gives the answer to a question, where that is open: it is sent in the connection's next turn. An error is that
     /// memory was refused for the service itself.
     pub fn give(&mut self, question: QuestionKey, answer: Answer) -> Result<Given, ServiceError>
-        ensures taken { IfOk result (λ given. given ≡ givens.Taken → (client : ClientState S) →
-            get self.old question.connection.place ≡ Some client →
-            get self.new question.connection.place ≡ Some (answered_by client answer)) }
+        ensures taken { IfOk result (λ given. given ≡ givens.Taken → (peer : MailServerState S) →
+            get self.old question.connection.place ≡ Some peer →
+            get self.new question.connection.place ≡ Some (answered_by peer answer)) }
         ensures unchanged { IfOk result (λ given. given ≢ givens.Taken →
             (place : ℕ) → get self.new place ≡ get self.old place) }
-        // No other client is touched, whatever becomes of the answer.
+        // No other mail server is touched, whatever becomes of the answer.
         ensures others { (place : ℕ) → place ≢ question.connection.place → get self.new place ≡ get self.old place }
-        ensures asked { (client : ClientState S) → get self.old question.connection.place ≡ Some client →
-            IfOk result (λ given. (given ≢ givens.TooLate) ↔ HasQuestion client question) }
+        ensures asked { (peer : MailServerState S) → get self.old question.connection.place ≡ Some peer →
+            IfOk result (λ given. (given ≢ givens.TooLate) ↔ HasQuestion peer question) }
         ensures gone { get self.old question.connection.place ≡ None → result ≡ Ok givens.TooLate }
     {
         let place = question.connection.place;
         let given = match self.connected.get_mut(place) {
-            Some(client) => client.give(question, answer),
+            Some(mail_server) => mail_server.give(question, answer),
             None => Given::TooLate,
         };
         if given == Given::Taken {
@@ -177,18 +177,18 @@ impl<S: Drop> Clients<S> {
         Ok(given)
     }
 
-    /// Gives this verdict to the question of the client in this place; `Tempfail` instead where it isn't taken. Where
-    /// memory is refused the question stays open.
+    /// Gives this verdict to the question of the mail server in this place; `Tempfail` instead where it isn't taken.
+    /// Where memory is refused the question stays open.
     pub(crate) fn give_default(
         &mut self,
         alloc: Global,
         place: usize,
         verdict: Verdict,
     ) -> Result<(), ServiceError> {
-        let Some(client) = self.connected.get_mut(place) else {
+        let Some(mail_server) = self.connected.get_mut(place) else {
             return Ok(());
         };
-        client.answer_by_default(alloc, verdict);
+        mail_server.answer_by_default(alloc, verdict);
         self.enqueue(place)
     }
 }
