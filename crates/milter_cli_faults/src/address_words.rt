@@ -1,7 +1,7 @@
 //! What is said of texts that are no addresses.
 
 use crate::known_names::say_unknown;
-use milter_rules_faults::{Notes, Piece};
+use milter_rules_faults::{Notes, Span};
 use milter_wire::NoMemory;
 use std::alloc::Global;
 
@@ -39,14 +39,14 @@ fn say_plainly<'x>(
     text: &'x str,
     trouble: &'x str,
 ) -> Result<(), NoMemory> {
-    let pieces = [
-        Piece::Quoted(text.as_bytes()),
-        Piece::Plain(b" "),
-        Piece::Plain(trouble.as_bytes()),
-        Piece::Plain(b"; "),
-        Piece::Plain(FORMS.as_bytes()),
+    let spans = [
+        Span::Quoted(text.as_bytes()),
+        Span::Plain(b" "),
+        Span::Plain(trouble.as_bytes()),
+        Span::Plain(b"; "),
+        Span::Plain(FORMS.as_bytes()),
     ];
-    notes.say(alloc, &pieces)
+    notes.say(alloc, &spans)
 }
 
 /// Says how the address is written that a text means.
@@ -68,14 +68,14 @@ fn say_written<'x>(
     text: &'x [u8],
     address: &'x [u8],
 ) -> Result<(), NoMemory> {
-    let pieces = [
-        Piece::Quoted(text),
-        Piece::Plain(b" is written here as "),
-        Piece::Quoted(address),
-        Piece::Plain(b"; "),
-        Piece::Plain(FORMS.as_bytes()),
+    let spans = [
+        Span::Quoted(text),
+        Span::Plain(b" is written here as "),
+        Span::Quoted(address),
+        Span::Plain(b"; "),
+        Span::Plain(FORMS.as_bytes()),
     ];
-    notes.say(alloc, &pieces)
+    notes.say(alloc, &spans)
 }
 
 /// Puts an address as it is written here.
@@ -126,7 +126,7 @@ fn say_bad_place(
 /// Says that this is no port.
 fn say_bad_port(alloc: Global, notes: &mut Notes<'_>, port: &str) -> Result<(), NoMemory> {
     let end = b" is no port, which is a number from 1 to 65535; an address is inet:PORT@HOST";
-    notes.say(alloc, &[Piece::Quoted(port.as_bytes()), Piece::Plain(end)])
+    notes.say(alloc, &[Span::Quoted(port.as_bytes()), Span::Plain(end)])
 }
 
 /// Says what is wrong with a text that begins with no kind of address.

@@ -3,7 +3,7 @@
 use crate::faulty_line::{Content, first_word, line_at};
 use crate::known_names::{has_name, say_unknown};
 use milter_rules::RuleFault;
-use milter_rules_faults::{Notes, Piece, say_fault};
+use milter_rules_faults::{Notes, Span, say_fault};
 use milter_text::Word;
 use milter_wire::NoMemory;
 use milter_world_events::{EventFault, read_events};
@@ -27,7 +27,7 @@ pub(crate) fn say_events(
         Err(EventFault::TooMany(number)) => {
             notes.go_to(Some(number));
             let text = b"with this line there are more than 10,000,000 events, the most of a file";
-            return notes.say(alloc, &[Piece::Plain(text)]);
+            return notes.say(alloc, &[Span::Plain(text)]);
         }
         Err(EventFault::UnknownLine(number)) => number,
     };
@@ -45,8 +45,8 @@ pub(crate) fn say_events(
 /// Says what is wrong with a line of these words.
 fn say_line(alloc: Global, notes: &mut Notes<'_>, words: &[Word]) -> Result<(), NoMemory> {
     if let Some(word) = words.iter().find(|word| word.quoted) {
-        let shown = Piece::Quoted(word.text.as_slice());
-        let end = Piece::Plain(b" is due without quotes");
+        let shown = Span::Quoted(word.text.as_slice());
+        let end = Span::Plain(b" is due without quotes");
         return notes.say(alloc, &[shown, end]);
     }
     let first = first_word(words);
@@ -55,13 +55,13 @@ fn say_line(alloc: Global, notes: &mut Notes<'_>, words: &[Word]) -> Result<(), 
     }
     match no_number(words) {
         Some(word) => {
-            let shown = Piece::Quoted(word.text.as_slice());
-            let end = Piece::Plain(b" is no number up to 4,294,967,295, of ten digits at most");
+            let shown = Span::Quoted(word.text.as_slice());
+            let end = Span::Plain(b" is no number up to 4,294,967,295, of ten digits at most");
             notes.say(alloc, &[shown, end])
         }
         None => {
-            let begin = Piece::Plain(b"the line has too few words or too many; it is written ");
-            notes.say(alloc, &[begin, Piece::Plain(form_of(first).as_bytes())])
+            let begin = Span::Plain(b"the line has too few words or too many; it is written ");
+            notes.say(alloc, &[begin, Span::Plain(form_of(first).as_bytes())])
         }
     }
 }

@@ -16,7 +16,7 @@ use crate::trace_words::{say_recording, say_trace};
 use milter_cli_io::{AnswerError, FileError, InputFile, ToolError};
 use milter_cli_request::{Address, Request, UsageError};
 use milter_report_patterns::{difference_text, lines_of};
-use milter_rules_faults::{Notes, Piece};
+use milter_rules_faults::{Notes, Span};
 use milter_trace::TraceFault;
 use milter_wire::NoMemory;
 use std::alloc::Global;
@@ -107,7 +107,7 @@ fn text_of(alloc: Global, notes: &Notes<'_>) -> Result<Vec<u8>, NoMemory> {
 fn line(alloc: Global, name: &str, text: &str) -> Result<Vec<u8>, NoMemory> {
     let name = shown_name(alloc, name)?;
     let mut notes = Notes::new(alloc, name.as_str());
-    notes.say(alloc, &[Piece::Plain(text.as_bytes())])?;
+    notes.say(alloc, &[Span::Plain(text.as_bytes())])?;
     text_of(alloc, &notes)
 }
 
@@ -279,7 +279,7 @@ fn explain_number(
     let name = shown_name(alloc, path)?;
     let mut notes = Notes::new(alloc, name.as_str());
     notes.go_to(Some(number));
-    notes.say(alloc, &[Piece::Plain(meaning.as_bytes())])?;
+    notes.say(alloc, &[Span::Plain(meaning.as_bytes())])?;
     text_of(alloc, &notes)
 }
 

@@ -1,7 +1,7 @@
 //! What is said of values of options.
 
 use milter_rules::RuleFault;
-use milter_rules_faults::{Notes, Piece, say_fault};
+use milter_rules_faults::{Notes, Span, say_fault};
 use milter_wire::NoMemory;
 use std::alloc::Global;
 
@@ -15,7 +15,7 @@ pub(crate) fn say_bad_names(
 ) -> Result<(), NoMemory> {
     if names.is_empty() {
         let text = b"no value is given; it is names joined by |, or none";
-        return notes.say(alloc, &[Piece::Plain(text)]);
+        return notes.say(alloc, &[Span::Plain(text)]);
     }
     let mut line = Vec::new(alloc);
     line.extend_from_slice(first_word.as_bytes())?;
@@ -23,7 +23,7 @@ pub(crate) fn say_bad_names(
     line.extend_from_slice(names.as_bytes())?;
     let mut said = Notes::new(alloc, "");
     say_fault(alloc, &mut said, line.as_slice(), RuleFault::UnknownWord(1))?;
-    notes.say(alloc, &[Piece::Plain(after_place(said.text()))])
+    notes.say(alloc, &[Span::Plain(after_place(said.text()))])
 }
 
 /// The line that was said, without its place, `:1: `, and its end.
@@ -38,9 +38,9 @@ pub(crate) fn say_bad_mode(
     notes: &mut Notes<'_>,
     digits: u32,
 ) -> Result<(), NoMemory> {
-    let pieces = [
-        Piece::Number(u64::from(digits)),
-        Piece::Plain(b" has a digit above 7; a mode is up to three octal digits, as 660"),
+    let spans = [
+        Span::Number(u64::from(digits)),
+        Span::Plain(b" has a digit above 7; a mode is up to three octal digits, as 660"),
     ];
-    notes.say(alloc, &pieces)
+    notes.say(alloc, &spans)
 }

@@ -4,7 +4,7 @@ use crate::file_words::unread_reason;
 use crate::shown_name::shown_name;
 use milter_cli_io::{list_paths, say_lists};
 use milter_rules::{RuleFault, read_rule_lines};
-use milter_rules_faults::{Notes, Piece, say_fault};
+use milter_rules_faults::{Notes, Span, say_fault};
 use milter_wire::NoMemory;
 use std::alloc::Global;
 use std::fs;
@@ -72,10 +72,7 @@ pub(crate) fn unread_lists<R: Files>(
         if !path.is_file(files) || fs::open(files, path).is_err() {
             let name = shown_name(alloc, path.as_str())?;
             let mut notes = Notes::new(alloc, name.as_str());
-            notes.say(
-                alloc,
-                &[Piece::Plain(unread_reason(files, path).as_bytes())],
-            )?;
+            notes.say(alloc, &[Span::Plain(unread_reason(files, path).as_bytes())])?;
             said.extend_from_slice(notes.text())?;
         }
     }

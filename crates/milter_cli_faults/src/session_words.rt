@@ -7,7 +7,7 @@ use crate::session_forms::{
 };
 use milter_mail_file::{SessionFault, read_session};
 use milter_rules::RuleFault;
-use milter_rules_faults::{Notes, Piece, say_fault};
+use milter_rules_faults::{Notes, Span, say_fault};
 use milter_text::Word;
 use milter_wire::NoMemory;
 use std::alloc::Global;
@@ -41,11 +41,11 @@ pub(crate) fn say_session(
 /// Says what the file lacks at its end.
 fn say_end(alloc: Global, notes: &mut Notes<'_>, line: &FaultyLine) -> Result<(), NoMemory> {
     let due = due_after(first_before(line));
-    let pieces = [
-        Piece::Plain(b"the file ends here, where a line is due that begins with "),
-        Piece::List(due),
+    let spans = [
+        Span::Plain(b"the file ends here, where a line is due that begins with "),
+        Span::List(due),
     ];
-    notes.say(alloc, &pieces)
+    notes.say(alloc, &spans)
 }
 
 /// The first word of the line before.
@@ -72,15 +72,15 @@ fn say_line(
         SessionFault::NoRecipient(_) => {
             let text =
                 b"the message that ends here has no line recipient; one or more stand after its sender";
-            notes.say(alloc, &[Piece::Plain(text)])
+            notes.say(alloc, &[Span::Plain(text)])
         }
         SessionFault::BadHeader(_) => say_bad_header(alloc, notes, words),
         SessionFault::TooLarge(_) => {
-            notes.say(alloc, &[Piece::Plain(limit_of(words).as_bytes())])
+            notes.say(alloc, &[Span::Plain(limit_of(words).as_bytes())])
         }
         SessionFault::Nul(_) => {
             let text = b"a text has a NUL, which is left to the texts of a body";
-            notes.say(alloc, &[Piece::Plain(text)])
+            notes.say(alloc, &[Span::Plain(text)])
         }
         SessionFault::NoMemory => Err(NoMemory),
     }
@@ -148,41 +148,36 @@ fn say_not_due<'x>(
     first: &'x [u8],
 ) -> Result<(), NoMemory> {
     let before = first_before(line);
-    let due = Piece::List(due_after(before));
-    let first = Piece::Plain(first);
+    let due = Span::List(due_after(before));
+    let first = Span::Plain(first);
     if before.is_empty() {
-        let middle = Piece::Plain(b" can't be the first line, which begins with ");
+        let middle = Span::Plain(b" can't be the first line, which begins with ");
         return notes.say(alloc, &[first, middle, due]);
     }
-    let pieces = [
+    let spans = [
         first,
-        Piece::Plain(b" can't stand after "),
-        Piece::Plain(before),
-        Piece::Plain(b"; a line is due that begins with "),
+        Span::Plain(b" can't stand after "),
+        Span::Plain(before),
+        Span::Plain(b"; a line is due that begins with "),
         due,
     ];
-    notes.say(alloc, &pieces)
+    notes.say(alloc, &spans)
 }
 
 /// Says how a line of these words is written.
 fn say_bad_form(alloc: Global, notes: &mut Notes<'_>, words: &[Word]) -> Result<(), NoMemory> {
-    let form = Piece::Plain(form_of(first_word(words)).as_bytes());
+    let form = Span::Plain(form_of(first_word(words)).as_bytes());
     match unquoted_text(words) {
         Some(word) => {
             let middle = b" is due in double quotes; the line is written ";
-            let shown = Piece::Quoted(word.text.as_slice());
+            let shown = Span::Quoted(word.text.as_slice());
             notes.say(
                 alloc,
-                &[
-                    Piece::Plain(b"the text "),
-                    shown,
-                    Piece::Plain(middle),
-                    form,
-                ],
+                &[Span::Plain(b"the text "), shown, Span::Plain(middle), form],
             )
         }
         None => {
-            let begin = Piece::Plain(b"the line has too few words or too many; it is written ");
+            let begin = Span::Plain(b"the line has too few words or too many; it is written ");
             notes.say(alloc, &[begin, form])
         }
     }
@@ -218,9 +213,9 @@ fn say_bad_client(
 fn say_bad_endpoint(alloc: Global, notes: &mut Notes<'_>, words: &[Word]) -> Result<(), NoMemory> {
     match words {
         [_, _, host, port, address] if host.quoted && address.quoted && !is_port(port) => {
-            let shown = Piece::Quoted(port.text.as_slice());
+            let shown = Span::Quoted(port.text.as_slice());
             let end = b" is no port, which is a number up to 65535 without quotes";
-            notes.say(alloc, &[shown, Piece::Plain(end)])
+            notes.say(alloc, &[shown, Span::Plain(end)])
         }
         words => say_bad_form(alloc, notes, words),
     }
@@ -236,9 +231,9 @@ fn is_port(word: &Word) -> bool {
 fn say_bad_header(alloc: Global, notes: &mut Notes<'_>, words: &[Word]) -> Result<(), NoMemory> {
     match words {
         [_, name, value] if name.quoted && value.quoted => {
-            let shown = Piece::Quoted(name.text.as_slice());
+            let shown = Span::Quoted(name.text.as_slice());
             let end = b" is no name of a header field: visible ASCII characters without a colon";
-            notes.say(alloc, &[shown, Piece::Plain(end)])
+            notes.say(alloc, &[shown, Span::Plain(end)])
         }
         words => say_bad_form(alloc, notes, words),
     }

@@ -3,7 +3,7 @@
 use crate::failure::SocketFault;
 use crate::file_words::has_folder;
 use milter_cli_request::Address;
-use milter_rules_faults::{Notes, Piece};
+use milter_rules_faults::{Notes, Span};
 use milter_wire::NoMemory;
 use std::alloc::Global;
 use std::io::ErrorKind;
@@ -20,14 +20,14 @@ pub(crate) fn say_unbound<R: Files>(
     let Some(kind) = fault.kind else {
         return notes.say(
             alloc,
-            &[Piece::Plain(b"the system doesn't wait for connections")],
+            &[Span::Plain(b"the system doesn't wait for connections")],
         );
     };
     match Address::parse(fault.address) {
         Some(Address::Inet { host, .. }) => say_unbound_port(alloc, notes, host, kind),
         Some(Address::Unix { path }) => {
             let reason = unbound_path(files, Path::new(path), kind);
-            notes.say(alloc, &[Piece::Plain(reason.as_bytes())])
+            notes.say(alloc, &[Span::Plain(reason.as_bytes())])
         }
         None => Ok(()),
     }
@@ -40,15 +40,15 @@ fn say_unbound_port(
     host: &str,
     kind: ErrorKind,
 ) -> Result<(), NoMemory> {
-    let host_piece = Piece::Quoted(host.as_bytes());
+    let host_span = Span::Quoted(host.as_bytes());
     match kind {
         ErrorKind::AddrNotAvailable => {
             let end =
                 b" is no address of this machine; 0.0.0.0 stands for all that it has, 127.0.0.1 for itself";
-            notes.say(alloc, &[host_piece, Piece::Plain(end)])
+            notes.say(alloc, &[host_span, Span::Plain(end)])
         }
         ErrorKind::Uncategorized => say_no_name(alloc, notes, host),
-        _ => notes.say(alloc, &[Piece::Plain(unbound_port(kind).as_bytes())]),
+        _ => notes.say(alloc, &[Span::Plain(unbound_port(kind).as_bytes())]),
     }
 }
 
@@ -67,7 +67,7 @@ fn unbound_port(kind: ErrorKind) -> &'static str {
 
 /// Says that no host has this name.
 fn say_no_name(alloc: Global, notes: &mut Notes<'_>, host: &str) -> Result<(), NoMemory> {
-    let host_piece = Piece::Quoted(host.as_bytes());
+    let host_span = Span::Quoted(host.as_bytes());
     let end: &[u8] = if host.starts_with('[') {
         b"; an IPv6 address stands without brackets"
     } else {
@@ -76,9 +76,9 @@ fn say_no_name(alloc: Global, notes: &mut Notes<'_>, host: &str) -> Result<(), N
     notes.say(
         alloc,
         &[
-            Piece::Plain(b"name not found: "),
-            host_piece,
-            Piece::Plain(end),
+            Span::Plain(b"name not found: "),
+            host_span,
+            Span::Plain(end),
         ],
     )
 }
@@ -116,7 +116,7 @@ pub(crate) fn say_unconnected(
         Some(Address::Inet { host, .. }) if kind == ErrorKind::Uncategorized => {
             say_no_name(alloc, notes, host)
         }
-        _ => notes.say(alloc, &[Piece::Plain(unconnected(kind).as_bytes())]),
+        _ => notes.say(alloc, &[Span::Plain(unconnected(kind).as_bytes())]),
     }
 }
 

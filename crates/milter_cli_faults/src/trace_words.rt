@@ -2,7 +2,7 @@
 
 use crate::file_forms::{NO_OFFER, SECOND_OFFER, TRUNCATED};
 use milter_replay::{RecordingFault, read_trace};
-use milter_rules_faults::{Notes, Piece};
+use milter_rules_faults::{Notes, Span};
 use milter_trace::TraceFault;
 use milter_wire::{NoMemory, WireFault};
 use std::alloc::Global;
@@ -14,7 +14,7 @@ pub(crate) fn say_trace(
     fault: TraceFault,
 ) -> Result<(), NoMemory> {
     notes.go_to(line_of(fault));
-    notes.say(alloc, &[Piece::Plain(meaning(fault).as_bytes())])
+    notes.say(alloc, &[Span::Plain(meaning(fault).as_bytes())])
 }
 
 /// Says why a trace with these bytes can't be sent again.
@@ -34,7 +34,7 @@ pub(crate) fn say_recording(
         RecordingFault::SecondOffer(_) => SECOND_OFFER,
     };
     notes.go_to(fault.line());
-    notes.say(alloc, &[Piece::Plain(text.as_bytes())])
+    notes.say(alloc, &[Span::Plain(text.as_bytes())])
 }
 
 /// The number of the line that is at fault.

@@ -3,7 +3,7 @@
 use crate::list_input::{list_path, read_list_at};
 use milter_filter_rules::{ListFault, ListKind, ListSource, TextList};
 use milter_rules::{RuleFault, list_sources};
-use milter_rules_faults::{Notes, Piece};
+use milter_rules_faults::{Notes, Span};
 use milter_text::{LineCursor, LineFault, TextFault, write_text};
 use milter_wire::NoMemory;
 use std::alloc::Global;
@@ -90,11 +90,11 @@ fn say_unread<'x>(
     notes.say(
         alloc,
         &[
-            Piece::Plain(b"list "),
-            Piece::Plain(source.name.as_slice()),
-            Piece::Plain(b": "),
-            Piece::Quoted(shown),
-            Piece::Plain(b" can't be read, or has more than 134,217,728 bytes"),
+            Span::Plain(b"list "),
+            Span::Plain(source.name.as_slice()),
+            Span::Plain(b": "),
+            Span::Quoted(shown),
+            Span::Plain(b" can't be read, or has more than 134,217,728 bytes"),
         ],
     )
 }
@@ -116,13 +116,13 @@ fn say_entries<'x>(
     notes.say(
         alloc,
         &[
-            Piece::Plain(b"list "),
-            Piece::Plain(source.name.as_slice()),
-            Piece::Plain(b": line "),
-            Piece::Number(line),
-            Piece::Plain(b" of "),
-            Piece::Quoted(shown),
-            Piece::Plain(said),
+            Span::Plain(b"list "),
+            Span::Plain(source.name.as_slice()),
+            Span::Plain(b": line "),
+            Span::Number(line),
+            Span::Plain(b" of "),
+            Span::Quoted(shown),
+            Span::Plain(said),
         ],
     )
 }

@@ -5,7 +5,7 @@ use crate::reply_findings::say_reply;
 use crate::sent_stages::bit_among;
 use milter_filter_rules::{Action, RuleAction};
 use milter_message::Edit;
-use milter_rules_faults::{Notes, Piece};
+use milter_rules_faults::{Notes, Span};
 use milter_wire::{Actions, Header, NoMemory, Options, Protocol, Stage, Text, Verdict};
 use std::alloc::Global;
 
@@ -41,7 +41,7 @@ fn say_verdict(
         Verdict::Code(text) => say_reply(alloc, notes, text.as_slice()),
         Verdict::Skip if options.protocol.0 & Protocol::SKIP.0 == 0 => {
             let text = b"skip is answered as continue: SKIP isn't in the protocol line";
-            notes.say(alloc, &[Piece::Plain(text)])
+            notes.say(alloc, &[Span::Plain(text)])
         }
         _ => Ok(()),
     }
@@ -73,9 +73,9 @@ fn say_needed(
     if options.actions.0 & needed.0 == needed.0 {
         return Ok(());
     }
-    let begin = Piece::Plain(b"this edit is never done: ");
-    let end = Piece::Plain(b" isn't in the actions line");
-    notes.say(alloc, &[begin, Piece::Actions(needed), end])
+    let begin = Span::Plain(b"this edit is never done: ");
+    let end = Span::Plain(b" isn't in the actions line");
+    notes.say(alloc, &[begin, Span::Actions(needed), end])
 }
 
 /// Says of an edit of the header fields that are seen why it is never done, where that is so.
@@ -84,9 +84,9 @@ fn say_unseen(alloc: Global, notes: &mut Notes<'_>, options: Options) -> Result<
     let Some(bit) = bit_among(options, Stage::Header.not_sent()) else {
         return Ok(());
     };
-    let begin = Piece::Plain(b"this edit is never done: header isn't sent, by ");
-    let end = Piece::Plain(b" in the protocol line");
-    notes.say(alloc, &[begin, Piece::Protocol(bit), end])
+    let begin = Span::Plain(b"this edit is never done: header isn't sent, by ");
+    let end = Span::Plain(b" in the protocol line");
+    notes.say(alloc, &[begin, Span::Protocol(bit), end])
 }
 
 /// Says of the name of a header field that is added, changed or deleted that it is none, where that is so.
@@ -100,15 +100,15 @@ fn say_name(alloc: Global, notes: &mut Notes<'_>, name: &Text) -> Result<(), NoM
 /// Says what is to be said of a header field that is added or changed.
 fn say_header(alloc: Global, notes: &mut Notes<'_>, header: &Header) -> Result<(), NoMemory> {
     say_name(alloc, notes, &header.name)?;
-    let begin = Piece::Plain(b"the value of header field ");
-    let name = Piece::Quoted(header.name.as_slice());
+    let begin = Span::Plain(b"the value of header field ");
+    let name = Span::Quoted(header.name.as_slice());
     let value = header.value.as_slice();
     if value.contains(&b'\r') {
-        let end = Piece::Plain(b" has a CR; its lines end with \\n alone");
+        let end = Span::Plain(b" has a CR; its lines end with \\n alone");
         return notes.say(alloc, &[begin, name, end]);
     }
     if has_open_line(value) {
-        let end = Piece::Plain(b" has a \\n without a blank or \\t after it");
+        let end = Span::Plain(b" has a \\n without a blank or \\t after it");
         return notes.say(alloc, &[begin, name, end]);
     }
     Ok(())

@@ -1,7 +1,7 @@
 //! What is written in place of a condition on an address as the client wrote it.
 
 use milter_filter_rules::{Field, PathPart, Test};
-use milter_rules_faults::{Compared, FileForm, Piece};
+use milter_rules_faults::{Compared, FileForm, Span};
 use milter_wire::NoMemory;
 use std::alloc::Global;
 
@@ -47,19 +47,19 @@ pub(crate) fn on_part<'a>(
 }
 
 /// What comes before a network that is to be written in place of the text of this condition.
-pub(crate) fn within_instead(compared: Compared<'_>) -> Piece<'static> {
+pub(crate) fn within_instead(compared: Compared<'_>) -> Span<'static> {
     if compared.negated != (compared.test == Test::Lacks) {
-        Piece::Plain(b"not address within ")
+        Span::Plain(b"not address within ")
     } else {
-        Piece::Plain(b"address within ")
+        Span::Plain(b"address within ")
     }
 }
 
 /// What comes after a condition that a file of this form is advised to have.
-pub(crate) fn advice_end(form: FileForm) -> Piece<'static> {
+pub(crate) fn advice_end(form: FileForm) -> Span<'static> {
     match form {
-        FileForm::First => Piece::Plain(b", and rules 2 as the first line of the file"),
-        FileForm::Second => Piece::Plain(b""),
+        FileForm::First => Span::Plain(b", and rules 2 as the first line of the file"),
+        FileForm::Second => Span::Plain(b""),
     }
 }
 

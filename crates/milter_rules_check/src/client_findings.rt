@@ -5,7 +5,7 @@ use crate::compared::{outcome_unfound, say_empty};
 use crate::networks_meant::network_meant;
 use milter_filter_rules::Test;
 use milter_network::{Address, Network};
-use milter_rules_faults::{Compared, FileForm, Notes, Piece};
+use milter_rules_faults::{Compared, FileForm, Notes, Span};
 use milter_wire::NoMemory;
 use std::alloc::Global;
 
@@ -40,15 +40,15 @@ fn say_network(
     form: FileForm,
     compared: Compared<'_>,
 ) -> Result<(), NoMemory> {
-    let pieces = [
-        Piece::Compared(compared),
-        Piece::Plain(outcome_unfound(compared)),
-        Piece::Plain(b": the address of a client is no network; write "),
+    let spans = [
+        Span::Compared(compared),
+        Span::Plain(outcome_unfound(compared)),
+        Span::Plain(b": the address of a client is no network; write "),
         within_instead(compared),
-        Piece::Quoted(compared.text),
+        Span::Quoted(compared.text),
         advice_end(form),
     ];
-    notes.say(alloc, &pieces)
+    notes.say(alloc, &spans)
 }
 
 /// Says that the text is no address, and which condition finds those of the network that is meant, if one is.
@@ -58,26 +58,26 @@ fn say_no_address(
     form: FileForm,
     compared: Compared<'_>,
 ) -> Result<(), NoMemory> {
-    let condition = Piece::Compared(compared);
-    let outcome = Piece::Plain(outcome_unfound(compared));
-    let colon = Piece::Plain(b": ");
-    let text = Piece::Quoted(compared.text);
+    let condition = Span::Compared(compared);
+    let outcome = Span::Plain(outcome_unfound(compared));
+    let colon = Span::Plain(b": ");
+    let text = Span::Quoted(compared.text);
     match network_meant(alloc, compared.text)? {
         Some(network) => {
-            let pieces = [
+            let spans = [
                 condition,
                 outcome,
                 colon,
                 text,
-                Piece::Plain(b" is no IP address; write "),
+                Span::Plain(b" is no IP address; write "),
                 within_instead(compared),
-                Piece::Quoted(network.as_slice()),
+                Span::Quoted(network.as_slice()),
                 advice_end(form),
             ];
-            notes.say(alloc, &pieces)
+            notes.say(alloc, &spans)
         }
         None => {
-            let end = Piece::Plain(b" is no IP address, such as 192.0.2.1");
+            let end = Span::Plain(b" is no IP address, such as 192.0.2.1");
             notes.say(alloc, &[condition, outcome, colon, text, end])
         }
     }

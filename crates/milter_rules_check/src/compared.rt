@@ -1,7 +1,7 @@
 //! What becomes of conditions whose text isn't found.
 
 use milter_filter_rules::{Test, TextCheck};
-use milter_rules_faults::{Compared, Notes, Piece};
+use milter_rules_faults::{Compared, Notes, Span};
 use milter_wire::NoMemory;
 use std::alloc::Global;
 
@@ -31,13 +31,13 @@ pub(crate) fn say_unfound<'x>(
     compared: Compared<'x>,
     reason: &'x [u8],
 ) -> Result<(), NoMemory> {
-    let pieces = [
-        Piece::Compared(compared),
-        Piece::Plain(outcome_unfound(compared)),
-        Piece::Plain(b": "),
-        Piece::Plain(reason),
+    let spans = [
+        Span::Compared(compared),
+        Span::Plain(outcome_unfound(compared)),
+        Span::Plain(b": "),
+        Span::Plain(reason),
     ];
-    notes.say(alloc, &pieces)
+    notes.say(alloc, &spans)
 }
 
 /// Says that the text is never found, for this reason, and which condition is to be written instead.
@@ -48,15 +48,15 @@ pub(crate) fn say_unfound_instead<'x>(
     reason: &'x [u8],
     instead: Compared<'x>,
 ) -> Result<(), NoMemory> {
-    let pieces = [
-        Piece::Compared(compared),
-        Piece::Plain(outcome_unfound(compared)),
-        Piece::Plain(b": "),
-        Piece::Plain(reason),
-        Piece::Plain(b"; write "),
-        Piece::Compared(instead),
+    let spans = [
+        Span::Compared(compared),
+        Span::Plain(outcome_unfound(compared)),
+        Span::Plain(b": "),
+        Span::Plain(reason),
+        Span::Plain(b"; write "),
+        Span::Compared(instead),
     ];
-    notes.say(alloc, &pieces)
+    notes.say(alloc, &spans)
 }
 
 /// Says of an empty text that is compared with a whole value that it isn't found where there is no value.
@@ -69,20 +69,13 @@ pub(crate) fn say_empty(
     if !compared.text.is_empty() || !is_for_empty || compared.negated {
         return Ok(());
     }
-    let name = Piece::Plain(compared.field.name());
-    let middle = Piece::Plain(b" doesn't hold where there is no ");
-    let end = Piece::Plain(b" lacks \"\" does");
-    let semicolon = Piece::Plain(b"; ");
+    let name = Span::Plain(compared.field.name());
+    let middle = Span::Plain(b" doesn't hold where there is no ");
+    let end = Span::Plain(b" lacks \"\" does");
+    let semicolon = Span::Plain(b"; ");
     notes.say(
         alloc,
-        &[
-            Piece::Compared(compared),
-            middle,
-            name,
-            semicolon,
-            name,
-            end,
-        ],
+        &[Span::Compared(compared), middle, name, semicolon, name, end],
     )
 }
 

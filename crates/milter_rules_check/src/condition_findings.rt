@@ -6,7 +6,7 @@ use crate::compared::{finds_empty, is_met_unfound};
 use crate::sent_stages::bit_among;
 use milter_filter_rules::{Check, Condition, Field, Joint, Measure};
 use milter_protocol::rank_of;
-use milter_rules_faults::{Notes, Piece};
+use milter_rules_faults::{Notes, Span};
 use milter_wire::{NoMemory, Options, Protocol, Stage, Text};
 use std::alloc::Global;
 
@@ -162,7 +162,7 @@ fn say_certainty(
         Certainty::Always => b"this rule always applies: the conditions of one group always hold",
         Certainty::Open => return Ok(()),
     };
-    notes.say(alloc, &[Piece::Plain(text)])
+    notes.say(alloc, &[Span::Plain(text)])
 }
 
 /// Says which condition of a group is never met, or where none is which one always is; answers whether there is one.
@@ -242,24 +242,24 @@ fn say_absent<'x>(
     condition: &'x Condition,
     absence: Absence,
 ) -> Result<(), NoMemory> {
-    let condition_piece = Piece::Condition(condition);
+    let condition_piece = Span::Condition(condition);
     let holds: &[u8] = if is_met_absent(condition) {
         b" always holds: "
     } else {
         b" never holds: "
     };
-    let holds = Piece::Plain(holds);
-    let field = Piece::Plain(name_of(&condition.check));
+    let holds = Span::Plain(holds);
+    let field = Span::Plain(name_of(&condition.check));
     match absence {
         Absence::NotSent(bit) => {
-            let sent = Piece::Plain(b" isn't sent, by ");
-            let end = Piece::Plain(b" in the protocol line");
-            let bit = Piece::Protocol(bit);
+            let sent = Span::Plain(b" isn't sent, by ");
+            let end = Span::Plain(b" in the protocol line");
+            let bit = Span::Protocol(bit);
             notes.say(alloc, &[condition_piece, holds, field, sent, bit, end])
         }
         Absence::NotYet => {
-            let known = Piece::Plain(b" isn't known yet at ");
-            let stage = Piece::Plain(stage.name());
+            let known = Span::Plain(b" isn't known yet at ");
+            let stage = Span::Plain(stage.name());
             notes.say(alloc, &[condition_piece, holds, field, known, stage])
         }
     }
@@ -298,5 +298,5 @@ pub(crate) fn say_header_name(
     name: &Text,
 ) -> Result<(), NoMemory> {
     let end = b" is no name of a header field: that is visible ASCII characters without a colon";
-    notes.say(alloc, &[Piece::Quoted(name.as_slice()), Piece::Plain(end)])
+    notes.say(alloc, &[Span::Quoted(name.as_slice()), Span::Plain(end)])
 }

@@ -2,7 +2,7 @@
 
 use crate::sent_stages::has_stage;
 use milter_filter_rules::Rules;
-use milter_rules_faults::{Notes, Piece};
+use milter_rules_faults::{Notes, Span};
 use milter_wire::{NoMemory, Options, Stage};
 use std::alloc::Global;
 use std::str;
@@ -32,12 +32,12 @@ pub(crate) fn say_stages(
     } else {
         b" sent, which no rule needs; without it serve doesn't ask for it"
     };
-    let pieces = [
-        Piece::Plain(b"the line protocol has "),
-        Piece::List(names),
-        Piece::Plain(end),
+    let spans = [
+        Span::Plain(b"the line protocol has "),
+        Span::List(names),
+        Span::Plain(end),
     ];
-    notes.say_hint(alloc, &pieces)
+    notes.say_hint(alloc, &spans)
 }
 
 /// The bit by which the stage isn't sent, or none.

@@ -4,7 +4,7 @@ use crate::advice::{MAIL_ADDR, RCPT_ADDR, without, without_brackets};
 use crate::checked_file::CheckedFile;
 use crate::compared::{outcome_by, outcome_unfound, say_unfound_instead};
 use milter_filter_rules::Condition;
-use milter_rules_faults::{Compared, FileForm, Notes, Piece};
+use milter_rules_faults::{Compared, FileForm, Notes, Span};
 use milter_wire::{MacroStage, NoMemory, SymList};
 use std::alloc::Global;
 
@@ -36,7 +36,7 @@ const ADDRESS_MACROS: [AddressMacro; 2] = [
 #[derive(Clone, Copy)]
 struct MacroCondition<'a> {
     /// The condition, as it is shown.
-    shown: Piece<'a>,
+    shown: Span<'a>,
     /// What becomes of it without a value.
     outcome: &'static [u8],
 }
@@ -51,7 +51,7 @@ pub(crate) fn say_macro_text(
     name: &[u8],
 ) -> Result<(), NoMemory> {
     let condition = MacroCondition {
-        shown: Piece::Compared(compared),
+        shown: Span::Compared(compared),
         outcome: outcome_unfound(compared),
     };
     if say_macro_name(alloc, notes, file.rules.lists(), condition, name)? {
@@ -72,7 +72,7 @@ pub(crate) fn say_listed_macro(
     name: &[u8],
 ) -> Result<(), NoMemory> {
     let shown = MacroCondition {
-        shown: Piece::Condition(condition),
+        shown: Span::Condition(condition),
         outcome: outcome_by(condition.negated),
     };
     say_macro_name(alloc, notes, file.rules.lists(), shown, name)?;
@@ -139,14 +139,14 @@ fn say_name<'x>(
     reason: &'x [u8],
     due: &'x [u8],
 ) -> Result<(), NoMemory> {
-    let pieces = [
+    let spans = [
         condition.shown,
-        Piece::Plain(condition.outcome),
-        Piece::Plain(b": "),
-        Piece::Plain(reason),
-        Piece::Quoted(due),
+        Span::Plain(condition.outcome),
+        Span::Plain(b": "),
+        Span::Plain(reason),
+        Span::Quoted(due),
     ];
-    notes.say(alloc, &pieces)
+    notes.say(alloc, &spans)
 }
 
 /// Says that the macro isn't sent, for this reason.
@@ -156,11 +156,11 @@ fn say_absent<'x>(
     condition: MacroCondition<'x>,
     reason: &'x [u8],
 ) -> Result<(), NoMemory> {
-    let outcome = Piece::Plain(condition.outcome);
-    let reason = Piece::Plain(reason);
+    let outcome = Span::Plain(condition.outcome);
+    let reason = Span::Plain(reason);
     notes.say(
         alloc,
-        &[condition.shown, outcome, Piece::Plain(b": "), reason],
+        &[condition.shown, outcome, Span::Plain(b": "), reason],
     )
 }
 
@@ -210,11 +210,11 @@ fn say_case<'x>(
     needs: &'x [u8],
     text: &'x [u8],
 ) -> Result<(), NoMemory> {
-    let pieces = [
-        Piece::Compared(compared),
-        Piece::Plain(needs),
-        Piece::Plain(b": over SMTP Postfix sends this macro in lower case; or write "),
-        Piece::Compared(compared.with_text(text)),
+    let spans = [
+        Span::Compared(compared),
+        Span::Plain(needs),
+        Span::Plain(b": over SMTP Postfix sends this macro in lower case; or write "),
+        Span::Compared(compared.with_text(text)),
     ];
-    notes.say(alloc, &pieces)
+    notes.say(alloc, &spans)
 }

@@ -5,7 +5,7 @@ use crate::checked_file::CheckedFile;
 use crate::compared::{outcome_unfound, part_of};
 use milter_address::{canonical_address, domain_of};
 use milter_filter_rules::{Check, Condition, Field, PathPart, Rule, Rules, Test, TextCheck};
-use milter_rules_faults::{Compared, FileForm, Notes, Piece};
+use milter_rules_faults::{Compared, FileForm, Notes, Span};
 use milter_wire::{NoMemory, Stage};
 use std::alloc::Global;
 
@@ -111,9 +111,9 @@ fn say_empty_path(
     notes: &mut Notes<'_>,
     compared: Compared<'_>,
 ) -> Result<(), NoMemory> {
-    let outcome = Piece::Plain(outcome_unfound(compared));
-    let end = Piece::Plain(b" over SMTP: the null sender is written \"<>\"");
-    notes.say(alloc, &[Piece::Compared(compared), outcome, end])
+    let outcome = Span::Plain(outcome_unfound(compared));
+    let end = Span::Plain(b" over SMTP: the null sender is written \"<>\"");
+    notes.say(alloc, &[Span::Compared(compared), outcome, end])
 }
 
 /// Says of an address without brackets where it is found; and which condition finds this one however the client wrote
@@ -129,16 +129,16 @@ fn say_bare<'x>(
     let is_whole = compared.test == Test::Is;
     match part_field(compared.field, PathPart::Address) {
         Some(field) if !is_whole || !domain_of(address).is_empty() => {
-            let pieces = [
-                Piece::Compared(compared),
-                Piece::Plain(text),
-                Piece::Plain(b"; write "),
-                Piece::Compared(on_part(compared, &field, compared.test, address)),
+            let spans = [
+                Span::Compared(compared),
+                Span::Plain(text),
+                Span::Plain(b"; write "),
+                Span::Compared(on_part(compared, &field, compared.test, address)),
                 advice_end(form),
             ];
-            notes.say(alloc, &pieces)
+            notes.say(alloc, &spans)
         }
-        _ => notes.say(alloc, &[Piece::Compared(compared), Piece::Plain(text)]),
+        _ => notes.say(alloc, &[Span::Compared(compared), Span::Plain(text)]),
     }
 }
 
@@ -154,14 +154,14 @@ fn say_in_brackets<'x>(
     let Some(field) = part_field(compared.field, PathPart::Address) else {
         return Ok(());
     };
-    let pieces = [
-        Piece::Compared(compared),
-        Piece::Plain(IN_BRACKETS),
-        Piece::Plain(b"; write "),
-        Piece::Compared(on_part(compared, &field, Test::Is, address)),
+    let spans = [
+        Span::Compared(compared),
+        Span::Plain(IN_BRACKETS),
+        Span::Plain(b"; write "),
+        Span::Compared(on_part(compared, &field, Test::Is, address)),
         advice_end(form),
     ];
-    notes.say_hint(alloc, &pieces)
+    notes.say_hint(alloc, &spans)
 }
 
 /// Says that the text is the end of an address alone.
@@ -171,18 +171,18 @@ fn say_end(
     form: FileForm,
     compared: Compared<'_>,
 ) -> Result<(), NoMemory> {
-    let middle = Piece::Plain(b" compares the whole address; write ");
+    let middle = Span::Plain(b" compares the whole address; write ");
     match (form, part_field(compared.field, PathPart::Domain)) {
         (FileForm::Second, Some(field)) => {
             let domain = end_domain(compared.text);
             let instead = on_part(compared, &field, Test::Is, domain);
-            let pieces = [Piece::Compared(compared), middle, Piece::Compared(instead)];
-            notes.say(alloc, &pieces)
+            let spans = [Span::Compared(compared), middle, Span::Compared(instead)];
+            notes.say(alloc, &spans)
         }
         _ => {
             let part = end_of_path(alloc, compared.text)?;
-            let instead = Piece::Compared(part_of(compared, part.as_slice()));
-            notes.say(alloc, &[Piece::Compared(compared), middle, instead])
+            let instead = Span::Compared(part_of(compared, part.as_slice()));
+            notes.say(alloc, &[Span::Compared(compared), middle, instead])
         }
     }
 }

@@ -1,6 +1,6 @@
 //! What is said of replies, which are the texts of codes.
 
-use milter_rules_faults::{Notes, Piece};
+use milter_rules_faults::{Notes, Span};
 use milter_wire::NoMemory;
 use std::alloc::Global;
 
@@ -37,11 +37,7 @@ pub(crate) fn say_reply(alloc: Global, notes: &mut Notes<'_>, text: &[u8]) -> Re
         let end = b" has a single %, which Postfix leaves out; write %%";
         notes.say(
             alloc,
-            &[
-                Piece::Plain(b"code "),
-                Piece::Quoted(text),
-                Piece::Plain(end),
-            ],
+            &[Span::Plain(b"code "), Span::Quoted(text), Span::Plain(end)],
         )?;
     }
     Ok(())
@@ -56,19 +52,19 @@ fn say_status(
     class: u8,
     bytes: &[u8],
 ) -> Result<(), NoMemory> {
-    let begin = Piece::Plain(b"code ");
-    let code = Piece::Quoted(text);
+    let begin = Span::Plain(b"code ");
+    let code = Span::Quoted(text);
     let Some((status, rest)) = status_code(bytes) else {
         return say_no_status(alloc, notes, text, is_blank(bytes));
     };
     if status != class {
-        let middle = Piece::Plain(b" has an enhanced status code of another class than ");
-        let reply_code = Piece::Plain(first(text, 3));
-        let end = Piece::Plain(MALFORMED);
+        let middle = Span::Plain(b" has an enhanced status code of another class than ");
+        let reply_code = Span::Plain(first(text, 3));
+        let end = Span::Plain(MALFORMED);
         notes.say(alloc, &[begin, code, middle, reply_code, end])?;
     }
     if is_blank(rest) {
-        let end = Piece::Plain(b" has no text after its status codes");
+        let end = Span::Plain(b" has no text after its status codes");
         notes.say(alloc, &[begin, code, end])?;
     }
     Ok(())
@@ -81,18 +77,18 @@ fn say_no_status(
     text: &[u8],
     is_alone: bool,
 ) -> Result<(), NoMemory> {
-    let begin = Piece::Plain(b"code ");
-    let code = Piece::Quoted(text);
-    let middle = Piece::Plain(b" has no enhanced status code, such as ");
-    let class = Piece::Plain(first(text, 1));
+    let begin = Span::Plain(b"code ");
+    let code = Span::Quoted(text);
+    let middle = Span::Plain(b" has no enhanced status code, such as ");
+    let class = Span::Plain(first(text, 1));
     if is_alone {
-        let end = Piece::Plain(b".7.1, and no text");
+        let end = Span::Plain(b".7.1, and no text");
         let outcome: &[u8] = if text.len() == 3 { MALFORMED } else { b"" };
-        let outcome = Piece::Plain(outcome);
+        let outcome = Span::Plain(outcome);
         return notes.say(alloc, &[begin, code, middle, class, end, outcome]);
     }
-    let end = Piece::Plain(b".7.1, after ");
-    let reply_code = Piece::Plain(first(text, 3));
+    let end = Span::Plain(b".7.1, after ");
+    let reply_code = Span::Plain(first(text, 3));
     notes.say_hint(alloc, &[begin, code, middle, class, end, reply_code])
 }
 
@@ -147,13 +143,13 @@ fn say_line_trouble(
     text: &[u8],
     trouble: LineTrouble,
 ) -> Result<(), NoMemory> {
-    let begin = Piece::Plain(b"code ");
-    let code = Piece::Quoted(text);
-    let reply_code = Piece::Plain(first(text, 3));
+    let begin = Span::Plain(b"code ");
+    let code = Span::Quoted(text);
+    let reply_code = Span::Plain(first(text, 3));
     let (middle, end): (&[u8], &[u8]) = match trouble {
         LineTrouble::LoneByte => {
             let end = b" has a \\r or a \\n alone, which ends no line; write \\r\\n";
-            return notes.say(alloc, &[begin, code, Piece::Plain(end)]);
+            return notes.say(alloc, &[begin, code, Span::Plain(end)]);
         }
         LineTrouble::NoCode => (
             b" has a line without ",
@@ -169,14 +165,14 @@ fn say_line_trouble(
             b" in its last line: a client waits for another",
         ),
     };
-    let pieces = [
+    let spans = [
         begin,
         code,
-        Piece::Plain(middle),
+        Span::Plain(middle),
         reply_code,
-        Piece::Plain(end),
+        Span::Plain(end),
     ];
-    notes.say(alloc, &pieces)
+    notes.say(alloc, &spans)
 }
 
 /// The first bytes, so many.

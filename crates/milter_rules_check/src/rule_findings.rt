@@ -8,7 +8,7 @@ use crate::sent_stages::{bit_among, has_stage};
 use crate::text_findings::say_texts;
 use milter_filter_rules::{Action, Rule, RuleAction, Rules};
 use milter_protocol::rank_of;
-use milter_rules_faults::{Notes, Piece, RuleLine, form_of_file, rule_lines};
+use milter_rules_faults::{Notes, RuleLine, Span, form_of_file, rule_lines};
 use milter_wire::{NoMemory, Options, Stage};
 use std::alloc::Global;
 
@@ -83,7 +83,7 @@ fn say_rule(
 ) -> Result<(), NoMemory> {
     let options = file.rules.options();
     let conditions = rule.conditions.as_slice();
-    let is_said = say_lost(alloc, notes, options, stage, last)?
+    let is_said = say_dead_rule(alloc, notes, options, stage, last)?
         || say_conditions(alloc, notes, options, stage, conditions)?;
     if !is_said {
         say_texts(alloc, notes, file, conditions)?;
@@ -93,33 +93,33 @@ fn say_rule(
 }
 
 /// Says why a rule of this stage never applies, whatever its conditions; answers whether that is so.
-fn say_lost(
+fn say_dead_rule(
     alloc: Global,
     notes: &mut Notes<'_>,
     options: Options,
     stage: Stage,
     last: Option<u64>,
 ) -> Result<bool, NoMemory> {
-    let never = Piece::Plain(b"this rule never applies: ");
-    let name = Piece::Plain(stage.name());
-    let by_line = Piece::Plain(b" in the protocol line");
+    let never = Span::Plain(b"this rule never applies: ");
+    let name = Span::Plain(stage.name());
+    let by_line = Span::Plain(b" in the protocol line");
     if let Some(bit) = bit_among(options, stage.not_sent()) {
-        let sent = Piece::Plain(b" isn't sent, by ");
-        notes.say(alloc, &[never, name, sent, Piece::Protocol(bit), by_line])?;
+        let sent = Span::Plain(b" isn't sent, by ");
+        notes.say(alloc, &[never, name, sent, Span::Protocol(bit), by_line])?;
     } else if !has_stage(options, stage) {
-        let sent = Piece::Plain(b" isn't sent before version 4");
+        let sent = Span::Plain(b" isn't sent before version 4");
         notes.say(alloc, &[never, name, sent])?;
     } else if let Some(bit) = bit_among(options, stage.not_answered()) {
-        let no_effect = Piece::Plain(b"this rule has no effect: ");
-        let answered = Piece::Plain(b" isn't answered, by ");
+        let no_effect = Span::Plain(b"this rule has no effect: ");
+        let answered = Span::Plain(b" isn't answered, by ");
         notes.say(
             alloc,
-            &[no_effect, name, answered, Piece::Protocol(bit), by_line],
+            &[no_effect, name, answered, Span::Protocol(bit), by_line],
         )?;
     } else if let Some(line) = last {
-        let rule = Piece::Plain(b"the rule in line ");
-        let ends = Piece::Plain(b" ends those of ");
-        notes.say(alloc, &[never, rule, Piece::Number(line), ends, name])?;
+        let rule = Span::Plain(b"the rule in line ");
+        let ends = Span::Plain(b" ends those of ");
+        notes.say(alloc, &[never, rule, Span::Number(line), ends, name])?;
     } else {
         return Ok(false);
     }

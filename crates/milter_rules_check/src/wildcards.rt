@@ -7,7 +7,7 @@ use crate::advice::{
 use crate::compared::part_of;
 use crate::networks_meant::network_meant;
 use milter_filter_rules::{Field, PathPart, Test};
-use milter_rules_faults::{Compared, FileForm, Notes, Piece};
+use milter_rules_faults::{Compared, FileForm, Notes, Span};
 use milter_wire::NoMemory;
 use std::alloc::Global;
 
@@ -52,15 +52,15 @@ fn say_network<'x>(
     compared: Compared<'x>,
     network: &'x [u8],
 ) -> Result<(), NoMemory> {
-    let pieces = [
-        Piece::Compared(compared),
-        Piece::Plain(FOR_ITSELF),
-        Piece::Plain(b"; write "),
+    let spans = [
+        Span::Compared(compared),
+        Span::Plain(FOR_ITSELF),
+        Span::Plain(b"; write "),
         within_instead(compared),
-        Piece::Quoted(network),
+        Span::Quoted(network),
         advice_end(form),
     ];
-    notes.say(alloc, &pieces)
+    notes.say(alloc, &spans)
 }
 
 /// Says that the `*` stands for itself, and which part of a value is to be looked for instead, where there is one.
@@ -69,10 +69,10 @@ fn say_part_meant(
     notes: &mut Notes<'_>,
     compared: Compared<'_>,
 ) -> Result<(), NoMemory> {
-    let condition = Piece::Compared(compared);
+    let condition = Span::Compared(compared);
     match part_meant(alloc, compared)? {
         Some(part) => say_instead(alloc, notes, compared, part_of(compared, part.as_slice())),
-        None => notes.say(alloc, &[condition, Piece::Plain(FOR_ITSELF)]),
+        None => notes.say(alloc, &[condition, Span::Plain(FOR_ITSELF)]),
     }
 }
 
@@ -83,13 +83,13 @@ fn say_instead<'x>(
     compared: Compared<'x>,
     instead: Compared<'x>,
 ) -> Result<(), NoMemory> {
-    let pieces = [
-        Piece::Compared(compared),
-        Piece::Plain(FOR_ITSELF),
-        Piece::Plain(b"; write "),
-        Piece::Compared(instead),
+    let spans = [
+        Span::Compared(compared),
+        Span::Plain(FOR_ITSELF),
+        Span::Plain(b"; write "),
+        Span::Compared(instead),
     ];
-    notes.say(alloc, &pieces)
+    notes.say(alloc, &spans)
 }
 
 /// Says that the `*` stands for itself, and with which test it doesn't.

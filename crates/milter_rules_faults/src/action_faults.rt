@@ -5,7 +5,7 @@ use crate::form_faults::say_needs_form;
 use crate::known_words::{
     ACTION, Kind, WIDE_ACTION, WIDE_ACTIONS, is_one_of, say_missing, say_unknown, say_unquoted,
 };
-use crate::notes::{Notes, Piece};
+use crate::notes::{Notes, Span};
 use milter_text::Word;
 use milter_wire::NoMemory;
 use std::alloc::Global;
@@ -98,9 +98,9 @@ pub(crate) fn say_bad_action(
 ) -> Result<(), NoMemory> {
     let known = actions_of(file);
     match words {
-        [] => say_missing(alloc, notes, &known, Piece::Plain(b"do")),
+        [] => say_missing(alloc, notes, &known, Span::Plain(b"do")),
         [action, ..] if file == FileForm::First && is_one_of(action, WIDE_ACTIONS) => {
-            say_needs_form(alloc, notes, Piece::Word(action), b"")
+            say_needs_form(alloc, notes, Span::Word(action), b"")
         }
         [action, rest @ ..] if is_one_of(action, known.names) => {
             say_bad_words(alloc, notes, action, rest)
@@ -142,13 +142,13 @@ fn is_index(word: &Word) -> bool {
 
 /// Says that nothing may stand after the action.
 fn say_not_alone(alloc: Global, notes: &mut Notes<'_>, action: &Word) -> Result<(), NoMemory> {
-    let begin = Piece::Plain(b"nothing is due after ");
+    let begin = Span::Plain(b"nothing is due after ");
     let end: &[u8] = if is_one_of(action, "reject|tempfail") {
         b"; an answer with a text is code TEXT"
     } else {
         b""
     };
-    notes.say(alloc, &[begin, Piece::Word(action), Piece::Plain(end)])
+    notes.say(alloc, &[begin, Span::Word(action), Span::Plain(end)])
 }
 
 /// Says that the action has another form.
@@ -158,11 +158,8 @@ fn say_form(
     action: &Word,
     form: Form,
 ) -> Result<(), NoMemory> {
-    let begin = Piece::Plain(b"the form is ");
-    notes.say(
-        alloc,
-        &[begin, Piece::Word(action), Piece::Plain(form.text)],
-    )
+    let begin = Span::Plain(b"the form is ");
+    notes.say(alloc, &[begin, Span::Word(action), Span::Plain(form.text)])
 }
 
 /// Says that this word is no index.
@@ -172,13 +169,13 @@ fn say_bad_number<'x>(
     action: &'x Word,
     number: &'x Word,
 ) -> Result<(), NoMemory> {
-    let pieces = [
-        Piece::Plain(b"a number of at most 4294967295 is due after "),
-        Piece::Word(action),
-        Piece::Plain(b", in place of "),
-        Piece::Quoted(number.text.as_slice()),
+    let spans = [
+        Span::Plain(b"a number of at most 4294967295 is due after "),
+        Span::Word(action),
+        Span::Plain(b", in place of "),
+        Span::Quoted(number.text.as_slice()),
     ];
-    notes.say(alloc, &pieces)
+    notes.say(alloc, &spans)
 }
 
 /// Says what is wrong with these words, which are to be the texts of the action, after this word of it.
@@ -201,9 +198,9 @@ fn say_bad_texts(
     }
     match words.iter().find(|word| !word.text.has_no_nul()) {
         Some(_) => {
-            let begin = Piece::Plain(b"a text of ");
-            let end = Piece::Plain(b" can't have a NUL");
-            notes.say(alloc, &[begin, Piece::Word(action), end])
+            let begin = Span::Plain(b"a text of ");
+            let end = Span::Plain(b" can't have a NUL");
+            notes.say(alloc, &[begin, Span::Word(action), end])
         }
         None => say_bad_code(alloc, notes, words),
     }
@@ -237,13 +234,13 @@ fn say_unquoted_words(
         }
         text.extend_from_slice(word.text.as_slice())?;
     }
-    let pieces = [
-        Piece::Plain(b"a text in double quotes is due after "),
-        Piece::Word(action),
-        Piece::Plain(b": "),
-        Piece::Quoted(text.as_slice()),
+    let spans = [
+        Span::Plain(b"a text in double quotes is due after "),
+        Span::Word(action),
+        Span::Plain(b": "),
+        Span::Quoted(text.as_slice()),
     ];
-    notes.say(alloc, &pieces)
+    notes.say(alloc, &spans)
 }
 
 /// Says that the text of a code doesn't have the form of one.
@@ -254,7 +251,7 @@ fn say_bad_code(alloc: Global, notes: &mut Notes<'_>, words: &[Word]) -> Result<
     let end = b" is no reply code: it begins with three digits, the first of them 4 or 5";
     notes.say(
         alloc,
-        &[Piece::Quoted(code.text.as_slice()), Piece::Plain(end)],
+        &[Span::Quoted(code.text.as_slice()), Span::Plain(end)],
     )
 }
 
@@ -277,6 +274,6 @@ pub(crate) fn say_action_not_here<'x>(
     };
     notes.say(
         alloc,
-        &[Piece::Word(action), Piece::Plain(rule), Piece::Word(stage)],
+        &[Span::Word(action), Span::Plain(rule), Span::Word(stage)],
     )
 }

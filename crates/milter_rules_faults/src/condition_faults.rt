@@ -16,7 +16,7 @@ use crate::known_words::{
 };
 use crate::misfits::{say_misfit, say_other_field};
 use crate::nearest::name_meant;
-use crate::notes::{Notes, Piece};
+use crate::notes::{Notes, Span};
 use crate::number_faults::say_bad_over;
 use crate::reference_faults::say_no_name;
 use milter_text::Word;
@@ -56,7 +56,7 @@ pub(crate) fn say_bad_stage(
 ) -> Result<(), NoMemory> {
     match words {
         [_, stage, ..] if !is_joint(stage) => say_unknown(alloc, notes, &STAGE, stage),
-        _ => say_missing(alloc, notes, &STAGE, Piece::Plain(b"at")),
+        _ => say_missing(alloc, notes, &STAGE, Span::Plain(b"at")),
     }
 }
 
@@ -83,7 +83,7 @@ pub(crate) fn say_bad_conditions(
         [word, ..] => say_bad_joint(alloc, notes, head.form, is_first, word),
         [] => {
             let text = b"do and an action are missing at the end of the line";
-            notes.say(alloc, &[Piece::Plain(text)])
+            notes.say(alloc, &[Span::Plain(text)])
         }
     }
 }
@@ -116,7 +116,7 @@ fn say_bad_condition(
 ) -> Result<(), NoMemory> {
     let (negated, rest) = flag_in(b"not", words);
     if negated && place.head.form == FileForm::First {
-        return say_needs_form(alloc, notes, Piece::Plain(b"not"), WITHOUT_NOT);
+        return say_needs_form(alloc, notes, Span::Plain(b"not"), WITHOUT_NOT);
     }
     match field_in(rest) {
         Some(found) => say_bad_test(alloc, notes, place.head, found),
@@ -142,7 +142,7 @@ fn say_bad_field(
             say_unquoted(alloc, notes, b"a name", field, rest)
         }
         [field, ..] if !is_joint(field) => say_unknown(alloc, notes, &fields_of(form), field),
-        _ => say_missing(alloc, notes, &fields_of(form), Piece::Plain(before)),
+        _ => say_missing(alloc, notes, &fields_of(form), Span::Plain(before)),
     }
 }
 
@@ -155,7 +155,7 @@ fn say_bad_test(
 ) -> Result<(), NoMemory> {
     let form = head.form;
     if form == FileForm::First && is_one_of(found.field, WIDE_FIELDS) {
-        return say_needs_form(alloc, notes, Piece::Word(found.field), b"");
+        return say_needs_form(alloc, notes, Span::Word(found.field), b"");
     }
     if is_one_of(found.field, NUMBER_FIELDS) {
         return say_bad_over(alloc, notes, found);
@@ -167,7 +167,7 @@ fn say_bad_test(
             say_bad_texts(alloc, notes, head, found.field, test, rest)
         }
         [test, ..] if !is_joint(test) => say_unknown(alloc, notes, &tests_of(form), test),
-        _ => say_missing(alloc, notes, &tests_of(form), Piece::Word(found.last)),
+        _ => say_missing(alloc, notes, &tests_of(form), Span::Word(found.last)),
     }
 }
 
@@ -182,7 +182,7 @@ fn say_bad_texts(
 ) -> Result<(), NoMemory> {
     let form = head.form;
     if form == FileForm::First && is_one_of(test, WIDE_TESTS) {
-        return say_needs_form(alloc, notes, Piece::Word(test), b"");
+        return say_needs_form(alloc, notes, Span::Word(test), b"");
     }
     if say_other_field(alloc, notes, field, test)? {
         return Ok(());
@@ -215,13 +215,13 @@ fn say_bad_joint<'x>(
     is_first: bool,
     word: &'x Word,
 ) -> Result<(), NoMemory> {
-    let quoted = Piece::Quoted(word.text.as_slice());
+    let quoted = Span::Quoted(word.text.as_slice());
     if is_one_of(word, WIDE_ACTION.names) {
-        return notes.say(alloc, &[Piece::Plain(b"do is missing before "), quoted]);
+        return notes.say(alloc, &[Span::Plain(b"do is missing before "), quoted]);
     }
     if is_one_of(word, WIDE_FIELD.names) {
-        let middle = Piece::Plain(b" is missing before ");
-        return notes.say(alloc, &[Piece::Plain(joint_due(is_first)), middle, quoted]);
+        let middle = Span::Plain(b" is missing before ");
+        return notes.say(alloc, &[Span::Plain(joint_due(is_first)), middle, quoted]);
     }
     if word.is_keyword(b"any-case") {
         return say_any_case_place(alloc, notes, form);
@@ -229,7 +229,7 @@ fn say_bad_joint<'x>(
     match form {
         _ if is_first => say_no_joint(alloc, notes, &FIRST_JOINT, joint_due(is_first), word),
         FileForm::First if word.is_keyword(b"or") => {
-            say_needs_form(alloc, notes, Piece::Plain(b"or"), WITHOUT_OR)
+            say_needs_form(alloc, notes, Span::Plain(b"or"), WITHOUT_OR)
         }
         FileForm::First => say_no_joint(alloc, notes, &NEXT_JOINT, joint_due(is_first), word),
         FileForm::Second => say_unknown(alloc, notes, &WIDE_JOINT, word),
@@ -247,9 +247,9 @@ fn say_no_joint<'x>(
     if is_near(alloc, kind, word)? {
         return say_unknown(alloc, notes, kind, word);
     }
-    let middle = Piece::Plain(b" or do is due in place of ");
-    let quoted = Piece::Quoted(word.text.as_slice());
-    notes.say(alloc, &[Piece::Plain(joint), middle, quoted])
+    let middle = Span::Plain(b" or do is due in place of ");
+    let quoted = Span::Quoted(word.text.as_slice());
+    notes.say(alloc, &[Span::Plain(joint), middle, quoted])
 }
 
 /// Whether the word is plain, and near to one of this kind.

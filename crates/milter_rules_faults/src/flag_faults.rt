@@ -3,7 +3,7 @@
 use crate::file_form::FileForm;
 use crate::form_faults::say_needs_form;
 use crate::known_words::is_one_of;
-use crate::notes::{Notes, Piece};
+use crate::notes::{Notes, Span};
 use milter_text::Word;
 use milter_wire::NoMemory;
 use std::alloc::Global;
@@ -22,11 +22,11 @@ pub(crate) fn say_not_place(
     match form {
         FileForm::First => {
             let end = b", and is due before the field; lacks TEXT holds where has TEXT doesn't";
-            say_needs_form(alloc, notes, Piece::Plain(b"not"), end)
+            say_needs_form(alloc, notes, Span::Plain(b"not"), end)
         }
         FileForm::Second => {
             let text = b"not is due before the field: not FIELD TEST TEXT";
-            notes.say(alloc, &[Piece::Plain(text)])
+            notes.say(alloc, &[Span::Plain(text)])
         }
     }
 }
@@ -38,10 +38,10 @@ pub(crate) fn say_any_case_place(
     form: FileForm,
 ) -> Result<(), NoMemory> {
     match form {
-        FileForm::First => say_needs_form(alloc, notes, Piece::Plain(b"any-case"), b""),
+        FileForm::First => say_needs_form(alloc, notes, Span::Plain(b"any-case"), b""),
         FileForm::Second => {
             let text = b"any-case is due after a test, before its texts";
-            notes.say(alloc, &[Piece::Plain(text)])
+            notes.say(alloc, &[Span::Plain(text)])
         }
     }
 }
@@ -52,7 +52,7 @@ pub(crate) fn say_no_case(
     notes: &mut Notes<'_>,
     word: &Word,
 ) -> Result<(), NoMemory> {
-    let begin = Piece::Plain(b"any-case isn't written with ");
-    let end = Piece::Plain(b", where the case of letters never counts");
-    notes.say(alloc, &[begin, Piece::Word(word), end])
+    let begin = Span::Plain(b"any-case isn't written with ");
+    let end = Span::Plain(b", where the case of letters never counts");
+    notes.say(alloc, &[begin, Span::Word(word), end])
 }

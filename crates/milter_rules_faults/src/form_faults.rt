@@ -1,7 +1,7 @@
 //! What is said of the line that gives a file its form, and of what takes such a line.
 
 use crate::file_form::{FileForm, is_form_line};
-use crate::notes::{Notes, Piece};
+use crate::notes::{Notes, Span};
 use milter_text::Word;
 use milter_wire::NoMemory;
 use std::alloc::Global;
@@ -29,15 +29,15 @@ pub(crate) fn say_bad_form_line(
     } else {
         b"rules 2 is due before all other lines"
     };
-    notes.say(alloc, &[Piece::Plain(text)])
+    notes.say(alloc, &[Span::Plain(text)])
 }
 
 /// Says that the word is known in files of the second form alone; `end` is what is said beside that.
 pub(crate) fn say_needs_form<'x>(
     alloc: Global,
     notes: &mut Notes<'_>,
-    word: Piece<'x>,
+    word: Span<'x>,
     end: &'x [u8],
 ) -> Result<(), NoMemory> {
-    notes.say(alloc, &[word, Piece::Plain(NEEDS_FORM), Piece::Plain(end)])
+    notes.say(alloc, &[word, Span::Plain(NEEDS_FORM), Span::Plain(end)])
 }

@@ -1,7 +1,7 @@
 //! The words of rule files, and what is said of a word that is none of them.
 
 use crate::nearest::name_meant;
-use crate::notes::{Notes, Piece};
+use crate::notes::{Notes, Span};
 use milter_text::Word;
 use milter_wire::NoMemory;
 use std::alloc::Global;
@@ -197,22 +197,19 @@ pub(crate) fn say_unknown<'x>(
     if !word.quoted {
         return say_unknown_name(alloc, notes, kind, text);
     }
-    let called = Piece::Plain(kind.called);
+    let called = Span::Plain(kind.called);
     if has_name(kind.names, text) {
-        let end = Piece::Plain(b" is due without quotes");
-        return notes.say(
-            alloc,
-            &[called, Piece::Plain(b" "), Piece::Quoted(text), end],
-        );
+        let end = Span::Plain(b" is due without quotes");
+        return notes.say(alloc, &[called, Span::Plain(b" "), Span::Quoted(text), end]);
     }
-    let pieces = [
+    let spans = [
         called,
-        Piece::Plain(b" is missing before "),
-        Piece::Quoted(text),
-        Piece::Plain(b"; known are "),
-        Piece::List(kind.names),
+        Span::Plain(b" is missing before "),
+        Span::Quoted(text),
+        Span::Plain(b"; known are "),
+        Span::List(kind.names),
     ];
-    notes.say(alloc, &pieces)
+    notes.say(alloc, &spans)
 }
 
 /// Says that the name is none of its kind, and which one may be meant.
@@ -223,23 +220,23 @@ pub(crate) fn say_unknown_name<'x>(
     name: &'x [u8],
 ) -> Result<(), NoMemory> {
     let meant = name_meant(alloc, kind, name)?;
-    let called = Piece::Plain(kind.called);
-    let blank = Piece::Plain(b" ");
-    let quoted = Piece::Quoted(name);
+    let called = Span::Plain(kind.called);
+    let blank = Span::Plain(b" ");
+    let quoted = Span::Quoted(name);
     match meant {
         Some(meant) => {
-            let middle = Piece::Plain(b" isn't known; did you mean ");
-            let meant = Piece::Plain(meant.as_bytes());
+            let middle = Span::Plain(b" isn't known; did you mean ");
+            let meant = Span::Plain(meant.as_bytes());
             notes.say(
                 alloc,
-                &[called, blank, quoted, middle, meant, Piece::Plain(b"?")],
+                &[called, blank, quoted, middle, meant, Span::Plain(b"?")],
             )
         }
         None => {
-            let middle = Piece::Plain(b" isn't known; known are ");
+            let middle = Span::Plain(b" isn't known; known are ");
             notes.say(
                 alloc,
-                &[called, blank, quoted, middle, Piece::List(kind.names)],
+                &[called, blank, quoted, middle, Span::List(kind.names)],
             )
         }
     }
@@ -250,16 +247,16 @@ pub(crate) fn say_missing<'x>(
     alloc: Global,
     notes: &mut Notes<'_>,
     kind: &Kind<'x>,
-    before: Piece<'x>,
+    before: Span<'x>,
 ) -> Result<(), NoMemory> {
-    let pieces = [
-        Piece::Plain(kind.called),
-        Piece::Plain(b" is missing after "),
+    let spans = [
+        Span::Plain(kind.called),
+        Span::Plain(b" is missing after "),
         before,
-        Piece::Plain(b"; known are "),
-        Piece::List(kind.names),
+        Span::Plain(b"; known are "),
+        Span::List(kind.names),
     ];
-    notes.say(alloc, &pieces)
+    notes.say(alloc, &spans)
 }
 
 /// Says that something in double quotes, as a text, is due after this word, in place of those that stand there.
@@ -270,13 +267,13 @@ pub(crate) fn say_unquoted<'x>(
     before: &'x Word,
     words: &'x [Word],
 ) -> Result<(), NoMemory> {
-    let due = Piece::Plain(due);
-    let middle = Piece::Plain(b" in double quotes is due after ");
-    let before = Piece::Word(before);
+    let due = Span::Plain(due);
+    let middle = Span::Plain(b" in double quotes is due after ");
+    let before = Span::Word(before);
     match words {
         [word, ..] if !is_one_of(word, "when|and|or|do|is|has|lacks") => {
-            let word = Piece::Quoted(word.text.as_slice());
-            notes.say(alloc, &[due, middle, before, Piece::Plain(b": "), word])
+            let word = Span::Quoted(word.text.as_slice());
+            notes.say(alloc, &[due, middle, before, Span::Plain(b": "), word])
         }
         _ => notes.say(alloc, &[due, middle, before]),
     }

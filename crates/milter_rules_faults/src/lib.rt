@@ -28,5 +28,5 @@ mod word_faults;
 pub use compared::Compared;
 pub use file_form::{FileForm, form_of_file};
 pub use line_faults::say_fault;
-pub use notes::{Notes, Piece, Severity};
+pub use notes::{Notes, Severity, Span};
 pub use rule_line::{RuleLine, rule_lines};

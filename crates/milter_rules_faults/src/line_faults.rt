@@ -6,7 +6,7 @@ use crate::file_form::form_of_file;
 use crate::file_head::{FileHead, lists_of_file};
 use crate::form_faults::say_bad_form_line;
 use crate::list_faults::say_bad_list_line;
-use crate::notes::{Notes, Piece};
+use crate::notes::{Notes, Span};
 use crate::option_faults::say_bad_option;
 use crate::rule_line::rule_lines;
 use crate::word_faults::{comment_start, say_no_words};
@@ -67,8 +67,8 @@ fn faulty_line<'x>(head: FileHead<'x>, bytes: &'x [u8], words: &'x [Word]) -> Fa
 
 /// Says that this comment comes after a line that is right without it.
 fn say_comment(alloc: Global, notes: &mut Notes<'_>, comment: &[u8]) -> Result<(), NoMemory> {
-    let begin = Piece::Plain(b"a comment is due in a line of its own: ");
-    notes.say(alloc, &[begin, Piece::Quoted(comment)])
+    let begin = Span::Plain(b"a comment is due in a line of its own: ");
+    notes.say(alloc, &[begin, Span::Quoted(comment)])
 }
 
 /// Says what is wrong with the line of a file of these bytes.
@@ -92,12 +92,12 @@ fn say_line_fault(
             } else {
                 b"a text is too large for a packet, which has room for 65,535 bytes"
             };
-            notes.say(alloc, &[Piece::Plain(text)])
+            notes.say(alloc, &[Span::Plain(text)])
         }
         RuleFault::BadList(_) => {
             let text =
                 b"the list can't be read: its file is missing, too large, or has a bad entry";
-            notes.say(alloc, &[Piece::Plain(text)])
+            notes.say(alloc, &[Span::Plain(text)])
         }
         RuleFault::NoMemory => Err(NoMemory),
     }

@@ -5,7 +5,7 @@ use crate::file_head::FileHead;
 use crate::form_faults::say_needs_form;
 use crate::known_words::{is_one_of, say_missing, say_unknown, say_unquoted};
 use crate::list_words::LIST_KIND;
-use crate::notes::{Notes, Piece};
+use crate::notes::{Notes, Span};
 use milter_list_lines::is_list_name;
 use milter_text::Word;
 use milter_wire::NoMemory;
@@ -19,11 +19,11 @@ pub(crate) fn say_bad_list_line(
     words: &[Word],
 ) -> Result<(), NoMemory> {
     if head.form == FileForm::First {
-        return say_needs_form(alloc, notes, Piece::Plain(b"list"), b"");
+        return say_needs_form(alloc, notes, Span::Plain(b"list"), b"");
     }
     match words {
         [_, name, ..] if !is_name(name) => say_bad_name(alloc, notes, name),
-        [_, name] => say_missing(alloc, notes, &LIST_KIND, Piece::Word(name)),
+        [_, name] => say_missing(alloc, notes, &LIST_KIND, Span::Word(name)),
         [_, _, kind, ..] if !is_one_of(kind, LIST_KIND.names) => {
             say_unknown(alloc, notes, &LIST_KIND, kind)
         }
@@ -45,18 +45,18 @@ fn is_name(word: &Word) -> bool {
 fn say_bad_name(alloc: Global, notes: &mut Notes<'_>, word: &Word) -> Result<(), NoMemory> {
     let text = word.text.as_slice();
     if is_list_name(text) {
-        let begin = Piece::Plain(b"name ");
-        let end = Piece::Plain(b" is due without quotes");
-        return notes.say(alloc, &[begin, Piece::Quoted(text), end]);
+        let begin = Span::Plain(b"name ");
+        let end = Span::Plain(b" is due without quotes");
+        return notes.say(alloc, &[begin, Span::Quoted(text), end]);
     }
     let end = b" is no name of a list: that is ASCII letters, digits, - . and _";
-    notes.say(alloc, &[Piece::Quoted(text), Piece::Plain(end)])
+    notes.say(alloc, &[Span::Quoted(text), Span::Plain(end)])
 }
 
 /// Says what the form of a list's line is.
 fn say_form(alloc: Global, notes: &mut Notes<'_>) -> Result<(), NoMemory> {
     let text = b"the form is list NAME KIND FILE, with FILE in double quotes";
-    notes.say(alloc, &[Piece::Plain(text)])
+    notes.say(alloc, &[Span::Plain(text)])
 }
 
 /// Says why a line with the form of a list's can't be where it is: the name is given before, or another line comes
@@ -69,9 +69,9 @@ fn say_no_place(
 ) -> Result<(), NoMemory> {
     if head.lists.is_some() {
         let text = b"lists are due right behind the first line, before all others";
-        return notes.say(alloc, &[Piece::Plain(text)]);
+        return notes.say(alloc, &[Span::Plain(text)]);
     }
-    let begin = Piece::Plain(b"list ");
-    let end = Piece::Plain(b" is given a second time; each list has a name of its own");
-    notes.say(alloc, &[begin, Piece::Word(name), end])
+    let begin = Span::Plain(b"list ");
+    let end = Span::Plain(b" is given a second time; each list has a name of its own");
+    notes.say(alloc, &[begin, Span::Word(name), end])
 }

@@ -8,7 +8,7 @@ use crate::form_faults::{WITHOUT_NOT, WITHOUT_OR, say_needs_form};
 use crate::known_words::{
     CANONICAL_FIELDS, DOMAIN_FIELDS, NUMBER_FIELDS, WIDE_FIELDS, WIDE_TESTS, is_one_of,
 };
-use crate::notes::{Notes, Piece};
+use crate::notes::{Notes, Span};
 use crate::reference_faults::say_bad_reference;
 use milter_network::Network;
 use milter_text::Word;
@@ -41,15 +41,15 @@ fn say_wide_word(
     condition: ConditionWords<'_>,
 ) -> Result<bool, NoMemory> {
     if condition.negated {
-        say_needs_form(alloc, notes, Piece::Plain(b"not"), WITHOUT_NOT)?;
+        say_needs_form(alloc, notes, Span::Plain(b"not"), WITHOUT_NOT)?;
     } else if is_one_of(condition.field, WIDE_FIELDS) {
-        say_needs_form(alloc, notes, Piece::Word(condition.field), b"")?;
+        say_needs_form(alloc, notes, Span::Word(condition.field), b"")?;
     } else if is_one_of(condition.test, WIDE_TESTS) {
-        say_needs_form(alloc, notes, Piece::Word(condition.test), b"")?;
+        say_needs_form(alloc, notes, Span::Word(condition.test), b"")?;
     } else if condition.any_case {
-        say_needs_form(alloc, notes, Piece::Plain(b"any-case"), b"")?;
+        say_needs_form(alloc, notes, Span::Plain(b"any-case"), b"")?;
     } else if condition.texts.len() > 1 {
-        say_needs_form(alloc, notes, Piece::Plain(b"a second text"), WITHOUT_OR)?;
+        say_needs_form(alloc, notes, Span::Plain(b"a second text"), WITHOUT_OR)?;
     } else {
         return Ok(false);
     }
@@ -72,14 +72,14 @@ pub(crate) fn say_other_field<'x>(
     } else {
         return Ok(false);
     };
-    let pieces = [
-        Piece::Word(test),
-        Piece::Plain(b" is a test of "),
-        Piece::Plain(fields),
-        Piece::Plain(b", and not of "),
-        Piece::Word(field),
+    let spans = [
+        Span::Word(test),
+        Span::Plain(b" is a test of "),
+        Span::Plain(fields),
+        Span::Plain(b", and not of "),
+        Span::Word(field),
     ];
-    notes.say(alloc, &pieces)?;
+    notes.say(alloc, &spans)?;
     Ok(true)
 }
 
@@ -98,7 +98,7 @@ fn say_bad_texts(
         Some(b"within") => say_no_network(alloc, notes, condition.texts),
         Some(b"like") if condition.field.is_keyword(b"body") => {
             let text = b"body isn't compared with patterns; body has TEXT finds a text in it";
-            notes.say(alloc, &[Piece::Plain(text)])?;
+            notes.say(alloc, &[Span::Plain(text)])?;
             Ok(true)
         }
         _ if condition.any_case && is_one_of(condition.field, CANONICAL_FIELDS) => {
@@ -120,8 +120,8 @@ fn say_dotted_domain(
         .find(|text| text.text.as_slice().starts_with(b"."))
     {
         Some(text) => {
-            let begin = Piece::Plain(b"a domain after under is due without a dot before it: ");
-            notes.say(alloc, &[begin, Piece::Word(text)])?;
+            let begin = Span::Plain(b"a domain after under is due without a dot before it: ");
+            notes.say(alloc, &[begin, Span::Word(text)])?;
             Ok(true)
         }
         None => Ok(false),
@@ -135,8 +135,8 @@ fn say_no_network(alloc: Global, notes: &mut Notes<'_>, texts: &[Word]) -> Resul
         .find(|text| Network::parse(text.text.as_slice()).is_none())
     {
         Some(text) => {
-            let end = Piece::Plain(b" is no network, such as 192.0.2.0/24 or 2001:db8::/32");
-            notes.say(alloc, &[Piece::Word(text), end])?;
+            let end = Span::Plain(b" is no network, such as 192.0.2.0/24 or 2001:db8::/32");
+            notes.say(alloc, &[Span::Word(text), end])?;
             Ok(true)
         }
         None => Ok(false),

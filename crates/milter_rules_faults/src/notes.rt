@@ -22,9 +22,9 @@ pub enum Severity {
     Warning,
 }
 
-/// A piece of a line that is said.
+/// A span of a line that is said.
 #[derive(Clone, Copy)]
-pub enum Piece<'a> {
+pub enum Span<'a> {
     /// These bytes as they are.
     Plain(&'a [u8]),
     /// These bytes as a text in quotes; of many bytes the first, and two dots.
@@ -84,23 +84,23 @@ impl<'n> Notes<'n> {
         self.severity
     }
 
-    /// Says a warning of these pieces, as a line.
-    pub fn say(&mut self, alloc: Global, pieces: &[Piece<'_>]) -> Result<(), NoMemory> {
+    /// Says a warning of these spans, as a line.
+    pub fn say(&mut self, alloc: Global, spans: &[Span<'_>]) -> Result<(), NoMemory> {
         self.severity = Some(Severity::Warning);
-        self.put_line(alloc, pieces)
+        self.put_line(alloc, spans)
     }
 
-    /// Says a hint of these pieces, as a line.
-    pub fn say_hint(&mut self, alloc: Global, pieces: &[Piece<'_>]) -> Result<(), NoMemory> {
+    /// Says a hint of these spans, as a line.
+    pub fn say_hint(&mut self, alloc: Global, spans: &[Span<'_>]) -> Result<(), NoMemory> {
         self.severity = Some(self.severity.unwrap_or(Severity::Hint));
-        self.put_line(alloc, pieces)
+        self.put_line(alloc, spans)
     }
 
-    /// Puts a line of these pieces.
-    fn put_line(&mut self, alloc: Global, pieces: &[Piece<'_>]) -> Result<(), NoMemory> {
+    /// Puts a line of these spans.
+    fn put_line(&mut self, alloc: Global, spans: &[Span<'_>]) -> Result<(), NoMemory> {
         self.put_place()?;
-        for piece in pieces {
-            self.put(alloc, piece)?;
+        for span in spans {
+            self.put(alloc, span)?;
         }
         self.text.push(b'\n')?;
         Ok(())
@@ -117,18 +117,18 @@ impl<'n> Notes<'n> {
         Ok(())
     }
 
-    /// Puts a piece.
-    fn put(&mut self, alloc: Global, piece: &Piece<'_>) -> Result<(), NoMemory> {
-        match piece {
-            Piece::Plain(bytes) => self.put_plain(bytes),
-            Piece::Quoted(bytes) => self.put_quoted(alloc, bytes),
-            Piece::Word(word) => self.put_word(alloc, word),
-            Piece::Condition(condition) => self.put_condition(alloc, condition),
-            Piece::Compared(compared) => self.put_compared(alloc, *compared),
-            Piece::List(names) => self.put_list(names),
-            Piece::Actions(actions) => actions.put_names(&mut self.text),
-            Piece::Protocol(protocol) => protocol.put_names(&mut self.text),
-            Piece::Number(number) => self.put_number(*number),
+    /// Puts a span.
+    fn put(&mut self, alloc: Global, span: &Span<'_>) -> Result<(), NoMemory> {
+        match span {
+            Span::Plain(bytes) => self.put_plain(bytes),
+            Span::Quoted(bytes) => self.put_quoted(alloc, bytes),
+            Span::Word(word) => self.put_word(alloc, word),
+            Span::Condition(condition) => self.put_condition(alloc, condition),
+            Span::Compared(compared) => self.put_compared(alloc, *compared),
+            Span::List(names) => self.put_list(names),
+            Span::Actions(actions) => actions.put_names(&mut self.text),
+            Span::Protocol(protocol) => protocol.put_names(&mut self.text),
+            Span::Number(number) => self.put_number(*number),
         }
     }
 

@@ -4,7 +4,7 @@ use crate::condition_words::FieldWords;
 use crate::file_form::FileForm;
 use crate::flag_faults::{is_not, say_not_place};
 use crate::known_words::is_joint;
-use crate::notes::{Notes, Piece};
+use crate::notes::{Notes, Span};
 use crate::number_words::{has_digits_alone, has_needless_zero, highest_of};
 use milter_text::Word;
 use milter_wire::NoMemory;
@@ -16,19 +16,16 @@ pub(crate) fn say_bad_over(
     notes: &mut Notes<'_>,
     found: FieldWords<'_>,
 ) -> Result<(), NoMemory> {
-    let due = Piece::Plain(b"over NUMBER is due after ");
-    let field = Piece::Word(found.field);
+    let due = Span::Plain(b"over NUMBER is due after ");
+    let field = Span::Word(found.field);
     match found.rest {
         [word, ..] if is_not(word) => say_not_place(alloc, notes, FileForm::Second),
         [test, rest @ ..] if test.is_keyword(b"over") => {
             say_bad_number(alloc, notes, found.field, rest)
         }
         [word, ..] if !is_joint(word) => {
-            let quoted = Piece::Quoted(word.text.as_slice());
-            notes.say(
-                alloc,
-                &[due, field, Piece::Plain(b", in place of "), quoted],
-            )
+            let quoted = Span::Quoted(word.text.as_slice());
+            notes.say(alloc, &[due, field, Span::Plain(b", in place of "), quoted])
         }
         _ => notes.say(alloc, &[due, field]),
     }
@@ -44,13 +41,13 @@ fn say_bad_number(
     match words {
         [word, ..] if is_not(word) => say_not_place(alloc, notes, FileForm::Second),
         [number, ..] if number.quoted && has_digits_alone(number) => {
-            let quoted = Piece::Quoted(number.text.as_slice());
-            let end = Piece::Plain(b" is due without quotes");
-            notes.say(alloc, &[Piece::Plain(b"number "), quoted, end])
+            let quoted = Span::Quoted(number.text.as_slice());
+            let end = Span::Plain(b" is due without quotes");
+            notes.say(alloc, &[Span::Plain(b"number "), quoted, end])
         }
         [number, ..] if !number.quoted && has_needless_zero(number) => {
-            let begin = Piece::Plain(b"a number after over is due without zeros before it: ");
-            notes.say(alloc, &[begin, Piece::Quoted(number.text.as_slice())])
+            let begin = Span::Plain(b"a number after over is due without zeros before it: ");
+            notes.say(alloc, &[begin, Span::Quoted(number.text.as_slice())])
         }
         [word, ..] if !is_joint(word) => say_number_due(alloc, notes, field, Some(word)),
         _ => say_number_due(alloc, notes, field, None),
@@ -64,13 +61,13 @@ fn say_number_due<'x>(
     field: &'x Word,
     word: Option<&'x Word>,
 ) -> Result<(), NoMemory> {
-    let begin = Piece::Plain(b"a number of at most ");
-    let highest = Piece::Number(highest_of(field));
-    let due = Piece::Plain(b" is due after over");
+    let begin = Span::Plain(b"a number of at most ");
+    let highest = Span::Number(highest_of(field));
+    let due = Span::Plain(b" is due after over");
     match word {
         Some(word) => {
-            let quoted = Piece::Quoted(word.text.as_slice());
-            let middle = Piece::Plain(b", in place of ");
+            let quoted = Span::Quoted(word.text.as_slice());
+            let middle = Span::Plain(b", in place of ");
             notes.say(alloc, &[begin, highest, due, middle, quoted])
         }
         None => notes.say(alloc, &[begin, highest, due]),

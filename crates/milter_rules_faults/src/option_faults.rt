@@ -4,7 +4,7 @@ use crate::known_words::{
     FIRST_WORD, Kind, MACRO_STAGE, STAGE, VERSION, has_name, is_one_of, say_unknown,
     say_unknown_name, say_unquoted,
 };
-use crate::notes::{Notes, Piece};
+use crate::notes::{Notes, Span};
 use milter_protocol::{ACTIONS_MAX, PROTOCOL_MAX};
 use milter_text::Word;
 use milter_wire::{Actions, NoMemory, Protocol};
@@ -30,8 +30,8 @@ pub(crate) fn say_bad_option(
         Some(b"protocol") => say_bad_protocol(alloc, notes, first, rest),
         Some(b"symbols") => say_bad_symbols(alloc, notes, rest),
         _ if is_one_of(first, STAGE.names) => {
-            let begin = Piece::Plain(b"at is missing before the stage ");
-            notes.say(alloc, &[begin, Piece::Quoted(first.text.as_slice())])
+            let begin = Span::Plain(b"at is missing before the stage ");
+            notes.say(alloc, &[begin, Span::Quoted(first.text.as_slice())])
         }
         _ => say_unknown(alloc, notes, &FIRST_WORD, first),
     }
@@ -44,13 +44,13 @@ fn say_repeated<'x>(
     first: &'x Word,
     rest: &'x [Word],
 ) -> Result<(), NoMemory> {
-    let end = Piece::Plain(b" is given a second time; it is given once in a file");
+    let end = Span::Plain(b" is given a second time; it is given once in a file");
     match rest {
         [stage, _] => {
-            let blank = Piece::Plain(b" ");
-            notes.say(alloc, &[Piece::Word(first), blank, Piece::Word(stage), end])
+            let blank = Span::Plain(b" ");
+            notes.say(alloc, &[Span::Word(first), blank, Span::Word(stage), end])
         }
-        _ => notes.say(alloc, &[Piece::Word(first), end]),
+        _ => notes.say(alloc, &[Span::Word(first), end]),
     }
 }
 
@@ -59,7 +59,7 @@ fn say_bad_version(alloc: Global, notes: &mut Notes<'_>, rest: &[Word]) -> Resul
     let text = b"version is followed by one number from 2 to 6";
     match rest {
         [version] => say_unknown(alloc, notes, &VERSION, version),
-        _ => notes.say(alloc, &[Piece::Plain(text)]),
+        _ => notes.say(alloc, &[Span::Plain(text)]),
     }
 }
 
@@ -102,7 +102,7 @@ fn say_bad_names(
     };
     let Some(names) = names else {
         let end = b" is followed by one word without quotes: names joined by |, or none";
-        return notes.say(alloc, &[Piece::Word(first), Piece::Plain(end)]);
+        return notes.say(alloc, &[Span::Word(first), Span::Plain(end)]);
     };
     let (Ok(names), Ok(known)) = (str::from_utf8(names), str::from_utf8(known)) else {
         return Ok(());
@@ -114,10 +114,7 @@ fn say_bad_names(
     };
     match names.split('|').find(|name| is_no_name(known, name)) {
         Some(name) => say_unknown_name(alloc, notes, &kind, name.as_bytes()),
-        None => notes.say(
-            alloc,
-            &[Piece::Plain(b"none isn't joined with other names")],
-        ),
+        None => notes.say(alloc, &[Span::Plain(b"none isn't joined with other names")]),
     }
 }
 
@@ -134,12 +131,12 @@ fn say_bad_symbols(alloc: Global, notes: &mut Notes<'_>, rest: &[Word]) -> Resul
         }
         [_, names] if names.quoted => {
             let text = b"the names of macros can't have a NUL";
-            notes.say(alloc, &[Piece::Plain(text)])
+            notes.say(alloc, &[Span::Plain(text)])
         }
         [stage, _] => say_unquoted(alloc, notes, b"a text", stage, &rest[1..]),
         _ => {
             let text = b"symbols is followed by a stage and a text in double quotes";
-            notes.say(alloc, &[Piece::Plain(text)])
+            notes.say(alloc, &[Span::Plain(text)])
         }
     }
 }

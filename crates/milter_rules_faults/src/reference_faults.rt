@@ -6,7 +6,7 @@ use crate::flag_faults::say_no_case;
 use crate::known_words::{Kind, is_joint, is_one_of, say_unknown_name};
 use crate::list_words::fields_of;
 use crate::nearest::name_meant;
-use crate::notes::{Notes, Piece};
+use crate::notes::{Notes, Span};
 use milter_network::Network;
 use milter_rules::ListSource;
 use milter_text::Word;
@@ -25,23 +25,23 @@ pub(crate) fn say_no_name(
     field: &Word,
     words: &[Word],
 ) -> Result<(), NoMemory> {
-    let due = Piece::Plain(b"the name of a list is due after in");
+    let due = Span::Plain(b"the name of a list is due after in");
     let [word, ..] = words else {
         return notes.say(alloc, &[due]);
     };
     let text = word.text.as_slice();
-    let quoted = Piece::Quoted(text);
+    let quoted = Span::Quoted(text);
     if head.list_named(text).is_some() {
-        let end = Piece::Plain(b" is due without quotes");
-        return notes.say(alloc, &[Piece::Plain(b"list "), quoted, end]);
+        let end = Span::Plain(b" is due without quotes");
+        return notes.say(alloc, &[Span::Plain(b"list "), quoted, end]);
     }
-    let middle = Piece::Plain(b", in place of ");
+    let middle = Span::Plain(b", in place of ");
     let end: &[u8] = if field.is_keyword(b"address") && Network::parse(text).is_some() {
         b"; a network is due after within"
     } else {
         b""
     };
-    notes.say(alloc, &[due, middle, quoted, Piece::Plain(end)])
+    notes.say(alloc, &[due, middle, quoted, Span::Plain(end)])
 }
 
 /// Says what is wrong with the list of a condition, or with what comes after its name; answers whether there is such a
@@ -82,7 +82,7 @@ fn say_no_list(
     }
     if is_joint(name) {
         let text = b"the name of a list is due after in";
-        return notes.say(alloc, &[Piece::Plain(text)]);
+        return notes.say(alloc, &[Span::Plain(text)]);
     }
     say_unknown_list(alloc, notes, head, name.text.as_slice())
 }
@@ -107,9 +107,9 @@ fn say_unknown_list(
     if are_shown || name_meant(alloc, &kind, name)?.is_some() {
         return say_unknown_name(alloc, notes, &kind, name);
     }
-    let begin = Piece::Plain(b"list ");
-    let end = Piece::Plain(b" isn't known; a line list NAME KIND FILE gives one");
-    notes.say(alloc, &[begin, Piece::Quoted(name), end])
+    let begin = Span::Plain(b"list ");
+    let end = Span::Plain(b" isn't known; a line list NAME KIND FILE gives one");
+    notes.say(alloc, &[begin, Span::Quoted(name), end])
 }
 
 /// Says that the list isn't for this field, and for which ones it is; answers whether that is so.
@@ -123,17 +123,17 @@ fn say_other_kind<'x>(
     if is_one_of(field, fields) {
         return Ok(false);
     }
-    let pieces = [
-        Piece::Plain(b"list "),
-        Piece::Quoted(list.name.as_slice()),
-        Piece::Plain(b" of "),
-        Piece::Plain(list.kind.name()),
-        Piece::Plain(b" is for "),
-        Piece::List(fields),
-        Piece::Plain(b", and not for "),
-        Piece::Word(field),
+    let spans = [
+        Span::Plain(b"list "),
+        Span::Quoted(list.name.as_slice()),
+        Span::Plain(b" of "),
+        Span::Plain(list.kind.name()),
+        Span::Plain(b" is for "),
+        Span::List(fields),
+        Span::Plain(b", and not for "),
+        Span::Word(field),
     ];
-    notes.say(alloc, &pieces)?;
+    notes.say(alloc, &spans)?;
     Ok(true)
 }
 
@@ -146,9 +146,9 @@ fn say_second_name(
 ) -> Result<bool, NoMemory> {
     match words {
         [word, ..] if !is_joint(word) && head.list_named(word.text.as_slice()).is_some() => {
-            let begin = Piece::Plain(b"one list is due after in; ");
-            let end = Piece::Plain(b" is due in a condition of its own");
-            notes.say(alloc, &[begin, Piece::Quoted(word.text.as_slice()), end])?;
+            let begin = Span::Plain(b"one list is due after in; ");
+            let end = Span::Plain(b" is due in a condition of its own");
+            notes.say(alloc, &[begin, Span::Quoted(word.text.as_slice()), end])?;
             Ok(true)
         }
         _ => Ok(false),

@@ -1,6 +1,6 @@
 //! What is said of a line that isn't in words.
 
-use crate::notes::{Notes, Piece};
+use crate::notes::{Notes, Span};
 use milter_wire::NoMemory;
 use std::alloc::Global;
 
@@ -64,13 +64,13 @@ pub(crate) fn say_no_words(
 
 /// Says that these bytes are a text that isn't closed.
 fn say_unclosed(alloc: Global, notes: &mut Notes<'_>, text: &[u8]) -> Result<(), NoMemory> {
-    let begin = Piece::Plain(b"a text isn't closed by a double quote; it begins with ");
+    let begin = Span::Plain(b"a text isn't closed by a double quote; it begins with ");
     let end: &[u8] = if has_curly_quote(text) {
         b"; a curly quote closes none"
     } else {
         b""
     };
-    notes.say(alloc, &[begin, Piece::Quoted(text), Piece::Plain(end)])
+    notes.say(alloc, &[begin, Span::Quoted(text), Span::Plain(end)])
 }
 
 /// Whether a curly quote is among the bytes, in UTF-8.
@@ -157,29 +157,29 @@ fn say_trouble(
     index: usize,
     trouble: Trouble,
 ) -> Result<(), NoMemory> {
-    let word = Piece::Quoted(up_to_blank(after(line, start)));
-    let from_here = Piece::Quoted(up_to_blank(after(line, index)));
+    let word = Span::Quoted(up_to_blank(after(line, start)));
+    let from_here = Span::Quoted(up_to_blank(after(line, index)));
     match trouble {
         Trouble::Tab => {
             let text = b"a TAB stands outside of texts; words are separated by blanks";
-            notes.say(alloc, &[Piece::Plain(text)])
+            notes.say(alloc, &[Span::Plain(text)])
         }
         Trouble::Byte if has_curly_quote(up_to_blank(after(line, start))) => {
             let end = b" has curly quotes; a text is due in plain double quotes";
-            notes.say(alloc, &[word, Piece::Plain(end)])
+            notes.say(alloc, &[word, Span::Plain(end)])
         }
         Trouble::Byte => {
             let end =
                 b" has other than visible ASCII characters; as a text it is due in double quotes";
-            notes.say(alloc, &[word, Piece::Plain(end)])
+            notes.say(alloc, &[word, Span::Plain(end)])
         }
         Trouble::Quote => {
             let begin = b"a blank is due before the double quote in ";
-            notes.say(alloc, &[Piece::Plain(begin), word])
+            notes.say(alloc, &[Span::Plain(begin), word])
         }
         Trouble::Touching => {
-            let begin = Piece::Plain(b"a blank is due between a text and ");
-            let end = Piece::Plain(b"; in a text a double quote is written \\\"");
+            let begin = Span::Plain(b"a blank is due between a text and ");
+            let end = Span::Plain(b"; in a text a double quote is written \\\"");
             notes.say(alloc, &[begin, from_here, end])
         }
         Trouble::Control | Trouble::Escape | Trouble::Digit => {
@@ -199,16 +199,16 @@ fn say_trouble_in_text(
     match trouble {
         Trouble::Control => {
             let begin = b"a control character stands in a text; it is written as in ";
-            notes.say(alloc, &[Piece::Plain(begin), Piece::Quoted(first)])
+            notes.say(alloc, &[Span::Plain(begin), Span::Quoted(first)])
         }
         Trouble::Digit => {
             let text = b"\\x is due with two hexadecimal digits";
-            notes.say(alloc, &[Piece::Plain(text)])
+            notes.say(alloc, &[Span::Plain(text)])
         }
         _ => {
-            let begin = Piece::Plain(b"a backslash before ");
+            let begin = Span::Plain(b"a backslash before ");
             let end = b" begins no escape; known are \\\" \\\\ \\n \\r \\t and \\xHH";
-            notes.say(alloc, &[begin, Piece::Quoted(first), Piece::Plain(end)])
+            notes.say(alloc, &[begin, Span::Quoted(first), Span::Plain(end)])
         }
     }
 }
