@@ -49,7 +49,7 @@ FAULTS = [
     (4, 'a protocol bit that was not offered', [options(6, 0, 0x800)]), (5, 'a verdict on the offer', [CONTINUE]),
     (5, 'options again', [AGREED, AGREED]), (5, 'an edit of the client', [options(6, 1, 0), packet_of(b'hX\0y\0')]),
     (5, 'discard of the client', [AGREED, packet_of(b'd')]),
-    (6, 'an edit that was not agreed on', [AGREED] + [CONTINUE] * 10 + [packet_of(b'hX\0y\0')]),
+    (6, 'an edit that was not negotiated', [AGREED] + [CONTINUE] * 10 + [packet_of(b'hX\0y\0')]),
     (8, 'two replies', [AGREED, CONTINUE + CONTINUE])]
 
 

@@ -16,7 +16,7 @@ FAULTS = {601: 'the connection has ended', 602: 'a packet is to be sent, or a re
           603: 'command out of order', 604: "command doesn't fit a packet"}
 LOSSES = {711: '(zero length|length [0-9]+ too long|unknown code .*|malformed .*)', 712: 'version not supported',
           713: 'actions that were not offered', 714: 'protocol bits that were not offered',
-          715: 'reply not at this stage', 716: 'edit that was not agreed on', 717: 'too many edits',
+          715: 'reply not at this stage', 716: 'edit that was not negotiated', 717: 'too many edits',
           718: 'reply before its command'}
 EDITS = {'add_header': b'h', 'insert_header': b'i', 'change_header': b'm', 'delete_recipient': b'-',
          'change_sender': b'e', 'replace_body': b'b', 'quarantine': b'q'}

@@ -220,9 +220,9 @@ pub(crate) const ANSWER: &str = "\
 Standard input is what a mail server (MTA) sends to a filter, and standard
 output is what the filter replies: the packets of the milter protocol, byte for
 byte. The filter asks for what the rule file says, and answers by its rules:
-milter_tool help rules has their form. Without one it agrees on version 6, or on
-the lower version that is offered, and on no actions and no protocol bits, and
-it replies Continue to each command that is to be replied to. It keeps nothing
+milter_tool help rules has their form. Without one it negotiates version 6, or
+the lower version that is offered, with no actions and no protocol bits, and it
+replies Continue to each command that is to be replied to. It keeps nothing
 that comes of a message after that message.
 
 What is read is replied to before more is read. So standard input and output may
@@ -386,7 +386,7 @@ line, where * in the PATTERN is any characters and ? any one.
   fault 4                        an answer with protocol bits that weren't
                                  offered
   fault 5                        a reply that can't be at its stage
-  fault 6                        an edit that wasn't agreed on
+  fault 6                        an edit that wasn't negotiated
   fault 7                        the edits of a message have more than
                                  16,777,216 bytes
   fault 8                        a reply where none was due

@@ -25,7 +25,7 @@ pub enum MtaFault {
     #[error("reply not at this stage")]
     NotAtThisStage,
     /// The filter asks for an edit that was not negotiated.
-    #[error("edit that was not agreed on")]
+    #[error("edit that was not negotiated")]
     EditNotNegotiated,
     /// The packets of a message's edits have more than 16,777,216 bytes.
     #[error("too many edits")]
