@@ -63,6 +63,9 @@ KINDS = {
     'adds': lambda at: add(),
     'inserts at the front': lambda at: insert(),
     'inserts anywhere': lambda at: insert(random.randrange(at + 1)),
+    'inserts anywhere, and one change': lambda at: insert(random.randrange(at + 1)) + (b'' if at else change(name=b'B')),
+    'inserts anywhere, and changes of 2,000 names': lambda at: insert(random.randrange(at + 1)) + (
+        change(name=short_name(at)) if at < 2000 else b''),
     'changes of no field': lambda at: change(name=b'B'),
     'changes of one field': lambda at: change(value=b'v'),
     'adds and changes of no field': lambda at: add() + change(name=b'B'),
