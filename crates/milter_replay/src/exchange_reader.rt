@@ -1,10 +1,14 @@
 //! The exchanges of a trace, packet by packet.
 
-ghost use Rattle.std.specs.Prelude.{IfOk, OnOk};
+ghost use Rattle.std.specs.Prelude.{◌≡◌, ◌++◌, [], IfOk, OnOk};
 ghost use Rattle.milter_wire_stream.specs.Packet.{IsPayload};
-ghost use Rattle.milter_wire.specs.Command.{Fits};
-ghost use Rattle.milter_replay.specs.Recordings.{AllFit};
-ghost use Rattle.milter_replay.specs.ReadExchanges.{HasFitting};
+ghost use Rattle.milter_wire_stream.specs.Splitter.{frame_of};
+ghost use Rattle.milter_wire_stream.specs.Stream.{frame_bytes};
+ghost use Rattle.milter_wire.specs.Command.{Fits, encoding};
+ghost use Rattle.milter_trace.specs.declared.direction.Direction.TheVariants.{ToFilter};
+ghost use Rattle.milter_trace.specs.Trace.{bytes_if};
+ghost use Rattle.milter_replay.specs.Recordings.{AllFit, commands_bytes};
+ghost use Rattle.milter_replay.specs.ReadExchanges.{HasFitting, read_bytes};
 
 use crate::conversation::{Exchange, RecordedCommand, Recording, ReplyPacket};
 use crate::packets::reply_of;
@@ -25,11 +29,12 @@ pub(crate) struct ExchangeReader {
 }
 
 impl ExchangeReader {
-    ghost use Rattle.milter_replay.specs.ReadExchanges.{HasFitting};
+    ghost use Rattle.milter_replay.specs.ReadExchanges.{HasFitting, read_bytes};
 
     /// Before the first packet. Doesn't allocate.
     pub(crate) fn new(alloc: Global) -> ExchangeReader
-        ensures { HasFitting result }
+        ensures fitting { HasFitting result }
+        ensures bytes { read_bytes result ≡ [] }
     {
         ExchangeReader {
             alloc,
@@ -47,7 +52,9 @@ impl ExchangeReader {
     ) -> Result<(), RecordingFault>
         requires payload { IsPayload packet.now.payload.now }
         requires fitting { HasFitting self.old }
-        ensures { OnOk result (HasFitting self.new) }
+        ensures fitting { OnOk result (HasFitting self.new) }
+        ensures bytes { OnOk result (read_bytes self.new
+            ≡ read_bytes self.old ++ bytes_if ToFilter direction (frame_bytes (frame_of packet.now))) }
     {
         match direction {
             Direction::ToFilter => self.take_command(line, packet),
@@ -59,7 +66,8 @@ impl ExchangeReader {
     fn take_reply(&mut self, line: u64, packet: &Packet<'_>) -> Result<(), RecordingFault>
         requires payload { IsPayload packet.now.payload.now }
         requires fitting { HasFitting self.old }
-        ensures { OnOk result (HasFitting self.new) }
+        ensures fitting { OnOk result (HasFitting self.new) }
+        ensures bytes { OnOk result (read_bytes self.new ≡ read_bytes self.old) }
     {
         let reply = match reply_of(self.alloc, packet) {
             Ok(reply) => reply,
@@ -79,7 +87,8 @@ impl ExchangeReader {
     /// Puts a packet of the filter to the exchange with this index.
     fn push_reply(&mut self, place: usize, reply: ReplyPacket) -> Result<(), NoMemory>
         requires { HasFitting self.old }
-        ensures { OnOk result (HasFitting self.new) }
+        ensures fitting { OnOk result (HasFitting self.new) }
+        ensures bytes { OnOk result (read_bytes self.new ≡ read_bytes self.old) }
     {
         if let Some(exchange) = self.exchanges.get_mut(place) {
             exchange.replies.push(reply)?;
@@ -91,7 +100,8 @@ impl ExchangeReader {
     fn take_command(&mut self, line: u64, packet: &Packet<'_>) -> Result<(), RecordingFault>
         requires payload { IsPayload packet.now.payload.now }
         requires fitting { HasFitting self.old }
-        ensures { OnOk result (HasFitting self.new) }
+        ensures fitting { OnOk result (HasFitting self.new) }
+        ensures bytes { OnOk result (read_bytes self.new ≡ read_bytes self.old ++ frame_bytes (frame_of packet.now)) }
     {
         let recorded = match recorded_of(self.alloc, line, packet) {
             Ok(recorded) => recorded,
@@ -112,7 +122,8 @@ impl ExchangeReader {
     fn begin(&mut self, recorded: RecordedCommand) -> Result<(), NoMemory>
         requires fits { Fits recorded.command }
         requires fitting { HasFitting self.old }
-        ensures { OnOk result (HasFitting self.new) }
+        ensures fitting { OnOk result (HasFitting self.new) }
+        ensures bytes { OnOk result (read_bytes self.new ≡ read_bytes self.old ++ encoding recorded.command) }
     {
         let replies = Vec::new(self.alloc);
         self.exchanges.push(Exchange { recorded, replies })?;
@@ -122,7 +133,8 @@ impl ExchangeReader {
     /// The conversation, at the end of a trace whose last line has this number.
     pub(crate) fn finish(self, line: u64) -> Result<Recording, RecordingFault>
         requires { HasFitting self }
-        ensures { IfOk result (λ recording. AllFit recording.exchanges.items) }
+        ensures fitting { IfOk result (λ recording. AllFit recording.exchanges.items) }
+        ensures commands { IfOk result (λ recording. commands_bytes recording.exchanges.items ≡ read_bytes self) }
     {
         let ExchangeReader {
             alloc: _,
@@ -142,7 +154,8 @@ impl ExchangeReader {
 /// The command of a packet, with its line.
 fn recorded_of(alloc: Global, line: u64, packet: &Packet<'_>) -> Result<RecordedCommand, WireFault>
     requires { IsPayload packet.now.payload.now }
-    ensures { IfOk result (λ recorded. Fits recorded.command) }
+    ensures fits { IfOk result (λ recorded. Fits recorded.command) }
+    ensures bytes { IfOk result (λ recorded. encoding recorded.command ≡ frame_bytes (frame_of packet.now)) }
 {
     let mut text = Vec::new(alloc);
     put_packet(alloc, Direction::ToFilter, packet, &mut text)?;

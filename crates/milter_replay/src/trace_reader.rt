@@ -1,8 +1,13 @@
 //! The reading of a trace into a recorded conversation.
 
-ghost use Rattle.std.specs.Prelude.{IfOk, OnOk};
-ghost use Rattle.milter_replay.specs.ReadExchanges.{HasFitting};
-ghost use Rattle.milter_replay.specs.Recordings.{AllFit};
+ghost use Rattle.std.specs.Prelude.{◌≡◌, ◌++◌, IfOk, OnOk};
+ghost use Rattle.milter_wire_stream.specs.Stream.{IsUnfinished};
+ghost use Rattle.milter_text.specs.Lines.{lines_of};
+ghost use Rattle.milter_trace.specs.declared.direction.Direction.TheVariants.{ToFilter};
+ghost use Rattle.milter_trace.specs.ParsedLine.{parsed_line};
+ghost use Rattle.milter_trace.specs.Trace.{bytes_if, line_bytes, stream};
+ghost use Rattle.milter_replay.specs.ReadExchanges.{HasFitting, IsBetweenLines, bytes_so_far, read_bytes};
+ghost use Rattle.milter_replay.specs.Recordings.{AllFit, commands_bytes};
 
 use crate::conversation::Recording;
 use crate::exchange_reader::ExchangeReader;
@@ -29,7 +34,10 @@ struct TraceReader {
 /// The fault is the first one of the trace.
 pub fn read_trace(alloc: Global, bytes: &[u8]) -> Result<Recording, RecordingFault>
     // Each command has an encoding.
-    ensures { IfOk result (λ recording. AllFit recording.exchanges.items) }
+    ensures fitting { IfOk result (λ recording. AllFit recording.exchanges.items) }
+    // The packets of the commands are what the trace has to the filter, byte for byte.
+    ensures commands { IfOk result (λ recording.
+        commands_bytes recording.exchanges.items ≡ stream ToFilter (lines_of bytes.now)) }
 {
     let mut reader = TraceReader {
         to_filter: Splitter::new(alloc),
@@ -55,8 +63,10 @@ fn read_line(
     line: &[u8],
     ended: bool,
 ) -> Result<(), RecordingFault>
-    requires { HasFitting reader.old.exchanges }
-    ensures { OnOk result (HasFitting reader.new.exchanges) }
+    requires { IsBetweenLines reader.old }
+    ensures between { OnOk result (IsBetweenLines reader.new) }
+    ensures bytes { OnOk result (bytes_so_far reader.new
+        ≡ bytes_so_far reader.old ++ line_bytes ToFilter (parsed_line (record { bytes = line.now; ended = ended }))) }
 {
     let (direction, digits) = match parse_line(line, ended) {
         UndecodedLine::Skipped => return Ok(()),
@@ -87,15 +97,16 @@ fn read_packets(
     bytes: &[u8],
     exchanges: &mut ExchangeReader,
 ) -> Result<(), RecordingFault>
-    requires { HasFitting exchanges.old }
-    ensures { OnOk result (HasFitting exchanges.new) }
+    requires unfinished { IsUnfinished splitter.old }
+    requires fitting { HasFitting exchanges.old }
+    ensures unfinished { OnOk result (IsUnfinished splitter.new) }
+    ensures fitting { OnOk result (HasFitting exchanges.new) }
+    ensures bytes { OnOk result (read_bytes exchanges.new ++ bytes_if ToFilter direction splitter.new
+        ≡ read_bytes exchanges.old ++ bytes_if ToFilter direction (splitter.old ++ bytes.now)) }
 {
     let mut rest = bytes;
-    loop {
+    while !rest.is_empty() {
         let taken = splitter.feed(rest)?;
-        if taken == 0 {
-            return Ok(());
-        }
         rest = &rest[taken..];
         match splitter.next() {
             Ok(Some(packet)) => exchanges.take(number, direction, &packet)?,
@@ -105,12 +116,14 @@ fn read_packets(
             }
         }
     }
+    Ok(())
 }
 
 /// The conversation, at the end of a trace whose last line has this number.
 fn finish(reader: TraceReader, line: u64) -> Result<Recording, RecordingFault>
     requires { HasFitting reader.exchanges }
-    ensures { IfOk result (λ recording. AllFit recording.exchanges.items) }
+    ensures fitting { IfOk result (λ recording. AllFit recording.exchanges.items) }
+    ensures commands { IfOk result (λ recording. commands_bytes recording.exchanges.items ≡ bytes_so_far reader) }
 {
     let TraceReader {
         to_filter,
