@@ -1,0 +1,492 @@
+//! The loop that puts a load on a filter.
+
+use crate::load_error::LoadError;
+use crate::open_connection::{Next, OpenConnection, Work};
+use crate::settings::{SECOND, Settings};
+use crate::slot::{Need, Slot};
+use crate::target::Target;
+use milter_load::{Cause, Conversation, Schedule, Totals, write_progress};
+use milter_mail::Session;
+use milter_wire::{Options, read_buffer};
+use mio::event::Event;
+use mio::{Events, Poll, Token};
+use std::alloc::Global;
+use std::io::{self, ErrorKind, Write};
+use std::net::Net;
+use std::rt::Clock;
+use std::time::{Duration, Instant};
+
+/// The most events that are taken at once.
+const EVENTS_MAX: usize = 1_024;
+/// How many microseconds pass between two looks at all connections.
+const LOOK: u64 = 10_000;
+/// How many microseconds pass before a connection that was not made is tried again.
+const RETRY: u64 = 100_000;
+/// How many microseconds pass before a connection is tried again that the filter has no room for.
+const RETRY_FULL: u64 = 10_000;
+/// How many microseconds before a message is due no wait begins: a wait is measured in milliseconds.
+const CLOSE: u64 = 2_000;
+/// The microseconds of a millisecond.
+const MILLI: u64 = 1_000;
+
+/// A load that is put on a filter.
+#[derive(Drop)]
+struct Load<'r, 's, R: Net + Clock> {
+    rt: &'r R,
+    alloc: Global,
+    settings: Settings,
+    offer: Options,
+    target: Target<'s>,
+    poll: Poll,
+    begin: Instant,
+    slots: Vec<Slot>,
+    // The places whose connections await a message.
+    idle: Vec<usize>,
+    work: Work<'s>,
+    // How many connections are made and open.
+    open: usize,
+    // When the first connection was made.
+    first: u64,
+    // When a connection was last open.
+    last_open: u64,
+    // When the last message was begun, once that is known.
+    over: Option<u64>,
+    // Why no connection was made, where none ever was.
+    refusal: Option<ErrorKind>,
+    next_look: u64,
+    next_second: u64,
+}
+
+/// Puts a load on a filter: plays a session on connections to it, at once as many as is asked for, until the time has
+/// passed or all messages are settled. A connection that is lost is made again. The first of them is made before the
+/// others; they are what is begun with, up to a second later.
+///
+/// The filter is lost where nothing comes of it for as long as a reply may take. The load also ends where no connection
+/// is open for so long. A session without messages is no load.
+pub fn run_load<'s, R: Net + Clock, W: Write>(
+    rt: &R,
+    alloc: Global,
+    settings: Settings,
+    offer: Options,
+    target: Target<'s>,
+    session: &'s Session,
+    errors: &mut W,
+) -> Result<Totals, LoadError> {
+    let totals = Totals::new(alloc)?;
+    if session.messages().is_empty() {
+        return Ok(totals);
+    }
+    let work = Work {
+        session,
+        schedule: Schedule::new(settings.rate, settings.messages),
+        totals,
+    };
+    let mut load = Load {
+        rt,
+        alloc,
+        settings,
+        offer,
+        target,
+        poll: Poll::new(rt)?,
+        begin: Instant::now(rt)?,
+        slots: slots_of(alloc, settings.at_once)?,
+        idle: Vec::with_capacity(alloc, settings.at_once)?,
+        work,
+        open: 0,
+        first: 0,
+        last_open: 0,
+        over: None,
+        refusal: None,
+        next_look: 0,
+        next_second: SECOND,
+    };
+    load.run(errors)?;
+    if load.work.totals.made == 0 {
+        return Err(LoadError::Connect(load.refusal.unwrap_or(ErrorKind::TimedOut)));
+    }
+    Ok(load.work.totals)
+}
+
+/// So many places.
+fn slots_of(alloc: Global, at_once: usize) -> Result<Vec<Slot>, LoadError> {
+    let mut slots = Vec::with_capacity(alloc, at_once)?;
+    for _ in 0..at_once {
+        if slots.push(Slot::new()).is_err() {
+            return Err(LoadError::NoMemory);
+        }
+    }
+    Ok(slots)
+}
+
+impl<'r, 's, R: Net + Clock> Load<'r, 's, R> {
+    /// Puts the load on the filter.
+    fn run<W: Write>(&mut self, errors: &mut W) -> Result<(), LoadError> {
+        let mut events = Events::with_capacity(self.alloc, EVENTS_MAX)?;
+        let mut buffer = read_buffer(self.alloc)?;
+        for _ in 0..u64::MAX {
+            let now = self.now()?;
+            self.look(now, errors)?;
+            self.begin_due(now, buffer.as_mut_slice())?;
+            if self.is_done(now) {
+                break;
+            }
+            let timeout = Some(self.time_to_wait(now));
+            self.poll.poll(&mut events, timeout)?;
+            self.on_events(&events, buffer.as_mut_slice())?;
+        }
+        self.end()
+    }
+
+    /// The time, in microseconds since the load began.
+    fn now(&self) -> io::Result<u64> {
+        let passed = self.begin.elapsed(self.rt)?;
+        Ok(
+            passed
+                .as_secs()
+                .saturating_mul(SECOND)
+                .saturating_add(u64::from(passed.subsec_micros())),
+        )
+    }
+
+    /// How long a reply may take, in microseconds.
+    fn timeout(&self) -> u64 {
+        u64::from(self.settings.timeout).saturating_mul(SECOND)
+    }
+
+    /// How long to wait for sockets at this time.
+    fn time_to_wait(&self, now: u64) -> Duration {
+        let look = self.next_look.saturating_sub(now) / MILLI;
+        let due = match self.work.schedule.next_due() {
+            Some(due) if !self.idle.is_empty() => due.saturating_sub(now),
+            _ => u64::MAX,
+        };
+        if due < CLOSE {
+            return Duration::from_millis(0);
+        }
+        Duration::from_millis(look.min(due / MILLI - 1))
+    }
+
+    /// Whether the load has ended at this time.
+    fn is_done(&self, now: u64) -> bool {
+        if self.refusal.is_some() || now.saturating_sub(self.last_open) > self.timeout() {
+            return true;
+        }
+        match self.over {
+            Some(over) => {
+                self.work.totals.messages() >= self.work.schedule.begun()
+                    || now.saturating_sub(over) > self.timeout()
+            }
+            None => false,
+        }
+    }
+
+    // ---- what happens
+
+    /// Goes on with the connections whose sockets are ready.
+    fn on_events(&mut self, events: &Events, buffer: &mut [u8]) -> Result<(), LoadError> {
+        for event in events.iter() {
+            let now = self.now()?;
+            let Token(place) = event.token();
+            match self.on_event(place, event, now) {
+                Some(kind) => self.close(place, kind, now)?,
+                None => self.take_turns(place, buffer, now)?,
+            }
+        }
+        self.note_over()
+    }
+
+    /// Notes when the last message was begun, once it was.
+    fn note_over(&mut self) -> Result<(), LoadError> {
+        if self.over.is_none() && self.work.schedule.is_over() {
+            self.over = Some(self.now()?);
+        }
+        Ok(())
+    }
+
+    /// Notes what the system says of a socket; why no connection was made, if none was.
+    fn on_event(&mut self, place: usize, event: &Event, now: u64) -> Option<ErrorKind> {
+        let open = open_at(&mut self.slots, place)?;
+        open.is_closed |= event.is_read_closed() || event.is_error();
+        open.is_readable |= event.is_readable() || open.is_closed;
+        if open.is_made {
+            return None;
+        }
+        match open.link.on_connected() {
+            Ok(()) => {
+                open.is_made = true;
+                open.since = now;
+                self.on_made(now);
+                None
+            }
+            Err(error) => Some(error.kind()),
+        }
+    }
+
+    /// A connection was made.
+    fn on_made(&mut self, now: u64) {
+        if self.work.totals.made == 0 {
+            self.first = now;
+        }
+        self.work.totals.made = self.work.totals.made.saturating_add(1);
+        self.open = self.open.saturating_add(1);
+    }
+
+    /// Goes on with a connection.
+    fn take_turns(&mut self, place: usize, buffer: &mut [u8], now: u64) -> Result<(), LoadError> {
+        let Some(open) = open_at(&mut self.slots, place) else {
+            return Ok(());
+        };
+        match open.take_turns(&mut self.work, buffer, now) {
+            Next::Wait => self.watch(place, false, now),
+            Next::WaitToWrite => self.watch(place, true, now),
+            Next::Message => {
+                self.add_idle(place)?;
+                self.watch(place, false, now)
+            }
+            Next::Quit => self.reopen(place, now),
+            Next::Lost => self.close(place, ErrorKind::Other, now),
+        }
+    }
+
+    /// Has the system say when more can be written to a connection, or say so no more.
+    fn watch(&mut self, place: usize, writes: bool, now: u64) -> Result<(), LoadError> {
+        if self.is_watched(place, writes, now) {
+            return Ok(());
+        }
+        self.close(place, ErrorKind::Other, now)
+    }
+
+    /// The same; whether the system does. A connection of which it doesn't is lost.
+    fn is_watched(&mut self, place: usize, writes: bool, now: u64) -> bool {
+        let Some(open) = open_at(&mut self.slots, place) else {
+            return true;
+        };
+        if open.awaits_output == writes {
+            return true;
+        }
+        open.awaits_output = writes;
+        let registry = self.poll.registry();
+        let watched = open.link.watch_again(registry, Token(place), writes);
+        if watched.is_err() {
+            open.lose(Cause::Reset, &mut self.work, now);
+        }
+        watched.is_ok()
+    }
+
+    /// A connection awaits a message.
+    fn add_idle(&mut self, place: usize) -> Result<(), LoadError> {
+        let Some(slot) = self.slots.get_mut(place) else {
+            return Ok(());
+        };
+        if slot.is_idle {
+            return Ok(());
+        }
+        slot.is_idle = true;
+        match self.idle.push(place) {
+            Ok(()) => Ok(()),
+            Err(_) => Err(LoadError::NoMemory),
+        }
+    }
+
+    /// Begins the messages that are due, on connections that await one.
+    fn begin_due(&mut self, now: u64, buffer: &mut [u8]) -> Result<(), LoadError> {
+        for _ in 0..self.idle.len() {
+            match self.work.schedule.next_due() {
+                Some(due) if due <= now => {}
+                _ => break,
+            }
+            let Some(place) = self.idle.pop() else {
+                break;
+            };
+            if let Some(slot) = self.slots.get_mut(place) {
+                slot.is_idle = false;
+            }
+            self.take_turns(place, buffer, now)?;
+        }
+        self.note_over()
+    }
+
+    // ---- connections that are made and closed
+
+    /// Closes a connection that was quit, and makes the next one.
+    fn reopen(&mut self, place: usize, now: u64) -> Result<(), LoadError> {
+        self.vacate(place, now);
+        self.connect(place, now)
+    }
+
+    /// Closes a connection that was lost, or that was not made for this reason.
+    fn close(&mut self, place: usize, kind: ErrorKind, now: u64) -> Result<(), LoadError> {
+        let Some(closed) = self.vacate(place, now.saturating_add(RETRY)) else {
+            return Ok(());
+        };
+        if !closed.is_made {
+            self.on_failure(kind);
+            return Ok(());
+        }
+        self.work.totals.lost = self.work.totals.lost.saturating_add(1);
+        if closed.conversation.is_negotiated() {
+            return self.connect(place, now);
+        }
+        Ok(())
+    }
+
+    /// Takes a connection away, so that the next one is made at this time.
+    fn vacate(&mut self, place: usize, retry: u64) -> Option<OpenConnection> {
+        let slot = self.slots.get_mut(place)?;
+        slot.retry = retry;
+        if slot.is_idle {
+            slot.is_idle = false;
+            self.idle.retain(move |idle| *idle != place);
+        }
+        let closed = slot.open.take()?;
+        if closed.is_made {
+            self.open = self.open.saturating_sub(1);
+        }
+        Some(closed)
+    }
+
+    /// A connection was not made. Where none ever was, the next address is tried, or the load ends.
+    fn on_failure(&mut self, kind: ErrorKind) {
+        if self.work.totals.made > 0 {
+            self.work.totals.failed = self.work.totals.failed.saturating_add(1);
+        } else if !self.target.advance() {
+            self.refusal = Some(kind);
+        } else if let Some(slot) = self.slots.first_mut() {
+            slot.retry = 0;
+        }
+    }
+
+    /// Begins to make a connection, unless no more messages are begun.
+    fn connect(&mut self, place: usize, now: u64) -> Result<(), LoadError> {
+        if self.work.schedule.is_over() {
+            return Ok(());
+        }
+        match self.target.connect(self.rt) {
+            Ok(mut link) => {
+                link.watch(self.poll.registry(), Token(place))?;
+                let conversation = Conversation::new(self.alloc, self.offer, place, now).map_err(
+                    |_| LoadError::NoMemory,
+                )?;
+                if let Some(slot) = self.slots.get_mut(place) {
+                    slot.open = Some(OpenConnection::new(link, conversation, now));
+                }
+                Ok(())
+            }
+            Err(error) => {
+                self.on_refusal(place, error.kind(), now);
+                Ok(())
+            }
+        }
+    }
+
+    /// The system did not begin to make a connection.
+    fn on_refusal(&mut self, place: usize, kind: ErrorKind, now: u64) {
+        let is_full = kind == ErrorKind::WouldBlock;
+        if let Some(slot) = self.slots.get_mut(place) {
+            slot.retry = now.saturating_add(if is_full { RETRY_FULL } else { RETRY });
+        }
+        if !is_full {
+            self.on_failure(kind);
+        }
+    }
+
+    // ---- looks at all connections
+
+    /// Looks at all connections, where the time for it has come: at those that are late, and those that are to be made.
+    fn look<W: Write>(&mut self, now: u64, errors: &mut W) -> Result<(), LoadError> {
+        if now < self.next_look {
+            return Ok(());
+        }
+        self.next_look = now.saturating_add(LOOK);
+        if self.open > 0 {
+            self.last_open = now;
+        }
+        let places = if self.work.totals.made == 0 {
+            self.slots.len().min(1)
+        } else {
+            self.slots.len()
+        };
+        for place in 0..places {
+            self.look_at(place, now)?;
+        }
+        self.start(now);
+        self.stop(now);
+        self.report(now, errors);
+        self.note_over()
+    }
+
+    /// Gives up a connection that is late, or makes one.
+    fn look_at(&mut self, place: usize, now: u64) -> Result<(), LoadError> {
+        match self.need_of(place, now) {
+            Need::Nothing => Ok(()),
+            Need::Close => self.close(place, ErrorKind::TimedOut, now),
+            Need::Connect => self.connect(place, now),
+        }
+    }
+
+    /// What a place needs at a look. The connection of one that is late is lost.
+    fn need_of(&mut self, place: usize, now: u64) -> Need {
+        let timeout = self.timeout();
+        let Some(slot) = self.slots.get_mut(place) else {
+            return Need::Nothing;
+        };
+        let Some(open) = &mut slot.open else {
+            return if slot.retry <= now {
+                Need::Connect
+            } else {
+                Need::Nothing
+            };
+        };
+        if !open.is_late(timeout, now) {
+            return Need::Nothing;
+        }
+        open.lose(Cause::Timeout, &mut self.work, now);
+        Need::Close
+    }
+
+    /// Has the first message be due, once all connections await one, or a second after the first one was made.
+    fn start(&mut self, now: u64) {
+        let is_ready = self.idle.len() >= self.slots.len()
+            || (self.work.totals.made > 0 && now.saturating_sub(self.first) >= SECOND);
+        if is_ready && self.work.schedule.started().is_none() {
+            self.work.schedule.start(now);
+            self.work.totals.start = now;
+        }
+    }
+
+    /// Begins no more messages, where the time for them has passed.
+    fn stop(&mut self, now: u64) {
+        let Some(start) = self.work.schedule.started() else {
+            return;
+        };
+        let until = start.saturating_add(u64::from(self.settings.seconds).saturating_mul(SECOND));
+        if self.settings.seconds > 0 && now >= until && self.over.is_none() {
+            self.work.totals.waiting = self.work.schedule.waiting(until.saturating_sub(1));
+            self.work.schedule.stop();
+        }
+    }
+
+    /// Writes how far the load is, once a second, where that is asked for.
+    fn report<W: Write>(&mut self, now: u64, errors: &mut W) {
+        if self.settings.reports_progress && now >= self.next_second {
+            self.next_second = self.next_second.saturating_add(SECOND);
+            let _ = write_progress(self.alloc, errors, &self.work.totals, now);
+        }
+    }
+
+    /// Ends all connections: messages that are still under way are settled by default.
+    fn end(&mut self) -> Result<(), LoadError> {
+        let now = self.now()?;
+        for slot in &mut self.slots {
+            if let Some(open) = &mut slot.open {
+                open.end(&mut self.work, now);
+            }
+        }
+        Ok(())
+    }
+}
+
+/// The connection at a place, where one is open.
+fn open_at(slots: &mut Vec<Slot>, place: usize) -> Option<&mut OpenConnection> {
+    slots.get_mut(place)?.open.as_mut()
+}

@@ -1,0 +1,2 @@
+pub mod BucketValues
+pub mod Tallying
