@@ -8,8 +8,8 @@ ghost use Rattle.milter_mta_client.specs.ConnectionRuns.{IsBetween, Steps};
 ghost use Rattle.milter_mta_client.specs.Events.{Runs};
 
 use crate::connection::drive;
-use crate::dialer::Dial;
 use crate::laws::{events_keep_to_dialogues, events_report_connections};
+use milter_dial::Dial;
 use milter_mta::{MtaCore, Reports, Want};
 use milter_mta_laws::messages_are_settled_by_dialogues;
 use milter_mta_outcome::Loss;
