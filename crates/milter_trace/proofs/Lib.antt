@@ -4,3 +4,4 @@ pub mod PieceLaws
 pub mod WriteLaws
 pub mod TraceLaws
 pub mod RunLaws
+pub mod FieldLaws

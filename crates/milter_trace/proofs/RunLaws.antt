@@ -4,40 +4,41 @@ use Rattle.std.specs.Prelude.{IfErr, OnOk}
 use Rattle.std.specs.Io.KnownBytes.{Appends, Consumes, IsAtEnd}
 use Rattle.std.proofs.KnownBytes.{Appends-nil, Appends-trans, Consumes-nil, Consumes-trans}
 use Rattle.milter_text.specs.Lines.{lines_of}
+use Rattle.milter_trace.specs.declared.form.TraceForm.{TraceForm}
 use Rattle.milter_trace.specs.declared.fault.TraceFault.{TraceFault}
-use Rattle.milter_trace.specs.Trace.{Trace, prepend_text, trace_of}
-use Rattle.milter_trace.specs.TraceRun.{HasBytes, WritesPrefixOf, WritesTraceOf}
+use Rattle.milter_trace.specs.Trace.{Trace, prepend_text, trace_in}
+use Rattle.milter_trace.specs.TraceRun.{HasBytes, WritesPrefixIn, WritesTraceIn}
 use Rattle.milter_trace.specs.TraceState.{TraceState, initial_state, trace_to_come, trace_from}
 use Rattle.milter_text.specs.WrittenText.{WritesPrefix}
 use Rattle.milter_trace.specs.TraceOutput.{EndsTrace, IsInputFault, EndsWithFault, WritesTrace}
 use Rattle.milter_trace.proofs.PacketLaws.{prepend_text-append}
 use Rattle.milter_trace.proofs.TraceLaws.{trace_from-initial_state}
 
-pub record RunProgress (a b w v : Option (List ℕ)) (h : TraceState) (begun : List ℕ) : Type 0 where
+pub record RunProgress (form : TraceForm) (a b w v : Option (List ℕ)) (h : TraceState) (begun : List ℕ) : Type 0 where
   pub input : List ℕ
   pub written : List ℕ
   pub was_read : Consumes a b input
   pub appended : Appends w v written
-  pub goes_on : (more : List ℕ) → trace_to_come written h begun more ≡ trace_of (input ++ more)
+  pub goes_on : (more : List ℕ) → trace_to_come written h begun more ≡ trace_in form (input ++ more)
 
-pub RunProgress-none : (a w : Option (List ℕ)) → RunProgress a a w w initial_state []
-RunProgress-none a w = record { input = []; written = []; was_read = Consumes-nil a; appended = Appends-nil w; goes_on = λ more. trace_from-initial_state more }
+pub RunProgress-none : (form : TraceForm) (a w : Option (List ℕ)) → RunProgress form a a w w (initial_state form) []
+RunProgress-none form a w = record { input = []; written = []; was_read = Consumes-nil a; appended = Appends-nil w; goes_on = λ more. trace_from-initial_state form more }
 
 trace_to_come-written : (written text begun more : List ℕ) (h : TraceState) → trace_to_come (written ++ text) h begun more ≡ prepend_text written (trace_to_come text h begun more)
 trace_to_come-written written text begun more h = prepend_text-append written text (trace_from h (lines_of (begun ++ more)))
 
 -- the whole trace, from what is to come after a piece
-whole_after : (a b w v : Option (List ℕ)) (h : TraceState) (begun piece more : List ℕ) (t : RunProgress a b w v h begun) → prepend_text t.written (trace_to_come [] h begun (piece ++ more)) ≡ trace_of ((t.input ++ piece) ++ more)
-whole_after a b w v h begun piece more t = t.goes_on (piece ++ more) ∙ ap trace_of (sym (append_assoc t.input piece more))
+whole_after : (form : TraceForm) (a b w v : Option (List ℕ)) (h : TraceState) (begun piece more : List ℕ) (t : RunProgress form a b w v h begun) → prepend_text t.written (trace_to_come [] h begun (piece ++ more)) ≡ trace_in form ((t.input ++ piece) ++ more)
+whole_after form a b w v h begun piece more t = t.goes_on (piece ++ more) ∙ ap (trace_in form) (sym (append_assoc t.input piece more))
 
-pub RunProgress-more : (a b c w v u : Option (List ℕ)) (h k : TraceState) (begun new piece text : List ℕ) → RunProgress a b w v h begun → Consumes b c piece → Appends v u text
-    → ((more : List ℕ) → trace_to_come text k new more ≡ trace_to_come [] h begun (piece ++ more)) → RunProgress a c w u k new
-RunProgress-more a b c w v u h k begun new piece text t p q goes = record {
+pub RunProgress-more : (form : TraceForm) (a b c w v u : Option (List ℕ)) (h k : TraceState) (begun new piece text : List ℕ) → RunProgress form a b w v h begun → Consumes b c piece → Appends v u text
+    → ((more : List ℕ) → trace_to_come text k new more ≡ trace_to_come [] h begun (piece ++ more)) → RunProgress form a c w u k new
+RunProgress-more form a b c w v u h k begun new piece text t p q goes = record {
   input = t.input ++ piece;
   written = t.written ++ text;
   was_read = Consumes-trans a b c t.input piece t.was_read p;
   appended = Appends-trans w v u t.written text t.appended q;
-  goes_on = λ more. trace_to_come-written t.written text new more k ∙ ap (prepend_text t.written) (goes more) ∙ whole_after a b w v h begun piece more t;
+  goes_on = λ more. trace_to_come-written t.written text new more k ∙ ap (prepend_text t.written) (goes more) ∙ whole_after form a b w v h begun piece more t;
 }
 
 -- ---- after a beginning
@@ -54,59 +55,59 @@ all_after : (written : List ℕ) (t : Trace) (fault : Option TraceFault) (w v u 
 all_after written t fault w v u a all = record { appended = Appends-trans w v u written t.text a all.appended; ending = all.ending }
 
 -- a fact of the trace of what was read, for an input that is known
-known : (P : Trace → Type 0) (a b : Option (List ℕ)) (input : List ℕ) → Consumes a b input → ((more : List ℕ) → P (trace_of (input ++ more))) → IfSome a (λ xs. P (trace_of xs))
-known P None b input p h = tt
-known P (Some xs) None input p h = absurd p
-known P (Some xs) (Some ys) input p h = subst (λ (x : List ℕ). P (trace_of x)) (sym p) (h ys)
+known : (form : TraceForm) (P : Trace → Type 0) (a b : Option (List ℕ)) (input : List ℕ) → Consumes a b input → ((more : List ℕ) → P (trace_in form (input ++ more))) → IfSome a (λ xs. P (trace_in form xs))
+known form P None b input p h = tt
+known form P (Some xs) None input p h = absurd p
+known form P (Some xs) (Some ys) input p h = subst (λ (x : List ℕ). P (trace_in form x)) (sym p) (h ys)
 
-known_end : (P : Trace → Type 0) (a b : Option (List ℕ)) (input : List ℕ) → Consumes a b input → IsAtEnd b → P (trace_of input) → IfSome a (λ xs. P (trace_of xs))
-known_end P None b input p e h = tt
-known_end P (Some xs) None input p e h = absurd p
-known_end P (Some xs) (Some ys) input p e h = subst (λ (x : List ℕ). P (trace_of x)) (sym (p ∙ ap (λ (y : List ℕ). input ++ y) e ∙ append-nil input)) h
+known_end : (form : TraceForm) (P : Trace → Type 0) (a b : Option (List ℕ)) (input : List ℕ) → Consumes a b input → IsAtEnd b → P (trace_in form input) → IfSome a (λ xs. P (trace_in form xs))
+known_end form P None b input p e h = tt
+known_end form P (Some xs) None input p e h = absurd p
+known_end form P (Some xs) (Some ys) input p e h = subst (λ (x : List ℕ). P (trace_in form x)) (sym (p ∙ ap (λ (y : List ℕ). input ++ y) e ∙ append-nil input)) h
 
 -- ---- how a run ends
 
-pub RunProgress-begun : (a b w v : Option (List ℕ)) (h : TraceState) (begun : List ℕ) → RunProgress a b w v h begun → WritesPrefixOf a w v
-RunProgress-begun a b w v h begun t =
-    known (λ x. WritesPrefix x.text w v) a b t.input t.was_read (λ more. record {
+pub RunProgress-begun : (form : TraceForm) (a b w v : Option (List ℕ)) (h : TraceState) (begun : List ℕ) → RunProgress form a b w v h begun → WritesPrefixIn form a w v
+RunProgress-begun form a b w v h begun t =
+    known form (λ x. WritesPrefix x.text w v) a b t.input t.was_read (λ more. record {
       written = t.written;
       unwritten = (trace_from h (lines_of (begun ++ more))).text;
       whole = ap (λ (x : Trace). x.text) (t.goes_on more);
       appended = t.appended;
     })
 
-pub record Stopped (a w u : Option (List ℕ)) (e : TraceFault) : Type 0 where
-  pub begun : WritesPrefixOf a w u
-  pub fault : IsInputFault e → WritesTraceOf (Some e) a w u
+pub record Stopped (form : TraceForm) (a w u : Option (List ℕ)) (e : TraceFault) : Type 0 where
+  pub begun : WritesPrefixIn form a w u
+  pub fault : IsInputFault e → WritesTraceIn form (Some e) a w u
 
-pub RunProgress-stops : (a b c w v u : Option (List ℕ)) (h : TraceState) (begun piece : List ℕ) (e : TraceFault) → RunProgress a b w v h begun → Consumes b c piece
-    → ((more : List ℕ) → EndsWithFault (trace_to_come [] h begun (piece ++ more)) v u e) → Stopped a w u e
-RunProgress-stops a b c w v u h begun piece e t p stops =
+pub RunProgress-stops : (form : TraceForm) (a b c w v u : Option (List ℕ)) (h : TraceState) (begun piece : List ℕ) (e : TraceFault) → RunProgress form a b w v h begun → Consumes b c piece
+    → ((more : List ℕ) → EndsWithFault (trace_to_come [] h begun (piece ++ more)) v u e) → Stopped form a w u e
+RunProgress-stops form a b c w v u h begun piece e t p stops =
     let read = Consumes-trans a b c t.input piece t.was_read p in
     record {
-      begun = known (λ x. WritesPrefix x.text w u) a c (t.input ++ piece) read (λ more.
-          subst (λ (x : Trace). WritesPrefix x.text w u) (whole_after a b w v h begun piece more t) (prefix_after t.written (trace_to_come [] h begun (piece ++ more)).text w v u t.appended (stops more).prefix));
-      fault = λ input. known (λ x. WritesTrace x (Some e) w u) a c (t.input ++ piece) read (λ more.
-          subst (λ (x : Trace). WritesTrace x (Some e) w u) (whole_after a b w v h begun piece more t) (all_after t.written (trace_to_come [] h begun (piece ++ more)) (Some e) w v u t.appended ((stops more).whole input)));
+      begun = known form (λ x. WritesPrefix x.text w u) a c (t.input ++ piece) read (λ more.
+          subst (λ (x : Trace). WritesPrefix x.text w u) (whole_after form a b w v h begun piece more t) (prefix_after t.written (trace_to_come [] h begun (piece ++ more)).text w v u t.appended (stops more).prefix));
+      fault = λ input. known form (λ x. WritesTrace x (Some e) w u) a c (t.input ++ piece) read (λ more.
+          subst (λ (x : Trace). WritesTrace x (Some e) w u) (whole_after form a b w v h begun piece more t) (all_after t.written (trace_to_come [] h begun (piece ++ more)) (Some e) w v u t.appended ((stops more).whole input)));
     }
 
-last_of : (a b w v : Option (List ℕ)) (h : TraceState) (begun : List ℕ) (t : RunProgress a b w v h begun) → prepend_text t.written (trace_from h (lines_of begun)) ≡ trace_of t.input
-last_of a b w v h begun t = ap (λ (x : List ℕ). prepend_text t.written (trace_from h (lines_of x))) (sym (append-nil begun)) ∙ t.goes_on [] ∙ ap trace_of (append-nil t.input)
+last_of : (form : TraceForm) (a b w v : Option (List ℕ)) (h : TraceState) (begun : List ℕ) (t : RunProgress form a b w v h begun) → prepend_text t.written (trace_from h (lines_of begun)) ≡ trace_in form t.input
+last_of form a b w v h begun t = ap (λ (x : List ℕ). prepend_text t.written (trace_from h (lines_of x))) (sym (append-nil begun)) ∙ t.goes_on [] ∙ ap (trace_in form) (append-nil t.input)
 
-pub RunProgress-end : (a b c w v u : Option (List ℕ)) (h : TraceState) (begun : List ℕ) (r : Result Unit TraceFault) → RunProgress a b w v h begun → Consumes b c [] → IsAtEnd c
-    → EndsTrace (trace_from h (lines_of begun)) v u r → OnOk r (WritesTraceOf None a w u) × IfErr r (λ e. Stopped a w u e)
-RunProgress-end a b c w v u h begun (Ok x) t p end ends =
+pub RunProgress-end : (form : TraceForm) (a b c w v u : Option (List ℕ)) (h : TraceState) (begun : List ℕ) (r : Result Unit TraceFault) → RunProgress form a b w v h begun → Consumes b c [] → IsAtEnd c
+    → EndsTrace (trace_from h (lines_of begun)) v u r → OnOk r (WritesTraceIn form None a w u) × IfErr r (λ e. Stopped form a w u e)
+RunProgress-end form a b c w v u h begun (Ok x) t p end ends =
     let read = subst (Consumes a c) (append-nil t.input) (Consumes-trans a b c t.input [] t.was_read p) in (
-      known_end (λ y. WritesTrace y None w u) a c t.input read end (subst (λ (y : Trace). WritesTrace y None w u) (last_of a b w v h begun t) (all_after t.written (trace_from h (lines_of begun)) None w v u t.appended ends)),
+      known_end form (λ y. WritesTrace y None w u) a c t.input read end (subst (λ (y : Trace). WritesTrace y None w u) (last_of form a b w v h begun t) (all_after t.written (trace_from h (lines_of begun)) None w v u t.appended ends)),
       tt,
     )
-RunProgress-end a b c w v u h begun (Err e) t p end ends =
+RunProgress-end form a b c w v u h begun (Err e) t p end ends =
     let read = subst (Consumes a c) (append-nil t.input) (Consumes-trans a b c t.input [] t.was_read p) in
-    let last = last_of a b w v h begun t in (
+    let last = last_of form a b w v h begun t in (
       tt,
       record {
-        begun = known_end (λ y. WritesPrefix y.text w u) a c t.input read end (subst (λ (y : Trace). WritesPrefix y.text w u) last (prefix_after t.written (trace_from h (lines_of begun)).text w v u t.appended ends.prefix));
-        fault = λ input. known_end (λ y. WritesTrace y (Some e) w u) a c t.input read end (subst (λ (y : Trace). WritesTrace y (Some e) w u) last (all_after t.written (trace_from h (lines_of begun)) (Some e) w v u t.appended (ends.whole input)));
+        begun = known_end form (λ y. WritesPrefix y.text w u) a c t.input read end (subst (λ (y : Trace). WritesPrefix y.text w u) last (prefix_after t.written (trace_from h (lines_of begun)).text w v u t.appended ends.prefix));
+        fault = λ input. known_end form (λ y. WritesTrace y (Some e) w u) a c t.input read end (subst (λ (y : Trace). WritesTrace y (Some e) w u) last (all_after t.written (trace_from h (lines_of begun)) (Some e) w v u t.appended (ends.whole input)));
       },
     )
 

@@ -6,20 +6,21 @@ use Rattle.milter_wire_stream.specs.declared.fault.WireFault.{WireFault}
 use Rattle.milter_wire_stream.specs.Stream.{Division, Frame, divide, length_fault}
 use Rattle.milter_wire_stream.proofs.StreamLaws.{divide-append, divide-nil}
 use Rattle.milter_text.specs.Lines.{Line, lines_of}
+use Rattle.milter_trace.specs.declared.form.TraceForm.{TraceForm}
 use Rattle.milter_trace.specs.declared.direction.Direction.{Direction}
 use Rattle.milter_trace.specs.declared.direction.Direction.TheVariants.{ToFilter, ToMta}
 use Rattle.milter_trace.specs.ParsedLine.{ParsedLine, Skipped, Bad, Carries, parsed_line}
-use Rattle.milter_trace.specs.Trace.{Trace, line_bytes, followed_by, unread_after, new_fault, new_packets, packets_trace, line_trace, stream, trace_after, trace_of}
+use Rattle.milter_trace.specs.Trace.{Trace, line_bytes, followed_by, unread_after, new_fault, new_packets, packets_trace, line_trace, stream, trace_after, trace_in}
 use Rattle.milter_trace.specs.TraceState.{TraceState, next_state, division_trace, next_trace, initial_state, trace_from, unread_in}
 
 -- the state after these lines
-state_after : List Line → TraceState
-state_after before = record { lines = length before; to_filter = unread_after ToFilter before; to_mta = unread_after ToMta before }
+state_after : TraceForm → List Line → TraceState
+state_after form before = record { form = form; lines = length before; to_filter = unread_after ToFilter before; to_mta = unread_after ToMta before }
 
-unread_in-state_after : (d : Direction) (before : List Line) → unread_in d (state_after before) ≡ unread_after d before
+unread_in-state_after : (form : TraceForm) (d : Direction) (before : List Line) → unread_in d (state_after form before) ≡ unread_after d before
 unfolding state_after
-unread_in-state_after ToFilter before = refl
-unread_in-state_after ToMta before = refl
+unread_in-state_after form ToFilter before = refl
+unread_in-state_after form ToMta before = refl
 
 new_packets-is : (before : List Line) (d : Direction) (bytes : List ℕ) → new_packets before d bytes ≡ (divide (unread_after d before ++ bytes)).frames
 new_packets-is before d bytes =
@@ -30,15 +31,15 @@ new_packets-is before d bytes =
 new_fault-is : (before : List Line) (d : Direction) (bytes : List ℕ) → new_fault before d bytes ≡ length_fault (divide (unread_after d before ++ bytes)).rest
 new_fault-is before d bytes = ap (λ (x : Division). length_fault x.rest) (divide-append (stream d before) bytes)
 
-print_is : (before : List Line) (e : ParsedLine) → next_trace (state_after before) e ≡ line_trace before e
+print_is : (form : TraceForm) (before : List Line) (e : ParsedLine) → next_trace (state_after form before) e ≡ line_trace form before e
 unfolding state_after
-print_is before Skipped = refl
-print_is before Bad = refl
-print_is before (Carries d bytes) =
+print_is form before Skipped = refl
+print_is form before Bad = refl
+print_is form before (Carries d bytes) =
     let n = length before + 1 in
-    ap (λ (x : List ℕ). division_trace n d (divide (x ++ bytes))) (unread_in-state_after d before)
-    ∙ ap (λ (x : List Frame). packets_trace n d x (length_fault (divide (unread_after d before ++ bytes)).rest)) (sym (new_packets-is before d bytes))
-    ∙ ap (λ (x : Option WireFault). packets_trace n d (new_packets before d bytes) x) (sym (new_fault-is before d bytes))
+    ap (λ (x : List ℕ). division_trace form n d (divide (x ++ bytes))) (unread_in-state_after form d before)
+    ∙ ap (λ (x : List Frame). packets_trace form n d x (length_fault (divide (unread_after d before ++ bytes)).rest)) (sym (new_packets-is before d bytes))
+    ∙ ap (λ (x : Option WireFault). packets_trace form n d (new_packets before d bytes) x) (sym (new_fault-is before d bytes))
 
 -- ---- one line more
 
@@ -55,35 +56,35 @@ left_same : (d : Direction) (before : List Line) (line : Line) → line_bytes d 
 left_same d before line is =
     ap (λ (x : List ℕ). (divide x).rest) (stream_more d before line ∙ ap (λ (x : List ℕ). stream d before ++ x) is ∙ append-nil (stream d before))
 
-made : ℕ → List ℕ → List ℕ → TraceState
-made n f m = record { lines = n; to_filter = f; to_mta = m }
+made : TraceForm → ℕ → List ℕ → List ℕ → TraceState
+made form n f m = record { form = form; lines = n; to_filter = f; to_mta = m }
 
-three : (n k : ℕ) (f g m o : List ℕ) → n ≡ k → f ≡ g → m ≡ o → made n f m ≡ made k g o
-three n k f g m o a b c = rw (a, b, c) refl
+three : (form : TraceForm) (n k : ℕ) (f g m o : List ℕ) → n ≡ k → f ≡ g → m ≡ o → made form n f m ≡ made form k g o
+three form n k f g m o a b c = rw (a, b, c) refl
 
-next_state-line : (before : List Line) (line : Line) (e : ParsedLine) → parsed_line line ≡ e → next_state (state_after before) e ≡ state_after (before ++ line ∷ [])
+next_state-line : (form : TraceForm) (before : List Line) (line : Line) (e : ParsedLine) → parsed_line line ≡ e → next_state (state_after form before) e ≡ state_after form (before ++ line ∷ [])
 unfolding state_after made
-next_state-line before line Skipped is =
-    three _ _ _ _ _ _ (sym (length-append before (line ∷ []))) (sym (left_same ToFilter before line (ap (line_bytes ToFilter) is))) (sym (left_same ToMta before line (ap (line_bytes ToMta) is)))
-next_state-line before line Bad is =
-    three _ _ _ _ _ _ (sym (length-append before (line ∷ []))) (sym (left_same ToFilter before line (ap (line_bytes ToFilter) is))) (sym (left_same ToMta before line (ap (line_bytes ToMta) is)))
-next_state-line before line (Carries ToFilter bytes) is =
-    three _ _ _ _ _ _ (sym (length-append before (line ∷ []))) (sym (left_more ToFilter before line bytes (ap (line_bytes ToFilter) is))) (sym (left_same ToMta before line (ap (line_bytes ToMta) is)))
-next_state-line before line (Carries ToMta bytes) is =
-    three _ _ _ _ _ _ (sym (length-append before (line ∷ []))) (sym (left_same ToFilter before line (ap (line_bytes ToFilter) is))) (sym (left_more ToMta before line bytes (ap (line_bytes ToMta) is)))
+next_state-line form before line Skipped is =
+    three form _ _ _ _ _ _ (sym (length-append before (line ∷ []))) (sym (left_same ToFilter before line (ap (line_bytes ToFilter) is))) (sym (left_same ToMta before line (ap (line_bytes ToMta) is)))
+next_state-line form before line Bad is =
+    three form _ _ _ _ _ _ (sym (length-append before (line ∷ []))) (sym (left_same ToFilter before line (ap (line_bytes ToFilter) is))) (sym (left_same ToMta before line (ap (line_bytes ToMta) is)))
+next_state-line form before line (Carries ToFilter bytes) is =
+    three form _ _ _ _ _ _ (sym (length-append before (line ∷ []))) (sym (left_more ToFilter before line bytes (ap (line_bytes ToFilter) is))) (sym (left_same ToMta before line (ap (line_bytes ToMta) is)))
+next_state-line form before line (Carries ToMta bytes) is =
+    three form _ _ _ _ _ _ (sym (length-append before (line ∷ []))) (sym (left_same ToFilter before line (ap (line_bytes ToFilter) is))) (sym (left_more ToMta before line bytes (ap (line_bytes ToMta) is)))
 
-trace_is : (before lines : List Line) → trace_from (state_after before) lines ≡ trace_after before lines
+trace_is : (form : TraceForm) (before lines : List Line) → trace_from (state_after form before) lines ≡ trace_after form before lines
 unfolding state_after
-trace_is before [] = refl
-trace_is before (line ∷ lines) =
+trace_is form before [] = refl
+trace_is form before (line ∷ lines) =
     let e = parsed_line line in
-    ap (λ (x : Trace). followed_by x (trace_from (next_state (state_after before) e) lines)) (print_is before e)
-    ∙ ap (λ (h : TraceState). followed_by (line_trace before e) (trace_from h lines)) (next_state-line before line e refl)
-    ∙ ap (followed_by (line_trace before e)) (trace_is (before ++ line ∷ []) lines)
+    ap (λ (x : Trace). followed_by x (trace_from (next_state (state_after form before) e) lines)) (print_is form before e)
+    ∙ ap (λ (h : TraceState). followed_by (line_trace form before e) (trace_from h lines)) (next_state-line form before line e refl)
+    ∙ ap (followed_by (line_trace form before e)) (trace_is form (before ++ line ∷ []) lines)
 
-state_after-none : state_after [] ≡ initial_state
+state_after-none : (form : TraceForm) → state_after form [] ≡ initial_state form
 unfolding state_after
-state_after-none = ap (λ (d : Division). record { lines = 0; to_filter = d.rest; to_mta = d.rest }) divide-nil
+state_after-none form = ap (λ (d : Division). record { form = form; lines = 0; to_filter = d.rest; to_mta = d.rest }) divide-nil
 
-pub trace_from-initial_state : (input : List ℕ) → trace_from initial_state (lines_of input) ≡ trace_of input
-trace_from-initial_state input = ap (λ (h : TraceState). trace_from h (lines_of input)) (sym state_after-none) ∙ trace_is [] (lines_of input)
+pub trace_from-initial_state : (form : TraceForm) (input : List ℕ) → trace_from (initial_state form) (lines_of input) ≡ trace_in form input
+trace_from-initial_state form input = ap (λ (h : TraceState). trace_from h (lines_of input)) (sym (state_after-none form)) ∙ trace_is form [] (lines_of input)

@@ -9,7 +9,8 @@ use Rattle.milter_trace.specs.declared.direction.Direction.TheVariants.{ToFilter
 use Rattle.milter_trace.specs.declared.fault.TraceFault.{TraceFault}
 use Rattle.milter_trace.specs.declared.fault.TraceFault.TheVariants.{BadLine, Packet, Truncated}
 use Rattle.milter_trace.specs.ParsedLine.{ParsedLine, Skipped, Bad, Carries, parsed_line}
-use Rattle.milter_trace.specs.PacketText.{packet_text}
+use Rattle.milter_trace.specs.declared.form.TraceForm.{TraceForm}
+use Rattle.milter_trace.specs.PacketText.{packet_text_in, plain_form}
 
 -- the text, and the fault that ends it, if there is one
 pub record Trace : Type 0 where
@@ -71,17 +72,18 @@ packet_trace number direction (Ok text) more = prepend_text text more
 packet_trace number direction (Err fault) more = fault_trace (Packet number direction fault)
 
 -- packets one after the other, up to the first one at fault, and then a length at fault
-abbrev pub packets_trace : ℕ → Direction → List Frame → Option WireFault → Trace
-packets_trace number direction [] fault = length_fault_trace number direction fault
-packets_trace number direction (f ∷ frames) fault =
-    packet_trace number direction (packet_text direction f) (packets_trace number direction frames fault)
+abbrev pub packets_trace : TraceForm → ℕ → Direction → List Frame → Option WireFault → Trace
+packets_trace form number direction [] fault = length_fault_trace number direction fault
+packets_trace form number direction (f ∷ frames) fault =
+    packet_trace number direction (packet_text_in form direction f) (packets_trace form number direction frames fault)
 
 -- the trace of the line after the lines before
-abbrev pub line_trace : List Line → ParsedLine → Trace
-line_trace before Skipped = empty_trace
-line_trace before Bad = fault_trace (BadLine (length before + 1))
-line_trace before (Carries direction bytes) =
-    packets_trace (length before + 1) direction (new_packets before direction bytes) (new_fault before direction bytes)
+abbrev pub line_trace : TraceForm → List Line → ParsedLine → Trace
+line_trace form before Skipped = empty_trace
+line_trace form before Bad = fault_trace (BadLine (length before + 1))
+line_trace form before (Carries direction bytes) =
+    packets_trace form (length before + 1) direction (new_packets before direction bytes)
+    (new_fault before direction bytes)
 
 -- ---- the whole
 
@@ -94,11 +96,15 @@ end_trace to_filter to_mta =
 abbrev pub unread_after : Direction → List Line → List ℕ
 unread_after direction lines = (divide (stream direction lines)).rest
 
-abbrev pub trace_after : List Line → List Line → Trace
-trace_after before [] = end_trace (length (unread_after ToFilter before)) (length (unread_after ToMta before))
-trace_after before (line ∷ lines) =
-    followed_by (line_trace before (parsed_line line)) (trace_after (before ++ line ∷ []) lines)
+abbrev pub trace_after : TraceForm → List Line → List Line → Trace
+trace_after form before [] = end_trace (length (unread_after ToFilter before)) (length (unread_after ToMta before))
+trace_after form before (line ∷ lines) =
+    followed_by (line_trace form before (parsed_line line)) (trace_after form (before ++ line ∷ []) lines)
 
--- the trace of an input
+-- the trace of an input in a form
+abbrev pub trace_in : TraceForm → List ℕ → Trace
+trace_in form input = trace_after form [] (lines_of input)
+
+-- the same with nothing beside what lines always have
 abbrev pub trace_of : List ℕ → Trace
-trace_of input = trace_after [] (lines_of input)
+trace_of input = trace_in plain_form input

@@ -8,18 +8,20 @@ use Rattle.milter_trace.specs.declared.direction.Direction.{Direction}
 use Rattle.milter_trace.specs.declared.direction.Direction.TheVariants.{ToFilter, ToMta}
 use Rattle.milter_trace.specs.declared.fault.TraceFault.{TraceFault}
 use Rattle.milter_trace.specs.declared.fault.TraceFault.TheVariants.{BadLine, Packet, Truncated, ReadFault, WriteFault, TurnLimit, NoMemory}
+use Rattle.milter_trace.specs.declared.form.TraceForm.{TraceForm}
 use Rattle.milter_trace.specs.ParsedLine.{ParsedLine, Skipped, Bad, Carries, parsed_line}
 use Rattle.milter_trace.specs.Trace.{Trace, empty_trace, fault_trace, prepend_text, followed_by, packets_trace, end_trace}
 
--- how many lines there were, and the bytes of packets that aren't whole
+-- how packets are printed, how many lines there were, and the bytes of packets that aren't whole
 pub record TraceState : Type 0 where
+  pub form : TraceForm
   pub lines : ℕ
   pub to_filter : List ℕ
   pub to_mta : List ℕ
 
 -- before the first line
-abbrev pub initial_state : TraceState
-initial_state = record { lines = 0; to_filter = []; to_mta = [] }
+abbrev pub initial_state : TraceForm → TraceState
+initial_state form = record { form = form; lines = 0; to_filter = []; to_mta = [] }
 
 abbrev pub unread_in : Direction → TraceState → List ℕ
 unread_in ToFilter h = h.to_filter
@@ -35,15 +37,15 @@ abbrev pub with_line_counted : TraceState → TraceState
 with_line_counted h = record h { lines = h.lines + 1 }
 
 -- the trace of the packets and the fault of a division
-abbrev pub division_trace : ℕ → Direction → Division → Trace
-division_trace number direction d = packets_trace number direction d.frames (length_fault d.rest)
+abbrev pub division_trace : TraceForm → ℕ → Direction → Division → Trace
+division_trace form number direction d = packets_trace form number direction d.frames (length_fault d.rest)
 
 -- the trace of the next line
 abbrev pub next_trace : TraceState → ParsedLine → Trace
 next_trace h Skipped = empty_trace
 next_trace h Bad = fault_trace (BadLine (h.lines + 1))
 next_trace h (Carries direction bytes) =
-    division_trace (h.lines + 1) direction (divide (unread_in direction h ++ bytes))
+    division_trace h.form (h.lines + 1) direction (divide (unread_in direction h ++ bytes))
 
 -- the state after it
 abbrev pub next_state : TraceState → ParsedLine → TraceState

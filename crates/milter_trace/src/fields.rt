@@ -1,46 +1,56 @@
 //! The fields of packets, as a line prints them: each after a blank.
 
-ghost use Rattle.std.specs.Prelude.{◌≡◌, ◌++◌, ◌∷◌, [], OnOk, decimal, map};
+ghost use Rattle.std.specs.Prelude.{◌≡◌, ◌++◌, ◌∷◌, [], OnOk, decimal, map, take};
 ghost use Rattle.std.specs.List.{flat_map};
 ghost use Rattle.milter_wire_stream.specs.Code.{code_text};
 ghost use Rattle.milter_text.specs.QuotedText.{quoted};
-ghost use Rattle.milter_trace.specs.PacketText.{arguments_fields, body_fields, client_fields, command_fields, fields_text, header_fields, hex8, options_fields, origin_fields, pair_fields, path_fields, reply_fields, sym_list_fields};
+ghost use Rattle.milter_trace.specs.PacketText.{arguments_fields, body_fields, client_fields, command_fields, fields_text, header_fields, hex8, names_fields};
+ghost use Rattle.milter_trace.specs.PacketText.{options_fields, origin_fields, pair_fields, path_fields, reply_fields, sym_list_fields};
+ghost use Rattle.milter_wire_options.specs.Bits.{actions_table, names_text, protocol_table};
 
+use crate::form::TraceForm;
 use itoa::Buffer;
 use milter_text::quote;
 use milter_wire::{
-    Client, CodeName, Command, Header, NoMemory, Options, Origin, Pair, Path, Reply, SymList, Text,
+    Actions, Client, CodeName, Command, Header, NoMemory, Options, Origin, Pair, Path, Protocol,
+    Reply, SymList, Text,
 };
 use std::alloc::Global;
 
 /// Appends the fields of a command.
 pub(crate) fn put_command(
     alloc: Global,
+    form: TraceForm,
     text: &mut Vec<u8>,
     command: &Command,
 ) -> Result<(), NoMemory>
-    ensures { OnOk result (text.new.items ≡ text.old.items ++ fields_text (command_fields command.now)) }
+    ensures { OnOk result (text.new.items ≡ text.old.items ++ fields_text (command_fields form command.now)) }
 {
     match command {
-        Command::Options(options) => put_options(text, options),
+        Command::Options(options) => put_options(form, text, options),
         Command::Macro { command, pairs } => put_macro(alloc, text, *command, pairs.as_slice()),
         Command::Connect(client) => put_client(alloc, text, client),
         Command::Helo(string) | Command::Unknown(string) => put_text(alloc, text, string),
         Command::Mail(path) | Command::Rcpt(path) => put_path(alloc, text, path),
         Command::Header(header) => put_header(alloc, text, header),
-        Command::Body(bytes) | Command::Eob(bytes) => put_size(text, bytes),
+        Command::Body(bytes) | Command::Eob(bytes) => put_body(alloc, form, text, bytes),
         Command::DataCmd | Command::Eoh => Ok(()),
         Command::Abort | Command::Quit | Command::QuitNew => Ok(()),
     }
 }
 
 /// Appends the fields of a reply.
-pub(crate) fn put_reply(alloc: Global, text: &mut Vec<u8>, reply: &Reply) -> Result<(), NoMemory>
-    ensures { OnOk result (text.new.items ≡ text.old.items ++ fields_text (reply_fields reply.now)) }
+pub(crate) fn put_reply(
+    alloc: Global,
+    form: TraceForm,
+    text: &mut Vec<u8>,
+    reply: &Reply,
+) -> Result<(), NoMemory>
+    ensures { OnOk result (text.new.items ≡ text.old.items ++ fields_text (reply_fields form reply.now)) }
 {
     match reply {
         Reply::Options { options, lists } => {
-            put_options(text, options)?;
+            put_options(form, text, options)?;
             put_sym_lists(alloc, text, lists.as_slice())
         }
         Reply::AddRcpt(string) | Reply::DelRcpt(string) => put_text(alloc, text, string),
@@ -50,21 +60,47 @@ pub(crate) fn put_reply(alloc: Global, text: &mut Vec<u8>, reply: &Reply) -> Res
         Reply::AddHeader(header) => put_header(alloc, text, header),
         Reply::InsertHeader { index, header } => put_indexed(alloc, text, *index, header),
         Reply::ChangeHeader { index, header } => put_indexed(alloc, text, *index, header),
-        Reply::ReplaceBody(bytes) => put_size(text, bytes),
+        Reply::ReplaceBody(bytes) => put_body(alloc, form, text, bytes),
         Reply::Continue | Reply::Skip | Reply::Progress => Ok(()),
         Reply::Accept | Reply::Discard | Reply::Reject | Reply::Tempfail => Ok(()),
     }
 }
 
-fn put_options(text: &mut Vec<u8>, options: &Options) -> Result<(), NoMemory>
-    ensures { OnOk result (text.new.items ≡ text.old.items ++ fields_text (options_fields options.now)) }
+fn put_options(form: TraceForm, text: &mut Vec<u8>, options: &Options) -> Result<(), NoMemory>
+    ensures { OnOk result (text.new.items ≡ text.old.items ++ fields_text (options_fields form options.now)) }
 {
     text.extend_from_slice(b" version")?;
     put_number(text, u64::from(options.version))?;
     text.extend_from_slice(b" actions")?;
     put_hex8(text, options.actions.0)?;
+    put_actions(form, text, options.actions)?;
     text.extend_from_slice(b" protocol")?;
-    put_hex8(text, options.protocol.0)
+    put_hex8(text, options.protocol.0)?;
+    put_protocol(form, text, options.protocol)
+}
+
+/// Appends the names of actions, where the form has names.
+fn put_actions(form: TraceForm, text: &mut Vec<u8>, actions: Actions) -> Result<(), NoMemory>
+    ensures { OnOk result (text.new.items ≡ text.old.items ++ fields_text (names_fields form
+        (names_text actions_table actions.0))) }
+{
+    if !form.names {
+        return Ok(());
+    }
+    text.push(b' ')?;
+    actions.put_names(text)
+}
+
+/// Appends the names of protocol bits, where the form has names.
+fn put_protocol(form: TraceForm, text: &mut Vec<u8>, protocol: Protocol) -> Result<(), NoMemory>
+    ensures { OnOk result (text.new.items ≡ text.old.items ++ fields_text (names_fields form
+        (names_text protocol_table protocol.0))) }
+{
+    if !form.names {
+        return Ok(());
+    }
+    text.push(b' ')?;
+    protocol.put_names(text)
 }
 
 /// Appends each symbol list: its stage and the names.
@@ -171,11 +207,32 @@ fn put_indexed(
     put_header(alloc, text, header)
 }
 
-/// Appends the number of bytes of a part of a body.
-fn put_size(text: &mut Vec<u8>, bytes: &Text) -> Result<(), NoMemory>
-    ensures { OnOk result (text.new.items ≡ text.old.items ++ fields_text (body_fields bytes.now)) }
+/// Appends the number of bytes of a part of a body, and the first of them where the form has bodies.
+fn put_body(
+    alloc: Global,
+    form: TraceForm,
+    text: &mut Vec<u8>,
+    bytes: &Text,
+) -> Result<(), NoMemory>
+    ensures { OnOk result (text.new.items ≡ text.old.items ++ fields_text (body_fields form bytes.now)) }
 {
-    put_number(text, bytes.as_slice().len() as u64)
+    put_number(text, bytes.as_slice().len() as u64)?;
+    match form.bodies {
+        Some(most) => put_first(alloc, text, bytes.as_slice(), most as usize),
+        None => Ok(()),
+    }
+}
+
+/// Appends so many of these bytes, or all of them, in quotes.
+fn put_first(alloc: Global, text: &mut Vec<u8>, bytes: &[u8], most: usize) -> Result<(), NoMemory>
+    ensures { OnOk result (text.new.items ≡ text.old.items ++ fields_text (quoted (take most bytes.now) ∷ [])) }
+{
+    text.push(b' ')?;
+    if most < bytes.len() {
+        quote(alloc, &bytes[..most], text)
+    } else {
+        quote(alloc, bytes, text)
+    }
 }
 
 /// Appends a text in quotes.

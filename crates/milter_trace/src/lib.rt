@@ -8,6 +8,7 @@
 mod direction;
 mod fault;
 mod fields;
+mod form;
 mod line_assembler;
 mod packet_line;
 mod packet_stream;
@@ -18,9 +19,10 @@ mod trace_printer;
 
 pub use direction::Direction;
 pub use fault::TraceFault;
-pub use packet_line::put_packet;
+pub use form::TraceForm;
+pub use packet_line::{put_packet, put_packet_as};
 pub use packet_stream::packet_fault;
 pub use packet_trace::PacketTrace;
-pub use trace::{trace_limits, trace_run};
+pub use trace::{trace_limits, trace_run, trace_run_as};
 pub use trace_line::{UndecodedLine, line_end, parse_line};
 pub use trace_printer::decode_digits;

@@ -7,6 +7,7 @@ ghost use Rattle.milter_trace.specs.ParsedLine.{parsed_line};
 ghost use Rattle.milter_trace.specs.TraceState.{ContinuesTrace, AppendsTrace, next_state, next_trace, trace_to_come, trace_from};
 
 use crate::fault::TraceFault;
+use crate::form::TraceForm;
 use crate::trace_line::{LINE_MAX, line_end};
 use crate::trace_printer::TracePrinter;
 use std::alloc::Global;
@@ -22,12 +23,12 @@ impl LineAssembler {
     ghost use Rattle.milter_trace.specs.AssemblerState.{IsInitial, IsBetweenPieces};
 
     /// Before the first byte.
-    pub(crate) fn new(alloc: Global) -> LineAssembler
-        ensures { IsInitial result }
+    pub(crate) fn new(alloc: Global, form: TraceForm) -> LineAssembler
+        ensures { IsInitial form result }
     {
         LineAssembler {
             begun: Vec::new(alloc),
-            printer: TracePrinter::new(alloc),
+            printer: TracePrinter::new(alloc, form),
         }
     }
 

@@ -6,13 +6,15 @@ ghost use Rattle.milter_trace.specs.TraceState.{AppendsTrace, division_trace, pa
 
 use crate::direction::Direction;
 use crate::fault::TraceFault;
-use crate::packet_line::put_packet;
+use crate::form::TraceForm;
+use crate::packet_line::put_packet_as;
 use milter_wire::{Splitter, WireFault};
 use std::alloc::Global;
 
 /// Appends the lines of the packets that become whole with these bytes, up to the first fault.
 pub(crate) fn print_packets(
     alloc: Global,
+    form: TraceForm,
     line: u64,
     direction: Direction,
     splitter: &mut Splitter,
@@ -20,7 +22,7 @@ pub(crate) fn print_packets(
     text: &mut Vec<u8>,
 ) -> Result<(), TraceFault>
     requires { IsUnfinished splitter.old }
-    ensures appends { AppendsTrace (division_trace line direction (divide (splitter.old
+    ensures appends { AppendsTrace (division_trace form line direction (divide (splitter.old
         ++ bytes.now))) text.old.items text.new.items result }
     ensures rest { OnOk result (splitter.new ≡ (divide (splitter.old ++ bytes.now)).rest) }
     ensures unfinished { OnOk result (IsUnfinished splitter.new) }
@@ -32,7 +34,7 @@ pub(crate) fn print_packets(
         match splitter.next() {
             Ok(None) => {}
             Ok(Some(packet)) => {
-                if let Err(fault) = put_packet(alloc, direction, &packet, text) {
+                if let Err(fault) = put_packet_as(alloc, form, direction, &packet, text) {
                     return Err(packet_fault(line, direction, fault));
                 }
             }

@@ -6,6 +6,7 @@ ghost use Rattle.milter_trace.specs.declared.fault.TraceFault.TheVariants.{NoMem
 
 use crate::direction::Direction;
 use crate::fault::TraceFault;
+use crate::form::TraceForm;
 use crate::trace_printer::TracePrinter;
 use std::alloc::Global;
 use std::marker::Model;
@@ -43,7 +44,7 @@ impl PacketTrace {
         ensures { result ≡ fresh_packets }
     {
         PacketTrace {
-            printer: TracePrinter::new(alloc),
+            printer: TracePrinter::new(alloc, TraceForm::plain()),
             fault: None,
         }
     }

@@ -6,12 +6,13 @@ ghost use Rattle.milter_text.specs.Lines.{lines_of};
 ghost use Rattle.milter_text.specs.WrittenText.{WritesPrefix};
 ghost use Rattle.milter_trace.specs.PrinterState.{printer_state};
 ghost use Rattle.milter_trace.specs.declared.trace_line.TheConstants.{LINE_MAX};
-ghost use Rattle.milter_trace.specs.TraceRun.{HasBytes, read_max, WritesPrefixOf, WritesTraceOf};
+ghost use Rattle.milter_trace.specs.TraceRun.{HasBytes, read_max, WritesPrefixIn, WritesPrefixOf, WritesTraceIn, WritesTraceOf};
 ghost use Rattle.milter_trace.specs.AssemblerState.{IsInitial, IsBetweenPieces};
 ghost use Rattle.milter_trace.specs.TraceState.{trace_to_come, trace_from};
 ghost use Rattle.milter_trace.specs.TraceOutput.{EndsTrace, EndsWithFault, IsInputFault};
 
 use crate::fault::TraceFault;
+use crate::form::TraceForm;
 use crate::line_assembler::LineAssembler;
 use milter_text::write_text;
 use milter_wire::{READ_LEN_MAX, read_buffer};
@@ -52,8 +53,30 @@ pub fn trace_run<R: Read, W: Write>(
     // The input of a trace that gives up is that long. How many reads there were is not stated.
     ensures long_input { IsErrOf result TraceFault.TurnLimit → HasBytes read_max (R.remaining reader.old) }
 {
+    trace_run_as(alloc, TraceForm::plain(), reader, writer)
+}
+
+/// The same in a form: `form` says what the lines have beside that.
+pub fn trace_run_as<R: Read, W: Write>(
+    alloc: Global,
+    form: TraceForm,
+    reader: &mut R,
+    writer: &mut W,
+) -> Result<(), TraceFault>
+    // The text of the input was written, and nothing else.
+    ensures done { OnOk result (WritesTraceIn form None (R.remaining reader.old)
+        (W.contents writer.old) (W.contents writer.new)) }
+    ensures unread { OnOk result (IsAtEnd (R.remaining reader.new)) }
+    // Which fault of the input it is, and the text up to it.
+    ensures fault { IfErr result (λ e. IsInputFault e →
+        WritesTraceIn form (Some e) (R.remaining reader.old) (W.contents writer.old) (W.contents writer.new)) }
+    ensures begun { OnErr result (WritesPrefixIn form (R.remaining reader.old)
+        (W.contents writer.old) (W.contents writer.new)) }
+    // The input of a trace that gives up is that long. How many reads there were is not stated.
+    ensures long_input { IsErrOf result TraceFault.TurnLimit → HasBytes read_max (R.remaining reader.old) }
+{
     let mut room = read_buffer(alloc)?;
-    let mut assembler = LineAssembler::new(alloc);
+    let mut assembler = LineAssembler::new(alloc, form);
     run(&mut assembler, &mut room, reader, writer)
 }
 
@@ -63,14 +86,15 @@ fn run<R: Read, W: Write>(
     reader: &mut R,
     writer: &mut W,
 ) -> Result<(), TraceFault>
-    requires initial { IsInitial assembler.old }
+    requires initial { IsInitial assembler.old.printer.form assembler.old }
     requires room { length room.old ≡ READ_LEN_MAX }
-    ensures done { OnOk result (WritesTraceOf None (R.remaining reader.old)
+    ensures done { OnOk result (WritesTraceIn assembler.old.printer.form None (R.remaining reader.old)
         (W.contents writer.old) (W.contents writer.new)) }
     ensures unread { OnOk result (IsAtEnd (R.remaining reader.new)) }
     ensures fault { IfErr result (λ e. IsInputFault e →
-        WritesTraceOf (Some e) (R.remaining reader.old) (W.contents writer.old) (W.contents writer.new)) }
-    ensures begun { OnErr result (WritesPrefixOf (R.remaining reader.old)
+        WritesTraceIn assembler.old.printer.form (Some e) (R.remaining reader.old)
+        (W.contents writer.old) (W.contents writer.new)) }
+    ensures begun { OnErr result (WritesPrefixIn assembler.old.printer.form (R.remaining reader.old)
         (W.contents writer.old) (W.contents writer.new)) }
     ensures long_input { IsErrOf result TraceFault.TurnLimit → HasBytes read_max (R.remaining reader.old) }
 {

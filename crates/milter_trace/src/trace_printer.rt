@@ -11,16 +11,19 @@ ghost use Rattle.milter_trace.specs.PrinterState.{HasUnfinishedStreams, printer_
 
 use crate::direction::Direction;
 use crate::fault::TraceFault;
+use crate::form::TraceForm;
 use crate::packet_stream::print_packets;
 use crate::trace_line::{UndecodedLine, parse_line};
 use hex::FromHexError;
 use milter_wire::Splitter;
 use std::alloc::Global;
 
-/// A trace between two lines: how many there were, the packets that aren't whole, and the text that isn't written yet.
+/// A trace between two lines: how it is printed, how many lines there were, the packets that aren't whole, and the text
+/// that isn't written yet.
 #[derive(Drop)]
 pub(crate) struct TracePrinter {
     pub(crate) alloc: Global,
+    pub(crate) form: TraceForm,
     pub(crate) lines: u64,
     pub(crate) to_filter: Splitter,
     pub(crate) to_mta: Splitter,
@@ -31,13 +34,14 @@ impl TracePrinter {
     ghost use Rattle.milter_trace.specs.PrinterState.{HasUnfinishedStreams, printer_state};
 
     /// Before the first line.
-    pub(crate) fn new(alloc: Global) -> TracePrinter
+    pub(crate) fn new(alloc: Global, form: TraceForm) -> TracePrinter
         ensures unfinished { HasUnfinishedStreams result }
-        ensures state { printer_state result ≡ initial_state }
+        ensures state { printer_state result ≡ initial_state form }
         ensures text { result.text.items ≡ [] }
     {
         TracePrinter {
             alloc,
+            form,
             lines: 0,
             to_filter: Splitter::new(alloc),
             to_mta: Splitter::new(alloc),
@@ -77,7 +81,7 @@ impl TracePrinter {
         bytes: &[u8],
     ) -> Result<(), TraceFault>
         requires { HasUnfinishedStreams self.old }
-        ensures appends { AppendsTrace (division_trace number direction (divide (unread_in direction
+        ensures appends { AppendsTrace (division_trace self.old.form number direction (divide (unread_in direction
             (printer_state self.old) ++ bytes.now)))
             self.old.text.items self.new.text.items result }
         ensures state { OnOk result (printer_state self.new ≡ with_unread (printer_state self.old) direction
@@ -85,10 +89,12 @@ impl TracePrinter {
         ensures unfinished { OnOk result (HasUnfinishedStreams self.new) }
     {
         let alloc = self.alloc;
+        let form = self.form;
         match direction {
             Direction::ToFilter => {
                 print_packets(
                     alloc,
+                    form,
                     number,
                     direction,
                     &mut self.to_filter,
@@ -99,6 +105,7 @@ impl TracePrinter {
             Direction::ToMta => {
                 print_packets(
                     alloc,
+                    form,
                     number,
                     direction,
                     &mut self.to_mta,

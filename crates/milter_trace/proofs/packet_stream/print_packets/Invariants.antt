@@ -5,7 +5,7 @@ use Rattle.milter_trace.proofs.packet_stream.print_packets.Given as goal
 
 abbrev pub invariant-loop-rest : goal.invariant-loop-rest
 invariant-loop-rest l = record {
-  printing : PrintProgress l.line l.direction l.fn.text.items (l.fn.splitter ++ l.bytes) l.text.items (l.splitter ++ l.rest);
+  printing : PrintProgress l.form l.line l.direction l.fn.text.items (l.fn.splitter ++ l.bytes) l.text.items (l.splitter ++ l.rest);
   unfinished : IsUnfinished l.splitter;
 }
 
