@@ -12,7 +12,8 @@
 # lists of each kind, also by new ones. The filters in C and Python of examples/ are behind a Postfix, and the mail
 # server's side in C shows a message to OpenDKIM, on the library that tests/test_c_library.py built, or of the archive
 # that ARCHIVE names. `mta`: to filters on Sendmail's libmilter, one that does what its words say (interop/scripted.c)
-# and OpenDKIM. Where Debian's package haproxy is there, three `serve` are behind HAProxy with a Postfix under load,
+# and OpenDKIM. `probe`: to a filter on libmilter (interop/passing.c), OpenDKIM, and one on pymilter where that is
+# installed. Where Debian's package haproxy is there, three `serve` are behind HAProxy with a Postfix under load,
 # while one is killed and comes back, and one is drained and started with other rules: a line 'proxied: N messages,
 # ..' counts what was refused, delivered and deferred. It needs Debian's packages miltertest, postfix, libmilter-dev
 # and opendkim, a C compiler, openssl, and root, as whom Postfix and Sendmail start. It isn't part of the test

@@ -2,8 +2,9 @@
 """Plays sessions by `milter_tool mta`, as both compilers built it, to filters over TCP and over Unix sockets: to
 `milter_tool filter` with the rules of the rows in lib/reports.py and in the tables of `play`, which are played in
 memory too, and with each of its allocations refused in turn; and to filters of this file's own that close, reset or
-keep silent after each of their replies, or that send what is no reply. Besides, addresses where nothing listens, and a
-standard output that is full. What is run is what `rt ci` built; nothing is proved here.
+keep silent after each of their replies, or that send what is no reply. Besides, what is printed of a negotiation, the
+macros of a command line, addresses where nothing listens, and a standard output that is full. What is run is what
+`rt ci` built; nothing is proved here.
 
 Counted are the runs.
 """
@@ -91,20 +92,24 @@ def take(connection, size):
     return found
 
 
-def take_asked(connection):
-    """Reads up to a packet that is replied to."""
+def take_asked(connection, macros):
+    """Reads up to a packet that is replied to, and adds the macros before it to these."""
     while True:
         size = struct.unpack('>I', take(connection, 4))[0]
-        if take(connection, size)[:1] not in [bytes([code]) for code in UNANSWERED]:
+        packet = take(connection, size)
+        if packet[0] not in UNANSWERED:
             return
+        if packet[:1] == b'D':
+            macros.append(packet[1:])
 
 
-def reply(replies, then, by_bytes=False):
-    """A function that sends these replies, each to the next packet, and then ends the connection so."""
+def reply(replies, then, by_bytes=False, macros=None):
+    """A function that sends these replies, each to the next packet, and then ends the connection so. The macros that
+    come are added to those that are given."""
 
     def function(connection):
         for sent in replies:
-            take_asked(connection)
+            take_asked(connection, [] if macros is None else macros)
             for at in range(len(sent)) if by_bytes else [slice(None)]:
                 connection.sendall(sent[at:at + 1] if by_bytes else sent[at])
         if then == 'silent':
@@ -249,6 +254,64 @@ def faults(program, kind, folder):
         yield checked(name, run, number, replies)
 
 
+def negotiations(program, kind, folder):
+    """What --show-negotiation prints before the reports, by what is offered and replied on the first connection."""
+    words = ['--show-negotiation', '--actions', 'ADDHDRS|QUARANTINE|SETSYMLIST', '--protocol', 'NOBODY|HDR_LEADSPC']
+    offered = '> O version 6 actions 00000121 ADDHDRS|QUARANTINE|SETSYMLIST protocol 00100010 NOBODY|HDR_LEADSPC\n'
+    replied = '< O version 6 actions 00000001 ADDHDRS protocol 00000000 none\n'
+    symbols = '< O version 6 actions 00000100 SETSYMLIST protocol 00000000 none symbols 1 "j i"\n'
+    version = '< O version 7 actions 00000000 none protocol 00000000 none\n'
+    answers = [CONTINUE] * len(reports.commands(reports.BODY))
+    added = options(6, 1, 0)
+
+    def run(functions, expected, more=()):
+        stub = Stub(kind, folder, functions)
+        expect_reports(program, stub.address, folder, expected, words + list(more), reports.session(len(functions)))
+        stub.end()
+
+    whole = reports.expected(1)
+    again = defaults('reset', 0, count=1) + whole.replace('message 1', 'message 2')
+    lists = options(6, 0x100, 0, b'\0\0\0\1j i\0')
+    for by_bytes in [False, True]:
+        name = 'by bytes' if by_bytes else 'by packets'
+        yield checked('negotiated, ' + name, run, [reply([added] + answers, 'silent', by_bytes)],
+                      offered + replied + whole)
+    yield checked('symbols', run, [reply([lists] + answers, 'silent')], offered + symbols + whole)
+    yield checked('expected reports', run, [reply([added] + answers, 'silent')], offered + replied,
+                  ['--expect', written(folder, whole)])
+    yield checked('not negotiated', run, [reply([options(7, 0, 0)], 'silent')],
+                  offered + version + defaults('fault 2', count=1))
+    # The first filter closes once it has the offer, so that this is sent.
+    yield checked('no reply on the first connection', run, [reply([b''], 'close'), reply([added] + answers, 'silent')],
+                  offered + again)
+    yield checked('the first of two connections', run, [reply([added], 'close'), reply([AGREED] + answers, 'silent')],
+                  offered + replied + again)
+
+
+def macros(program, kind, folder):
+    """The macros of the command line beside those of a session, and one for which no packet has room."""
+    words = ['--macro', 'connect:j=other.example.org', '--macro=connect:{daemon_name}=a=b', '--macro', 'helo:x=',
+             '--macro', 'connect:j=last.example.org']
+    expected = [
+        b'C{tls_version}\0TLSv1.3\0{daemon_name}\0a=b\0j\0last.example.org\0', b'Hx\0\0', b'Mi\x004BxYz12345\0']
+
+    def run():
+        found = []
+        answers = [CONTINUE] * len(reports.commands(reports.BODY))
+        stub = Stub(kind, folder, [reply([AGREED] + answers, 'silent', macros=found)])
+        expect_reports(program, stub.address, folder, reports.expected(1), words, reports.session())
+        stub.end()
+        expect('the macros', found, expected)
+
+    def too_long():
+        _, address = serving.place_of(kind, folder)
+        found = ended(program, address, folder, reports.session(), ['--macro', 'connect:j=' + 'x' * 65536])
+        expect('the run', found, (2, '', 'bad value for --macro\n'))
+
+    yield checked('macros of the command line', run)
+    yield checked('a macro that is too long', too_long)
+
+
 def unheard(program, kind, folder):
     """Addresses where nothing listens, and a standard output that is full."""
     _, address = serving.place_of(kind, folder)
@@ -300,7 +363,7 @@ def groups(folder):
         program = programs.tool(build)
         for kind in serving.KINDS:
             name = '%s at %s' % (os.path.basename(program), kind)
-            for group in [rows, in_memory, of_play, documented, losses, faults, unheard, refused]:
+            for group in [rows, in_memory, of_play, documented, losses, faults, negotiations, macros, unheard, refused]:
                 yield name, group, (program, kind, tempfile.mkdtemp(dir=folder))
 
 

@@ -22,6 +22,7 @@ import many
 import mta
 import peers
 import postfix
+import probed
 import proxied
 import replayed
 import sendmail
@@ -98,6 +99,7 @@ def main():
         for address, _ in peers.addresses(work):
             checks.part('at once at ' + address, play_at_once, program, address)
     checks.part('mta', mta.play, program)
+    checks.part('probe', probed.play, program)
     checks.part('Postfix', postfix.play, program)
     checks.part('Postfix, chrooted', postfix.play_chrooted, program)
     checks.part('Postfix, many at once', many.play, program, postfix.Postfix)

@@ -2,17 +2,21 @@
 
 use crate::address_words::say_bad_address;
 use crate::answer_words::answer_meaning;
+use crate::capture_words::capture_meaning;
 use crate::event_words::say_events;
 use crate::failure::Failure;
 use crate::file_forms::fault_meaning;
 use crate::file_words::{bytes_again, unread_reason, unstreamed_reason};
-use crate::option_words::{say_bad_mode, say_bad_names};
-use crate::request_paths::{actions_of, address_of, addresses_of, mode_of, path_of, protocol_of};
+use crate::option_words::{say_bad_macros, say_bad_mode, say_bad_names, say_bad_trials};
+use crate::request_paths::{
+    actions_of, address_of, addresses_of, macros_of, mode_of, only_of, path_of, protocol_of,
+};
 use crate::rule_words::{say_rules, unread_lists};
 use crate::session_words::say_session;
 use crate::shown_name::shown_name;
 use crate::socket_words::{say_unbound, say_unconnected};
 use crate::trace_words::{say_recording, say_trace};
+use milter_capture_file::CaptureFault;
 use milter_cli_io::{AnswerError, FileError, InputFile, ToolError};
 use milter_cli_request::{Address, Request, UsageError};
 use milter_report_patterns::{difference_text, lines_of};
@@ -25,6 +29,10 @@ use std::rt::Files;
 
 /// What is said of an output that wasn't written.
 const NOT_WRITTEN: &str = "it couldn't be written: it is closed, or full";
+
+/// What is said of a capture on standard input that wasn't read.
+const UNREAD_INPUT: &str =
+    "it couldn't be read: it is closed, or a folder, or has more than 134,217,728 bytes";
 
 /// What is said of reports that aren't the expected ones.
 const OTHER_REPORTS: &str =
@@ -51,6 +59,7 @@ pub fn explain<R: Files>(
         ToolError::Usage(error) => explain_usage(alloc, request, error),
         ToolError::File(error) => explain_failed_file(files, alloc, request, failure.file, *error),
         ToolError::Trace(fault) => explain_trace(alloc, failure.file, *fault),
+        ToolError::Capture(fault) => explain_capture(alloc, failure.file, *fault),
         ToolError::Answer(error) => explain_answer(alloc, *error),
         ToolError::Listen | ToolError::Connect => explain_socket(files, alloc, failure),
         ToolError::Differs { line } => explain_reports(alloc, request, *line, failure),
@@ -85,6 +94,19 @@ fn explain_trace(
             say_trace(alloc, &mut notes, fault)?;
             text_of(alloc, &notes)
         }
+    }
+}
+
+/// The line of a capture that was not read to its end: the file at this path, or standard input where there is none.
+fn explain_capture(
+    alloc: Global,
+    path: Option<&str>,
+    fault: CaptureFault,
+) -> Result<Vec<u8>, NoMemory> {
+    match capture_meaning(fault) {
+        Some(meaning) => line(alloc, path.unwrap_or("standard input"), meaning),
+        // Words take memory.
+        None => Ok(Vec::new(alloc)),
     }
 }
 
@@ -127,6 +149,8 @@ fn explain_usage(
             let names = protocol_of(request).unwrap_or("");
             say_bad_names(alloc, &mut notes, "protocol", names)?;
         }
+        UsageError::BadMacro => say_bad_macros(alloc, &mut notes, macros_of(request))?,
+        UsageError::BadTrials => say_bad_trials(alloc, &mut notes, only_of(request).unwrap_or(""))?,
         UsageError::BadMode => say_bad_mode(alloc, &mut notes, mode_of(request).unwrap_or(0))?,
         UsageError::BadAddress => say_addresses(alloc, &mut notes, request)?,
         // They say it themselves.
@@ -140,6 +164,8 @@ fn place_of(error: &UsageError) -> &'static str {
     match error {
         UsageError::BadActions => "--actions",
         UsageError::BadProtocol => "--protocol",
+        UsageError::BadMacro => "--macro",
+        UsageError::BadTrials => "--only",
         UsageError::BadMode => "--mode",
         UsageError::BadAddress => "ADDRESS",
         UsageError::CommandLine(_) | UsageError::NotUtf8 => "milter_tool",
@@ -217,7 +243,8 @@ fn explain_reports(
     Ok(said)
 }
 
-/// The lines of an error of the file at this path, which is read piece by piece; or of the one that a request names.
+/// The lines of an error of the file at this path, which is one of several; or of the one that a request names. A trace
+/// is read piece by piece, and has any size.
 fn explain_failed_file<R: Files>(
     files: &R,
     alloc: Global,
@@ -226,6 +253,10 @@ fn explain_failed_file<R: Files>(
     error: FileError,
 ) -> Result<Vec<u8>, NoMemory> {
     match (path, error) {
+        (Some(path), FileError::Read(InputFile::Capture)) => {
+            line(alloc, path, unread_reason(files, Path::new(path)))
+        }
+        (None, FileError::Read(InputFile::Capture)) => line(alloc, "standard input", UNREAD_INPUT),
         (Some(path), FileError::Read(_)) => {
             line(alloc, path, unstreamed_reason(files, Path::new(path)))
         }
@@ -300,7 +331,7 @@ fn explain_bytes<R: Files>(
         InputFile::Session => say_session(alloc, &mut notes, bytes.as_slice())?,
         InputFile::Events => say_events(alloc, &mut notes, bytes.as_slice())?,
         InputFile::Rules => say_rules(files, alloc, &mut notes, path, bytes.as_slice())?,
-        InputFile::Reports => {}
+        InputFile::Reports | InputFile::Capture => {}
         InputFile::Trace => say_recording(alloc, &mut notes, bytes.as_slice())?,
     }
     let mut said = text_of(alloc, &notes)?;

@@ -21,6 +21,7 @@ pub(crate) fn fault_meaning(file: InputFile, number: u8) -> &'static str {
         InputFile::Events => event_fault(number),
         InputFile::Reports => "the line isn't one of reports",
         InputFile::Trace => trace_fault(number),
+        InputFile::Capture => "the file isn't a capture",
     }
 }
 

@@ -6,6 +6,7 @@
 
 mod address_words;
 mod answer_words;
+mod capture_words;
 mod event_words;
 mod explanation;
 mod failure;

@@ -1,9 +1,18 @@
 //! What is said of values of options.
 
+use milter_cli_request::GivenMacro;
 use milter_rules::RuleFault;
 use milter_rules_faults::{Notes, Span, say_fault};
 use milter_wire::NoMemory;
 use std::alloc::Global;
+
+/// What is said of a value of `--macro` that gives no macro.
+const MACRO_FORM: &[u8] =
+    b" isn't STAGE:NAME=VALUE, where STAGE is connect, helo, mail, rcpt, data, eoh or eom";
+
+/// What is said of macros that make the session too large.
+const MACROS_TOO_LARGE: &[u8] =
+    b"a packet has room for 65535 bytes of macros, and a message with its macros for 16777216 bytes";
 
 /// Says why the value of an option names no set: as of the line of a rule file with this first word, after which the
 /// same names stand.
@@ -30,6 +39,41 @@ pub(crate) fn say_bad_names(
 fn after_place(said: &[u8]) -> &[u8] {
     let text = said.strip_prefix(b":1: ").unwrap_or(said);
     text.strip_suffix(b"\n").unwrap_or(text)
+}
+
+/// Says of each of these values of `--macro` that gives no macro what is due; or, where each gives one, that they are
+/// too large with the session.
+pub(crate) fn say_bad_macros(
+    alloc: Global,
+    notes: &mut Notes<'_>,
+    macros: &[&str],
+) -> Result<(), NoMemory> {
+    let mut are_macros = true;
+    for given in macros {
+        if GivenMacro::parse(given).is_none() {
+            let spans = [Span::Quoted(given.as_bytes()), Span::Plain(MACRO_FORM)];
+            notes.say(alloc, &spans)?;
+            are_macros = false;
+        }
+    }
+    if are_macros {
+        notes.say(alloc, &[Span::Plain(MACROS_TOO_LARGE)])?;
+    }
+    Ok(())
+}
+
+/// Says that no trials have this name.
+pub(crate) fn say_bad_trials(
+    alloc: Global,
+    notes: &mut Notes<'_>,
+    name: &str,
+) -> Result<(), NoMemory> {
+    let spans = [
+        Span::Plain(b"no trials have the name "),
+        Span::Quoted(name.as_bytes()),
+        Span::Plain(b"; milter_tool help probe lists the names"),
+    ];
+    notes.say(alloc, &spans)
 }
 
 /// Says why these digits are no mode.

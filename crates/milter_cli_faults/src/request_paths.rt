@@ -11,6 +11,8 @@ pub(crate) fn path_of<'a>(request: &Request<'a>, file: InputFile) -> Option<&'a 
         InputFile::Events => events_path(request),
         InputFile::Reports => reports_path(request),
         InputFile::Trace => trace_path(request),
+        // It is one of several.
+        InputFile::Capture => None,
     }
 }
 
@@ -19,6 +21,8 @@ fn session_path<'a>(request: &Request<'a>) -> Option<&'a str> {
         Request::Session { file } => Some(*file),
         Request::Mta(asked) => Some(asked.session),
         Request::Play(asked) => Some(asked.session),
+        Request::Load(asked) => Some(asked.session),
+        Request::Probe(asked) => Some(asked.session),
         _ => None,
     }
 }
@@ -70,6 +74,8 @@ pub(crate) fn address_of<'a>(request: &Request<'a>) -> Option<&'a str> {
         Request::Filter(asked) => Some(asked.address),
         Request::Mta(asked) => Some(asked.address),
         Request::Replay(asked) => Some(asked.address),
+        Request::Load(asked) => Some(asked.address),
+        Request::Probe(asked) => Some(asked.address),
         _ => None,
     }
 }
@@ -88,6 +94,22 @@ pub(crate) fn protocol_of<'a>(request: &Request<'a>) -> Option<&'a str> {
     match request {
         Request::Mta(asked) => asked.protocol,
         Request::Play(asked) => asked.protocol,
+        _ => None,
+    }
+}
+
+/// The values of `--macro` in a request.
+pub(crate) fn macros_of<'r, 'a>(request: &'r Request<'a>) -> &'r [&'a str] {
+    match request {
+        Request::Mta(asked) => asked.macros.as_slice(),
+        _ => &[],
+    }
+}
+
+/// The value of `--only` in a request.
+pub(crate) fn only_of<'a>(request: &Request<'a>) -> Option<&'a str> {
+    match request {
+        Request::Probe(asked) => asked.only,
         _ => None,
     }
 }

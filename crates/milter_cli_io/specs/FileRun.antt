@@ -9,7 +9,7 @@ use Rattle.milter_text.specs.declared.text_fault.TextFault.TheVariants as texts
 use Rattle.milter_cli_io.specs.declared.file_error.FileError.{FileError}
 use Rattle.milter_cli_io.specs.declared.file_error.FileError.TheVariants.{Read, Fault, Write, NoMemory}
 use Rattle.milter_cli_io.specs.declared.file_error.InputFile.{InputFile}
-use Rattle.milter_cli_io.specs.declared.file_error.InputFile.TheVariants.{Session, Rules, Events, Reports, Trace}
+use Rattle.milter_cli_io.specs.declared.file_error.InputFile.TheVariants.{Session, Rules, Events, Reports, Trace, Capture}
 
 -- the input has this value
 abbrev pub Has : {V : Type 0} → (List ℕ → V → Type 0) → Option (List ℕ) → V → Type 0
@@ -67,6 +67,7 @@ file_word Rules = codes "rules"
 file_word Events = codes "events"
 file_word Reports = codes "reports"
 file_word Trace = codes "trace"
+file_word Capture = codes "capture"
 
 -- the line of an error
 abbrev pub file_error_text : FileError → List ℕ

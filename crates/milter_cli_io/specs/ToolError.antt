@@ -8,11 +8,12 @@ use Rattle.clap.specs.declared.error.kind.ErrorKind.{ErrorKind}
 use Rattle.clap.specs.declared.error.kind.ErrorKind.TheVariants.{DisplayHelp, DisplayVersion, OutOfMemory}
 use Rattle.milter_cli_io.specs.AnswerRun.{answer_error_text}
 use Rattle.milter_cli_io.specs.FileRun.{file_error_text}
+use Rattle.milter_capture_file.specs.FaultText.{capture_fault_text}
 use Rattle.milter_text.specs.declared.text_fault.TextFault.{TextFault}
 use Rattle.milter_text.specs.declared.text_fault.TextFault.TheVariants as texts
 use Rattle.milter_trace.specs.FaultText.{fault_text}
 use Rattle.milter_cli_io.specs.declared.tool_error.ToolError.{ToolError}
-use Rattle.milter_cli_io.specs.declared.tool_error.ToolError.TheVariants.{Usage, Trace, File, Answer}
+use Rattle.milter_cli_io.specs.declared.tool_error.ToolError.TheVariants.{Usage, Trace, Capture, File, Answer}
 use Rattle.milter_cli_io.specs.declared.tool_error.ToolError.TheVariants.{Connect, Differs, Findings, Listen, Write, NoMemory}
 use Rattle.milter_cli_request.specs.UsageError.{usage_lines}
 use Rattle.milter_filter_service.specs.declared.service_error.ServiceError.{ServiceError}
@@ -23,6 +24,7 @@ use Rattle.milter_cli_request.specs.declared.usage_error.UsageError.TheVariants.
 abbrev pub error_status : ToolError → ℕ
 error_status (Usage error) = 2
 error_status (Trace fault) = 1
+error_status (Capture fault) = 1
 error_status (File error) = 1
 error_status (Answer error) = 1
 error_status Listen = 1
@@ -43,6 +45,7 @@ line text = text ++ 10 ∷ []
 abbrev pub error_lines : ToolError → Option (List ℕ)
 error_lines (Usage error) = usage_lines error
 error_lines (Trace fault) = option_map line (fault_text fault)
+error_lines (Capture fault) = option_map line (capture_fault_text fault)
 error_lines (File error) = Some (line (file_error_text error))
 error_lines (Answer error) = Some (line (answer_error_text error))
 error_lines Listen = Some (line (codes "cannot listen"))

@@ -21,6 +21,8 @@ pub enum InputFile {
     Reports,
     /// A trace.
     Trace,
+    /// A capture.
+    Capture,
 }
 
 impl fmt::Display for InputFile {
@@ -33,6 +35,7 @@ impl fmt::Display for InputFile {
             InputFile::Events => "events",
             InputFile::Reports => "reports",
             InputFile::Trace => "trace",
+            InputFile::Capture => "capture",
         })
     }
 }

@@ -8,6 +8,7 @@ ghost use Rattle.milter_cli_io.specs.ToolError.{EndsBy, IsShown, argument_error,
 use crate::answer_error::AnswerError;
 use crate::file_error::FileError;
 use clap::error::ErrorKind;
+use milter_capture_file::CaptureFault;
 use milter_cli_request::UsageError;
 use milter_filter_service::ServiceError;
 use milter_text::TextFault;
@@ -24,6 +25,8 @@ pub enum ToolError {
     Usage(UsageError),
     /// A trace that ended before its input.
     Trace(TraceFault),
+    /// A capture that was not read to its end.
+    Capture(CaptureFault),
     /// A file that was not read, or what it has not printed to its end.
     File(FileError),
     /// A mail server that was not answered to its end.
@@ -55,6 +58,7 @@ impl fmt::Display for ToolError {
         match self {
             ToolError::Usage(error) => write!(f, "{error}"),
             ToolError::Trace(fault) => writeln!(f, "{fault}"),
+            ToolError::Capture(fault) => writeln!(f, "{fault}"),
             ToolError::File(error) => writeln!(f, "{error}"),
             ToolError::Answer(error) => writeln!(f, "{error}"),
             ToolError::Listen => writeln!(f, "cannot listen"),
@@ -82,7 +86,8 @@ pub fn report<W: Write>(ended: Result<(), ToolError>, errors: &mut W) -> ExitCod
     let _ = write!(errors, "{error}");
     ExitCode::from(match error {
         ToolError::Usage(_) => 2,
-        ToolError::Trace(_) | ToolError::File(_) | ToolError::Answer(_) => 1,
+        ToolError::Trace(_) | ToolError::Capture(_) => 1,
+        ToolError::File(_) | ToolError::Answer(_) => 1,
         ToolError::Listen | ToolError::Connect | ToolError::Write | ToolError::NoMemory => 1,
         ToolError::Differs { .. } | ToolError::Findings => 1,
     })

@@ -16,10 +16,10 @@ use Rattle.clap.proofs.WalkLemmas.{first_value-rows, raw_values-rows}
 use Rattle.clap.specs.declared.error.kind.ErrorKind.{ErrorKind}
 use Rattle.clap.specs.declared.parser.matches.Found.{Found}
 use Rattle.clap.specs.declared.parser.matches.ArgMatches.{ArgMatches}
-use Rattle.milter_cli_request.specs.declared.command_line.Request.{Request}
-use Rattle.milter_cli_words.specs.Subcommands.{answer_app, filter_app, mta_app, play_app, replay_app, rules_app, serve_app, session_app, tool_app, trace_app}
+use Rattle.milter_cli_request.specs.declared.request.Request.{Request}
+use Rattle.milter_cli_words.specs.Subcommands.{answer_app, filter_app, load_app, mta_app, play_app, probe_app, replay_app, rules_app, serve_app, session_app, tool_app, trace_app}
 use Rattle.milter_cli_words.specs.Words.{BorrowedWords}
-use Rattle.milter_cli_request.specs.CommandLine.{HasMatches, IsFlag, IsNumberOr, IsRequestOf, IsUnasked, given_values, text_of}
+use Rattle.milter_cli_request.specs.CommandLine.{HasMatches, IsFlag, IsNumber, IsNumberOr, IsRequestOf, IsUnasked, given_values, text_of}
 use Rattle.milter_cli_request.proofs.FaultlessRows.{AreFilled, Each, Fills, IsFilled, find_each, no_faults, settled_filled, some_fault}
 use Rattle.milter_cli_request.proofs.FaultlessWalk.{StopsBeforeHelp, defaults_filled, walk_rows, walk_stops}
 
@@ -41,6 +41,15 @@ within default least most (Some text) n low h = λ h-in. h (h-in.0, h-in.1, omeg
 pub number_given : (default least most : ℕ) (f : Found) (id : Text) (o : Option (Bor Text)) (n : ℕ) → most ≤ 2 ^ 32 - 1 → text_of o ≡ first_value f id → IsNumberOr default 0 (2 ^ 32 - 1) (text_of o) n
     → IsNumberOr default least most (first_of id (rows_of f)) n
 number_given default least most f id o n low is h = holds_of (λ t. IsNumberOr default least most t n) f id o is (within default least most (text_of o) n low h)
+
+-- a number that fits 32 bits, within closer bounds, where it is given
+known_within : (least most : ℕ) (t : Option Text) (n : Option ℕ) → most ≤ 2 ^ 32 - 1 → IsNumber 0 (2 ^ 32 - 1) t n → IsNumber least most t n
+known_within least most None n low h = h
+known_within least most (Some text) n low h = λ h-in. h (h-in.0, h-in.1, omega arith, omega (arith, low, h-in.3))
+
+pub number_known : (least most : ℕ) (f : Found) (id : Text) (o : Option (Bor Text)) (n : Option ℕ) → most ≤ 2 ^ 32 - 1 → text_of o ≡ first_value f id → IsNumber 0 (2 ^ 32 - 1) (text_of o) n
+    → IsNumber least most (first_of id (rows_of f)) n
+number_known least most f id o n low is h = holds_of (λ t. IsNumber least most t n) f id o is (known_within least most (text_of o) n low h)
 
 pub flag_given : (f : Found) (id : Text) (o : Option (Bor Text)) (flag : Bool) → text_of o ≡ first_value f id → IsFlag (text_of o) flag → IsFlag (first_of id (rows_of f)) flag
 flag_given f id o flag is h = holds_of (λ t. IsFlag t flag) f id o is h
@@ -81,7 +90,9 @@ no_session f none = (
   (λ e. (let other : 115 ≡ 114 = letter 2 (codes "session") (codes "serve") e in absurd (omega (arith, other)))),
   (λ e. (let other : 115 ≡ 109 = head (codes "session") (codes "mta") e in absurd (omega (arith, other)))),
   (λ e. (let other : 115 ≡ 112 = head (codes "session") (codes "play") e in absurd (omega (arith, other)))),
-  λ e. (let other : 115 ≡ 114 = head (codes "session") (codes "replay") e in absurd (omega (arith, other))),
+  (λ e. (let other : 115 ≡ 114 = head (codes "session") (codes "replay") e in absurd (omega (arith, other)))),
+  (λ e. (let other : 115 ≡ 108 = head (codes "session") (codes "load") e in absurd (omega (arith, other)))),
+  λ e. (let other : 115 ≡ 112 = head (codes "session") (codes "probe") e in absurd (omega (arith, other))),
 )
 
 pub no_rules : (f : Found) → None ≡ first_value f (codes "file") → IsUnasked (codes "rules", rows_of f)
@@ -94,7 +105,9 @@ no_rules f none = (
   (λ e. (let other : 114 ≡ 115 = head (codes "rules") (codes "serve") e in absurd (omega (arith, other)))),
   (λ e. (let other : 114 ≡ 109 = head (codes "rules") (codes "mta") e in absurd (omega (arith, other)))),
   (λ e. (let other : 114 ≡ 112 = head (codes "rules") (codes "play") e in absurd (omega (arith, other)))),
-  λ e. (let other : 117 ≡ 101 = letter 1 (codes "rules") (codes "replay") e in absurd (omega (arith, other))),
+  (λ e. (let other : 117 ≡ 101 = letter 1 (codes "rules") (codes "replay") e in absurd (omega (arith, other)))),
+  (λ e. (let other : 114 ≡ 108 = head (codes "rules") (codes "load") e in absurd (omega (arith, other)))),
+  λ e. (let other : 114 ≡ 112 = head (codes "rules") (codes "probe") e in absurd (omega (arith, other))),
 )
 
 pub no_filter : (f : Found) → None ≡ first_value f (codes "address") → IsUnasked (codes "filter", rows_of f)
@@ -107,7 +120,9 @@ no_filter f none = (
   (λ e. (let other : 102 ≡ 115 = head (codes "filter") (codes "serve") e in absurd (omega (arith, other)))),
   (λ e. (let other : 102 ≡ 109 = head (codes "filter") (codes "mta") e in absurd (omega (arith, other)))),
   (λ e. (let other : 102 ≡ 112 = head (codes "filter") (codes "play") e in absurd (omega (arith, other)))),
-  λ e. (let other : 102 ≡ 114 = head (codes "filter") (codes "replay") e in absurd (omega (arith, other))),
+  (λ e. (let other : 102 ≡ 114 = head (codes "filter") (codes "replay") e in absurd (omega (arith, other)))),
+  (λ e. (let other : 102 ≡ 108 = head (codes "filter") (codes "load") e in absurd (omega (arith, other)))),
+  λ e. (let other : 102 ≡ 112 = head (codes "filter") (codes "probe") e in absurd (omega (arith, other))),
 )
 
 pub no_serve : (f : Found) → None ≡ option_map raw_values (matched_of f (codes "address")) → IsUnasked (codes "serve", rows_of f)
@@ -120,7 +135,9 @@ no_serve f none = (
   (λ e. no_values f (codes "address") none),
   (λ e. (let other : 115 ≡ 109 = head (codes "serve") (codes "mta") e in absurd (omega (arith, other)))),
   (λ e. (let other : 115 ≡ 112 = head (codes "serve") (codes "play") e in absurd (omega (arith, other)))),
-  λ e. (let other : 115 ≡ 114 = head (codes "serve") (codes "replay") e in absurd (omega (arith, other))),
+  (λ e. (let other : 115 ≡ 114 = head (codes "serve") (codes "replay") e in absurd (omega (arith, other)))),
+  (λ e. (let other : 115 ≡ 108 = head (codes "serve") (codes "load") e in absurd (omega (arith, other)))),
+  λ e. (let other : 115 ≡ 112 = head (codes "serve") (codes "probe") e in absurd (omega (arith, other))),
 )
 
 no_mta : (values : List Row) → (first_of (codes "address") values ≡ None) ⊎ (first_of (codes "session") values ≡ None) → IsUnasked (codes "mta", values)
@@ -133,7 +150,9 @@ no_mta values none = (
   (λ e. (let other : 109 ≡ 115 = head (codes "mta") (codes "serve") e in absurd (omega (arith, other)))),
   (λ e. none),
   (λ e. (let other : 109 ≡ 112 = head (codes "mta") (codes "play") e in absurd (omega (arith, other)))),
-  λ e. (let other : 109 ≡ 114 = head (codes "mta") (codes "replay") e in absurd (omega (arith, other))),
+  (λ e. (let other : 109 ≡ 114 = head (codes "mta") (codes "replay") e in absurd (omega (arith, other)))),
+  (λ e. (let other : 109 ≡ 108 = head (codes "mta") (codes "load") e in absurd (omega (arith, other)))),
+  λ e. (let other : 109 ≡ 112 = head (codes "mta") (codes "probe") e in absurd (omega (arith, other))),
 )
 
 pub no_mta_address : (f : Found) → None ≡ first_value f (codes "address") → IsUnasked (codes "mta", rows_of f)
@@ -152,7 +171,9 @@ no_play f none = (
   (λ e. (let other : 112 ≡ 115 = head (codes "play") (codes "serve") e in absurd (omega (arith, other)))),
   (λ e. (let other : 112 ≡ 109 = head (codes "play") (codes "mta") e in absurd (omega (arith, other)))),
   (λ e. no_value f (codes "session") none),
-  λ e. (let other : 112 ≡ 114 = head (codes "play") (codes "replay") e in absurd (omega (arith, other))),
+  (λ e. (let other : 112 ≡ 114 = head (codes "play") (codes "replay") e in absurd (omega (arith, other)))),
+  (λ e. (let other : 112 ≡ 108 = head (codes "play") (codes "load") e in absurd (omega (arith, other)))),
+  λ e. (let other : 108 ≡ 114 = letter 1 (codes "play") (codes "probe") e in absurd (omega (arith, other))),
 )
 
 no_replay : (values : List Row) → (first_of (codes "address") values ≡ None) ⊎ (first_of (codes "trace") values ≡ None) → IsUnasked (codes "replay", values)
@@ -165,7 +186,9 @@ no_replay values none = (
   (λ e. (let other : 114 ≡ 115 = head (codes "replay") (codes "serve") e in absurd (omega (arith, other)))),
   (λ e. (let other : 114 ≡ 109 = head (codes "replay") (codes "mta") e in absurd (omega (arith, other)))),
   (λ e. (let other : 114 ≡ 112 = head (codes "replay") (codes "play") e in absurd (omega (arith, other)))),
-  λ e. none,
+  (λ e. none),
+  (λ e. (let other : 114 ≡ 108 = head (codes "replay") (codes "load") e in absurd (omega (arith, other)))),
+  λ e. (let other : 114 ≡ 112 = head (codes "replay") (codes "probe") e in absurd (omega (arith, other))),
 )
 
 pub no_replay_address : (f : Found) → None ≡ first_value f (codes "address") → IsUnasked (codes "replay", rows_of f)
@@ -173,6 +196,48 @@ no_replay_address f none = no_replay (rows_of f) (inl (no_value f (codes "addres
 
 pub no_replay_trace : (f : Found) → None ≡ first_value f (codes "trace") → IsUnasked (codes "replay", rows_of f)
 no_replay_trace f none = no_replay (rows_of f) (inr (no_value f (codes "trace") none))
+
+no_load : (values : List Row) → (first_of (codes "address") values ≡ None) ⊎ (first_of (codes "session") values ≡ None) → IsUnasked (codes "load", values)
+no_load values none = (
+  (λ e. (let other : 108 ≡ 116 = head (codes "load") (codes "trace") e in absurd (omega (arith, other)))),
+  (λ e. (let other : 108 ≡ 97 = head (codes "load") (codes "answer") e in absurd (omega (arith, other)))),
+  (λ e. (let other : 108 ≡ 115 = head (codes "load") (codes "session") e in absurd (omega (arith, other)))),
+  (λ e. (let other : 108 ≡ 114 = head (codes "load") (codes "rules") e in absurd (omega (arith, other)))),
+  (λ e. (let other : 108 ≡ 102 = head (codes "load") (codes "filter") e in absurd (omega (arith, other)))),
+  (λ e. (let other : 108 ≡ 115 = head (codes "load") (codes "serve") e in absurd (omega (arith, other)))),
+  (λ e. (let other : 108 ≡ 109 = head (codes "load") (codes "mta") e in absurd (omega (arith, other)))),
+  (λ e. (let other : 108 ≡ 112 = head (codes "load") (codes "play") e in absurd (omega (arith, other)))),
+  (λ e. (let other : 108 ≡ 114 = head (codes "load") (codes "replay") e in absurd (omega (arith, other)))),
+  (λ e. none),
+  λ e. (let other : 108 ≡ 112 = head (codes "load") (codes "probe") e in absurd (omega (arith, other))),
+)
+
+pub no_load_address : (f : Found) → None ≡ first_value f (codes "address") → IsUnasked (codes "load", rows_of f)
+no_load_address f none = no_load (rows_of f) (inl (no_value f (codes "address") none))
+
+pub no_load_session : (f : Found) → None ≡ first_value f (codes "session") → IsUnasked (codes "load", rows_of f)
+no_load_session f none = no_load (rows_of f) (inr (no_value f (codes "session") none))
+
+no_probe : (values : List Row) → (first_of (codes "address") values ≡ None) ⊎ (first_of (codes "session") values ≡ None) → IsUnasked (codes "probe", values)
+no_probe values none = (
+  (λ e. (let other : 112 ≡ 116 = head (codes "probe") (codes "trace") e in absurd (omega (arith, other)))),
+  (λ e. (let other : 112 ≡ 97 = head (codes "probe") (codes "answer") e in absurd (omega (arith, other)))),
+  (λ e. (let other : 112 ≡ 115 = head (codes "probe") (codes "session") e in absurd (omega (arith, other)))),
+  (λ e. (let other : 112 ≡ 114 = head (codes "probe") (codes "rules") e in absurd (omega (arith, other)))),
+  (λ e. (let other : 112 ≡ 102 = head (codes "probe") (codes "filter") e in absurd (omega (arith, other)))),
+  (λ e. (let other : 112 ≡ 115 = head (codes "probe") (codes "serve") e in absurd (omega (arith, other)))),
+  (λ e. (let other : 112 ≡ 109 = head (codes "probe") (codes "mta") e in absurd (omega (arith, other)))),
+  (λ e. (let other : 114 ≡ 108 = letter 1 (codes "probe") (codes "play") e in absurd (omega (arith, other)))),
+  (λ e. (let other : 112 ≡ 114 = head (codes "probe") (codes "replay") e in absurd (omega (arith, other)))),
+  (λ e. (let other : 112 ≡ 108 = head (codes "probe") (codes "load") e in absurd (omega (arith, other)))),
+  λ e. none,
+)
+
+pub no_probe_address : (f : Found) → None ≡ first_value f (codes "address") → IsUnasked (codes "probe", rows_of f)
+no_probe_address f none = no_probe (rows_of f) (inl (no_value f (codes "address") none))
+
+pub no_probe_session : (f : Found) → None ≡ first_value f (codes "session") → IsUnasked (codes "probe", rows_of f)
+no_probe_session f none = no_probe (rows_of f) (inr (no_value f (codes "session") none))
 
 first_given : (o : Option Row) → option_map_or (λ r. explicit_source r.source) o false ≡ true → IfSome o IsFilled → option_and_then (λ r. slice_get r.values 0) o ≡ None → ⊥
 first_given None given f none = true≢false (sym given)
@@ -246,8 +311,14 @@ module _ (losses : BorrowedWords) where
   abbrev replay_shape : Shape
   replay_shape = built_leaf (inherited (with_leaf_noted (marked_built (tool_app losses).top)) replay_app.top)
 
+  abbrev load_shape : Shape
+  load_shape = built_leaf (inherited (with_leaf_noted (marked_built (tool_app losses).top)) load_app.top)
+
+  abbrev probe_shape : Shape
+  probe_shape = built_leaf (inherited (with_leaf_noted (marked_built (tool_app losses).top)) probe_app.top)
+
   mta_fills : Each Fills mta_shape.rules
-  mta_fills = (inr (inl refl), (inr (inl refl), (inr (inl refl), (inr (inl refl), (inr (inl refl), (inr (inl refl), (inr (inl refl), (inr (inl refl), (inr (inr refl), (inl refl, tt))))))))))
+  mta_fills = (inr (inl refl), (inr (inl refl), (inr (inl refl), (inr (inl refl), (inr (inl refl), (inr (inl refl), (inr (inl refl), (inr (inl refl), (inr (inr refl), (inr (inl refl), (inr (inr refl), (inl refl, tt))))))))))))
 
   serve_fills : Each Fills serve_shape.rules
   serve_fills = (inr (inl refl), (inr (inl refl), (inr (inl refl), (inr (inl refl), (inr (inl refl), (inr (inr refl), (inr (inr refl), (inr (inr refl), (inr (inr refl), (inl refl, tt))))))))))
@@ -258,15 +329,22 @@ module _ (losses : BorrowedWords) where
   replay_fills : Each Fills replay_shape.rules
   replay_fills = (inr (inl refl), (inr (inl refl), (inr (inl refl), (inr (inl refl), (inr (inr refl), (inl refl, tt))))))
 
+  load_fills : Each Fills load_shape.rules
+  load_fills = (inr (inl refl), (inr (inl refl), (inr (inl refl), (inr (inl refl), (inr (inl refl), (inr (inl refl), (inr (inl refl), (inr (inr refl), (inr (inr refl), (inl refl, tt))))))))))
+
+  probe_fills : Each Fills probe_shape.rules
+  probe_fills = (inr (inl refl), (inr (inl refl), (inr (inl refl), (inr (inl refl), (inr (inl refl), (inr (inr refl), (inl refl, tt)))))))
+
   -- the shape of the subcommand whose test is the first to hold
   abbrev pick : List (Bool × Shape) → Option Shape
   pick [] = None
   pick (t ∷ tests) = cond t.0 (Some t.1) (pick tests)
 
-  abbrev shapes : (trace session rules answer filter serve mta play replay help : Bool) → List (Bool × Shape)
-  shapes trace session rules answer filter serve mta play replay help =
+  abbrev shapes : (trace session rules answer filter serve mta play replay load probe help : Bool) → List (Bool × Shape)
+  shapes trace session rules answer filter serve mta play replay load probe help =
       (trace, trace_shape) ∷ (session, session_shape) ∷ (rules, rules_shape) ∷ (answer, answer_shape) ∷ (filter, filter_shape) ∷ (serve, serve_shape)
-      ∷ (mta, mta_shape) ∷ (play, play_shape) ∷ (replay, replay_shape) ∷ (help, built_leaf help_shape) ∷ []
+      ∷ (mta, mta_shape) ∷ (play, play_shape) ∷ (replay, replay_shape) ∷ (load, load_shape) ∷ (probe, probe_shape)
+      ∷ (help, built_leaf help_shape) ∷ []
 
   abbrev asked_below : Option Shape → List Text → Kinds
   asked_below o words = option_map_or (λ s. level_fault s [] nothing_held words false []) o []
@@ -284,32 +362,44 @@ module _ (losses : BorrowedWords) where
   replay_asks words below (inl none) = is_there (codes "address") replay_shape words replay_fills (λ rows e. first_here _ _ _ e) below none
   replay_asks words below (inr none) = is_there (codes "trace") replay_shape words replay_fills (λ rows e. second_here _ _ _ e) below none
 
+  load_asks : (words : List Text) → level_fault load_shape [] nothing_held words false [] ≡ []
+      → (first_of (codes "address") (rows_after load_shape.rules [] words) ≡ None) ⊎ (first_of (codes "session") (rows_after load_shape.rules [] words) ≡ None) → ⊥
+  load_asks words below (inl none) = is_there (codes "address") load_shape words load_fills (λ rows e. first_here _ _ _ e) below none
+  load_asks words below (inr none) = is_there (codes "session") load_shape words load_fills (λ rows e. second_here _ _ _ e) below none
+
+  probe_asks : (words : List Text) → level_fault probe_shape [] nothing_held words false [] ≡ []
+      → (first_of (codes "address") (rows_after probe_shape.rules [] words) ≡ None) ⊎ (first_of (codes "session") (rows_after probe_shape.rules [] words) ≡ None) → ⊥
+  probe_asks words below (inl none) = is_there (codes "address") probe_shape words probe_fills (λ rows e. first_here _ _ _ e) below none
+  probe_asks words below (inr none) = is_there (codes "session") probe_shape words probe_fills (λ rows e. second_here _ _ _ e) below none
+
   -- a subcommand that is entered without a fault asks for something
-  picked_asks : (words : List Text) (rows : List Row) (trace session rules answer filter serve mta play replay help : Bool) → (help ≡ true → ⊥) → asked_below (pick (shapes trace session rules answer filter serve mta play replay help)) words ≡ []
-      → check_fault (built (tool_app losses)).top rows (is_some (entered_by (pick (shapes trace session rules answer filter serve mta play replay help)) words)) ≡ [] → IsRequestOf (entered_by (pick (shapes trace session rules answer filter serve mta play replay help)) words) None → ⊥
-  picked_asks words rows true session rules answer filter serve mta play replay help none below check unasked = unasked.0 refl
-  picked_asks words rows false true rules answer filter serve mta play replay help none below check unasked =
+  picked_asks : (words : List Text) (rows : List Row) (trace session rules answer filter serve mta play replay load probe help : Bool) → (help ≡ true → ⊥) → asked_below (pick (shapes trace session rules answer filter serve mta play replay load probe help)) words ≡ []
+      → check_fault (built (tool_app losses)).top rows (is_some (entered_by (pick (shapes trace session rules answer filter serve mta play replay load probe help)) words)) ≡ [] → IsRequestOf (entered_by (pick (shapes trace session rules answer filter serve mta play replay load probe help)) words) None → ⊥
+  picked_asks words rows true session rules answer filter serve mta play replay load probe help none below check unasked = unasked.0 refl
+  picked_asks words rows false true rules answer filter serve mta play replay load probe help none below check unasked =
       is_there (codes "file") session_shape words (inr (inl refl), (inr (inr refl), (inl refl, tt))) (λ rows e. required_here _ _ e) below (unasked.2 refl)
-  picked_asks words rows false false true answer filter serve mta play replay help none below check unasked =
+  picked_asks words rows false false true answer filter serve mta play replay load probe help none below check unasked =
       is_there (codes "file") rules_shape words (inr (inl refl), (inr (inr refl), (inr (inr refl), (inl refl, tt)))) (λ rows e. required_here _ _ e) below (unasked.3 refl)
-  picked_asks words rows false false false true filter serve mta play replay help none below check unasked = unasked.1 refl
-  picked_asks words rows false false false false true serve mta play replay help none below check unasked =
+  picked_asks words rows false false false true filter serve mta play replay load probe help none below check unasked = unasked.1 refl
+  picked_asks words rows false false false false true serve mta play replay load probe help none below check unasked =
       is_there (codes "address") filter_shape words (inr (inl refl), (inr (inl refl), (inr (inl refl), (inr (inr refl), (inr (inr refl), (inr (inr refl), (inr (inr refl), (inl refl, tt)))))))) (λ rows e. required_here _ _ e) below (unasked.4 refl)
-  picked_asks words rows false false false false false true mta play replay help none below check unasked =
+  picked_asks words rows false false false false false true mta play replay load probe help none below check unasked =
       is_there (codes "address") serve_shape words serve_fills (λ rows e. required_here _ _ e) below (unasked.5 refl)
-  picked_asks words rows false false false false false false true play replay help none below check unasked = mta_asks words below (unasked.6 refl)
-  picked_asks words rows false false false false false false false true replay help none below check unasked =
+  picked_asks words rows false false false false false false true play replay load probe help none below check unasked = mta_asks words below (unasked.6 refl)
+  picked_asks words rows false false false false false false false true replay load probe help none below check unasked =
       is_there (codes "session") play_shape words play_fills (λ rows e. required_here _ _ e) below (unasked.7 refl)
-  picked_asks words rows false false false false false false false false true help none below check unasked = replay_asks words below (unasked.8 refl)
-  picked_asks words rows false false false false false false false false false true none below check unasked = none refl
-  picked_asks words rows false false false false false false false false false false none below check unasked = some_fault _ _ check
+  picked_asks words rows false false false false false false false false true load probe help none below check unasked = replay_asks words below (unasked.8 refl)
+  picked_asks words rows false false false false false false false false false true probe help none below check unasked = load_asks words below (unasked.9 refl)
+  picked_asks words rows false false false false false false false false false false true help none below check unasked = probe_asks words below (unasked.10 refl)
+  picked_asks words rows false false false false false false false false false false false true none below check unasked = none refl
+  picked_asks words rows false false false false false false false false false false false false none below check unasked = some_fault _ _ check
 
   entered_asks : (stop : Option (Text × List Text)) (rows : List Row) → StopsBeforeHelp stop → entered_fault (built (tool_app losses)) stop ≡ []
       → check_fault (built (tool_app losses)).top rows (is_some (entered (built (tool_app losses)) stop)) ≡ [] → IsRequestOf (entered (built (tool_app losses)) stop) None → ⊥
   entered_asks None rows other below check unasked = some_fault _ _ check
   entered_asks (Some p) rows other below check unasked =
       picked_asks p.1 rows (answers_to p.0 (label_of trace_shape)) (answers_to p.0 (label_of session_shape)) (answers_to p.0 (label_of rules_shape)) (answers_to p.0 (label_of answer_shape))
-      (answers_to p.0 (label_of filter_shape)) (answers_to p.0 (label_of serve_shape)) (answers_to p.0 (label_of mta_shape)) (answers_to p.0 (label_of play_shape)) (answers_to p.0 (label_of replay_shape)) (answers_to p.0 (label_of (built_leaf help_shape)))
+      (answers_to p.0 (label_of filter_shape)) (answers_to p.0 (label_of serve_shape)) (answers_to p.0 (label_of mta_shape)) (answers_to p.0 (label_of play_shape)) (answers_to p.0 (label_of replay_shape)) (answers_to p.0 (label_of load_shape)) (answers_to p.0 (label_of probe_shape)) (answers_to p.0 (label_of (built_leaf help_shape)))
       (never_help p.0 other) below check unasked
 
   -- words without a fault ask for something

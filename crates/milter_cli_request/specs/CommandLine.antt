@@ -9,14 +9,18 @@ use Rattle.clap.specs.Words.{HasKind, Row, Text, all_of, fault_of, first_of, sub
 use Rattle.clap.specs.Walk.{texts}
 use Rattle.clap.specs.declared.error.Error.{Error}
 use Rattle.clap.specs.declared.parser.matches.ArgMatches.{ArgMatches}
-use Rattle.milter_cli_words.specs.declared.limits.TheConstants.{AT_ONCE_MAX, COUNT_MAX, IDLE_MAX, MODE_MAX, TIMEOUT_MAX, WAIT_MAX}
+use Rattle.milter_cli_words.specs.declared.limits.TheConstants.{AT_ONCE_MAX, BODIES_MAX, COUNT_MAX, IDLE_MAX, MODE_MAX}
+use Rattle.milter_cli_words.specs.declared.limits.TheConstants.{LOAD_SECONDS_MAX, MESSAGES_MAX, RATE_MAX, SEED_MAX}
+use Rattle.milter_cli_words.specs.declared.limits.TheConstants.{TIMEOUT_MAX, WAIT_MAX}
 use Rattle.milter_cli_words.specs.Subcommands.{tool_app}
 use Rattle.milter_cli_words.specs.Words.{AreLossWords, BorrowedWords}
 use Rattle.milter_cli_request.specs.declared.command_line.TheConstants.{AT_ONCE_DEFAULT, COUNT_DEFAULT, IDLE_DEFAULT}
-use Rattle.milter_cli_request.specs.declared.command_line.TheConstants.{MODE_DEFAULT, TIMEOUT_DEFAULT}
-use Rattle.milter_cli_request.specs.declared.command_line.Request.{Request}
-use Rattle.milter_cli_request.specs.declared.command_line.Request.TheVariants.{Trace, Session, Rules, Answer, Filter}
-use Rattle.milter_cli_request.specs.declared.command_line.Request.TheVariants.{Serve, Mta, Play, Replay}
+use Rattle.milter_cli_request.specs.declared.command_line.TheConstants.{LOAD_AT_ONCE_DEFAULT, MODE_DEFAULT}
+use Rattle.milter_cli_request.specs.declared.command_line.TheConstants.{PROBE_TIMEOUT_DEFAULT, SEED_DEFAULT}
+use Rattle.milter_cli_request.specs.declared.command_line.TheConstants.{TIMEOUT_DEFAULT}
+use Rattle.milter_cli_request.specs.declared.request.Request.{Request}
+use Rattle.milter_cli_request.specs.declared.request.Request.TheVariants.{Trace, Session, Rules, Answer, Filter}
+use Rattle.milter_cli_request.specs.declared.request.Request.TheVariants.{Serve, Mta, Play, Replay, Load, Probe}
 use Rattle.milter_mta_outcome.specs.declared.fallback.OnLoss.{OnLoss}
 use Rattle.milter_mta_outcome.specs.declared.fallback.OnLoss.TheVariants.{Accept, Tempfail, Reject}
 
@@ -29,6 +33,12 @@ abbrev pub IsNumberOr : ℕ → ℕ → ℕ → Option Text → ℕ → Type 0
 IsNumberOr default least most None number = number ≡ default
 IsNumberOr default least most (Some text) number =
     IsUnsignedIn least most text → number ≡ digits_value 10 (without_leading_plus text)
+
+-- the number in the text of an option, which is within these bounds; none where it isn't given
+abbrev pub IsNumber : ℕ → ℕ → Option Text → Option ℕ → Type 0
+IsNumber least most None number = number ≡ None
+IsNumber least most (Some text) number =
+    IsUnsignedIn least most text → number ≡ Some (digits_value 10 (without_leading_plus text))
 
 -- the number in the text of the option `count`, or the default
 abbrev pub IsCount : Option Text → ℕ → Type 0
@@ -58,8 +68,11 @@ given_values id values = option_map_or (λ given. given) (all_of id values) []
 
 -- the subcommand of this name, with these values, asks for it
 abbrev pub IsAsked : Text × List Row → Request → Type 0
-IsAsked (name, values) (Trace files) =
-    (name ≡ codes "trace") × (given_values (codes "file") values ≡ texts files.items)
+IsAsked (name, values) (Trace asked) =
+    (name ≡ codes "trace") × (given_values (codes "file") values ≡ texts asked.files.items)
+    × IsFlag (first_of (codes "names") values) asked.names
+    × IsNumber 0 BODIES_MAX (first_of (codes "bodies") values) asked.bodies
+    × IsFlag (first_of (codes "pcap") values) asked.pcap
 IsAsked (name, values) (Session file) =
     (name ≡ codes "session") × (first_of (codes "file") values ≡ Some file.now)
 IsAsked (name, values) (Rules file check) =
@@ -95,6 +108,8 @@ IsAsked (name, values) (Mta asked) =
     × (first_of (codes "protocol") values ≡ text_of asked.protocol)
     × IsNumberOr 0 1 WAIT_MAX (first_of (codes "wait") values) asked.wait
     × (first_of (codes "expect") values ≡ text_of asked.expect)
+    × IsFlag (first_of (codes "show-negotiation") values) asked.show_negotiation
+    × (given_values (codes "macro") values ≡ texts asked.macros.items)
 IsAsked (name, values) (Play asked) =
     (name ≡ codes "play") × (first_of (codes "session") values ≡ Some asked.session.now)
     × (first_of (codes "rules") values ≡ text_of asked.rules)
@@ -110,6 +125,21 @@ IsAsked (name, values) (Replay asked) =
     × (first_of (codes "trace") values ≡ Some asked.trace.now)
     × IsTimeout (first_of (codes "timeout") values) asked.timeout
     × IsNumberOr 0 1 WAIT_MAX (first_of (codes "wait") values) asked.wait
+IsAsked (name, values) (Load asked) =
+    (name ≡ codes "load") × (first_of (codes "address") values ≡ Some asked.address.now)
+    × (first_of (codes "session") values ≡ Some asked.session.now)
+    × IsNumberOr LOAD_AT_ONCE_DEFAULT 1 AT_ONCE_MAX (first_of (codes "at-once") values) asked.at_once
+    × IsNumberOr 0 1 LOAD_SECONDS_MAX (first_of (codes "for") values) asked.seconds
+    × IsNumberOr 0 1 MESSAGES_MAX (first_of (codes "messages") values) asked.messages
+    × IsNumberOr 0 1 RATE_MAX (first_of (codes "rate") values) asked.rate
+    × IsTimeout (first_of (codes "timeout") values) asked.timeout
+    × IsFlag (first_of (codes "json") values) asked.json
+IsAsked (name, values) (Probe asked) =
+    (name ≡ codes "probe") × (first_of (codes "address") values ≡ Some asked.address.now)
+    × (first_of (codes "session") values ≡ Some asked.session.now)
+    × (first_of (codes "only") values ≡ text_of asked.only)
+    × IsNumberOr SEED_DEFAULT 0 SEED_MAX (first_of (codes "seed") values) asked.seed
+    × IsNumberOr PROBE_TIMEOUT_DEFAULT 1 TIMEOUT_MAX (first_of (codes "timeout") values) asked.timeout
 
 -- the subcommand of this name, with these values, asks for nothing
 abbrev pub IsUnasked : Text × List Row → Type 0
@@ -122,6 +152,8 @@ IsUnasked (name, values) =
     × (name ≡ codes "mta" → (first_of (codes "address") values ≡ None) ⊎ (first_of (codes "session") values ≡ None))
     × (name ≡ codes "play" → first_of (codes "session") values ≡ None)
     × (name ≡ codes "replay" → (first_of (codes "address") values ≡ None) ⊎ (first_of (codes "trace") values ≡ None))
+    × (name ≡ codes "load" → (first_of (codes "address") values ≡ None) ⊎ (first_of (codes "session") values ≡ None))
+    × (name ≡ codes "probe" → (first_of (codes "address") values ≡ None) ⊎ (first_of (codes "session") values ≡ None))
 
 -- the request of the subcommand, or that it has none
 abbrev pub IsRequestOf : Option (Text × List Row) → Option Request → Type 0

@@ -1,5 +1,6 @@
 pub mod Address
 pub mod CommandLine
+pub mod GivenMacro
 pub mod Target
 pub mod UsageError
 pub mod Mode

@@ -5,10 +5,16 @@ ghost use Rattle.std.specs.List.{list_any};
 ghost use Rattle.std.specs.Str.{bytes_eq};
 ghost use Rattle.clap.specs.Words.{found_of, rows_of, subcommand_rows_of};
 ghost use Rattle.milter_cli_words.specs.Words.{AreLossWords};
-ghost use Rattle.milter_cli_words.specs.declared.limits.TheConstants.{AT_ONCE_MAX, COUNT_MAX, IDLE_MAX, MODE_MAX, TIMEOUT_MAX, WAIT_MAX};
-ghost use Rattle.milter_cli_request.specs.CommandLine.{IsLoss, IsNumberOr, IsRequestOf, IsRequestOfNamed};
+ghost use Rattle.milter_cli_words.specs.declared.limits.TheConstants.{AT_ONCE_MAX, BODIES_MAX, COUNT_MAX, IDLE_MAX};
+ghost use Rattle.milter_cli_words.specs.declared.limits.TheConstants.{LOAD_SECONDS_MAX, MESSAGES_MAX, MODE_MAX, RATE_MAX};
+ghost use Rattle.milter_cli_words.specs.declared.limits.TheConstants.{SEED_MAX, TIMEOUT_MAX, WAIT_MAX};
+ghost use Rattle.milter_cli_request.specs.CommandLine.{IsLoss, IsNumber, IsNumberOr, IsRequestOf, IsRequestOfNamed};
 ghost use Rattle.milter_cli_request.specs.CommandLine.{MatchesAs, ParsesAs, text_of};
 
+use crate::request::{
+    AnswerRequest, FilterRequest, LoadRequest, MtaRequest, PlayRequest, ProbeRequest,
+    ReplayRequest, Request, ServeRequest, TraceRequest,
+};
 use clap::{ArgMatches, Error};
 use milter_cli_words::command;
 use milter_mta_outcome::OnLoss;
@@ -30,10 +36,21 @@ const IDLE_DEFAULT: u32 = 7_210;
 /// The digits of a Unix socket's mode where the command line has none.
 const MODE_DEFAULT: u32 = 660;
 
+/// How many connections a load has at once where the command line has no number of them.
+const LOAD_AT_ONCE_DEFAULT: u32 = 1;
+
+/// The seed where the command line has none.
+const SEED_DEFAULT: u32 = 1;
+
+/// How many seconds a reply of a filter that is tried may take where the command line has no number of them.
+const PROBE_TIMEOUT_DEFAULT: u32 = 5;
+
 /// The numbers that the definitions name: how many connections are served, and how many seconds a read or a write may
 /// take, where the command line has no such number and at most; for how many seconds connecting is tried again at most;
 /// and the same two numbers of how many connections are open at once, of how many seconds they may be idle, and of the
-/// digits of a mode.
+/// digits of a mode. Of a body's bytes that are printed, and of a load's seconds, messages and messages a second, there
+/// are these at most; a load has this many connections at once where the command line has no number, and trials have
+/// this seed, and this many seconds for a reply.
 pub fn command_line_limits()
     ensures count_default { COUNT_DEFAULT ≡ 1 }
     ensures count_most { COUNT_MAX ≡ 1000000 }
@@ -46,6 +63,14 @@ pub fn command_line_limits()
     ensures idle_most { IDLE_MAX ≡ 86400 }
     ensures mode_default { MODE_DEFAULT ≡ 660 }
     ensures mode_most { MODE_MAX ≡ 777 }
+    ensures bodies_most { BODIES_MAX ≡ 65535 }
+    ensures load_at_once_default { LOAD_AT_ONCE_DEFAULT ≡ 1 }
+    ensures load_seconds_most { LOAD_SECONDS_MAX ≡ 86400 }
+    ensures messages_most { MESSAGES_MAX ≡ 4000000000 }
+    ensures rate_most { RATE_MAX ≡ 1000000 }
+    ensures seed_default { SEED_DEFAULT ≡ 1 }
+    ensures seed_most { SEED_MAX ≡ 2 ^ 32 - 1 }
+    ensures probe_timeout_default { PROBE_TIMEOUT_DEFAULT ≡ 5 }
 {}
 
 /// The word that asks for words that explain a fault.
@@ -53,148 +78,6 @@ const EXPLAIN: &str = "--explain";
 
 /// The words of `--loss`.
 const LOSS_WORDS: &[&str] = &["accept", "tempfail", "reject"];
-
-/// What the program is asked to do.
-#[derive(Debug, PartialEq, Eq, Drop)]
-pub enum Request<'a> {
-    /// To print the packets of traces.
-    Trace {
-        /// The paths of the files, which are read in this order; none where standard input is read.
-        files: Vec<&'a str>,
-    },
-    /// To print the session of a file in canonical form.
-    Session {
-        /// The path of the file.
-        file: &'a str,
-    },
-    /// To print the rules of a file in canonical form, or what is to be said of them.
-    Rules {
-        /// The path of the file.
-        file: &'a str,
-        /// Whether what is to be said of the rules is printed in place of them.
-        check: bool,
-    },
-    /// To reply to the mail server on standard input, as a filter.
-    Answer(AnswerRequest<'a>),
-    /// To serve connections of mail servers one after another, as a filter.
-    Filter(FilterRequest<'a>),
-    /// To serve connections of mail servers at once, as a filter, until it is ended.
-    Serve(ServeRequest<'a>),
-    /// To play the session of a file to a filter, as a mail server, and to print what becomes of its messages.
-    Mta(MtaRequest<'a>),
-    /// To play the session of a file to a filter in memory, and to print what becomes of its messages.
-    Play(PlayRequest<'a>),
-    /// To send the mail server's commands of a trace to a filter, and to print what it replies beside what is recorded.
-    Replay(ReplayRequest<'a>),
-}
-
-/// A connection that is served by standard input and output.
-#[derive(Clone, Copy, Debug, PartialEq, Eq)]
-pub struct AnswerRequest<'a> {
-    /// The path of a rule file. Without one all mail goes on.
-    pub rules: Option<&'a str>,
-    /// Whether a greeting or a sender within a message ends that message.
-    pub lenient: bool,
-    /// Whether the case of ASCII letters doesn't count in the texts of conditions.
-    pub ignore_case: bool,
-    /// Whether the stages alone are asked for that the rules look at.
-    pub least_stages: bool,
-}
-
-/// Connections that are served one after another.
-#[derive(Clone, Copy, Debug, PartialEq, Eq)]
-pub struct FilterRequest<'a> {
-    /// The text of the address of the socket.
-    pub address: &'a str,
-    /// The path of a rule file. Without one all mail goes on.
-    pub rules: Option<&'a str>,
-    /// How many connections, from 1 to 1,000,000.
-    pub count: u32,
-    /// Whether a greeting or a sender within a message ends that message.
-    pub lenient: bool,
-    /// Whether the case of ASCII letters doesn't count in the texts of conditions.
-    pub ignore_case: bool,
-    /// Whether the stages alone are asked for that the rules look at.
-    pub least_stages: bool,
-}
-
-/// A service of many connections.
-#[derive(Debug, PartialEq, Eq, Drop)]
-pub struct ServeRequest<'a> {
-    /// The texts of the addresses of the sockets, at least one.
-    pub addresses: Vec<&'a str>,
-    /// The path of a rule file. Without one all mail goes on.
-    pub rules: Option<&'a str>,
-    /// How many connections are open at once, from 1 to 10,000.
-    pub at_once: u32,
-    /// After how many seconds an idle connection is closed, from 1 to 86,400.
-    pub timeout: u32,
-    /// The digits of a Unix socket's mode, up to 777.
-    pub mode: u32,
-    /// Whether a line is written for each decision that isn't to go on.
-    pub log: bool,
-    /// Whether the case of ASCII letters doesn't count in the texts of conditions.
-    pub ignore_case: bool,
-    /// Whether all stages are asked for, also those that no rule looks at.
-    pub all_stages: bool,
-}
-
-/// A session that is to be played to a filter.
-#[derive(Clone, Copy, Debug, PartialEq, Eq)]
-pub struct MtaRequest<'a> {
-    /// The text of the address of the filter's socket.
-    pub address: &'a str,
-    /// The path of the session file.
-    pub session: &'a str,
-    /// What becomes of a message whose filter is lost.
-    pub loss: OnLoss,
-    /// How many seconds a read or a write may take, from 1 to 3,600.
-    pub timeout: u32,
-    /// The names of the actions that are offered. Without them all are.
-    pub actions: Option<&'a str>,
-    /// The names of the protocol bits that are offered. Without them all are.
-    pub protocol: Option<&'a str>,
-    /// For how many seconds connecting is tried again before the first message, up to 3,600; 0 where it is tried once.
-    pub wait: u32,
-    /// The path of a file with the reports that are expected.
-    pub expect: Option<&'a str>,
-}
-
-/// A session that is to be played to a filter in memory.
-#[derive(Clone, Copy, Debug, PartialEq, Eq)]
-pub struct PlayRequest<'a> {
-    /// The path of the session file.
-    pub session: &'a str,
-    /// The path of a rule file. Without one all mail goes on.
-    pub rules: Option<&'a str>,
-    /// Whether the case of ASCII letters doesn't count in the texts of conditions.
-    pub ignore_case: bool,
-    /// Whether the stages alone are asked for that the rules look at.
-    pub least_stages: bool,
-    /// The names of the actions that are offered. Without them all are.
-    pub actions: Option<&'a str>,
-    /// The names of the protocol bits that are offered. Without them all are.
-    pub protocol: Option<&'a str>,
-    /// The path of an event file. Without one everything arrives over one connection.
-    pub events: Option<&'a str>,
-    /// What becomes of a message whose filter is lost.
-    pub loss: OnLoss,
-    /// The path of a file with the reports that are expected.
-    pub expect: Option<&'a str>,
-}
-
-/// A trace that is to be sent to a filter again.
-#[derive(Clone, Copy, Debug, PartialEq, Eq)]
-pub struct ReplayRequest<'a> {
-    /// The text of the address of the filter's socket.
-    pub address: &'a str,
-    /// The path of the trace.
-    pub trace: &'a str,
-    /// How many seconds a read or a write may take, from 1 to 3,600.
-    pub timeout: u32,
-    /// For how many seconds connecting is tried again, up to 3,600; 0 where it is tried once.
-    pub wait: u32,
-}
 
 /// What the words of a command line ask for, the program's name first. An error has a text and a kind: a wrong use,
 /// what was asked for (help, the version), or memory that was refused.
@@ -240,9 +123,11 @@ fn request_of<'a>(
         Some(("answer", given)) => Ok(Some(answer_request(given))),
         Some(("filter", given)) => Ok(filter_request(given)),
         Some(("serve", given)) => serve_request(alloc, given),
-        Some(("mta", given)) => Ok(mta_request(given)),
+        Some(("mta", given)) => mta_request(alloc, given),
         Some(("play", given)) => Ok(play_request(given)),
         Some(("replay", given)) => Ok(replay_request(given)),
+        Some(("load", given)) => Ok(load_request(given)),
+        Some(("probe", given)) => Ok(probe_request(given)),
         _ => Ok(None),
     }
 }
@@ -253,7 +138,12 @@ fn trace_request<'a>(alloc: Global, given: &ArgMatches<'a>) -> Result<Request<'a
 {
     let paths = given.get_strs("file").unwrap_or(&[]);
     let files = Vec::from_slice(alloc, paths)?;
-    Ok(Request::Trace { files })
+    Ok(Request::Trace(TraceRequest {
+        files,
+        names: is_set(given.get_str("names")),
+        bodies: number(given.get_str("bodies")),
+        pcap: is_set(given.get_str("pcap")),
+    }))
 }
 
 /// What the words after `session` ask for.
@@ -330,12 +220,17 @@ fn serve_request<'a>(
 }
 
 /// What the words after `mta` ask for.
-fn mta_request<'a>(given: &ArgMatches<'a>) -> Option<Request<'a>>
-    ensures { IsRequestOfNamed (codes "mta") (rows_of (found_of given.now)) result }
+fn mta_request<'a>(alloc: Global, given: &ArgMatches<'a>) -> Result<Option<Request<'a>>, AllocError>
+    ensures { IfOk result (IsRequestOfNamed (codes "mta") (rows_of (found_of given.now))) }
 {
-    let address = given.get_str("address")?;
-    let session = given.get_str("session")?;
-    Some(Request::Mta(MtaRequest {
+    let Some(address) = given.get_str("address") else {
+        return Ok(None);
+    };
+    let Some(session) = given.get_str("session") else {
+        return Ok(None);
+    };
+    let macros = Vec::from_slice(alloc, given.get_strs("macro").unwrap_or(&[]))?;
+    Ok(Some(Request::Mta(MtaRequest {
         address,
         session,
         loss: loss_named(given.get_str("loss")),
@@ -344,7 +239,9 @@ fn mta_request<'a>(given: &ArgMatches<'a>) -> Option<Request<'a>>
         protocol: given.get_str("protocol"),
         wait: number_or(0, given.get_str("wait")),
         expect: given.get_str("expect"),
-    }))
+        show_negotiation: is_set(given.get_str("show-negotiation")),
+        macros,
+    })))
 }
 
 /// What the words after `play` ask for.
@@ -379,6 +276,39 @@ fn replay_request<'a>(given: &ArgMatches<'a>) -> Option<Request<'a>>
     }))
 }
 
+/// What the words after `load` ask for.
+fn load_request<'a>(given: &ArgMatches<'a>) -> Option<Request<'a>>
+    ensures { IsRequestOfNamed (codes "load") (rows_of (found_of given.now)) result }
+{
+    let address = given.get_str("address")?;
+    let session = given.get_str("session")?;
+    Some(Request::Load(LoadRequest {
+        address,
+        session,
+        at_once: number_or(LOAD_AT_ONCE_DEFAULT, given.get_str("at-once")),
+        seconds: number_or(0, given.get_str("for")),
+        messages: number_or(0, given.get_str("messages")),
+        rate: number_or(0, given.get_str("rate")),
+        timeout: number_or(TIMEOUT_DEFAULT, given.get_str("timeout")),
+        json: is_set(given.get_str("json")),
+    }))
+}
+
+/// What the words after `probe` ask for.
+fn probe_request<'a>(given: &ArgMatches<'a>) -> Option<Request<'a>>
+    ensures { IsRequestOfNamed (codes "probe") (rows_of (found_of given.now)) result }
+{
+    let address = given.get_str("address")?;
+    let session = given.get_str("session")?;
+    Some(Request::Probe(ProbeRequest {
+        address,
+        session,
+        only: given.get_str("only"),
+        seed: number_or(SEED_DEFAULT, given.get_str("seed")),
+        timeout: number_or(PROBE_TIMEOUT_DEFAULT, given.get_str("timeout")),
+    }))
+}
+
 /// Whether a flag is set, by its text.
 fn is_set(text: Option<&str>) -> bool
     ensures { IsTrue result ↔ (text_of text.entry ≡ Some (codes "true")) }
@@ -393,6 +323,16 @@ fn number_or(default: u32, text: Option<&str>) -> u32
     match text {
         Some(text) => text.parse().unwrap_or(default),
         None => default,
+    }
+}
+
+/// The number in the text of an option, which parsing has looked at; nothing where it isn't given.
+fn number(text: Option<&str>) -> Option<u32>
+    ensures { IsNumber 0 (2 ^ 32 - 1) (text_of text.entry) result }
+{
+    match text {
+        Some(text) => Some(text.parse().unwrap_or(0)),
+        None => None,
     }
 }
 

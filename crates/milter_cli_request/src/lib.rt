@@ -4,16 +4,20 @@
 
 mod address;
 mod command_line;
+mod given_macro;
 mod mode;
+mod request;
 mod target;
 mod usage_error;
 
 pub use address::Address;
-pub use command_line::{
-    AnswerRequest, FilterRequest, MtaRequest, PlayRequest, ReplayRequest, Request, ServeRequest,
-    command_line_limits, is_explained, parse,
-};
+pub use command_line::{command_line_limits, is_explained, parse};
+pub use given_macro::GivenMacro;
 pub use milter_cli_words::VERSION;
 pub use mode::parse_mode;
+pub use request::{
+    AnswerRequest, FilterRequest, LoadRequest, MtaRequest, PlayRequest, ProbeRequest,
+    ReplayRequest, Request, ServeRequest, TraceRequest,
+};
 pub use target::{Offer, Target};
 pub use usage_error::UsageError;

@@ -16,6 +16,10 @@ pub enum UsageError {
     BadActions,
     /// A value of `--protocol` that names no set of protocol bits.
     BadProtocol,
+    /// A value of `--macro` that gives no macro.
+    BadMacro,
+    /// A value of `--only` that names no trials.
+    BadTrials,
     /// A text that names no address.
     BadAddress,
     /// A value of `--mode` with a digit that isn't octal.
@@ -36,6 +40,8 @@ impl fmt::Display for UsageError {
             }
             UsageError::BadActions => writeln!(f, "bad value for --actions"),
             UsageError::BadProtocol => writeln!(f, "bad value for --protocol"),
+            UsageError::BadMacro => writeln!(f, "bad value for --macro"),
+            UsageError::BadTrials => writeln!(f, "bad value for --only"),
             UsageError::BadAddress => writeln!(f, "bad address"),
             UsageError::BadMode => writeln!(f, "bad mode"),
         }

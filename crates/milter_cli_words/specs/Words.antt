@@ -8,7 +8,7 @@ use Rattle.clap.specs.declared.builder.command.Command.{Command}
 use Rattle.clap.specs.declared.builder.command.Command.TheViews.{out-Command}
 use Rattle.clap.specs.declared.builder.value_parser.ValueParser.TheVariants.{Names, Unsigned}
 use Rattle.milter_cli_words.specs.declared.word.Kind.{Kind}
-use Rattle.milter_cli_words.specs.declared.word.Kind.TheVariants.{Place, Places, AnyPlaces, Value, Number, Flag}
+use Rattle.milter_cli_words.specs.declared.word.Kind.TheVariants.{Place, Places, AnyPlaces, Value, Values, Number, UpTo, Flag}
 use Rattle.milter_cli_words.specs.declared.word.Word.{Word}
 
 -- a word that has to be there
@@ -27,9 +27,17 @@ any_places_rule name = record (new_rule name) { action = Some Append; value_name
 abbrev pub option_rule : Text → Rule
 option_rule name = record (new_rule name) { long = Some name; action = Some Set; value_names = 1 }
 
+-- an option with a value, which may be given more than once
+abbrev pub options_rule : Text → Rule
+options_rule name = record (option_rule name) { action = Some Append }
+
 -- an option with a number from 1 to another
 abbrev pub number_rule : Text → ℕ → Rule
 number_rule name most = record (option_rule name) { parser = Some (Unsigned 1 most) }
+
+-- an option with a number from 0 to another
+abbrev pub up_to_rule : Text → ℕ → Rule
+up_to_rule name most = record (option_rule name) { parser = Some (Unsigned 0 most) }
 
 -- a list of words, wherever they are in memory
 abbrev pub BorrowedWords : Type 0
@@ -49,7 +57,9 @@ rule_of_kind Place name = place_rule name
 rule_of_kind Places name = places_rule name
 rule_of_kind AnyPlaces name = any_places_rule name
 rule_of_kind Value name = option_rule name
+rule_of_kind Values name = options_rule name
 rule_of_kind (Number most) name = number_rule name most
+rule_of_kind (UpTo most) name = up_to_rule name most
 rule_of_kind Flag name = flag_rule name
 
 abbrev pub rule_of_word : Word → Rule

@@ -3,10 +3,17 @@
 
 mod help_text;
 mod limits;
+mod load_help;
+mod mta_help;
+mod probe_help;
 mod replay_help;
 mod rows;
 mod subcommands;
+mod trace_help;
 mod word;
 
-pub use limits::{AT_ONCE_MAX, COUNT_MAX, IDLE_MAX, MODE_MAX, TIMEOUT_MAX, WAIT_MAX};
+pub use limits::{
+    AT_ONCE_MAX, BODIES_MAX, COUNT_MAX, IDLE_MAX, LOAD_SECONDS_MAX, MESSAGES_MAX, MODE_MAX,
+    RATE_MAX, SEED_MAX, TIMEOUT_MAX, WAIT_MAX,
+};
 pub use subcommands::{VERSION, command};

@@ -15,5 +15,20 @@ pub const AT_ONCE_MAX: u64 = 10_000;
 /// The most seconds that a connection may be idle.
 pub const IDLE_MAX: u64 = 86_400;
 
+/// The greatest number of a body's first bytes that are printed.
+pub const BODIES_MAX: u64 = 65_535;
+
+/// The most seconds that a load lasts.
+pub const LOAD_SECONDS_MAX: u64 = 86_400;
+
+/// The most messages of a load.
+pub const MESSAGES_MAX: u64 = 4_000_000_000;
+
+/// The most messages that a load has in a second.
+pub const RATE_MAX: u64 = 1_000_000;
+
+/// The greatest seed.
+pub const SEED_MAX: u64 = 4_294_967_295;
+
 /// The greatest digits of a mode.
 pub const MODE_MAX: u64 = 777;

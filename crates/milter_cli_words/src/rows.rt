@@ -1,6 +1,9 @@
 //! The words of the subcommands.
 
-use crate::limits::{AT_ONCE_MAX, COUNT_MAX, IDLE_MAX, MODE_MAX, TIMEOUT_MAX, WAIT_MAX};
+use crate::limits::{
+    AT_ONCE_MAX, BODIES_MAX, COUNT_MAX, IDLE_MAX, LOAD_SECONDS_MAX, MESSAGES_MAX, MODE_MAX,
+    RATE_MAX, SEED_MAX, TIMEOUT_MAX, WAIT_MAX,
+};
 use crate::word::{Kind, Word};
 
 pub(crate) const ADDRESS: Word<'static> = Word {
@@ -57,6 +60,27 @@ pub(crate) const TRACE: Word<'static> = Word {
     name: "trace",
     value: "TRACE",
     help: "The path of the trace",
+};
+
+pub(crate) const NAMES: Word<'static> = Word {
+    kind: Kind::Flag,
+    name: "names",
+    value: "",
+    help: "Prints the bits of options by their names besides",
+};
+
+pub(crate) const BODIES: Word<'static> = Word {
+    kind: Kind::UpTo(BODIES_MAX),
+    name: "bodies",
+    value: "N",
+    help: "Prints the first N bytes of bodies, up to 65,535",
+};
+
+pub(crate) const PCAP: Word<'static> = Word {
+    kind: Kind::Flag,
+    name: "pcap",
+    value: "",
+    help: "Reads captures, as tcpdump writes them, and no traces",
 };
 
 pub(crate) const CHECK: Word<'static> = Word {
@@ -169,6 +193,83 @@ pub(crate) const EXPECT: Word<'static> = Word {
     name: "expect",
     value: "FILE",
     help: "A file of expected reports: others alone are printed",
+};
+
+pub(crate) const SHOW_NEGOTIATION: Word<'static> = Word {
+    kind: Kind::Flag,
+    name: "show-negotiation",
+    value: "",
+    help: "Prints the offer and the reply to it at first",
+};
+
+pub(crate) const MACRO: Word<'static> = Word {
+    kind: Kind::Values,
+    name: "macro",
+    value: "MACRO",
+    help: "STAGE:NAME=VALUE; may be given more than once",
+};
+
+pub(crate) const LOAD_AT_ONCE: Word<'static> = Word {
+    kind: Kind::Number(AT_ONCE_MAX),
+    name: "at-once",
+    value: "N",
+    help: "Connections at once, up to 10,000; without it one",
+};
+
+pub(crate) const LOAD_SECONDS: Word<'static> = Word {
+    kind: Kind::Number(LOAD_SECONDS_MAX),
+    name: "for",
+    value: "SECONDS",
+    help: "How long it lasts, up to 86,400; see below",
+};
+
+pub(crate) const MESSAGES: Word<'static> = Word {
+    kind: Kind::Number(MESSAGES_MAX),
+    name: "messages",
+    value: "N",
+    help: "How many messages, up to 4,000,000,000",
+};
+
+pub(crate) const RATE: Word<'static> = Word {
+    kind: Kind::Number(RATE_MAX),
+    name: "rate",
+    value: "R",
+    help: "Messages a second, up to 1,000,000; else at once",
+};
+
+pub(crate) const REPLY_TIMEOUT: Word<'static> = Word {
+    kind: Kind::Number(TIMEOUT_MAX),
+    name: "timeout",
+    value: "SECONDS",
+    help: "For one reply, up to 3,600; without it 30",
+};
+
+pub(crate) const JSON: Word<'static> = Word {
+    kind: Kind::Flag,
+    name: "json",
+    value: "",
+    help: "Prints the figures as JSON",
+};
+
+pub(crate) const ONLY: Word<'static> = Word {
+    kind: Kind::Value,
+    name: "only",
+    value: "NAME",
+    help: "The trials of this kind alone; without it all",
+};
+
+pub(crate) const SEED: Word<'static> = Word {
+    kind: Kind::UpTo(SEED_MAX),
+    name: "seed",
+    value: "N",
+    help: "Of mutated packets, up to 4,294,967,295; else 1",
+};
+
+pub(crate) const PROBE_TIMEOUT: Word<'static> = Word {
+    kind: Kind::Number(TIMEOUT_MAX),
+    name: "timeout",
+    value: "SECONDS",
+    help: "For one reply, up to 3,600; without it 5",
 };
 
 pub(crate) const EVENTS: Word<'static> = Word {

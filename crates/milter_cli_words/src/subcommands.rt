@@ -2,17 +2,20 @@
 
 ghost use Rattle.std.specs.Prelude.{◌≡◌, IfOk, false};
 ghost use Rattle.clap.specs.Words.{app_of, rule_of};
-ghost use Rattle.milter_cli_words.specs.Subcommands.{answer_app, filter_app, filtering_app, mta_app, play_app, reading_app};
-ghost use Rattle.milter_cli_words.specs.Subcommands.{replay_app, rules_app, serve_app, session_app, tool_app, top_app, trace_app};
+ghost use Rattle.milter_cli_words.specs.Subcommands.{answer_app, filter_app, filtering_app, load_app, mta_app, play_app};
+ghost use Rattle.milter_cli_words.specs.Subcommands.{playing_app, probe_app, reading_app, replay_app, rules_app};
+ghost use Rattle.milter_cli_words.specs.Subcommands.{serve_app, session_app, tool_app, top_app, trace_app};
 ghost use Rattle.milter_cli_words.specs.Words.{IsLocal, loss_rule};
 
 use crate::rows::{
-    ACTIONS, ADDRESS, ADDRESSES, ALL_STAGES, AT_ONCE, CHECK, COUNT, EVENTS, EXPECT, EXPLAIN,
-    FILTER_ADDRESS, IDLE, IGNORE_CASE, LEAST_STAGES, LENIENT, LOG, LOSS, MODE, PROTOCOL, RULE_FILE,
-    RULES, SESSION, SESSION_FILE, TIMEOUT, TRACE, TRACE_FILES, WAIT,
+    ACTIONS, ADDRESS, ADDRESSES, ALL_STAGES, AT_ONCE, BODIES, CHECK, COUNT, EVENTS, EXPECT,
+    EXPLAIN, FILTER_ADDRESS, IDLE, IGNORE_CASE, JSON, LEAST_STAGES, LENIENT, LOAD_AT_ONCE,
+    LOAD_SECONDS, LOG, LOSS, MACRO, MESSAGES, MODE, NAMES, ONLY, PCAP, PROBE_TIMEOUT, PROTOCOL,
+    RATE, REPLY_TIMEOUT, RULE_FILE, RULES, SEED, SESSION, SESSION_FILE, SHOW_NEGOTIATION, TIMEOUT,
+    TRACE, TRACE_FILES, WAIT,
 };
 use crate::word::{Help, choice, subcommand, with_words};
-use crate::{help_text, replay_help};
+use crate::{help_text, load_help, mta_help, probe_help, replay_help, trace_help};
 use clap::{Arg, Command};
 use std::alloc::{AllocError, Global};
 
@@ -22,6 +25,16 @@ pub const VERSION: &str = "0.1.0";
 /// The whole command line, whose `--loss` takes these words.
 pub fn command<'a>(alloc: Global, losses: &'a [&'a str]) -> Result<Command<'a>, AllocError>
     ensures { IfOk result (λ c. app_of c ≡ tool_app losses.entry) }
+{
+    playing(alloc, losses)?
+        .subcommand(load(alloc)?)?
+        .subcommand(probe(alloc)?)
+}
+
+/// The command line with the subcommands that read files, those that are a filter's end, and those that play a mail
+/// server's end.
+fn playing<'a>(alloc: Global, losses: &'a [&'a str]) -> Result<Command<'a>, AllocError>
+    ensures { IfOk result (λ c. app_of c ≡ playing_app losses.entry) }
 {
     filtering(alloc)?
         .subcommand(mta(alloc, losses)?)?
@@ -67,9 +80,14 @@ fn trace<'a>(alloc: Global) -> Result<Command<'a>, AllocError>
 {
     let help = Help {
         about: "Prints a line for each packet of recorded conversations",
-        after: help_text::TRACE,
+        after: trace_help::TRACE,
     };
-    subcommand(alloc, "trace", help, &[TRACE_FILES, EXPLAIN])
+    subcommand(
+        alloc,
+        "trace",
+        help,
+        &[TRACE_FILES, NAMES, BODIES, PCAP, EXPLAIN],
+    )
 }
 
 fn session<'a>(alloc: Global) -> Result<Command<'a>, AllocError>
@@ -166,14 +184,23 @@ fn mta<'a>(alloc: Global, losses: &'a [&'a str]) -> Result<Command<'a>, AllocErr
 {
     let help = Help {
         about: "Plays a session to a filter, and prints what becomes of its messages",
-        after: help_text::MTA,
+        after: mta_help::MTA,
     };
     let places = subcommand(alloc, "mta", help, &[FILTER_ADDRESS, SESSION])?;
     let command = places.arg(loss(alloc, losses))?;
     with_words(
         alloc,
         command,
-        &[TIMEOUT, ACTIONS, PROTOCOL, WAIT, EXPECT, EXPLAIN],
+        &[
+            TIMEOUT,
+            ACTIONS,
+            PROTOCOL,
+            WAIT,
+            EXPECT,
+            SHOW_NEGOTIATION,
+            MACRO,
+            EXPLAIN,
+        ],
     )
 }
 
@@ -211,6 +238,48 @@ fn replay<'a>(alloc: Global) -> Result<Command<'a>, AllocError>
         "replay",
         help,
         &[FILTER_ADDRESS, TRACE, TIMEOUT, WAIT, EXPLAIN],
+    )
+}
+
+fn load<'a>(alloc: Global) -> Result<Command<'a>, AllocError>
+    ensures shape { IfOk result (λ c. app_of c ≡ load_app) }
+    ensures local { IfOk result IsLocal }
+{
+    let help = Help {
+        about: "Puts a load on a filter, and prints how fast it replies",
+        after: load_help::LOAD,
+    };
+    subcommand(
+        alloc,
+        "load",
+        help,
+        &[
+            FILTER_ADDRESS,
+            SESSION,
+            LOAD_AT_ONCE,
+            LOAD_SECONDS,
+            MESSAGES,
+            RATE,
+            REPLY_TIMEOUT,
+            JSON,
+            EXPLAIN,
+        ],
+    )
+}
+
+fn probe<'a>(alloc: Global) -> Result<Command<'a>, AllocError>
+    ensures shape { IfOk result (λ c. app_of c ≡ probe_app) }
+    ensures local { IfOk result IsLocal }
+{
+    let help = Help {
+        about: "Sends a filter what is unusual and wrong, and prints what breaks",
+        after: probe_help::PROBE,
+    };
+    subcommand(
+        alloc,
+        "probe",
+        help,
+        &[FILTER_ADDRESS, SESSION, ONLY, SEED, PROBE_TIMEOUT, EXPLAIN],
     )
 }
 

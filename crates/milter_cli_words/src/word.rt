@@ -3,7 +3,7 @@
 ghost use Rattle.std.specs.Prelude.{◌≡◌, IfOk, false, map};
 ghost use Rattle.clap.specs.Words.{app_of, new_app, rule_of};
 ghost use Rattle.milter_cli_words.specs.Words.{IsLocal, any_places_rule, choice_rule, flag_rule, number_rule, option_rule};
-ghost use Rattle.milter_cli_words.specs.Words.{place_rule, places_rule, rule_of_word, with_rules};
+ghost use Rattle.milter_cli_words.specs.Words.{options_rule, place_rule, places_rule, rule_of_word, up_to_rule, with_rules};
 
 use clap::builder::ValueParser;
 use clap::{Arg, ArgAction, Command};
@@ -20,8 +20,12 @@ pub(crate) enum Kind {
     AnyPlaces,
     /// An option with a value.
     Value,
+    /// An option with a value, which may be given more than once.
+    Values,
     /// An option with a number from 1 to this one.
     Number(u64),
+    /// An option with a number from 0 to this one.
+    UpTo(u64),
     /// An option that is given or not.
     Flag,
 }
@@ -100,7 +104,9 @@ fn arg_of<'a>(alloc: Global, word: Word<'a>) -> Arg<'a>
         Kind::Places => places(alloc, word),
         Kind::AnyPlaces => any_places(alloc, word),
         Kind::Value => option(alloc, word),
+        Kind::Values => options(alloc, word),
         Kind::Number(most) => number(alloc, word, most),
+        Kind::UpTo(most) => up_to(alloc, word, most),
         Kind::Flag => flag(alloc, word),
     }
 }
@@ -148,12 +154,28 @@ fn option<'a>(alloc: Global, word: Word<'a>) -> Arg<'a>
         .help(word.help)
 }
 
+/// An option with a value, which may be given more than once.
+fn options<'a>(alloc: Global, word: Word<'a>) -> Arg<'a>
+    ensures rule { rule_of result ≡ options_rule word.entry.name.now }
+    ensures local { result.global ≡ false }
+{
+    option(alloc, word).action(ArgAction::Append)
+}
+
 /// An option with a number from 1 to this one.
 fn number<'a>(alloc: Global, word: Word<'a>, most: u64) -> Arg<'a>
     ensures rule { rule_of result ≡ number_rule word.entry.name.now most }
     ensures local { result.global ≡ false }
 {
     option(alloc, word).value_parser(ValueParser::unsigned(1, most))
+}
+
+/// An option with a number from 0 to this one.
+fn up_to<'a>(alloc: Global, word: Word<'a>, most: u64) -> Arg<'a>
+    ensures rule { rule_of result ≡ up_to_rule word.entry.name.now most }
+    ensures local { result.global ≡ false }
+{
+    option(alloc, word).value_parser(ValueParser::unsigned(0, most))
 }
 
 /// An option with one of these words.

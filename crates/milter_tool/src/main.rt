@@ -7,24 +7,30 @@
 #![tactic(auto)]
 
 mod answer_command;
+mod capture_command;
 mod command_order;
 mod filter_command;
+mod load_command;
 mod mta_command;
 mod opened_file;
 mod play_command;
+mod probe_command;
 mod replay_command;
 mod rule_file;
 mod rules_command;
 mod serve_command;
 mod session_command;
+mod session_file;
 mod session_reports;
 mod trace_command;
 mod unbound_socket;
 
 use crate::answer_command::answer_mail_server;
 use crate::filter_command::serve_in_turn;
+use crate::load_command::put_load;
 use crate::mta_command::play_session;
 use crate::play_command::play_in_memory;
+use crate::probe_command::probe_filter;
 use crate::replay_command::replay_trace;
 use crate::rules_command::{check_rules_at, print_rule_file};
 use crate::serve_command::serve_many;
@@ -62,7 +68,7 @@ fn run<
         Ok(request) => request,
         Err(error) => return report(end_usage(error, &mut io::writer(rt)), errors),
     };
-    let Err(failure) = run_request(rt, &request) else {
+    let Err(failure) = run_request(rt, &request, is_terminal, errors) else {
         return report(Ok(()), errors);
     };
     if is_terminal || is_explained(words) || is_always_explained(&request) {
@@ -111,7 +117,7 @@ fn report_with<E: Write>(error: ToolError, lines: &[u8], errors: &mut E) -> Exit
     ended
 }
 
-/// Does what a request asks for.
+/// Does what a request asks for. What is written while it lasts goes to `errors`, where that is a terminal.
 fn run_request<
     'x,
     R: Net<Listener = TcpListener, Stream = TcpStream>
@@ -120,18 +126,21 @@ fn run_request<
         + Clock
         + Print
         + AllocGlobal,
->(rt: &'x R, request: &Request<'x>) -> Result<(), Failure<'x>> {
+    E: Write,
+>(rt: &'x R, request: &Request<'x>, is_terminal: bool, errors: &mut E) -> Result<(), Failure<'x>> {
     match request {
-        Request::Trace { files } => print_traces(rt, files.as_slice()),
+        Request::Trace(asked) => print_traces(rt, asked),
         Request::Session { file } => Ok(print_session_file(rt, file)?),
         Request::Rules { file, check: false } => Ok(print_rule_file(rt, file)?),
         Request::Rules { file, check: true } => Ok(check_rules_at(rt, file)?),
         Request::Answer(asked) => Ok(answer_mail_server(rt, *asked)?),
         Request::Filter(asked) => serve_in_turn(rt, *asked),
         Request::Serve(asked) => serve_many(rt, asked),
-        Request::Mta(asked) => play_session(rt, *asked),
+        Request::Mta(asked) => play_session(rt, asked),
         Request::Play(asked) => play_in_memory(rt, *asked),
         Request::Replay(asked) => replay_trace(rt, *asked),
+        Request::Load(asked) => put_load(rt, *asked, is_terminal, errors),
+        Request::Probe(asked) => probe_filter(rt, *asked),
     }
 }
 

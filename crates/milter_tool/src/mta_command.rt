@@ -1,13 +1,18 @@
 //! The subcommand `mta`.
 
-use crate::opened_file::open;
+use crate::session_file::session_at;
 use crate::session_reports::{end_reports, expected_at, kept_error};
-use milter_cli::{Connect, TcpDial, UnixDial, WaitingDial, mta_run};
+use milter_cli::{
+    Connect, Negotiation, SeenDial, TcpDial, UnixDial, WaitingDial, mta_run, parse_macros,
+    with_macros,
+};
 use milter_cli_faults::Failure;
-use milter_cli_io::{InputFile, ToolError};
-use milter_cli_request::{Address, MtaRequest, Target};
+use milter_cli_io::{ToolError, output_error};
+use milter_cli_request::{Address, GivenMacro, MtaRequest, Target};
+use milter_mail::Session;
 use milter_mta::Config;
 use milter_mta_client::Dial;
+use milter_text::write_text;
 use std::io::{self, Write};
 use std::net::{Net, TcpStream};
 use std::rt::{Clock, Files};
@@ -16,7 +21,7 @@ use std::time::Duration;
 /// Plays the session of a file to a filter, as a mail server, and prints what becomes of its messages.
 pub(crate) fn play_session<'x, R: Net<Stream = TcpStream> + Files + Clock + Print + AllocGlobal>(
     rt: &R,
-    asked: MtaRequest<'x>,
+    asked: &MtaRequest<'x>,
 ) -> Result<(), Failure<'x>> {
     let target = match Target::parse(asked.address, asked.actions, asked.protocol) {
         Ok(target) => target,
@@ -46,36 +51,75 @@ pub(crate) fn play_session<'x, R: Net<Stream = TcpStream> + Files + Clock + Prin
 }
 
 /// Plays the session over the connections that `dial` makes. The reports are kept until it is known that there was a
-/// connection, or that they are the expected ones, where that is asked for.
+/// connection, what was negotiated on it, or that they are the expected ones, where that is asked for.
 fn play_session_over<'x, R: Files + Clock + Print + AllocGlobal, D: Connect + Drop>(
     rt: &R,
     config: Config,
-    asked: MtaRequest<'x>,
+    asked: &MtaRequest<'x>,
     dial: D,
 ) -> Result<(), Failure<'x>> {
-    let mut dial = WaitingDial::new(rt, dial, asked.wait);
-    if asked.wait == 0 && asked.expect.is_none() {
-        return Ok(play_file(rt, config, asked.session, &mut dial, &mut io::writer(rt))?);
+    let macros = parse_macros(rt.alloc(), asked.macros.as_slice())?;
+    let negotiation = match asked.show_negotiation {
+        true => Some(Negotiation::new(rt.alloc())),
+        false => None,
+    };
+    let waiting = WaitingDial::new(rt, dial, asked.wait);
+    let mut dial = SeenDial::new(waiting, negotiation.as_ref());
+    if asked.wait == 0 && asked.expect.is_none() && !asked.show_negotiation {
+        let session = session_with(rt, asked.session, macros.as_slice())?;
+        return Ok(play_over(rt, config, session, &mut dial, &mut io::writer(rt))?);
     }
     let expected = expected_at(rt, asked.expect)?;
+    let session = session_with(rt, asked.session, macros.as_slice())?;
     let mut found = Vec::new(rt.alloc());
-    if let Err(error) = play_file(rt, config, asked.session, &mut dial, &mut found) {
+    if let Err(error) = play_over(rt, config, session, &mut dial, &mut found) {
         return Err(Failure::from(kept_error(error)));
     }
-    if dial.has_failed() {
-        return Err(Failure::of_socket(ToolError::Connect, asked.address, dial.refusal()));
+    let waited = dial.dial_below();
+    if waited.has_failed() {
+        return Err(Failure::of_socket(ToolError::Connect, asked.address, waited.refusal()));
     }
+    print_negotiation(rt, negotiation.as_ref())?;
     end_reports(rt, found, expected)
 }
 
-/// Plays the session of the file at this path over the connections that `dial` makes.
-fn play_file<R: Files + AllocGlobal, D: Dial, W: Write>(
+/// The session of the file at this path, with these macros.
+fn session_with<R: Files + AllocGlobal>(
+    rt: &R,
+    path: &str,
+    macros: &[GivenMacro<'_>],
+) -> Result<Session, ToolError> {
+    let session = session_at(rt, path)?;
+    with_macros(rt.alloc(), session, macros)
+}
+
+/// Plays a session over the connections that `dial` makes.
+fn play_over<R: AllocGlobal, D: Dial, W: Write>(
     rt: &R,
     config: Config,
-    path: &str,
+    session: Session,
     dial: &mut D,
     writer: &mut W,
 ) -> Result<(), ToolError> {
-    let file = open(rt, InputFile::Session, path)?;
-    mta_run(rt.alloc(), config, file, dial, writer).map_err(ToolError::File)
+    match mta_run(rt.alloc(), config, session, dial, writer) {
+        Ok(()) => Ok(()),
+        Err(fault) => Err(output_error(fault)),
+    }
+}
+
+/// Prints what was negotiated, where that is asked for.
+fn print_negotiation<R: Print + AllocGlobal>(
+    rt: &R,
+    negotiation: Option<&Negotiation>,
+) -> Result<(), ToolError> {
+    let Some(negotiation) = negotiation else {
+        return Ok(());
+    };
+    let Ok(lines) = negotiation.lines() else {
+        return Err(ToolError::NoMemory);
+    };
+    match write_text(&mut io::writer(rt), lines.as_slice()) {
+        Ok(()) => Ok(()),
+        Err(fault) => Err(output_error(fault)),
+    }
 }

@@ -2,10 +2,11 @@
 
 use crate::opened_file::open;
 use crate::rule_file::rules_at;
+use crate::session_file::session_at;
 use crate::session_reports::{end_reports, expected_at, kept_error};
 use milter_cli::{load_events, play_run, schedule_run};
 use milter_cli_faults::Failure;
-use milter_cli_io::{InputFile, RuleUse, ToolError, load_session, output_error};
+use milter_cli_io::{InputFile, RuleUse, ToolError, output_error};
 use milter_cli_request::{Offer, PlayRequest};
 use milter_mail::Session;
 use milter_mta::Config;
@@ -108,12 +109,6 @@ fn play_by_events<R: Files + AllocGlobal, W: Write>(
         Ok(()) => Ok(()),
         Err(fault) => Err(output_error(fault)),
     }
-}
-
-/// The session of the file at this path.
-fn session_at<R: Files + AllocGlobal>(rt: &R, path: &str) -> Result<Session, ToolError> {
-    let file = open(rt, InputFile::Session, path)?;
-    load_session(rt.alloc(), file).map_err(ToolError::File)
 }
 
 /// The events of the file at this path.

@@ -1,23 +1,32 @@
 //! The subcommand `trace`.
 
+use crate::capture_command::print_captures;
 use crate::opened_file::open;
 use milter_cli_faults::Failure;
 use milter_cli_io::{FileError, InputFile, ToolError};
-use milter_trace::{TraceFault, trace_run};
+use milter_cli_request::TraceRequest;
+use milter_trace::{TraceFault, TraceForm, trace_run_as};
 use std::io;
 use std::rt::Files;
 
-/// Prints the packets of the traces at these paths, one trace after another up to the first fault; or those of standard
-/// input, where there is no path.
+/// Prints the packets of the traces that are asked for, or of the captures, one after another up to the first fault; or
+/// those of standard input, where no file is named.
 pub(crate) fn print_traces<'x, R: Input + Files + Print + AllocGlobal>(
     rt: &R,
-    paths: &[&'x str],
+    asked: &TraceRequest<'x>,
 ) -> Result<(), Failure<'x>> {
-    if paths.is_empty() {
-        return Ok(print_input(rt)?);
+    let form = TraceForm {
+        names: asked.names,
+        bodies: asked.bodies,
+    };
+    if asked.pcap {
+        return print_captures(rt, form, asked.files.as_slice());
     }
-    for path in paths {
-        if let Err(error) = print_file(rt, path) {
+    if asked.files.is_empty() {
+        return Ok(print_input(rt, form)?);
+    }
+    for path in asked.files.as_slice() {
+        if let Err(error) = print_file(rt, form, path) {
             return Err(Failure::of_file(error, path));
         }
     }
@@ -25,17 +34,21 @@ pub(crate) fn print_traces<'x, R: Input + Files + Print + AllocGlobal>(
 }
 
 /// Prints the packets of the trace on standard input.
-fn print_input<R: Input + Print + AllocGlobal>(rt: &R) -> Result<(), ToolError> {
+fn print_input<R: Input + Print + AllocGlobal>(rt: &R, form: TraceForm) -> Result<(), ToolError> {
     let mut reader = rt.reader();
     let mut writer = io::writer(rt);
-    trace_run(rt.alloc(), &mut reader, &mut writer).map_err(ToolError::Trace)
+    trace_run_as(rt.alloc(), form, &mut reader, &mut writer).map_err(ToolError::Trace)
 }
 
 /// Prints the packets of the trace at this path.
-fn print_file<R: Files + Print + AllocGlobal>(rt: &R, path: &str) -> Result<(), ToolError> {
+fn print_file<R: Files + Print + AllocGlobal>(
+    rt: &R,
+    form: TraceForm,
+    path: &str,
+) -> Result<(), ToolError> {
     let mut reader = open(rt, InputFile::Trace, path)?;
     let mut writer = io::writer(rt);
-    match trace_run(rt.alloc(), &mut reader, &mut writer) {
+    match trace_run_as(rt.alloc(), form, &mut reader, &mut writer) {
         Ok(()) => Ok(()),
         Err(TraceFault::ReadFault) => Err(ToolError::File(FileError::Read(InputFile::Trace))),
         Err(fault) => Err(ToolError::Trace(fault)),

@@ -3,25 +3,27 @@ use Rattle.clap.specs.Words.{found_of}
 use Rattle.milter_cli_request.specs.CommandLine.{IsLoss}
 use Rattle.milter_cli_words.specs.declared.limits.TheConstants.{TIMEOUT_MAX, WAIT_MAX}
 use Rattle.milter_cli_request.specs.declared.command_line.TheConstants.{TIMEOUT_DEFAULT}
-use Rattle.milter_cli_request.proofs.RequestLaws.{holds_of, no_mta_address, no_mta_session, number_given, text_given, value_given}
+use Rattle.milter_cli_request.proofs.RequestLaws.{any_values_given, flag_given, holds_of, no_mta_address, no_mta_session, number_given, text_given, value_given}
 use Rattle.milter_cli_request.proofs.command_line.mta_request.Goals as goal
 
-pub returns-in_err-address : goal.returns-in_err-address
-returns-in_err-address c = rw c.from_residual.ensures (no_mta_address (found_of c.args.given.now) c.in_err-address.ensures)
+pub returns-in_default : goal.returns-in_default
+returns-in_default c = no_mta_address (found_of c.args.given.now) c.in_default.ensures
 
-pub returns-in_err-session : goal.returns-in_err-session
-returns-in_err-session c = rw c.from_residual-in_err-session.ensures (no_mta_session (found_of c.args.given.now) c.in_err-session.ensures)
+pub returns-in_default-get_str : goal.returns-in_default-get_str
+returns-in_default-get_str c = no_mta_session (found_of c.args.given.now) c.in_default-get_str.ensures
 
 pub returns : goal.returns
 returns c =
     let found = found_of c.args.given.now in (
       refl,
-      value_given found (codes "address") _ c.in_ok-address.ensures,
-      value_given found (codes "session") _ c.in_ok-session.ensures,
+      value_given found (codes "address") _ c.in-Some.ensures,
+      value_given found (codes "session") _ c.in-Some-get_str.ensures,
       holds_of (λ t. IsLoss t c.loss_named.result) found (codes "loss") c.get_str-3.result c.get_str-3.ensures c.loss_named.ensures,
       number_given TIMEOUT_DEFAULT 1 TIMEOUT_MAX found (codes "timeout") c.get_str-4.result c.number_or.result (omega arith) c.get_str-4.ensures c.number_or.ensures,
       text_given found (codes "actions") c.get_str-5.result c.get_str-5.ensures,
       text_given found (codes "protocol") c.get_str-6.result c.get_str-6.ensures,
       number_given 0 1 WAIT_MAX found (codes "wait") c.get_str-7.result c.number_or-2.result (omega arith) c.get_str-7.ensures c.number_or-2.ensures,
       text_given found (codes "expect") c.get_str-8.result c.get_str-8.ensures,
+      flag_given found (codes "show-negotiation") c.get_str-9.result c.is_set.result c.get_str-9.ensures c.is_set.ensures,
+      rw (c.in_ok-macros.ensures.items, c.unwrap_or.ensures) (any_values_given found (codes "macro") c.get_strs.result _ refl c.get_strs.ensures),
     )

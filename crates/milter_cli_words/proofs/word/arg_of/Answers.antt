@@ -17,6 +17,14 @@ pub returns-in-Value-clause-rule : goal.returns-in-Value-clause-rule
 unfolding rule_of_kind
 returns-in-Value-clause-rule c = rw c.in-Value.is c.option.ensures.rule
 
+pub returns-in-Values-clause-rule : goal.returns-in-Values-clause-rule
+unfolding rule_of_kind
+returns-in-Values-clause-rule c = rw c.in-Values.is c.options.ensures.rule
+
+pub returns-in-UpTo-clause-rule : goal.returns-in-UpTo-clause-rule
+unfolding rule_of_kind
+returns-in-UpTo-clause-rule c = rw c.in-UpTo.is c.up_to.ensures.rule
+
 pub returns-in-Number-clause-rule : goal.returns-in-Number-clause-rule
 unfolding rule_of_kind
 returns-in-Number-clause-rule c = rw c.in-Number.is c.number.ensures.rule
