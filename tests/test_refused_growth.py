@@ -18,6 +18,8 @@ last run of each, in which nothing was refused, is as ever.
 
 The test fails too where no run of the tests or of a program came to a refused allocation.
 """
+import itertools
+import os
 import re
 import sys
 import tempfile
@@ -132,14 +134,34 @@ def lost_by_default(_, out):
 BY_DEFAULT = {'tool': lost_by_default, 'mail server': mail_server_by_default, 'links': links_by_default}
 
 
-def is_right_or_by_default(outputs_by_default, given, expected):
+def first_difference(out, other):
+    """The number of the first line in which two outputs differ."""
+    pairs = itertools.zip_longest(out.splitlines(), other.splitlines())
+    return next(number for number, (line, due) in enumerate(pairs, 1) if line != due)
+
+
+def compared(command):
+    """The reports that a run compares its own with, or None."""
+    if '--expect' not in command:
+        return None
+    path = command[command.index('--expect') + 1]
+    with open(os.path.join(programs.TOP, path), 'rb') as file:
+        return file.read()
+
+
+def is_right_or_by_default(outputs_by_default, given, expected, due):
     """Whether a run ended as expected, perhaps without the lines that explain its fault, as one that is out of memory,
-    or with one of these outputs, in which messages were settled by default; for a run's end."""
-    is_right, outputs = is_as_ever_or_out_of_memory(expected), set(outputs_by_default(given, expected[1]))
+    or with one of these outputs, in which messages were settled by default; for a run's end. A run that compares its
+    reports with these that are due prints them where they differ, and nothing else."""
     status, out, errors = expected
-    unexplained = status, out, errors[:errors.find(b'\n') + 1]
-    return lambda end: (
-        is_right(end) or end == unexplained or (end[0] == 0 and not end[2] and end[1] in outputs))
+    rights = {(status, out, errors[:errors.find(b'\n') + 1])}
+    for other in outputs_by_default(given, out if due is None else due):
+        if due is None:
+            rights.add((0, other, b''))
+        elif other != due:
+            rights.add((1, other, b'differs at line %d\n' % first_difference(other, due)))
+    is_right = is_as_ever_or_out_of_memory(expected)
+    return lambda end: is_right(end) or end in rights
 
 
 def play_of(refuser, name, command, given, is_right, is_as_ever):
@@ -191,7 +213,7 @@ def plays_of_program(program, build, folder, refuser):
     for name, command, given, expected in runs_of(program, build, folder):
         is_right = is_as_ever_or_out_of_memory(expected)
         if program in BY_DEFAULT:
-            is_right = is_right_or_by_default(BY_DEFAULT[program], given, expected)
+            is_right = is_right_or_by_default(BY_DEFAULT[program], given, expected, compared(command))
         yield play_of(refuser, name + build, command, given, is_right, expected.__eq__)
 
 
