@@ -7,11 +7,9 @@ use crate::row::{Place, find, find_new, split_row, sum_of};
 use std::alloc::{AllocError, Global};
 use std::marker::Model;
 
-/// The most numbers in a block: before one more comes, the block is split.
-pub(crate) const BLOCK_LEN: u32 = 2048;
-
-/// The numbers that stay in a block that is split.
-pub(crate) const HALF_LEN: u32 = 1024;
+/// The most numbers in a short block: before one more comes, the block is split. An insertion moves those behind it in
+/// its block, out of a cache that is far away where there are many blocks, so blocks are short where a split is cheap.
+pub(crate) const SHORT_LEN: u32 = 512;
 
 /// Numbers in blocks, with the length of each block. There is at least one block, and there are fewer than 2^32
 /// numbers.
@@ -95,10 +93,12 @@ impl Blocks {
         ensures inside { IfOk result (λ p. p.offset ≤ length (at self.new p.block)) }
     {
         let place = self.find_new(index);
-        if self.lens[place.block] < BLOCK_LEN {
+        let len = self.lens[place.block];
+        if len < SHORT_LEN {
             return Ok(place);
         }
-        self.split(alloc, place.block)?;
+        let half = len / 2;
+        self.split(alloc, place.block, half)?;
         Ok(self.find_new(index))
     }
 
@@ -126,19 +126,19 @@ impl Blocks {
         self.blocks[place.block].remove(place.offset)
     }
 
-    /// Makes two blocks of one. After an `Err` all is as before.
-    pub(crate) fn split(&mut self, alloc: Global, block: usize) -> Result<(), AllocError>
+    /// Makes two blocks of one, of which the first keeps so many numbers. After an `Err` all is as before.
+    pub(crate) fn split(&mut self, alloc: Global, block: usize, half: u32) -> Result<(), AllocError>
         requires within { block < length self.old }
-        requires long { HALF_LEN ≤ length (at self.old block) }
+        requires long { half ≤ length (at self.old block) }
         ensures ok { OnOk result (self.new
-            ≡ halved block (take HALF_LEN (at self.old block)) (drop HALF_LEN (at self.old block)) self.old) }
+            ≡ halved block (take half (at self.old block)) (drop half (at self.old block)) self.old) }
         ensures err { OnErr result (self.new ≡ self.old) }
     {
-        let rest = self.lens[block] - HALF_LEN;
-        let lens = split_row(alloc, self.lens.as_slice(), block, HALF_LEN, rest)?;
-        let high = Vec::from_slice(alloc, &self.blocks[block].as_slice()[HALF_LEN as usize..])?;
+        let rest = self.lens[block] - half;
+        let lens = split_row(alloc, self.lens.as_slice(), block, half, rest)?;
+        let high = Vec::from_slice(alloc, &self.blocks[block].as_slice()[half as usize..])?;
         self.blocks.insert(block + 1, high)?;
-        self.blocks[block].truncate(HALF_LEN as usize);
+        self.blocks[block].truncate(half as usize);
         self.lens = lens;
         Ok(())
     }

@@ -6,12 +6,18 @@ ghost use Rattle.milter_field_index.specs.Blocks.{IsPlace, at, count_of, insert_
 ghost use Rattle.milter_field_index.specs.Counted.{Counted};
 ghost use Rattle.milter_field_index.specs.Occurrence.{nth};
 
-use crate::blocks::{BLOCK_LEN, Blocks, HALF_LEN};
+use crate::blocks::{Blocks, SHORT_LEN};
 use crate::occurrence::{count_before, nth_in};
 use crate::row::{Place, find, sum_of};
 use crate::rows::Rows;
 use std::alloc::{AllocError, Global};
 use std::marker::Model;
+
+/// The most symbols with which blocks are short.
+const FEW_SYMBOLS: usize = 8;
+
+/// The most symbols in a block where there are more than a few: a split then costs the more the more there are.
+const LONG_LEN: u32 = 2048;
 
 /// A sequence of symbols, which are small numbers. There are fewer than 2^32 of them. Each symbol up to the highest
 /// that was ever inserted has a row of its counts in the blocks, so an occurrence is found at the cost of the root of
@@ -111,6 +117,15 @@ impl Ranked {
     }
 }
 
+/// The most symbols in a block, where so many have rows.
+fn block_len(rows: usize) -> u32 {
+    if rows <= FEW_SYMBOLS {
+        SHORT_LEN
+    } else {
+        LONG_LEN
+    }
+}
+
 /// The place of a new symbol after so many others: its block is split if it is full.
 fn place_for(
     alloc: Global,
@@ -127,31 +142,34 @@ fn place_for(
     ensures inside { IfOk result (λ p. p.offset ≤ length (at blocks.new p.block)) }
 {
     let place = blocks.find_new(index);
-    if blocks.lens()[place.block] < BLOCK_LEN {
+    let len = blocks.lens()[place.block];
+    if len < block_len(rows.len()) {
         return Ok(place);
     }
-    split(alloc, blocks, rows, place.block)?;
+    let half = len / 2;
+    split(alloc, blocks, rows, place.block, half)?;
     Ok(blocks.find_new(index))
 }
 
-/// Makes two blocks of one. After an `Err` all is as before.
+/// Makes two blocks of one, of which the first keeps so many symbols. After an `Err` all is as before.
 fn split(
     alloc: Global,
     blocks: &mut Blocks,
     rows: &mut Rows,
     block: usize,
+    half: u32,
 ) -> Result<(), AllocError>
     requires counted { Counted rows.old blocks.old }
     requires block { block < length blocks.old }
     requires few { length (joined blocks.old) < 2 ^ 32 }
-    requires long { HALF_LEN ≤ length (at blocks.old block) }
+    requires long { half ≤ length (at blocks.old block) }
     ensures counted { Counted rows.new blocks.new }
     ensures same { joined blocks.new ≡ joined blocks.old }
     ensures rows { length rows.new ≡ length rows.old }
 {
-    let (low, high) = blocks.block(block).split_at(HALF_LEN as usize);
+    let (low, high) = blocks.block(block).split_at(half as usize);
     let split = rows.split(alloc, block, low, high)?;
-    blocks.split(alloc, block)?;
+    blocks.split(alloc, block, half)?;
     *rows = split;
     Ok(())
 }

@@ -13,7 +13,7 @@ split-requires-clause-high c =
     omega (
       arith,
       ap length c.split_at.ensures.back,
-      length-drop 1024 c.block.result.now,
+      length-drop c.args.half c.block.result.now,
       ap length c.block.ensures,
       block-le_joined bs t c.requires.block,
       c.requires.few,
@@ -25,12 +25,12 @@ returns-clause-counted c =
     let new : List (List ℕ) = c.in_ok-split.split in
     let bs : List (List ℕ) = c.args.blocks.now in
     let t : ℕ = c.args.block in
-    let low : List ℕ = take 1024 (at bs t) in
-    let high : List ℕ = drop 1024 (at bs t) in
-    let first : c.split_at.result.0.now ≡ low = c.split_at.ensures.front ∙ ap (λ l. take 1024 l) c.block.ensures in
-    let second : c.split_at.result.1.now ≡ high = c.split_at.ensures.back ∙ ap (λ l. drop 1024 l) c.block.ensures in
+    let low : List ℕ = take c.args.half (at bs t) in
+    let high : List ℕ = drop c.args.half (at bs t) in
+    let first : c.split_at.result.0.now ≡ low = c.split_at.ensures.front ∙ ap (λ l. take c.args.half l) c.block.ensures in
+    let second : c.split_at.result.1.now ≡ high = c.split_at.ensures.back ∙ ap (λ l. drop c.args.half l) c.block.ensures in
     let counted =
-    counted-split rows new bs t low high c.requires.counted c.requires.block (take-append-drop 1024 (at bs t))
+    counted-split rows new bs t low high c.requires.counted c.requires.block (take-append-drop c.args.half (at bs t))
     c.in_ok-split.ensures.len
     (λ s inside. c.in_ok-split.ensures.each s inside
     ∙ ap (λ l. halved t (count_of s l) (count_of s c.split_at.result.1.now) (at rows s)) first
@@ -42,5 +42,5 @@ returns-clause-same c =
     let bs : List (List ℕ) = c.args.blocks.now in
     let t : ℕ = c.args.block in
     ap joined c.in_ok-split-2.ensures.ok
-    ∙ joined-halved bs t (take 1024 (at bs t)) (drop 1024 (at bs t)) c.requires.block
-    (take-append-drop 1024 (at bs t))
+    ∙ joined-halved bs t (take c.args.half (at bs t)) (drop c.args.half (at bs t)) c.requires.block
+    (take-append-drop c.args.half (at bs t))
