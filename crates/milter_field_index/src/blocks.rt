@@ -9,7 +9,7 @@ use std::marker::Model;
 
 /// The most numbers in a short block: before one more comes, the block is split. An insertion moves those behind it in
 /// its block, out of a cache that is far away where there are many blocks, so blocks are short where a split is cheap.
-pub(crate) const SHORT_LEN: u32 = 512;
+pub(crate) const SHORT_LEN: u32 = 1024;
 
 /// Numbers in blocks, with the length of each block. There is at least one block, and there are fewer than 2^32
 /// numbers.

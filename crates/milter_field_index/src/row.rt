@@ -16,7 +16,7 @@ pub(crate) struct Place {
 }
 
 /// The number of counts that are added at once.
-const CHUNK_LEN: usize = 32;
+const CHUNK_LEN: usize = 64;
 
 /// The sum of some counts.
 pub(crate) fn sum_of(counts: &[u32]) -> usize

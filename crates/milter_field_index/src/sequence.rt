@@ -12,15 +12,19 @@ use std::marker::Model;
 #[derive(Debug, Drop)]
 pub struct Sequence {
     blocks: Blocks,
+    /// How many numbers there are.
+    len: usize,
 }
 
 impl Model for Sequence {
-    ghost use Rattle.std.specs.Prelude.{ℕ, List};
+    ghost use Rattle.std.specs.Prelude.{ℕ, List, ◌≡◌, length};
     ghost use Rattle.milter_field_index.specs.Blocks.{joined};
 
     ghost Value = { List ℕ };
 
     ghost view = { λ s. joined s.blocks };
+
+    ghost invariant = { λ s. s.len ≡ length (joined s.blocks) };
 }
 
 impl Sequence {
@@ -30,6 +34,7 @@ impl Sequence {
     {
         Ok(Sequence {
             blocks: Blocks::new(alloc)?,
+            len: 0,
         })
     }
 
@@ -37,7 +42,7 @@ impl Sequence {
     pub fn len(&self) -> usize
         ensures { result ≡ length self.now }
     {
-        self.blocks.len()
+        self.len
     }
 
     /// The number with this index; `None` past the end.
@@ -58,7 +63,9 @@ impl Sequence {
         ensures err { OnErr result (self.new ≡ self.old) }
     {
         let place = self.blocks.place_for(alloc, index)?;
-        self.blocks.insert(place, number)
+        self.blocks.insert(place, number)?;
+        self.len += 1;
+        Ok(())
     }
 
     /// Deletes the number with this index, and returns it; `None` past the end.
@@ -67,7 +74,10 @@ impl Sequence {
         ensures rest { self.new ≡ (if is_some result then remove self.old index else self.old) }
     {
         match self.blocks.find(index) {
-            Some(place) => Some(self.blocks.remove(place)),
+            Some(place) => {
+                self.len -= 1;
+                Some(self.blocks.remove(place))
+            }
             None => None,
         }
     }

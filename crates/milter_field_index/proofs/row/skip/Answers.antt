@@ -15,20 +15,20 @@ sum-take_more row i n =
 pub sum_of-count-requires : goal.sum_of-count-requires
 sum_of-count-requires c =
     let row : List ℕ = c.args.row.now in
-    let i : ℕ = c.loop-chunk.chunk * 32 in
-    let width : i + 32 - i ≡ 32 = omega arith in
-    let more = sum-take_more row i 32 in
-    let least = sum_by-take-le (λ x. x) row (i + 32) in
+    let i : ℕ = c.loop-chunk.chunk * 64 in
+    let width : i + 64 - i ≡ 64 = omega arith in
+    let more = sum-take_more row i 64 in
+    let least = sum_by-take-le (λ x. x) row (i + 64) in
     let same = ap (λ n. sum (take n (drop i row))) width in
     omega (arith, more, least, same, c.requires)
 
 pub loop-chunk-preserved : goal.loop-chunk-preserved
 loop-chunk-preserved c =
     let row : List ℕ = c.args.row.now in
-    let i : ℕ = c.loop-chunk.chunk * 32 in
-    let width : i + 32 - i ≡ 32 = omega arith in
-    let count : c.sum_of-count.result ≡ sum (take 32 (drop i row)) = c.sum_of-count.ensures
+    let i : ℕ = c.loop-chunk.chunk * 64 in
+    let width : i + 64 - i ≡ 64 = omega arith in
+    let count : c.sum_of-count.result ≡ sum (take 64 (drop i row)) = c.sum_of-count.ensures
     ∙ ap (λ n. sum (take n (drop i row))) width in
-    let next : (c.loop-chunk.chunk + 1) * 32 ≡ i + 32 = omega arith in
-    let more = ap (λ n. sum (take n row)) next ∙ sum-take_more row i 32 in
+    let next : (c.loop-chunk.chunk + 1) * 64 ≡ i + 64 = omega arith in
+    let more = ap (λ n. sum (take n row)) next ∙ sum-take_more row i 64 in
     omega (arith, more, count, c.loop-chunk.invariant, c.if-left-count.false)

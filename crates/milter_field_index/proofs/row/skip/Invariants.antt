@@ -3,4 +3,4 @@ use Rattle.std.specs.List.{sum}
 use Rattle.milter_field_index.proofs.row.skip.Given as goal
 
 abbrev pub invariant-loop-chunk : goal.invariant-loop-chunk
-invariant-loop-chunk l = sum (take (l.chunk * 32) l.row) + l.left ≡ l.number
+invariant-loop-chunk l = sum (take (l.chunk * 64) l.row) + l.left ≡ l.number
