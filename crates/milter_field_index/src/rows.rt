@@ -85,18 +85,33 @@ impl Rows {
         high: &[u32],
     ) -> Result<Rows, AllocError>
         requires within { (symbol : ℕ) → symbol < length self.now → block < length (at self.now symbol) }
+        requires total { (symbol : ℕ) → symbol < length self.now
+            → slice_index_or (at self.now symbol) block 0 ≡ count_of symbol low.now + count_of symbol high.now }
         requires low { length low.now < 2 ^ 32 }
-        requires high { length high.now < 2 ^ 32 }
         ensures len { IfOk result (λ rows. length rows ≡ length self.now) }
         ensures each { IfOk result (λ rows. (symbol : ℕ) → symbol < length self.now
             → at rows symbol ≡ halved block (count_of symbol low.now) (count_of symbol high.now) (at self.now symbol)) }
     {
         let mut rows = Vec::with_capacity(alloc, self.rows.len())?;
         for symbol in 0..self.rows.len() {
-            let first = count_in(low, symbol as u32) as u32;
-            let second = count_in(high, symbol as u32) as u32;
-            rows.push(split_row(alloc, self.rows[symbol].as_slice(), block, first, second)?)?;
+            let row = self.rows[symbol].as_slice();
+            let (first, second) = counts_in(low, high, symbol as u32, row[block]);
+            rows.push(split_row(alloc, row, block, first, second)?)?;
         }
         Ok(Rows { rows })
     }
+}
+
+/// How often a symbol occurs in each of two lists, where it occurs `total` times in both. Most symbols do in neither.
+fn counts_in(low: &[u32], high: &[u32], symbol: u32, total: u32) -> (u32, u32)
+    requires few { length low.now < 2 ^ 32 }
+    requires total { total ≡ count_of symbol low.now + count_of symbol high.now }
+    ensures low { result.0 ≡ count_of symbol low.now }
+    ensures high { result.1 ≡ count_of symbol high.now }
+{
+    if total == 0 {
+        return (0, 0);
+    }
+    let first = count_in(low, symbol) as u32;
+    (first, total - first)
 }

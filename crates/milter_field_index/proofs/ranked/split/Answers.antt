@@ -1,23 +1,26 @@
-use Rattle.std.proofs.Common.{◌≡◌, ℕ, List, take, drop, length, sym, ap, subst, ◌∙◌, arith}
+use Rattle.std.proofs.Common.{◌≡◌, ◌++◌, ◌==◌, cond, ℕ, List, take, drop, length, sym, ap, subst, ◌∙◌, arith}
 use Rattle.std.proofs.lemmas.List.{length-drop, take-append-drop}
+use Rattle.std.proofs.lemmas.List.Sums.{sum_by-append}
 use Rattle.milter_field_index.specs.Blocks.{joined, at, count_of, halved}
 use Rattle.milter_field_index.specs.Counted.{Counted}
 use Rattle.milter_field_index.proofs.Joins.{block-le_joined, joined-halved}
-use Rattle.milter_field_index.proofs.Counts.{counted-split}
+use Rattle.milter_field_index.proofs.Counts.{counted-split, row-at}
 use Rattle.milter_field_index.proofs.ranked.split.Goals as goal
 
-pub split-requires-clause-high : goal.split-requires-clause-high
-split-requires-clause-high c =
+pub split-requires-clause-total : goal.split-requires-clause-total
+split-requires-clause-total c =
+    let rows : List (List ℕ) = c.args.rows.now in
     let bs : List (List ℕ) = c.args.blocks.now in
     let t : ℕ = c.args.block in
-    omega (
-      arith,
-      ap length c.split_at.ensures.back,
-      length-drop c.args.half c.block.result.now,
-      ap length c.block.ensures,
-      block-le_joined bs t c.requires.block,
-      c.requires.few,
-    )
+    let low : List ℕ = c.split_at.result.0.now in
+    let high : List ℕ = c.split_at.result.1.now in
+    let whole : at bs t ≡ low ++ high = sym (take-append-drop c.args.half (at bs t))
+    ∙ ap (λ l. take c.args.half l ++ drop c.args.half l) (sym c.block.ensures)
+    ∙ ap (λ l. l ++ drop c.args.half c.block.result.now) (sym c.split_at.ensures.front)
+    ∙ ap (λ l. low ++ l) (sym c.split_at.ensures.back) in
+    λ s inside. row-at rows bs s t c.requires.counted inside c.requires.block
+    ∙ ap (λ l. count_of s l) whole
+    ∙ sum_by-append (λ (n : ℕ). cond (n == s) 1 0) low high
 
 pub returns-clause-counted : goal.returns-clause-counted
 returns-clause-counted c =

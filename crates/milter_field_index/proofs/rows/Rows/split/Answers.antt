@@ -1,4 +1,4 @@
-use Rattle.std.proofs.Common.{◌≡◌, ◌<◌, ℕ, List, [], ◌∷◌, ◌++◌, Vec, Global, length, ap, ◌∙◌, arith, below_more}
+use Rattle.std.proofs.Common.{◌≡◌, ◌<◌, ℕ, List, [], ◌∷◌, ◌++◌, Vec, Global, length, get_or, ap, ◌∙◌, arith, below_more}
 use Rattle.std.proofs.lemmas.List.{length-map, length_push, map_push, get_or_append_left, get_or_push}
 use Rattle.milter_field_index.specs.Blocks.{at, count_of, halved}
 use Rattle.milter_field_index.proofs.Measures.{contents, read-at}
@@ -6,6 +6,57 @@ use Rattle.milter_field_index.proofs.rows.Rows.split.Goals as goal
 
 pub loop-symbol-init : goal.loop-symbol-init
 loop-symbol-init c = (ap length c.in_ok-rows.ensures.items, λ symbol h. absurd (omega (arith, h)))
+
+pub offset_bounds-row-block : goal.offset_bounds-row-block
+offset_bounds-row-block c =
+    let s : ℕ = c.loop-symbol.symbol in
+    let inside : s < length c.args.self.now =
+    omega (
+      arith,
+      c.loop-symbol-test.true,
+      c.len-symbol-end.ensures,
+      ap length c.self.view_is,
+      length-map c.self.inside.rows.items
+          (λ (v : Vec ℕ Global). v.items),
+    ) in
+    let row =
+    c.as_slice-row.ensures.value ∙ read-at c.self.inside.rows.items c.args.self.now s c.index.result.now
+    c.self.view_is inside c.index.ensures in
+    omega (arith, ap length row, c.requires.within s inside)
+
+pub bounds-row-block : goal.bounds-row-block
+bounds-row-block c =
+    let s : ℕ = c.loop-symbol.symbol in
+    let inside : s < length c.args.self.now =
+    omega (
+      arith,
+      c.loop-symbol-test.true,
+      c.len-symbol-end.ensures,
+      ap length c.self.view_is,
+      length-map c.self.inside.rows.items
+          (λ (v : Vec ℕ Global). v.items),
+    ) in
+    let row =
+    c.as_slice-row.ensures.value ∙ read-at c.self.inside.rows.items c.args.self.now s c.index.result.now
+    c.self.view_is inside c.index.ensures in
+    omega (arith, ap length row, c.requires.within s inside)
+
+pub counts_in-first-requires-clause-total : goal.counts_in-first-requires-clause-total
+counts_in-first-requires-clause-total c =
+    let s : ℕ = c.loop-symbol.symbol in
+    let inside : s < length c.args.self.now =
+    omega (
+      arith,
+      c.loop-symbol-test.true,
+      c.len-symbol-end.ensures,
+      ap length c.self.view_is,
+      length-map c.self.inside.rows.items
+          (λ (v : Vec ℕ Global). v.items),
+    ) in
+    let row =
+    c.as_slice-row.ensures.value ∙ read-at c.self.inside.rows.items c.args.self.now s c.index.result.now
+    c.self.view_is inside c.index.ensures in
+    ap (λ l. get_or l c.args.block 0) row ∙ c.requires.total s inside
 
 pub split_row-requires : goal.split_row-requires
 split_row-requires c =
@@ -21,7 +72,7 @@ split_row-requires c =
           (λ (v : Vec ℕ Global). v.items),
     ) in
     let row =
-    c.as_slice.ensures.value ∙ read-at c.self.inside.rows.items c.args.self.now s c.index.result.now
+    c.as_slice-row.ensures.value ∙ read-at c.self.inside.rows.items c.args.self.now s c.index.result.now
     c.self.view_is inside c.index.ensures in
     omega (arith, ap length row, c.requires.within s inside)
 
@@ -41,15 +92,15 @@ loop-symbol-preserved c =
           (λ (r : Vec ℕ Global). r.items),
     ) in
     let row =
-    c.as_slice.ensures.value ∙ read-at c.self.inside.rows.items c.args.self.now s c.index.result.now
+    c.as_slice-row.ensures.value ∙ read-at c.self.inside.rows.items c.args.self.now s c.index.result.now
     c.self.view_is inside c.index.ensures in
     let next : contents c.push.new.self.items ≡ contents rows ++ v.items ∷ [] =
     ap contents c.in_ok-push.ensures.items ∙ map_push (λ (r : Vec ℕ Global). r.items) rows v in
     let here : v.items ≡ halved c.args.block (count_of s c.args.low.now) (count_of s c.args.high.now)
     (at c.args.self.now s) =
     c.in_ok-split_row.ensures
-    ∙ ap (λ n. halved c.args.block n c.count_in-second.result c.as_slice.result.now) c.count_in-first.ensures
-    ∙ ap (λ n. halved c.args.block (count_of s c.args.low.now) n c.as_slice.result.now) c.count_in-second.ensures
+    ∙ ap (λ n. halved c.args.block n c.counts_in-first.result.1 c.as_slice-row.result.now) c.counts_in-first.ensures.low
+    ∙ ap (λ n. halved c.args.block (count_of s c.args.low.now) n c.as_slice-row.result.now) c.counts_in-first.ensures.high
     ∙ ap (λ l. halved c.args.block (count_of s c.args.low.now) (count_of s c.args.high.now) l) row in
     let so_far : length (contents rows) ≡ s = length-map rows (λ (r : Vec ℕ Global). r.items)
     ∙ c.loop-symbol.invariant.0 in
