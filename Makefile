@@ -2,12 +2,13 @@
 # the whole test command, `make bench` measures, `make install PREFIX=/usr/local` puts the program in place, with its
 # manual pages, units and documents, and the library with its header, `make uninstall PREFIX=/usr/local` takes that away
 # again, and `make dist` and `make deb` pack the program, and the latter also the library, for machines without the
-# toolchain. `make deb` takes Debian's packages debhelper and dh-python.
+# toolchain. `make deb` takes Debian's packages debhelper and dh-python. `make definitions` writes
+# docs/proofs/DEFINITIONS.md again, after a change in crates/*/specs.
 
 PREFIX ?= /usr/local
 PROGRAM := crates/milter_tool/out/milter_tool
 
-.PHONY: all lib check test bench install uninstall dist deb clean
+.PHONY: all lib check definitions test bench install uninstall dist deb clean
 
 all:
 	@python3 tools/prove.py --build milter_tool
@@ -20,6 +21,9 @@ lib:
 
 check:
 	@python3 tools/prove.py
+
+definitions:
+	python3 tools/definitions.py
 
 test:
 	bash .ci/run

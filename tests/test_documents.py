@@ -3,8 +3,8 @@
 docs/MAIL_SERVERS.md is lines of a program that is tested, each paragraph of README.md has at most four lines, each link
 between documents and each path in the recipes of docs/CONTRIBUTING.md leads to a file, docs/ARCHITECTURE.md has each
 crate, and the functions of its paths are in the files that it names. The lines of docs/RULE_CHECK.md are printed by
-runs of cases/rules_check. Below docs/proofs each clause of PROOFS.md and each definition of DEFINITIONS.md is in the
-crate under which it is listed. README.md and PROOFS.md count the crates of the toolchain that are trusted, README.md
+runs of cases/rules_check. Below docs/proofs each clause of PROOFS.md is in the crate under which it is listed, and
+DEFINITIONS.md is made of the definitions as they are, with each one that a public contract cites. README.md and PROOFS.md count the crates of the toolchain that are trusted, README.md
 and HEADLINE.md the lines of definitions under the headline, and no proof speaks of the code of another crate but by
 what it promises. And no line of the code or of the definitions is too long, but imports, nor one of help, and no
 comment, document or module has a word that is no longer used.
@@ -15,7 +15,7 @@ import re
 import sys
 import textwrap
 
-from lib import definitions as specs
+from lib import definitions as read
 from lib import runner
 from lib.programs import TOP
 
@@ -182,32 +182,13 @@ def clauses():
 
 
 def definitions():
-    """Whether each definition of DEFINITIONS.md stands in the files of specs/ that its row names."""
-    crate = None
-    for line in text_of(DEFINITIONS).splitlines():
-        section = re.match(r'## .*`(\w+)`', line)
-        crate = section[1] if section else crate
-        cells = line.split(' | ')
-        if crate is None or len(cells) != 3 or not line.startswith('| ') or line.startswith('| File'):
-            continue
-        paths = ['crates/%s/specs/%s.antt' % (crate, name.strip('| ')) for name in cells[0].split(',')]
-        source = '\n'.join(text_of(path) for path in paths if os.path.exists(os.path.join(TOP, path)))
-        for name in re.findall(r'`([^`]+)`', cells[1]):
-            found = re.search(r'(?<!\w)%s(?!\w)' % re.escape(name), source) is not None
-            yield '%s: %s: %s' % (DEFINITIONS, crate, name), found
-
-
-def cited():
-    """Whether each definition that a contract of a public function names is in DEFINITIONS.md, in its crate's
-    section."""
-    crate, named = None, set()
-    for line in text_of(DEFINITIONS).splitlines():
-        section = re.match(r'## .*`(\w+)`', line)
-        crate = section[1] if section else crate
-        cells = line.split(' | ')
-        named |= {(crate, name) for name in re.findall(r'`([^`]+)`', cells[1])} if len(cells) == 3 else set()
-    for crate, file, name in sorted(specs.cited()):
-        yield '%s lacks %s: %s, %s' % (DEFINITIONS, crate, file, name), (crate, name) in named
+    """Whether DEFINITIONS.md is what `make definitions` writes, and explains each definition that a contract of a public
+    function, type or trait names, or that such a one uses."""
+    text = text_of(DEFINITIONS)
+    yield '%s is not what `make definitions` writes' % DEFINITIONS, text == read.made()
+    there = set(read.explained(text))
+    for cited in sorted(read.specs.under(read.specs.cited())):
+        yield '%s lacks %s: %s, %s' % (DEFINITIONS, *cited), cited in there
 
 
 def trusted():
@@ -224,9 +205,9 @@ def trusted():
 def counts():
     """Whether README.md and HEADLINE.md have the lines of definitions under the headline, under all clauses of its
     function, and under these and the premises of its types."""
-    words = specs.under(specs.named_by(*HEADLINE, ITS_WORDS))
-    clauses = specs.under(specs.named_by(*HEADLINE))
-    premises = {**clauses, **specs.under(ITS_PREMISES)}
+    words = read.specs.under(read.named_by(*HEADLINE, ITS_WORDS))
+    clauses = read.specs.under(read.named_by(*HEADLINE))
+    premises = {**clauses, **read.specs.under(ITS_PREMISES)}
     for document, found, text in [
             ('README.md', words, 'over %d lines of definitions'), (HEADLINES, words, 'stand %d lines of definitions'),
             (HEADLINES, clauses, '%d stand under all clauses'), (HEADLINES, premises, '%d with the premises')]:
@@ -236,7 +217,7 @@ def counts():
 
 def lemmas():
     """Whether each file of lemmas that another crate uses speaks of definitions alone."""
-    for crate, file, is_of_definitions in specs.shared_lemmas():
+    for crate, file, is_of_definitions in read.shared_lemmas():
         yield 'crates/%s/proofs/%s.antt speaks of code' % (crate, file), is_of_definitions
 
 
@@ -279,5 +260,5 @@ def play_of(check):
 
 if __name__ == '__main__':
     sys.exit(runner.run_all(play_of(check) for check in (
-        blocks, pasted, paragraphs, paths, diagrams, calls, said, links, clauses, definitions, cited, trusted, counts,
+        blocks, pasted, paragraphs, paths, diagrams, calls, said, links, clauses, definitions, trusted, counts,
         lemmas, lines, help_lines, vocabulary)))
