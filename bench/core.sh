@@ -11,32 +11,16 @@
 # valgrind, Python and some minutes. The programs are built first where they have to be.
 #
 #     bash bench/core.sh
-set -eu
-cd "$(dirname "${BASH_SOURCE[0]}")/.."
+. "$(dirname "${BASH_SOURCE[0]}")/lib.sh"
 SMALL=4096
 SMALL_COMMANDS=16
 LARGE=10485760
 LARGE_COMMANDS=176
 # The packets before the first message.
 OPENING=3
-# More bytes than are copied or cleared at once.
-NEVER=1000000000
-work=$(mktemp -d)
-trap 'rm -rf "$work"' EXIT
-
-# program NAME WORD..: builds a program where it has to be; so it reads its standard input
-program() {
-    local made=crates/$1/out/$1
-    [ -x "$made" ] && [ -z "$(find crates/*/src crates/*/specs -newer "$made" -print -quit)" ] && return
-    (cd "crates/$1" && rt run -- "${@:2}") >"$work/log" 2>&1 || { cat "$work/log"; exit 1; }
-}
 
 # instructions NAME WORD..: what callgrind counts of a run
-instructions() {
-    GLIBC_TUNABLES=glibc.cpu.x86_rep_movsb_threshold=$NEVER:glibc.cpu.x86_rep_stosb_threshold=$NEVER \
-        valgrind --tool=callgrind --callgrind-out-file=/dev/null "crates/$1/out/$1" "${@:2}" 2>&1 >/dev/null |
-        sed -n 's/.*Collected : //p'
-}
+instructions() { counted "crates/$1/out/$1" "${@:2}"; }
 
 # pass PACKETS: what the mail server's end takes for the first packets of the session, and their replies
 pass() {
@@ -58,10 +42,10 @@ measure() {
 }
 
 python3 bench/session.py 1 "$SMALL" >"$work/session"
-program milter_tests_pair read <"$work/session"
-program milter_tests_stages read <"$work/session"
+built milter_tests_pair read <"$work/session"
+built milter_tests_stages read <"$work/session"
 { cat "$work/session"; printf '%%%%\nconfig 0 0 tempfail\n'; } >"$work/script"
-program milter_tests_driver mta <"$work/script"
+built milter_tests_driver mta <"$work/script"
 echo "user instructions of a message:"
 measure 1 "$SMALL" "$SMALL_COMMANDS"
 measure 100 "$SMALL" "$SMALL_COMMANDS"

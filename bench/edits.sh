@@ -4,19 +4,10 @@
 # kind: seconds of processor time (the least of three runs of the program) and the most memory; and the same for lists
 # of edits of 1 MiB of the kinds that cost most. Status 1 where a kind takes more than a second for 10,000 edits. The
 # program is built first where it has to be.
-set -eu
-cd "$(dirname "${BASH_SOURCE[0]}")/.."
-program=$PWD/crates/milter_tests_driver/out/milter_tests_driver
-work=$(mktemp -d)
-trap 'rm -rf "$work"' EXIT
-if [ ! -x "$program" ] || [ -n "$(find crates/*/src crates/*/specs -newer "$program" -print -quit)" ]; then
-    printf 'client U ""\nhelo ""\nmessage\nsender ""\nrecipient ""\nend\n\0' >"$work/empty"
-    (cd crates/milter_tests_driver && rt run -- edits count <"$work/empty") >"$work/log" 2>&1 || {
-        cat "$work/log"
-        exit 1
-    }
-fi
-python3 - "$work" "$program" <<'PYTHON'
+. "$(dirname "${BASH_SOURCE[0]}")/lib.sh"
+printf 'client U ""\nhelo ""\nmessage\nsender ""\nrecipient ""\nend\n\0' >"$work/empty"
+built milter_tests_driver edits count <"$work/empty"
+python3 - "$work" crates/milter_tests_driver/out/milter_tests_driver <<'PYTHON'
 import os, struct, subprocess, sys
 
 work, program = sys.argv[1:]

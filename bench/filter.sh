@@ -4,7 +4,7 @@
 # with one generator (`filter.py`) that waits for each reply. `answer` has a socket as its standard streams; the others
 # listen at a Unix socket, and one connection is made. For each it prints the user instructions of a message of sixteen
 # commands, with ten header fields and 4 KiB of body, how many of these messages it takes a second, and MB of messages
-# of 10 MiB a second, both by the filter's processor time and by the clock, the generator and the filter each on a
+# of 10 MiB a second, both by the clock and by the filter's processor time, the generator and the filter each on a
 # processor of its own. It also prints the user instructions of a connection of one such message, for `filter`, `serve`
 # and libmilter. The instructions are callgrind's, without those of a run of one message or one connection; callgrind
 # counts a copy by `rep movsb` a byte at a time, so that this is turned off in the C library. It takes libmilter
@@ -12,15 +12,8 @@
 # another one may be given. libdeiruska is that of `make lib`, or another one in the folder LIBRARY.
 #
 #     [LIBRARY=FOLDER] bash bench/filter.sh [PROGRAM]
-set -eu
-cd "$(dirname "${BASH_SOURCE[0]}")/.."
-program=${1:-}
-if [ -z "$program" ]; then
-    make -s all >/dev/null
-    program=crates/milter_tool/out/milter_tool
-fi
-work=$(mktemp -d)
-trap 'rm -rf "$work"' EXIT
+. "$(dirname "${BASH_SOURCE[0]}")/lib.sh"
+tool "$@"
 AGAIN=100
 SMALL=4096
 SMALL_COUNT=2000
@@ -28,12 +21,8 @@ LARGE=10485760
 LARGE_COUNT=50
 FILTERS='answer filter libmilter'
 MANY='filter serve libmilter'
-cc -O2 -o "$work/libmilter" bench/filter.c -lmilter -lpthread
-library=${LIBRARY:-crates/milter_c/out/deiruska}
-if [ -f "$library/lib/libdeiruska.a" ]; then
-    cc -O2 -I "$library/include" -o "$work/library" bench/library.c "$library/lib/libdeiruska.a"
-    FILTERS="$FILTERS library" MANY="$MANY library"
-fi
+libmilter
+if library; then FILTERS="$FILTERS library" MANY="$MANY library"; fi
 
 # play COUNT BODY FILTER COMMAND..: plays messages on a filter, which runs under the command
 play() {
@@ -62,8 +51,7 @@ connect() {
 
 # instructions PLAY COUNT FILTER: what callgrind counts of a run of this play
 instructions() {
-    GLIBC_TUNABLES=glibc.cpu.x86_rep_movsb_threshold=1000000000 "$1" "$2" "$SMALL" "$3" \
-        valgrind --tool=callgrind --callgrind-out-file=/dev/null 2>&1 >/dev/null | sed -n 's/.*Collected : //p'
+    GLIBC_TUNABLES=$COPIES "$1" "$2" "$SMALL" "$3" "${CALLGRIND[@]}" 2>&1 >/dev/null | collected
 }
 
 # cost PLAY FILTER: the user instructions of one in a play of many, without those of a play of one
@@ -75,9 +63,7 @@ cost() {
 least() {
     for _ in 1 2 3; do
         play "$1" "$2" "$3" taskset -c 1
-    done | awk '
-        { for (i = 1; i <= 2; i++) if (NR == 1 || $i < least[i]) least[i] = $i }
-        END { print least[1], least[2] }'
+    done | leasts
 }
 
 # rates COUNT BODY UNIT: for each filter, how many units of these messages it takes a second, where a message has UNIT
@@ -86,11 +72,7 @@ rates() {
     for filter in $FILTERS; do
         once=$(least 1 "$2" "$filter")
         often=$(least $(($1 + 1)) "$2" "$filter")
-        awk -v filter="$filter" -v count="$1" -v unit="$3" -v took="$once $often" 'BEGIN {
-            split(took, times, " ")
-            printf "%-10s %8.0f %8.0f\n", filter, count * unit * 1e9 / (times[4] - times[2]),
-                count * unit * 1e9 / (times[3] - times[1])
-        }'
+        rate "$filter" "$1" "$3" "$once" "$often"
     done
 }
 
@@ -99,7 +81,7 @@ for filter in $FILTERS; do cost play "$filter"; done
 echo "a connection of one such message, user instructions:"
 for filter in $MANY; do cost connect "$filter"; done
 taskset -cp 0 $$ >/dev/null
-echo "$SMALL_COUNT such messages, messages/s by processor time and by the clock:"
+echo "$SMALL_COUNT such messages, messages/s by the clock and by processor time:"
 rates "$SMALL_COUNT" "$SMALL" 1
-echo "$LARGE_COUNT messages with a body of 10 MiB, MB/s by processor time and by the clock:"
+echo "$LARGE_COUNT messages with a body of 10 MiB, MB/s by the clock and by processor time:"
 rates "$LARGE_COUNT" "$LARGE" 10.48576

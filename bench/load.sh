@@ -9,20 +9,12 @@
 # makes. It takes a C compiler and Python. The program is built first where it has to be; another one may be given.
 #
 #     bash bench/load.sh [PROGRAM]
-set -eu
-cd "$(dirname "${BASH_SOURCE[0]}")/.."
-program=${1:-}
-if [ -z "$program" ]; then
-    make -s all >/dev/null
-    program=crates/milter_tool/out/milter_tool
-fi
-work=$(mktemp -d)
-trap 'kill "$filter"; rm -rf "$work"' EXIT
+. "$(dirname "${BASH_SOURCE[0]}")/lib.sh"
+tool "$@"
 MESSAGES=20000
 BODY=4096
-cc -O2 -o "$work/load" bench/load.c
-if command -v go >/dev/null && cp bench/client.go "$work/client.go" &&
-    (cd "$work" && GOPATH=/usr/share/gocode GO111MODULE=off GOCACHE=$work/cache go build -o client client.go); then
+load
+if client; then
     has_client=yes
 else
     has_client=
@@ -37,9 +29,10 @@ open(sys.argv[1], 'wb').write(opening + b''.join(small.message($BODY)))
 print(len(opening))" "$work/script")
 taskset -c 1 "$program" serve "unix:$work/socket" --at-once 10000 >/dev/null 2>&1 &
 filter=$!
+trap 'kill "$filter"; rm -rf "$work"' EXIT
 
-# best WORD..: runs this command three times, and prints the least seconds by the clock and of its processor time
-best() {
+# fastest WORD..: runs this command three times, and prints the least seconds by the clock and of its processor time
+fastest() {
     python3 - "$@" <<'PYTHON'
 import os
 import subprocess
@@ -63,7 +56,7 @@ PYTHON
 
 # measure NAME AT_ONCE WORD..: prints how many messages a second this command makes, and its processor time for one
 measure() {
-    best "${@:3}" | awk -v name="$1" -v at_once="$2" -v count="$MESSAGES" '
+    fastest "${@:3}" | awk -v name="$1" -v at_once="$2" -v count="$MESSAGES" '
         { printf "%-10s %4d %8.0f a second %8.2f microseconds each\n", name, at_once, count / $1, $2 * 1e6 / count }'
 }
 

@@ -8,19 +8,15 @@
 # pymilter is installed. libdeiruska is that of `make lib`, or another one in the folder LIBRARY.
 #
 #     [PYTHON=PROGRAM] [LIBRARY=FOLDER] bash bench/python.sh
-set -eu
-cd "$(dirname "${BASH_SOURCE[0]}")/.."
+. "$(dirname "${BASH_SOURCE[0]}")/lib.sh"
 python=${PYTHON:-python3}
-library=${LIBRARY:-crates/milter_c/out/deiruska}
-export DEIRUSKA_LIBRARY=$library/lib/libdeiruska.so.0 PYTHONPATH=bindings/python PYTHONDONTWRITEBYTECODE=1
-work=$(mktemp -d)
-trap 'rm -rf "$work"' EXIT
+export DEIRUSKA_LIBRARY=$LIBRARY/lib/libdeiruska.so.0 PYTHONPATH=bindings/python PYTHONDONTWRITEBYTECODE=1
 MESSAGES=2000
 BODY=4096
-cc -O2 -o "$work/load" bench/load.c
+load
 
-# rate FILTER AT_ONCE: how many messages a second the filter takes
-rate() {
+# measure FILTER AT_ONCE: how many messages a second the filter takes
+measure() {
     rm -f "$work/socket"
     "$python" bench/serve.py "$work/load" "$work/socket" rate "$BODY" "$2" "$2" $((MESSAGES / $2)) \
         "$python" bench/filters.py "$1" "$work/socket" |
@@ -30,5 +26,5 @@ rate() {
 
 echo "messages a second, by the clock and by processor time:"
 for at_once in 1 50; do
-    for filter in deiruska pymilter; do rate "$filter" "$at_once"; done
+    for filter in deiruska pymilter; do measure "$filter" "$at_once"; done
 done

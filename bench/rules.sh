@@ -21,15 +21,8 @@
 # and is /tmp/before/crates/milter_tool/out/milter_tool then.
 #
 #     [OLD=PROGRAM] bash bench/rules.sh [PROGRAM]
-set -eu
-cd "$(dirname "${BASH_SOURCE[0]}")/.."
-program=${1:-}
-if [ -z "$program" ]; then
-    make -s all >/dev/null
-    program=crates/milter_tool/out/milter_tool
-fi
-work=$(mktemp -d)
-trap 'rm -rf "$work"' EXIT
+. "$(dirname "${BASH_SOURCE[0]}")/lib.sh"
+tool "$@"
 status=0
 python3 bench/rules.py "$program" "$work" "${OLD:-}" || status=1
 python3 bench/lists.py "$program" "$work" || status=1

@@ -18,15 +18,8 @@
 # where it has to be; another one may be given. libdeiruska is that of `make lib`, or another one in the folder LIBRARY.
 #
 #     [LIBRARY=FOLDER] bash bench/serve.sh [PROGRAM]
-set -eu
-cd "$(dirname "${BASH_SOURCE[0]}")/.."
-program=${1:-}
-if [ -z "$program" ]; then
-    make -s all >/dev/null
-    program=crates/milter_tool/out/milter_tool
-fi
-work=$(mktemp -d)
-trap 'rm -rf "$work"' EXIT
+. "$(dirname "${BASH_SOURCE[0]}")/lib.sh"
+tool "$@"
 CONNECTIONS=5000
 MESSAGES=10000
 BODY=4096
@@ -35,15 +28,11 @@ LARGE_MESSAGES=500
 LARGE_UNSENT=100000
 IDLE='500 9990'
 FILTERS='serve libmilter'
-library=${LIBRARY:-crates/milter_c/out/deiruska}
-if [ -f "$library/lib/libdeiruska.a" ]; then
-    cc -O2 -I "$library/include" -o "$work/library" bench/library.c "$library/lib/libdeiruska.a"
-    FILTERS="$FILTERS library"
-fi
+if library; then FILTERS="$FILTERS library"; fi
 IDLE_FILTERS=$FILTERS
 if command -v socat >/dev/null; then FILTERS="$FILTERS answer"; fi
-cc -O2 -o "$work/libmilter" bench/filter.c -lmilter -lpthread
-cc -O2 -o "$work/load" bench/load.c
+libmilter
+load
 cat >"$work/rules" <<'RULES'
 rules 2
 at rcpt when rcpt-address is "noreply@example.net" do code "550 5.1.1 This address takes no mail"
@@ -65,8 +54,8 @@ play() {
     python3 bench/serve.py "$work/load" "$work/socket" "$@"
 }
 
-# rate WHAT FILTER BODY AT_ONCE CONNECTIONS MESSAGES: how many a second the filter takes, connections or messages
-rate() {
+# measure WHAT FILTER BODY AT_ONCE CONNECTIONS MESSAGES: how many a second the filter takes, connections or messages
+measure() {
     play "$2" rate "$3" "$4" "$5" "$6" >"$work/times"
     awk -v what="$1" -v filter="${2%-*}" -v at_once="$4" -v count=$(($5 * $6)) '
         { printf "%-12s %4d %-10s %8.0f %s\n", what, at_once, filter, count * 1e9 / $1,
@@ -78,17 +67,17 @@ for at_once in 1 50 500; do
     for filter in $FILTERS; do
         count=$CONNECTIONS
         if [ "$filter" = answer ]; then count=$((CONNECTIONS / 10)); fi
-        rate connections "$filter" "$BODY" "$at_once" "$count" 1
-        rate messages "$filter" "$BODY" "$at_once" "$at_once" $((MESSAGES / at_once))
+        measure connections "$filter" "$BODY" "$at_once" "$count" 1
+        measure messages "$filter" "$BODY" "$at_once" "$at_once" $((MESSAGES / at_once))
     done
 done
 echo "messages of 10 MiB a second, where no more is sent than a rule at rcpt needs, and where all is:"
 for at_once in 1 50; do
     for filter in serve libmilter; do
-        rate recipient "$filter-rcpt" "$LARGE_BODY" "$at_once" "$at_once" $((LARGE_UNSENT / at_once))
+        measure recipient "$filter-rcpt" "$LARGE_BODY" "$at_once" "$at_once" $((LARGE_UNSENT / at_once))
     done
     for filter in serve libmilter; do
-        rate all "$filter-all" "$LARGE_BODY" "$at_once" "$at_once" $((LARGE_MESSAGES / at_once))
+        measure all "$filter-all" "$LARGE_BODY" "$at_once" "$at_once" $((LARGE_MESSAGES / at_once))
     done
 done
 echo "KiB before and with idle connections:"

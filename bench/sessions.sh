@@ -4,13 +4,13 @@
 # the worst forms of 32 MiB: messages of 36 bytes each, one line of words, and lines that are no session at all. It
 # prints a line for each: bytes, seconds (the best of three, from the start of the program to its end), MB a second, and
 # the most memory; then the figures that it is held to: 127 MiB takes at most 2.2 times 64 MiB, and a file whose first
-# line is at fault at most a second. Status 1 where one is missed. The program is built first where it has to be.
-set -eu
-cd "$(dirname "${BASH_SOURCE[0]}")/.."
-make -s all >/dev/null
-work=$(mktemp -d)
-trap 'rm -rf "$work"' EXIT
-python3 - "$work" crates/milter_tool/out/milter_tool <<'PYTHON'
+# line is at fault at most a second. Status 1 where one is missed. The program is built first where it has to be;
+# another one may be given.
+#
+#     bash bench/sessions.sh [PROGRAM]
+. "$(dirname "${BASH_SOURCE[0]}")/lib.sh"
+tool "$@"
+python3 - "$work" "$program" <<'PYTHON'
 import os, subprocess, sys, time
 
 work, program = sys.argv[1:]

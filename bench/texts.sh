@@ -10,30 +10,18 @@
 # first where it has to be; another one may be given.
 #
 #     bash bench/texts.sh [PROGRAM]
-set -eu
-cd "$(dirname "${BASH_SOURCE[0]}")/.."
-program=${1:-}
-if [ -z "$program" ]; then
-    make -s all >/dev/null
-    program=crates/milter_tool/out/milter_tool
-fi
-work=$(mktemp -d)
-trap 'rm -rf "$work"' EXIT
+. "$(dirname "${BASH_SOURCE[0]}")/lib.sh"
+tool "$@"
 MIB=1048576
 COUNT=10
 BODY=$((10 * MIB))
-# More bytes than are copied or cleared at once.
-NEVER=1000000000
-cc -O2 -o "$work/libmilter" bench/filter.c -lmilter -lpthread
-cp bench/client.go "$work/client.go"
-(cd "$work" && GOPATH=/usr/share/gocode GO111MODULE=off GOCACHE=$work/cache go build -o client client.go)
+libmilter
+client || { echo "go-milter isn't installed"; exit 1; }
 
 # instructions COUNT: what callgrind counts of `session` with so many messages of 1 MiB
 instructions() {
     python3 bench/session.py "$1" "$MIB" >"$work/session"
-    GLIBC_TUNABLES=glibc.cpu.x86_rep_movsb_threshold=$NEVER:glibc.cpu.x86_rep_stosb_threshold=$NEVER \
-        valgrind --tool=callgrind --callgrind-out-file=/dev/null "$program" session "$work/session" 2>&1 >/dev/null |
-        sed -n 's/.*Collected : //p'
+    counted "$program" session "$work/session"
 }
 
 # least NAME WORD..: plays the messages five times by this command, and prints the least times
@@ -41,27 +29,9 @@ least() {
     for _ in 1 2 3 4 5; do
         rm -f "$work/socket"
         "$work/libmilter" "$work/socket" &
-        python3 - "$work/socket" "${@:2}" <<'PYTHON'
-import os
-import resource
-import subprocess
-import sys
-import time
-
-path, *command = sys.argv[1:]
-while not any(line.split()[3] == '00010000' and line.rstrip().endswith(path) for line in open('/proc/net/unix')):
-    time.sleep(0.01)
-start = time.monotonic_ns()
-with open(os.devnull, 'wb') as printed:
-    subprocess.run(command, stdout=printed, check=True)
-took = time.monotonic_ns() - start
-used = resource.getrusage(resource.RUSAGE_CHILDREN)
-print(took / 1e9, used.ru_utime + used.ru_stime)
-PYTHON
+        timed "$work/socket" "${@:2}"
         wait
-    done | awk -v name="$1" '
-        { for (i = 1; i <= 2; i++) if (NR == 1 || $i < least[i]) least[i] = $i }
-        END { print name, least[1], least[2] }'
+    done | leasts | awk -v name="$1" '{ print name, $1 / 1e9, $2 / 1e9 }'
 }
 
 echo "user instructions for a byte of body, read and printed by session:"

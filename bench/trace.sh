@@ -4,13 +4,12 @@
 # small packets, each a header field of 60 bytes, whose name and value are printed in quotes. It prints a line for each:
 # what ran, bytes of packets, seconds (the best of three), and MB of packets a second; then the figures that the program
 # is held to: 64 MiB takes at most 9 times 8 MiB, and for the first stream no longer than `xxd`. Status 1 where one is
-# missed. The program is built first where it has to be. It takes about 150 MB of a temporary folder.
-set -eu
-cd "$(dirname "${BASH_SOURCE[0]}")/.."
-make -s all >/dev/null
-program=crates/milter_tool/out/milter_tool
-work=$(mktemp -d)
-trap 'rm -rf "$work"' EXIT
+# missed. It takes about 150 MB of a temporary folder. The program is built first where it has to be; another one may be
+# given.
+#
+#     bash bench/trace.sh [PROGRAM]
+. "$(dirname "${BASH_SOURCE[0]}")/lib.sh"
+tool "$@"
 
 # packets MEBIBYTES: packets of a body chunk and of a short answer in turn, 64 KiB of packets at a time
 packets() {
@@ -42,17 +41,6 @@ PYTHON
 
 # lines WIDTH: the bytes of its input as lines of `> ` and WIDTH digits
 lines() { xxd -p -c 0 | tr -d '\n' | fold -w "$1" | sed 's/^/> /'; }
-
-best() { # best COMMAND: the least of three runs, in nanoseconds
-    local least=0 from took
-    for _ in 1 2 3; do
-        from=$(date +%s%N)
-        bash -c "$1"
-        took=$(($(date +%s%N) - from))
-        if [ "$least" = 0 ] || [ "$took" -lt "$least" ]; then least=$took; fi
-    done
-    echo "$least"
-}
 
 row() { # row NAME MEBIBYTES NANOSECONDS
     awk -v name="$1" -v mebibytes="$2" -v took="$3" 'BEGIN {

@@ -3,17 +3,11 @@
 # message of 16 packets, with ten header fields and 4 KiB of body, and MB of packets a second for bodies of 10 MiB,
 # beside a plain copy of the same bytes in the same run. The instructions are callgrind's, without those of a run over
 # the message once; callgrind counts a copy by `rep movsb` a byte at a time, so that this is turned off in the C
-# library. It prints a line for each, and takes valgrind, Python and half a minute. The program is built first, which
-# proves what it is made of.
-set -eu
-cd "$(dirname "${BASH_SOURCE[0]}")/.."
-(cd crates/milter_tests_driver && rt run -- packets split 1 </dev/null >/dev/null 2>&1) || {
-    echo "milter_tests_driver was not built: run rt run in crates/milter_tests_driver"
-    exit 1
-}
+# library. It prints a line for each, and takes valgrind, Python and half a minute. The program is built first where it
+# has to be.
+. "$(dirname "${BASH_SOURCE[0]}")/lib.sh"
+built milter_tests_driver packets split 1 </dev/null
 program=crates/milter_tests_driver/out/milter_tests_driver
-work=$(mktemp -d)
-trap 'rm -rf "$work"' EXIT
 AGAIN=100
 
 # message BODY: the packets of a message whose body has so many bytes
@@ -43,22 +37,11 @@ PYTHON
 
 # instructions WORK COUNT: what callgrind counts of a run
 instructions() {
-    GLIBC_TUNABLES=glibc.cpu.x86_rep_movsb_threshold=1000000000 valgrind --tool=callgrind \
-        --callgrind-out-file=/dev/null "$program" packets "$1" "$2" <"$work/message" 2>&1 >/dev/null |
-        sed -n 's/.*Collected : //p'
+    GLIBC_TUNABLES=$COPIES "${CALLGRIND[@]}" "$program" packets "$1" "$2" <"$work/message" 2>&1 >/dev/null | collected
 }
 
-# best WORK COUNT: the least of three runs, in nanoseconds
-best() {
-    local least=0 from took
-    for _ in 1 2 3; do
-        from=$(date +%s%N)
-        "$program" packets "$1" "$2" <"$work/body" >/dev/null
-        took=$(($(date +%s%N) - from))
-        if [ "$least" = 0 ] || [ "$took" -lt "$least" ]; then least=$took; fi
-    done
-    echo "$least"
-}
+# took WORK COUNT: the least of three runs, in nanoseconds
+took() { best "'$program' packets $1 $2 <'$work/body' >/dev/null"; }
 
 message 4096 >"$work/message"
 message 10485760 >"$work/body"
@@ -70,8 +53,8 @@ for what in split borrowed owned encode; do
 done
 echo "a message with a body of 10 MiB, MB/s:"
 for what in copy split borrowed owned encode; do
-    once=$(best "$what" 1)
-    often=$(best "$what" 41)
+    once=$(took "$what" 1)
+    often=$(took "$what" 41)
     awk -v what="$what" -v took=$((often - once)) -v size="$(stat -c %s "$work/body")" 'BEGIN {
         printf "%-8s %8.0f\n", what, 40 * size / took * 1000 }'
 done

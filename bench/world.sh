@@ -9,30 +9,14 @@
 # programs are built first where they have to be.
 #
 #     bash bench/world.sh
-set -eu
-cd "$(dirname "${BASH_SOURCE[0]}")/.."
+. "$(dirname "${BASH_SOURCE[0]}")/lib.sh"
 BODY=4096
 # More rounds than a message takes, of 100 bytes and of 1.
 ROUNDS_OF_100=150
 ROUNDS_OF_1=6000
-# More bytes than are copied or cleared at once.
-NEVER=1000000000
-work=$(mktemp -d)
-trap 'rm -rf "$work"' EXIT
-
-# program NAME WORD..: builds a program where it has to be; so it reads its standard input
-program() {
-    local made=crates/$1/out/$1
-    [ -x "$made" ] && [ -z "$(find crates/*/src crates/*/specs -newer "$made" -print -quit)" ] && return
-    (cd "crates/$1" && rt run -- "${@:2}") >"$work/log" 2>&1 || { cat "$work/log"; exit 1; }
-}
 
 # instructions NAME WORD..: what callgrind counts of a run on the session
-instructions() {
-    GLIBC_TUNABLES=glibc.cpu.x86_rep_movsb_threshold=$NEVER:glibc.cpu.x86_rep_stosb_threshold=$NEVER \
-        valgrind --tool=callgrind --callgrind-out-file=/dev/null "crates/$1/out/$1" "${@:2}" 2>&1 <"$work/session" |
-        sed -n 's/.*Collected : //p'
-}
+instructions() { counted "crates/$1/out/$1" "${@:2}" <"$work/session"; }
 
 # a_message COUNT READ NAME WORD..: the instructions of one of so many messages, without those of reading them
 a_message() { echo $((($(instructions "${@:3}") - $2) / $1)); }
@@ -51,8 +35,8 @@ measure() {
 }
 
 python3 bench/session.py 1 "$BODY" >"$work/session"
-program milter_tests_pair read <"$work/session"
-program milter_tests_driver world read <"$work/session"
+built milter_tests_pair read <"$work/session"
+built milter_tests_driver world read <"$work/session"
 echo "user instructions of a message of $BODY bytes:"
 measure 10
 before_100=$of_100
