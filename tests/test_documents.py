@@ -1,14 +1,15 @@
 #!/usr/bin/env python3
 """Checks the documents against the repository: each block of code in README.md, docs/LIBRARY.md, docs/FILTERS.md and
 docs/MAIL_SERVERS.md is lines of a program that is tested, each paragraph of README.md has at most four lines, each link
-between documents and each path in the recipes of docs/CONTRIBUTING.md leads to a file, docs/ARCHITECTURE.md has each
-crate, and the functions of its paths are in the files that it names. The lines of docs/RULE_CHECK.md are printed by
+between documents leads to a file and its title, and each path in the recipes of docs/CONTRIBUTING.md to a file,
+docs/ARCHITECTURE.md has each crate, and the functions of its paths are in the files that it names. The lines of docs/RULE_CHECK.md are printed by
 runs of cases/rules_check. Below docs/proofs each clause of PROOFS.md is in the crate under which it is listed, and
 DEFINITIONS.md is made of the definitions as they are, with each one that a public contract cites. README.md and PROOFS.md count the crates of the toolchain that are trusted, README.md
 and HEADLINE.md the lines of definitions under the headline, and no proof speaks of the code of another crate but by
 what it promises. And no line of the code or of the definitions is too long, but imports, nor one of help, and no
 comment, document or module has a word that is no longer used.
 """
+import functools
 import glob
 import os
 import re
@@ -157,12 +158,22 @@ def said():
             yield 'docs/RULE_CHECK.md: ' + text, re.search('.+?'.join(parts), printed) is not None
 
 
+@functools.lru_cache(maxsize=None)
+def anchors(document):
+    """What the titles of a document are called in links."""
+    titles = re.findall(r'(?m)^#+ (.*)$', re.sub(r'(?ms)^```.*?^```', '', text_of(document)))
+    return {re.sub(r'[^\w\- ]', '', re.sub(r'\[([^]]*)\]\([^)]*\)', r'\1', title)).lower().replace(' ', '-')
+            for title in titles}
+
+
 def links():
-    """Whether each link leads to a file."""
+    """Whether each link leads to a file, and to a title where it names one."""
     for document in DOCUMENTS:
-        for target in re.findall(r'\]\(([^)#:]+)(?:#[^)]*)?\)', text_of(document)):
-            path = os.path.join(TOP, os.path.dirname(document), target)
-            yield '%s: %s' % (document, target), os.path.exists(path)
+        for target, title in re.findall(r'\]\(([^)#:]*)(?:#([^)]*))?\)', text_of(document)):
+            path = os.path.normpath(os.path.join(os.path.dirname(document), target)) if target else document
+            is_there = os.path.exists(os.path.join(TOP, path))
+            yield '%s: %s' % (document, target + '#' + title if title else target), is_there and (
+                not title or title in anchors(path))
 
 
 def clauses():
