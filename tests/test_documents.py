@@ -2,12 +2,13 @@
 """Checks the documents against the repository: each block of code in README.md, docs/LIBRARY.md, docs/FILTERS.md and
 docs/MAIL_SERVERS.md is lines of a program that is tested, each paragraph of README.md has at most four lines, each link
 between documents leads to a file and its title, and each path in the recipes of docs/CONTRIBUTING.md to a file,
-docs/ARCHITECTURE.md has each crate, and the functions of its paths are in the files that it names. The lines of docs/RULE_CHECK.md are printed by
-runs of cases/rules_check. Below docs/proofs each clause of PROOFS.md is in the crate under which it is listed, and
-DEFINITIONS.md is made of the definitions as they are, with each one that a public contract cites. README.md and PROOFS.md count the crates of the toolchain that are trusted, README.md
-and HEADLINE.md the lines of definitions under the headline, and no proof speaks of the code of another crate but by
-what it promises. And no line of the code or of the definitions is too long, but imports, nor one of help, and no
-comment, document or module has a word that is no longer used.
+docs/ARCHITECTURE.md has each crate, and the functions of its paths are in the files that it names. The lines of
+docs/RULE_CHECK.md are printed by runs of cases/rules_check. Below docs/proofs each clause of PROOFS.md is in the crate
+under which it is listed, and DEFINITIONS.md is made of the definitions as they are, with each one that a public
+contract cites. README.md and PROOFS.md count the crates of the toolchain that are trusted, README.md and HEADLINE.md
+the lines of definitions under the headline, and no proof speaks of the code of another crate but by what it promises.
+And no line of the code or of the definitions is too long, but imports, nor one of help, and no comment, document or
+module has a word that is no longer used.
 """
 import functools
 import glob
@@ -197,11 +198,13 @@ def clauses():
 
 
 def definitions():
-    """Whether DEFINITIONS.md is what `make definitions` writes, and explains each definition that a contract of a public
-    function, type or trait names, or that such a one uses."""
+    """Whether DEFINITIONS.md is what `make definitions` writes, explains each definition that a contract of a public
+    function, type or trait names, or that such a one uses, and names all others."""
     text = text_of(DEFINITIONS)
     yield '%s is not what `make definitions` writes' % DEFINITIONS, text == read.made()
-    there = set(read.explained(text))
+    left_out = sorted(read.missing(text))
+    yield '%s leaves out %s' % (DEFINITIONS, left_out), not left_out
+    there = read.explained(text)
     for cited in sorted(read.specs.under(read.specs.cited())):
         yield '%s lacks %s: %s, %s' % (DEFINITIONS, *cited), cited in there
 

@@ -12,9 +12,9 @@ TOP = os.path.dirname(os.path.dirname(os.path.abspath(__file__)))
 NAME = re.compile(r'[^\s(){};,.λ]+')
 USED = re.compile(r'use Rattle\.(\w+)\.(\w+)\.([\w.]+?)(?:\.\{(.*)\}| as (\w+))')
 # The line that a definition begins with. A law has neither keyword: it is proved where it stands.
-HEAD = re.compile(r'(?P<kind>abbrev |unfoldable )?(?:pub )?(?P<form>record |data )?(?P<name>[^\s:]+)(?= [:({])')
+HEAD = re.compile(r'(?P<kind>abbrev |unfoldable )?(?:pub )?(?P<form>record |data )?(?P<name>[^\s:]+)(?= [:({]|$)')
 # A public function up to its body, a public trait, and what a type says of itself, or as one of a trait.
-FUNCTION = re.compile(r'(?s)\n *pub (?:unsafe )?(?:extern "C" )?fn \w+.*?\n *\{\}?\n')
+FUNCTION = re.compile(r'(?s)\n *pub (?:const |unsafe |extern "C" )*fn \w+.*?\n *\{\}?(?=\n)')
 ITEM = re.compile(r'(?ms)^pub (?:unsafe )?trait .*?^\}\n|^impl\b[^\n]*?\b(?:Model|\w+ for)\b.*?^\}\n')
 # A clause of a contract, and what every value of a type is seen as or always has, up to the brace of its text.
 CLAUSE = re.compile(r'(?s)\b(?:ensures|requires)\*?(?: \w+)? (?=\{)|\bghost \w+(?::| =) (?=\{)')
@@ -156,7 +156,7 @@ def braced(text, start):
 
 def public_clauses(text):
     """The clauses of the public functions of a file of code, and of its public traits and types."""
-    source = re.sub(r'(?m)^\s*//.*\n', '', text)
+    source = re.sub(r'(?m)^ *//.*\n', '', text)
     for part in FUNCTION.findall(source) + ITEM.findall(source):
         yield from (braced(part, clause.end()) for clause in CLAUSE.finditer(part))
 

@@ -21,15 +21,28 @@ def made():
                           check=True, encoding='utf-8').stdout
 
 
+def parts(text):
+    """The parts of a text of this form, by their crate and file."""
+    return {(crate[0], part[0]): part[1] for crate in re.findall(r'(?ms)^## `(\w+)`$(.*?)(?=^## |\Z)', text)
+            for part in re.findall(r'(?ms)^### `(\w+)`$(.*?)(?=^### |\Z)', crate[1])}
+
+
 def explained(text):
     """The definitions that a text of this form explains: of each its crate, its file and its name."""
-    crate = file = None
-    for line in text.splitlines():
-        section, part = re.match(r'## `(\w+)`$', line), re.match(r'### `(\w+)`$', line)
-        crate, file = section[1] if section else crate, part[1] if part else file
-        entry = re.match(r'- (?:\*\*)?`(?:record |data |law )?([^\s`]+)', line)
-        if entry and file:
-            yield crate, file, entry[1]
+    return {(*place, name) for place, part in parts(text).items()
+            for name in re.findall(r'(?m)^- (?:\*\*)?`(?:record |data |law )?([^\s`]+)', part)}
+
+
+def missing(text):
+    """The definitions of specs/ that a text of this form neither explains nor names."""
+    there = parts(text)
+    for crate in specs.shown():
+        for path in glob.glob(os.path.join(TOP, 'crates', crate, 'specs', '*.antt')):
+            file = os.path.splitext(os.path.basename(path))[0]
+            for name in re.findall(r'(?m)^(?:pub )?(?:abbrev|unfoldable|record|data) (?:pub )?([^\s:]+)',
+                                   specs.text_of(path)):
+                if not re.search(r'`(?:record |data |law )?%s[\s`]' % re.escape(name), there.get((crate, file), '')):
+                    yield crate, file, name
 
 
 def named_by(path, function, clauses=None):
@@ -38,13 +51,13 @@ def named_by(path, function, clauses=None):
     used = specs.names_used(text)
     head = re.search(r'(?s)\bfn %s\b.*?\n\{' % function, text)[0]
     found = re.findall(r'(?s)ensures (\w+) \{(.*?)\}\n(?=\s*(?://|ensures|\{))', head)
-    words = [word for name, clause in found if clauses is None or name in clauses for word in specs.NAME.findall(clause)]
-    return {used[word] for word in words if word in used}
+    text = '\n'.join(clause for name, clause in found if clauses is None or name in clauses)
+    return {used[word] for word in specs.NAME.findall(text) if word in used}
 
 
 def shared_lemmas():
-    """The files of proofs/ that another crate uses, and those that they use; of each its crate, its file, and whether it
-    speaks of definitions and of such lemmas alone."""
+    """The files of proofs/ that another crate uses, and those that they use; of each its crate, its file, and whether
+    it speaks of definitions and of such lemmas alone."""
     shared = set()
     for path in glob.glob(os.path.join(TOP, 'crates', '*', '**', '*.*t*'), recursive=True):
         own = os.path.relpath(path, os.path.join(TOP, 'crates')).split(os.sep)[0]
