@@ -17,7 +17,7 @@ use crate::state::{FilterConnection, Position, SessionState};
 use crate::want::Want;
 use milter_mail::{Session, SessionParts};
 use milter_mta_channel::MtaChannel;
-use milter_mta_outcome::{Loss, MtaFault};
+use milter_mta_outcome::{Loss, MtaFault, Report};
 use milter_mta_transaction::ClientInfo;
 use milter_wire::NoMemory;
 use std::alloc::Global;
@@ -213,6 +213,13 @@ impl MtaCore {
         ensures { result ≡ length self.now.reports }
     {
         self.state.queue.count()
+    }
+
+    /// The reports of the messages that are settled so far, in the session's order. Doesn't allocate.
+    pub fn reports(&self) -> &[Report]
+        ensures { result.now ≡ self.now.reports }
+    {
+        self.state.queue.reports()
     }
 
     /// What became of the messages that were settled. Doesn't allocate.

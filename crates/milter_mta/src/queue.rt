@@ -93,6 +93,13 @@ impl Queue {
         self.reports.len()
     }
 
+    /// The reports, in order. Doesn't allocate.
+    pub(crate) fn reports(&self) -> &[Report]
+        ensures { result.now ≡ self.now.reports }
+    {
+        self.reports.as_slice()
+    }
+
     /// The first message that waits, which is under way from now on. Doesn't allocate.
     pub(crate) fn next_message(&mut self) -> Option<Message>
         ensures some { IfSome result (λ message. self.old.waiting ≡ message ∷ self.new.waiting) }
