@@ -35,7 +35,8 @@ use Rattle.milter_mta.specs.Mta.Position.{Ended, Offering, Quitting, Sending}
 use Rattle.milter_mta.specs.Replies.{negotiated_on, at, byte_at, fails, framed, received, received_at, received_byte, replied, replied_at, ruled_on, unread_is}
 use Rattle.milter_mta.specs.Output.{advanced, advanced_in, dialled, dialled_if, sent, sent_in, want}
 use Rattle.milter_mta.specs.Dispositions.{acted_in, defaulted, lost, report, settled_all, settled_first, settled_in}
-use Rattle.milter_mta_laws.specs.AnyFilter.{ConnectionIsReported, HaveLastVerdict, IsConnectionOnDialogue, IsOnDialogue, IsOptionOnDialogue, IsPositionOnDialogue, client_reports, is_by_client, without_messages}
+use Rattle.milter_mta_laws.specs.AnyFilter.{ConnectionIsReported, HaveLastVerdict, IsConnectionOnDialogue, IsOnDialogue, IsOptionOnDialogue, IsPositionOnDialogue, client_reports, without_messages}
+use Rattle.milter_mta_outcome.specs.Losses.{is_by_client}
 use Rattle.milter_mta_laws.proofs.AnyFilter.{ReceivedFacts, byte-goes}
 use Rattle.milter_mta_laws.proofs.Numbers.{last_added}
 

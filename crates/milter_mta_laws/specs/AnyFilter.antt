@@ -13,13 +13,13 @@ use Rattle.milter_mail.specs.Plan.{plan}
 use Rattle.milter_protocol.specs.Exchanges.{Exchange}
 use Rattle.milter_protocol.specs.Dialogue.{IsEnded, IsOpen, is_end_command, sendable}
 use Rattle.milter_mta_outcome.specs.declared.acted.Acted.{Acted}
-use Rattle.milter_mta_outcome.specs.declared.loss.By.{By}
-use Rattle.milter_mta_outcome.specs.declared.loss.By.TheVariants.{Connection, Default}
+use Rattle.milter_mta_outcome.specs.declared.loss.By.TheVariants.{Default}
 use Rattle.milter_mta_outcome.specs.declared.loss.Loss.{Loss}
 use Rattle.milter_mta_outcome.specs.declared.outcome.Outcome.{Outcome}
 use Rattle.milter_mta_outcome.specs.declared.report.Report.{Report}
 use Rattle.milter_mta_outcome.specs.ReceivedReplies.{IsWithinOffer}
 use Rattle.milter_mta_outcome.specs.Dialogues.{acted, given_up, ruled}
+use Rattle.milter_mta_outcome.specs.Losses.{is_by_client}
 use Rattle.milter_mta_transaction.specs.TransactionVerdicts.{last_verdict}
 use Rattle.milter_mta.specs.Mta.{Configuration, FilterConnection, Mta, Position}
 use Rattle.milter_mta.specs.Mta.Position.{Offering, Sending, Quitting, Ended}
@@ -121,10 +121,6 @@ pub record GoesOnDialogues (old new : Mta) : Type 0 where
   pub settles : SettlesByDialogues old new
 
 -- ---- the verdict on the connection
-
-abbrev pub is_by_client : By → Bool
-is_by_client Connection = true
-is_by_client other = false
 
 -- the reports of the messages that a verdict on the client settled
 abbrev pub client_reports : List Report → List Report

@@ -1,5 +1,7 @@
 -- The numbers of what a mail server can't take, and of how a filter is lost.
-use Rattle.std.specs.Prelude.{ℕ}
+use Rattle.std.specs.Prelude.{ℕ, Bool, true, false}
+use Rattle.milter_mta_outcome.specs.declared.loss.By.{By}
+use Rattle.milter_mta_outcome.specs.declared.loss.By.TheVariants.{Connection}
 use Rattle.milter_mta_outcome.specs.declared.loss.MtaFault.{MtaFault}
 use Rattle.milter_mta_outcome.specs.declared.loss.MtaFault.TheVariants.{Wire, Version, ActionsNotOffered, ProtocolNotOffered, NotAtThisStage, EditNotNegotiated, TooManyEdits, Early}
 use Rattle.milter_mta_outcome.specs.declared.loss.Loss.{Loss}
@@ -20,3 +22,8 @@ loss_number Reset = 1
 loss_number Timeout = 2
 loss_number Memory = 3
 loss_number (Fault fault) = 4
+
+-- whether a verdict on the client settled the message
+abbrev pub is_by_client : By → Bool
+is_by_client Connection = true
+is_by_client other = false
