@@ -7,12 +7,12 @@ ghost use Rattle.milter_filter_service.specs.declared.service.TheConstants.{SPAR
 use crate::host::Host;
 use crate::key::Key;
 use crate::limits::Limits;
-use crate::listener::{Listener, Stream};
 use crate::mail_server::{Due, MailServer, Next};
 use crate::mail_servers::MailServers;
 use crate::service_error::ServiceError;
 use crate::shortage::Shortage;
 use milter_filter::{CommandOrder, Connection, FilterFault, Served, Wants, read_buffer};
+use milter_sockets::{Listener, Stream};
 use mio::event::Event;
 use mio::{Events, Poll, Token};
 use std::alloc::Global;

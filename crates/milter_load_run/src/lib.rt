@@ -3,15 +3,13 @@
 //! [`run_load`] has the conversations of `milter_load` over sockets that never wait, until all messages are settled.
 #![tactic(auto)]
 
-mod link;
 mod load;
 mod load_error;
 mod open_connection;
 mod settings;
 mod slot;
-mod target;
 
 pub use load::run_load;
 pub use load_error::LoadError;
+pub use milter_sockets::Target;
 pub use settings::Settings;
-pub use target::Target;

@@ -4,9 +4,9 @@ use crate::load_error::LoadError;
 use crate::open_connection::{Next, OpenConnection, Work};
 use crate::settings::{SECOND, Settings};
 use crate::slot::{Need, Slot};
-use crate::target::Target;
 use milter_load::{Cause, Conversation, Schedule, Totals, write_progress};
 use milter_mail::Session;
+use milter_sockets::Target;
 use milter_wire::{Options, read_buffer};
 use mio::event::Event;
 use mio::{Events, Poll, Token};
@@ -37,6 +37,8 @@ struct Load<'r, 's, R: Net + Clock> {
     settings: Settings,
     offer: Options,
     target: Target<'s>,
+    // The number of the filter's address that is connected to.
+    address: usize,
     poll: Poll,
     begin: Instant,
     slots: Vec<Slot>,
@@ -87,6 +89,7 @@ pub fn run_load<'s, R: Net + Clock, W: Write>(
         settings,
         offer,
         target,
+        address: 0,
         poll: Poll::new(rt)?,
         begin: Instant::now(rt)?,
         slots: slots_of(alloc, settings.at_once)?,
@@ -211,7 +214,7 @@ impl<'r, 's, R: Net + Clock> Load<'r, 's, R> {
         if open.is_made {
             return None;
         }
-        match open.link.on_connected() {
+        match open.stream.on_connected() {
             Ok(()) => {
                 open.is_made = true;
                 open.since = now;
@@ -266,7 +269,7 @@ impl<'r, 's, R: Net + Clock> Load<'r, 's, R> {
         }
         open.awaits_output = writes;
         let registry = self.poll.registry();
-        let watched = open.link.watch_again(registry, Token(place), writes);
+        let watched = open.stream.watch_again(registry, Token(place), writes);
         if watched.is_err() {
             open.lose(Cause::Reset, &mut self.work, now);
         }
@@ -349,7 +352,10 @@ impl<'r, 's, R: Net + Clock> Load<'r, 's, R> {
     fn on_failure(&mut self, kind: ErrorKind) {
         if self.work.totals.made > 0 {
             self.work.totals.failed = self.work.totals.failed.saturating_add(1);
-        } else if !self.target.advance() {
+            return;
+        }
+        self.address = self.address.saturating_add(1);
+        if !self.target.has(self.address) {
             self.refusal = Some(kind);
         } else if let Some(slot) = self.slots.first_mut() {
             slot.retry = 0;
@@ -361,14 +367,14 @@ impl<'r, 's, R: Net + Clock> Load<'r, 's, R> {
         if self.work.schedule.is_over() {
             return Ok(());
         }
-        match self.target.connect(self.rt) {
-            Ok(mut link) => {
-                link.watch(self.poll.registry(), Token(place))?;
+        match self.target.connect(self.rt, self.address) {
+            Ok(mut stream) => {
+                stream.watch(self.poll.registry(), Token(place))?;
                 let conversation = Conversation::new(self.alloc, self.offer, place, now).map_err(
                     |_| LoadError::NoMemory,
                 )?;
                 if let Some(slot) = self.slots.get_mut(place) {
-                    slot.open = Some(OpenConnection::new(link, conversation, now));
+                    slot.open = Some(OpenConnection::new(stream, conversation, now));
                 }
                 Ok(())
             }

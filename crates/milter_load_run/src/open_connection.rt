@@ -1,9 +1,9 @@
 //! A connection of a load that is open.
 
-use crate::link::Link;
 use milter_load::{Advance, Cause, Conversation, Moment, Schedule, Totals};
 use milter_mail::Session;
 use milter_mta_connection::Want;
+use milter_sockets::Stream;
 use std::io::ErrorKind;
 
 /// The most turns of a connection at once.
@@ -35,7 +35,7 @@ pub(crate) enum Next {
 /// A connection that is open.
 #[derive(Drop)]
 pub(crate) struct OpenConnection {
-    pub(crate) link: Link,
+    pub(crate) stream: Stream,
     pub(crate) conversation: Conversation,
     /// Whether it was made.
     pub(crate) is_made: bool,
@@ -51,9 +51,9 @@ pub(crate) struct OpenConnection {
 
 impl OpenConnection {
     /// A connection that is being made, at this time.
-    pub(crate) fn new(link: Link, conversation: Conversation, now: u64) -> Self {
+    pub(crate) fn new(stream: Stream, conversation: Conversation, now: u64) -> Self {
         OpenConnection {
-            link,
+            stream,
             conversation,
             is_made: false,
             is_readable: false,
@@ -104,7 +104,7 @@ impl OpenConnection {
 
     /// Writes some of what is pending.
     fn send(&mut self, work: &mut Work<'_>, now: u64) -> Option<Next> {
-        match self.link.write(self.conversation.pending()) {
+        match self.stream.write(self.conversation.pending()) {
             Ok(0) => Some(self.lose(Cause::Reset, work, now)),
             Ok(count) => {
                 self.since = now;
@@ -124,7 +124,7 @@ impl OpenConnection {
         if !self.is_readable {
             return Some(Next::Wait);
         }
-        match self.link.read(buffer) {
+        match self.stream.read(buffer) {
             Ok(0) => Some(self.lose(Cause::Reset, work, now)),
             Ok(count) => {
                 let (piece, rest) = buffer.split_at(count.min(buffer.len()));

@@ -1,6 +1,7 @@
-//! Where connections come from, and the sockets that they come by.
+//! Sockets on which connections come.
 
-use mio::net::{TcpListener, TcpStream, UnixListener, UnixStream};
+use crate::stream::Stream;
+use mio::net::{TcpListener, UnixListener, UnixStream};
 use mio::{Interest, Registry, Token};
 use std::fs::{self, Permissions};
 use std::io;
@@ -15,15 +16,6 @@ pub enum Listener {
     Inet(TcpListener),
     /// One of a path.
     Unix(UnixListener),
-}
-
-/// A socket by which a mail server connects. It never waits.
-#[derive(Drop)]
-pub enum Stream {
-    /// One of the internet.
-    Inet(TcpStream),
-    /// One of a path.
-    Unix(UnixStream),
 }
 
 impl Listener {
@@ -53,7 +45,7 @@ impl Listener {
     }
 
     /// Takes a connection that has come.
-    pub(crate) fn accept(&self) -> io::Result<Stream> {
+    pub fn accept(&self) -> io::Result<Stream> {
         match self {
             Listener::Inet(listener) => Ok(Stream::Inet(listener.accept()?.0)),
             Listener::Unix(listener) => Ok(Stream::Unix(listener.accept()?.0)),
@@ -61,21 +53,10 @@ impl Listener {
     }
 
     /// Has the system say when a connection has come.
-    pub(crate) fn watch(&mut self, registry: &Registry, token: Token) -> io::Result<()> {
+    pub fn watch(&mut self, registry: &Registry, token: Token) -> io::Result<()> {
         match self {
             Listener::Inet(listener) => registry.register(listener, token, Interest::READABLE),
             Listener::Unix(listener) => registry.register(listener, token, Interest::READABLE),
-        }
-    }
-}
-
-impl Stream {
-    /// Has the system say when there is something to read, and when more can be written.
-    pub(crate) fn watch(&mut self, registry: &Registry, token: Token) -> io::Result<()> {
-        let both = Interest::READABLE | Interest::WRITABLE;
-        match self {
-            Stream::Inet(stream) => registry.register(stream, token, both),
-            Stream::Unix(stream) => registry.register(stream, token, both),
         }
     }
 }
