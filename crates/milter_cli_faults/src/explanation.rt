@@ -6,10 +6,11 @@ use crate::capture_words::capture_meaning;
 use crate::event_words::say_events;
 use crate::failure::Failure;
 use crate::file_forms::fault_meaning;
-use crate::file_words::{bytes_again, unread_reason, unstreamed_reason};
+use crate::file_words::{bytes_again, unmade_reason, unread_reason, unstreamed_reason};
 use crate::option_words::{say_bad_macros, say_bad_mode, say_bad_names, say_bad_trials};
 use crate::request_paths::{
-    actions_of, address_of, addresses_of, macros_of, mode_of, only_of, path_of, protocol_of,
+    actions_of, address_of, addresses_of, directory_of, macros_of, mode_of, only_of, path_of,
+    protocol_of,
 };
 use crate::rule_words::{say_rules, unread_lists};
 use crate::session_words::say_session;
@@ -62,11 +63,22 @@ pub fn explain<R: Files>(
         ToolError::Capture(fault) => explain_capture(alloc, failure.file, *fault),
         ToolError::Answer(error) => explain_answer(alloc, *error),
         ToolError::Listen | ToolError::Connect => explain_socket(files, alloc, failure),
+        ToolError::Record => explain_directory(files, alloc, request),
         ToolError::Differs { line } => explain_reports(alloc, request, *line, failure),
         // Findings were printed, and words take memory.
         ToolError::Findings | ToolError::NoMemory => Ok(Vec::new(alloc)),
         ToolError::Write => line(alloc, "standard output", NOT_WRITTEN),
     }
+}
+
+/// The line of a directory of traces that can't be made, or that has traces already.
+fn explain_directory<R: Files>(
+    files: &R,
+    alloc: Global,
+    request: &Request<'_>,
+) -> Result<Vec<u8>, NoMemory> {
+    let path = directory_of(request).unwrap_or("");
+    line(alloc, path, unmade_reason(files, Path::new(path)))
 }
 
 /// The line that explains an error of the words of a command line, before there is a request; none where there is
@@ -181,9 +193,17 @@ fn say_addresses(
     if let Some(address) = address_of(request) {
         return say_bad_address(alloc, notes, address);
     }
-    for address in addresses_of(request) {
-        if Address::parse(address).is_none() {
-            say_bad_address(alloc, notes, address)?;
+    if let Request::Record(asked) = request {
+        return say_bad_addresses(alloc, notes, &[asked.listen, asked.address]);
+    }
+    say_bad_addresses(alloc, notes, addresses_of(request))
+}
+
+/// Says of each of these texts that is no address which one is meant.
+fn say_bad_addresses(alloc: Global, notes: &mut Notes<'_>, texts: &[&str]) -> Result<(), NoMemory> {
+    for text in texts {
+        if Address::parse(text).is_none() {
+            say_bad_address(alloc, notes, text)?;
         }
     }
     Ok(())

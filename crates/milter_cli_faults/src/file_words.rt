@@ -46,6 +46,22 @@ fn missing_reason<R: Files>(files: &R, path: Path<'_>, kind: ErrorKind) -> &'sta
     }
 }
 
+/// Why traces can't be recorded in the folder at this path.
+pub(crate) fn unmade_reason<R: Files>(files: &R, path: Path<'_>) -> &'static str {
+    match fs::metadata(files, path) {
+        Ok(found) if found.is_dir() => {
+            "has traces already, of which none is replaced: move them away, or take another folder"
+        }
+        Ok(_) => "is a file, and a folder is due",
+        Err(error) => match error.kind() {
+            ErrorKind::PermissionDenied | ErrorKind::NotFound => {
+                "it couldn't be made: the user who runs the program has to be allowed to make the folder"
+            }
+            kind => kind_reason(kind),
+        },
+    }
+}
+
 /// Whether the folder of this path is there.
 pub(crate) fn has_folder<R: Files>(files: &R, path: Path<'_>) -> bool {
     match path.parent() {

@@ -60,6 +60,14 @@ fn trace_path<'a>(request: &Request<'a>) -> Option<&'a str> {
     }
 }
 
+/// The path of the directory of traces that a request names.
+pub(crate) fn directory_of<'a>(request: &Request<'a>) -> Option<&'a str> {
+    match request {
+        Request::Record(asked) => Some(asked.directory),
+        _ => None,
+    }
+}
+
 /// The addresses that a request names.
 pub(crate) fn addresses_of<'r, 'a>(request: &'r Request<'a>) -> &'r [&'a str] {
     match request {

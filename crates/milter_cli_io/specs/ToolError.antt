@@ -14,7 +14,7 @@ use Rattle.milter_text.specs.declared.text_fault.TextFault.TheVariants as texts
 use Rattle.milter_trace.specs.FaultText.{fault_text}
 use Rattle.milter_cli_io.specs.declared.tool_error.ToolError.{ToolError}
 use Rattle.milter_cli_io.specs.declared.tool_error.ToolError.TheVariants.{Usage, Trace, Capture, File, Answer}
-use Rattle.milter_cli_io.specs.declared.tool_error.ToolError.TheVariants.{Connect, Differs, Findings, Listen, Write, NoMemory}
+use Rattle.milter_cli_io.specs.declared.tool_error.ToolError.TheVariants.{Connect, Differs, Findings, Listen, Record, Write, NoMemory}
 use Rattle.milter_cli_request.specs.UsageError.{usage_lines}
 use Rattle.milter_filter_service.specs.declared.service_error.ServiceError.{ServiceError}
 use Rattle.milter_filter_service.specs.declared.service_error.ServiceError.TheVariants as services
@@ -29,6 +29,7 @@ error_status (File error) = 1
 error_status (Answer error) = 1
 error_status Listen = 1
 error_status Connect = 1
+error_status Record = 1
 error_status (Differs line) = 1
 error_status Findings = 1
 error_status Write = 1
@@ -50,6 +51,7 @@ error_lines (File error) = Some (line (file_error_text error))
 error_lines (Answer error) = Some (line (answer_error_text error))
 error_lines Listen = Some (line (codes "cannot listen"))
 error_lines Connect = Some (line (codes "cannot connect"))
+error_lines Record = Some (line (codes "cannot record"))
 error_lines (Differs number) = Some (line (codes "differs at line " ++ decimal number))
 error_lines Findings = Some []
 error_lines Write = Some (line (codes "write fault"))

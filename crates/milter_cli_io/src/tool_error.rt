@@ -35,6 +35,8 @@ pub enum ToolError {
     Listen,
     /// A filter to which no connection was made for as long as that was waited for.
     Connect,
+    /// A directory of traces that can't be made, or that has traces already.
+    Record,
     /// Reports that aren't the expected ones, or a filter that doesn't answer as it was recorded.
     Differs {
         /// The number of the line, from 1, in which the reports begin to differ; or of the line of the trace in which
@@ -63,6 +65,7 @@ impl fmt::Display for ToolError {
             ToolError::Answer(error) => writeln!(f, "{error}"),
             ToolError::Listen => writeln!(f, "cannot listen"),
             ToolError::Connect => writeln!(f, "cannot connect"),
+            ToolError::Record => writeln!(f, "cannot record"),
             ToolError::Differs { line } => writeln!(f, "differs at line {line}"),
             ToolError::Findings => Ok(()),
             ToolError::Write => writeln!(f, "write fault"),
@@ -89,7 +92,7 @@ pub fn report<W: Write>(ended: Result<(), ToolError>, errors: &mut W) -> ExitCod
         ToolError::Trace(_) | ToolError::Capture(_) => 1,
         ToolError::File(_) | ToolError::Answer(_) => 1,
         ToolError::Listen | ToolError::Connect | ToolError::Write | ToolError::NoMemory => 1,
-        ToolError::Differs { .. } | ToolError::Findings => 1,
+        ToolError::Differs { .. } | ToolError::Findings | ToolError::Record => 1,
     })
 }
 

@@ -17,7 +17,7 @@ use Rattle.clap.specs.declared.error.kind.ErrorKind.{ErrorKind}
 use Rattle.clap.specs.declared.parser.matches.Found.{Found}
 use Rattle.clap.specs.declared.parser.matches.ArgMatches.{ArgMatches}
 use Rattle.milter_cli_request.specs.declared.request.Request.{Request}
-use Rattle.milter_cli_words.specs.Subcommands.{answer_app, filter_app, load_app, mta_app, play_app, probe_app, replay_app, rules_app, serve_app, session_app, tool_app, trace_app}
+use Rattle.milter_cli_words.specs.Subcommands.{answer_app, filter_app, load_app, mta_app, play_app, probe_app, record_app, replay_app, rules_app, serve_app, session_app, tool_app, trace_app}
 use Rattle.milter_cli_words.specs.Words.{BorrowedWords}
 use Rattle.milter_cli_request.specs.CommandLine.{HasMatches, IsFlag, IsNumber, IsNumberOr, IsRequestOf, IsUnasked, given_values, text_of}
 use Rattle.milter_cli_request.proofs.FaultlessRows.{AreFilled, Each, Fills, IsFilled, find_each, no_faults, settled_filled, some_fault}
@@ -92,7 +92,8 @@ no_session f none = (
   (λ e. (let other : 115 ≡ 112 = head (codes "session") (codes "play") e in absurd (omega (arith, other)))),
   (λ e. (let other : 115 ≡ 114 = head (codes "session") (codes "replay") e in absurd (omega (arith, other)))),
   (λ e. (let other : 115 ≡ 108 = head (codes "session") (codes "load") e in absurd (omega (arith, other)))),
-  λ e. (let other : 115 ≡ 112 = head (codes "session") (codes "probe") e in absurd (omega (arith, other))),
+  (λ e. (let other : 115 ≡ 112 = head (codes "session") (codes "probe") e in absurd (omega (arith, other)))),
+  λ e. (let other : 115 ≡ 114 = head (codes "session") (codes "record") e in absurd (omega (arith, other))),
 )
 
 pub no_rules : (f : Found) → None ≡ first_value f (codes "file") → IsUnasked (codes "rules", rows_of f)
@@ -107,7 +108,8 @@ no_rules f none = (
   (λ e. (let other : 114 ≡ 112 = head (codes "rules") (codes "play") e in absurd (omega (arith, other)))),
   (λ e. (let other : 117 ≡ 101 = letter 1 (codes "rules") (codes "replay") e in absurd (omega (arith, other)))),
   (λ e. (let other : 114 ≡ 108 = head (codes "rules") (codes "load") e in absurd (omega (arith, other)))),
-  λ e. (let other : 114 ≡ 112 = head (codes "rules") (codes "probe") e in absurd (omega (arith, other))),
+  (λ e. (let other : 114 ≡ 112 = head (codes "rules") (codes "probe") e in absurd (omega (arith, other)))),
+  λ e. (let other : 117 ≡ 101 = letter 1 (codes "rules") (codes "record") e in absurd (omega (arith, other))),
 )
 
 pub no_filter : (f : Found) → None ≡ first_value f (codes "address") → IsUnasked (codes "filter", rows_of f)
@@ -122,7 +124,8 @@ no_filter f none = (
   (λ e. (let other : 102 ≡ 112 = head (codes "filter") (codes "play") e in absurd (omega (arith, other)))),
   (λ e. (let other : 102 ≡ 114 = head (codes "filter") (codes "replay") e in absurd (omega (arith, other)))),
   (λ e. (let other : 102 ≡ 108 = head (codes "filter") (codes "load") e in absurd (omega (arith, other)))),
-  λ e. (let other : 102 ≡ 112 = head (codes "filter") (codes "probe") e in absurd (omega (arith, other))),
+  (λ e. (let other : 102 ≡ 112 = head (codes "filter") (codes "probe") e in absurd (omega (arith, other)))),
+  λ e. (let other : 102 ≡ 114 = head (codes "filter") (codes "record") e in absurd (omega (arith, other))),
 )
 
 pub no_serve : (f : Found) → None ≡ option_map raw_values (matched_of f (codes "address")) → IsUnasked (codes "serve", rows_of f)
@@ -137,7 +140,8 @@ no_serve f none = (
   (λ e. (let other : 115 ≡ 112 = head (codes "serve") (codes "play") e in absurd (omega (arith, other)))),
   (λ e. (let other : 115 ≡ 114 = head (codes "serve") (codes "replay") e in absurd (omega (arith, other)))),
   (λ e. (let other : 115 ≡ 108 = head (codes "serve") (codes "load") e in absurd (omega (arith, other)))),
-  λ e. (let other : 115 ≡ 112 = head (codes "serve") (codes "probe") e in absurd (omega (arith, other))),
+  (λ e. (let other : 115 ≡ 112 = head (codes "serve") (codes "probe") e in absurd (omega (arith, other)))),
+  λ e. (let other : 115 ≡ 114 = head (codes "serve") (codes "record") e in absurd (omega (arith, other))),
 )
 
 no_mta : (values : List Row) → (first_of (codes "address") values ≡ None) ⊎ (first_of (codes "session") values ≡ None) → IsUnasked (codes "mta", values)
@@ -152,7 +156,8 @@ no_mta values none = (
   (λ e. (let other : 109 ≡ 112 = head (codes "mta") (codes "play") e in absurd (omega (arith, other)))),
   (λ e. (let other : 109 ≡ 114 = head (codes "mta") (codes "replay") e in absurd (omega (arith, other)))),
   (λ e. (let other : 109 ≡ 108 = head (codes "mta") (codes "load") e in absurd (omega (arith, other)))),
-  λ e. (let other : 109 ≡ 112 = head (codes "mta") (codes "probe") e in absurd (omega (arith, other))),
+  (λ e. (let other : 109 ≡ 112 = head (codes "mta") (codes "probe") e in absurd (omega (arith, other)))),
+  λ e. (let other : 109 ≡ 114 = head (codes "mta") (codes "record") e in absurd (omega (arith, other))),
 )
 
 pub no_mta_address : (f : Found) → None ≡ first_value f (codes "address") → IsUnasked (codes "mta", rows_of f)
@@ -173,7 +178,8 @@ no_play f none = (
   (λ e. no_value f (codes "session") none),
   (λ e. (let other : 112 ≡ 114 = head (codes "play") (codes "replay") e in absurd (omega (arith, other)))),
   (λ e. (let other : 112 ≡ 108 = head (codes "play") (codes "load") e in absurd (omega (arith, other)))),
-  λ e. (let other : 108 ≡ 114 = letter 1 (codes "play") (codes "probe") e in absurd (omega (arith, other))),
+  (λ e. (let other : 108 ≡ 114 = letter 1 (codes "play") (codes "probe") e in absurd (omega (arith, other)))),
+  λ e. (let other : 112 ≡ 114 = head (codes "play") (codes "record") e in absurd (omega (arith, other))),
 )
 
 no_replay : (values : List Row) → (first_of (codes "address") values ≡ None) ⊎ (first_of (codes "trace") values ≡ None) → IsUnasked (codes "replay", values)
@@ -188,7 +194,8 @@ no_replay values none = (
   (λ e. (let other : 114 ≡ 112 = head (codes "replay") (codes "play") e in absurd (omega (arith, other)))),
   (λ e. none),
   (λ e. (let other : 114 ≡ 108 = head (codes "replay") (codes "load") e in absurd (omega (arith, other)))),
-  λ e. (let other : 114 ≡ 112 = head (codes "replay") (codes "probe") e in absurd (omega (arith, other))),
+  (λ e. (let other : 114 ≡ 112 = head (codes "replay") (codes "probe") e in absurd (omega (arith, other)))),
+  λ e. (let other : 112 ≡ 99 = letter 2 (codes "replay") (codes "record") e in absurd (omega (arith, other))),
 )
 
 pub no_replay_address : (f : Found) → None ≡ first_value f (codes "address") → IsUnasked (codes "replay", rows_of f)
@@ -209,7 +216,8 @@ no_load values none = (
   (λ e. (let other : 108 ≡ 112 = head (codes "load") (codes "play") e in absurd (omega (arith, other)))),
   (λ e. (let other : 108 ≡ 114 = head (codes "load") (codes "replay") e in absurd (omega (arith, other)))),
   (λ e. none),
-  λ e. (let other : 108 ≡ 112 = head (codes "load") (codes "probe") e in absurd (omega (arith, other))),
+  (λ e. (let other : 108 ≡ 112 = head (codes "load") (codes "probe") e in absurd (omega (arith, other)))),
+  λ e. (let other : 108 ≡ 114 = head (codes "load") (codes "record") e in absurd (omega (arith, other))),
 )
 
 pub no_load_address : (f : Found) → None ≡ first_value f (codes "address") → IsUnasked (codes "load", rows_of f)
@@ -230,7 +238,8 @@ no_probe values none = (
   (λ e. (let other : 114 ≡ 108 = letter 1 (codes "probe") (codes "play") e in absurd (omega (arith, other)))),
   (λ e. (let other : 112 ≡ 114 = head (codes "probe") (codes "replay") e in absurd (omega (arith, other)))),
   (λ e. (let other : 112 ≡ 108 = head (codes "probe") (codes "load") e in absurd (omega (arith, other)))),
-  λ e. none,
+  (λ e. none),
+  λ e. (let other : 112 ≡ 114 = head (codes "probe") (codes "record") e in absurd (omega (arith, other))),
 )
 
 pub no_probe_address : (f : Found) → None ≡ first_value f (codes "address") → IsUnasked (codes "probe", rows_of f)
@@ -238,6 +247,31 @@ no_probe_address f none = no_probe (rows_of f) (inl (no_value f (codes "address"
 
 pub no_probe_session : (f : Found) → None ≡ first_value f (codes "session") → IsUnasked (codes "probe", rows_of f)
 no_probe_session f none = no_probe (rows_of f) (inr (no_value f (codes "session") none))
+
+no_record : (values : List Row) → (first_of (codes "listen") values ≡ None) ⊎ (first_of (codes "address") values ≡ None) ⊎ (first_of (codes "directory") values ≡ None) → IsUnasked (codes "record", values)
+no_record values none = (
+  (λ e. (let other : 114 ≡ 116 = head (codes "record") (codes "trace") e in absurd (omega (arith, other)))),
+  (λ e. (let other : 114 ≡ 97 = head (codes "record") (codes "answer") e in absurd (omega (arith, other)))),
+  (λ e. (let other : 114 ≡ 115 = head (codes "record") (codes "session") e in absurd (omega (arith, other)))),
+  (λ e. (let other : 101 ≡ 117 = letter 1 (codes "record") (codes "rules") e in absurd (omega (arith, other)))),
+  (λ e. (let other : 114 ≡ 102 = head (codes "record") (codes "filter") e in absurd (omega (arith, other)))),
+  (λ e. (let other : 114 ≡ 115 = head (codes "record") (codes "serve") e in absurd (omega (arith, other)))),
+  (λ e. (let other : 114 ≡ 109 = head (codes "record") (codes "mta") e in absurd (omega (arith, other)))),
+  (λ e. (let other : 114 ≡ 112 = head (codes "record") (codes "play") e in absurd (omega (arith, other)))),
+  (λ e. (let other : 99 ≡ 112 = letter 2 (codes "record") (codes "replay") e in absurd (omega (arith, other)))),
+  (λ e. (let other : 114 ≡ 108 = head (codes "record") (codes "load") e in absurd (omega (arith, other)))),
+  (λ e. (let other : 114 ≡ 112 = head (codes "record") (codes "probe") e in absurd (omega (arith, other)))),
+  λ e. none,
+)
+
+pub no_record_listen : (f : Found) → None ≡ first_value f (codes "listen") → IsUnasked (codes "record", rows_of f)
+no_record_listen f none = no_record (rows_of f) (inl (no_value f (codes "listen") none))
+
+pub no_record_address : (f : Found) → None ≡ first_value f (codes "address") → IsUnasked (codes "record", rows_of f)
+no_record_address f none = no_record (rows_of f) (inr (inl (no_value f (codes "address") none)))
+
+pub no_record_directory : (f : Found) → None ≡ first_value f (codes "directory") → IsUnasked (codes "record", rows_of f)
+no_record_directory f none = no_record (rows_of f) (inr (inr (no_value f (codes "directory") none)))
 
 first_given : (o : Option Row) → option_map_or (λ r. explicit_source r.source) o false ≡ true → IfSome o IsFilled → option_and_then (λ r. slice_get r.values 0) o ≡ None → ⊥
 first_given None given f none = true≢false (sym given)
@@ -272,6 +306,21 @@ second_here : (a b : Bool) (k : ErrorKind) → cond (not a || (not b || false)) 
 second_here a true k e = refl
 second_here true false k e = absurd (some_fault k [] e)
 second_here false false k e = absurd (some_fault k [] e)
+
+first_of_three : (a b c : Bool) (k : ErrorKind) → cond (not a || (not b || (not c || false))) (k ∷ []) [] ≡ [] → a ≡ true
+first_of_three true b c k e = refl
+first_of_three false b c k e = absurd (some_fault k [] e)
+
+second_of_three : (a b c : Bool) (k : ErrorKind) → cond (not a || (not b || (not c || false))) (k ∷ []) [] ≡ [] → b ≡ true
+second_of_three a true c k e = refl
+second_of_three true false c k e = absurd (some_fault k [] e)
+second_of_three false false c k e = absurd (some_fault k [] e)
+
+third_of_three : (a b c : Bool) (k : ErrorKind) → cond (not a || (not b || (not c || false))) (k ∷ []) [] ≡ [] → c ≡ true
+third_of_three a b true k e = refl
+third_of_three true true false k e = absurd (some_fault k [] e)
+third_of_three true false false k e = absurd (some_fault k [] e)
+third_of_three false b false k e = absurd (some_fault k [] e)
 
 or_false : (b : Bool) → b || false ≡ true → b ≡ true
 or_false true e = refl
@@ -317,6 +366,9 @@ module _ (losses : BorrowedWords) where
   abbrev probe_shape : Shape
   probe_shape = built_leaf (inherited (with_leaf_noted (marked_built (tool_app losses).top)) probe_app.top)
 
+  abbrev record_shape : Shape
+  record_shape = built_leaf (inherited (with_leaf_noted (marked_built (tool_app losses).top)) record_app.top)
+
   mta_fills : Each Fills mta_shape.rules
   mta_fills = (inr (inl refl), (inr (inl refl), (inr (inl refl), (inr (inl refl), (inr (inl refl), (inr (inl refl), (inr (inl refl), (inr (inl refl), (inr (inr refl), (inr (inl refl), (inr (inr refl), (inl refl, tt))))))))))))
 
@@ -335,15 +387,18 @@ module _ (losses : BorrowedWords) where
   probe_fills : Each Fills probe_shape.rules
   probe_fills = (inr (inl refl), (inr (inl refl), (inr (inl refl), (inr (inl refl), (inr (inl refl), (inr (inr refl), (inl refl, tt)))))))
 
+  record_fills : Each Fills record_shape.rules
+  record_fills = (inr (inl refl), (inr (inl refl), (inr (inl refl), (inr (inl refl), (inr (inr refl), (inl refl, tt))))))
+
   -- the shape of the subcommand whose test is the first to hold
   abbrev pick : List (Bool × Shape) → Option Shape
   pick [] = None
   pick (t ∷ tests) = cond t.0 (Some t.1) (pick tests)
 
-  abbrev shapes : (trace session rules answer filter serve mta play replay load probe help : Bool) → List (Bool × Shape)
-  shapes trace session rules answer filter serve mta play replay load probe help =
+  abbrev shapes : (trace session rules answer filter serve mta play replay load probe recording help : Bool) → List (Bool × Shape)
+  shapes trace session rules answer filter serve mta play replay load probe recording help =
       (trace, trace_shape) ∷ (session, session_shape) ∷ (rules, rules_shape) ∷ (answer, answer_shape) ∷ (filter, filter_shape) ∷ (serve, serve_shape)
-      ∷ (mta, mta_shape) ∷ (play, play_shape) ∷ (replay, replay_shape) ∷ (load, load_shape) ∷ (probe, probe_shape)
+      ∷ (mta, mta_shape) ∷ (play, play_shape) ∷ (replay, replay_shape) ∷ (load, load_shape) ∷ (probe, probe_shape) ∷ (recording, record_shape)
       ∷ (help, built_leaf help_shape) ∷ []
 
   abbrev asked_below : Option Shape → List Text → Kinds
@@ -372,34 +427,42 @@ module _ (losses : BorrowedWords) where
   probe_asks words below (inl none) = is_there (codes "address") probe_shape words probe_fills (λ rows e. first_here _ _ _ e) below none
   probe_asks words below (inr none) = is_there (codes "session") probe_shape words probe_fills (λ rows e. second_here _ _ _ e) below none
 
+  record_asks : (words : List Text) → level_fault record_shape [] nothing_held words false [] ≡ []
+      → (first_of (codes "listen") (rows_after record_shape.rules [] words) ≡ None) ⊎ (first_of (codes "address") (rows_after record_shape.rules [] words) ≡ None)
+      ⊎ (first_of (codes "directory") (rows_after record_shape.rules [] words) ≡ None) → ⊥
+  record_asks words below (inl none) = is_there (codes "listen") record_shape words record_fills (λ rows e. first_of_three _ _ _ _ e) below none
+  record_asks words below (inr (inl none)) = is_there (codes "address") record_shape words record_fills (λ rows e. second_of_three _ _ _ _ e) below none
+  record_asks words below (inr (inr none)) = is_there (codes "directory") record_shape words record_fills (λ rows e. third_of_three _ _ _ _ e) below none
+
   -- a subcommand that is entered without a fault asks for something
-  picked_asks : (words : List Text) (rows : List Row) (trace session rules answer filter serve mta play replay load probe help : Bool) → (help ≡ true → ⊥) → asked_below (pick (shapes trace session rules answer filter serve mta play replay load probe help)) words ≡ []
-      → check_fault (built (tool_app losses)).top rows (is_some (entered_by (pick (shapes trace session rules answer filter serve mta play replay load probe help)) words)) ≡ [] → IsRequestOf (entered_by (pick (shapes trace session rules answer filter serve mta play replay load probe help)) words) None → ⊥
-  picked_asks words rows true session rules answer filter serve mta play replay load probe help none below check unasked = unasked.0 refl
-  picked_asks words rows false true rules answer filter serve mta play replay load probe help none below check unasked =
+  picked_asks : (words : List Text) (rows : List Row) (trace session rules answer filter serve mta play replay load probe recording help : Bool) → (help ≡ true → ⊥) → asked_below (pick (shapes trace session rules answer filter serve mta play replay load probe recording help)) words ≡ []
+      → check_fault (built (tool_app losses)).top rows (is_some (entered_by (pick (shapes trace session rules answer filter serve mta play replay load probe recording help)) words)) ≡ [] → IsRequestOf (entered_by (pick (shapes trace session rules answer filter serve mta play replay load probe recording help)) words) None → ⊥
+  picked_asks words rows true session rules answer filter serve mta play replay load probe recording help none below check unasked = unasked.0 refl
+  picked_asks words rows false true rules answer filter serve mta play replay load probe recording help none below check unasked =
       is_there (codes "file") session_shape words (inr (inl refl), (inr (inr refl), (inl refl, tt))) (λ rows e. required_here _ _ e) below (unasked.2 refl)
-  picked_asks words rows false false true answer filter serve mta play replay load probe help none below check unasked =
+  picked_asks words rows false false true answer filter serve mta play replay load probe recording help none below check unasked =
       is_there (codes "file") rules_shape words (inr (inl refl), (inr (inr refl), (inr (inr refl), (inl refl, tt)))) (λ rows e. required_here _ _ e) below (unasked.3 refl)
-  picked_asks words rows false false false true filter serve mta play replay load probe help none below check unasked = unasked.1 refl
-  picked_asks words rows false false false false true serve mta play replay load probe help none below check unasked =
+  picked_asks words rows false false false true filter serve mta play replay load probe recording help none below check unasked = unasked.1 refl
+  picked_asks words rows false false false false true serve mta play replay load probe recording help none below check unasked =
       is_there (codes "address") filter_shape words (inr (inl refl), (inr (inl refl), (inr (inl refl), (inr (inr refl), (inr (inr refl), (inr (inr refl), (inr (inr refl), (inl refl, tt)))))))) (λ rows e. required_here _ _ e) below (unasked.4 refl)
-  picked_asks words rows false false false false false true mta play replay load probe help none below check unasked =
+  picked_asks words rows false false false false false true mta play replay load probe recording help none below check unasked =
       is_there (codes "address") serve_shape words serve_fills (λ rows e. required_here _ _ e) below (unasked.5 refl)
-  picked_asks words rows false false false false false false true play replay load probe help none below check unasked = mta_asks words below (unasked.6 refl)
-  picked_asks words rows false false false false false false false true replay load probe help none below check unasked =
+  picked_asks words rows false false false false false false true play replay load probe recording help none below check unasked = mta_asks words below (unasked.6 refl)
+  picked_asks words rows false false false false false false false true replay load probe recording help none below check unasked =
       is_there (codes "session") play_shape words play_fills (λ rows e. required_here _ _ e) below (unasked.7 refl)
-  picked_asks words rows false false false false false false false false true load probe help none below check unasked = replay_asks words below (unasked.8 refl)
-  picked_asks words rows false false false false false false false false false true probe help none below check unasked = load_asks words below (unasked.9 refl)
-  picked_asks words rows false false false false false false false false false false true help none below check unasked = probe_asks words below (unasked.10 refl)
-  picked_asks words rows false false false false false false false false false false false true none below check unasked = none refl
-  picked_asks words rows false false false false false false false false false false false false none below check unasked = some_fault _ _ check
+  picked_asks words rows false false false false false false false false true load probe recording help none below check unasked = replay_asks words below (unasked.8 refl)
+  picked_asks words rows false false false false false false false false false true probe recording help none below check unasked = load_asks words below (unasked.9 refl)
+  picked_asks words rows false false false false false false false false false false true recording help none below check unasked = probe_asks words below (unasked.10 refl)
+  picked_asks words rows false false false false false false false false false false false true help none below check unasked = record_asks words below (unasked.11 refl)
+  picked_asks words rows false false false false false false false false false false false false true none below check unasked = none refl
+  picked_asks words rows false false false false false false false false false false false false false none below check unasked = some_fault _ _ check
 
   entered_asks : (stop : Option (Text × List Text)) (rows : List Row) → StopsBeforeHelp stop → entered_fault (built (tool_app losses)) stop ≡ []
       → check_fault (built (tool_app losses)).top rows (is_some (entered (built (tool_app losses)) stop)) ≡ [] → IsRequestOf (entered (built (tool_app losses)) stop) None → ⊥
   entered_asks None rows other below check unasked = some_fault _ _ check
   entered_asks (Some p) rows other below check unasked =
       picked_asks p.1 rows (answers_to p.0 (label_of trace_shape)) (answers_to p.0 (label_of session_shape)) (answers_to p.0 (label_of rules_shape)) (answers_to p.0 (label_of answer_shape))
-      (answers_to p.0 (label_of filter_shape)) (answers_to p.0 (label_of serve_shape)) (answers_to p.0 (label_of mta_shape)) (answers_to p.0 (label_of play_shape)) (answers_to p.0 (label_of replay_shape)) (answers_to p.0 (label_of load_shape)) (answers_to p.0 (label_of probe_shape)) (answers_to p.0 (label_of (built_leaf help_shape)))
+      (answers_to p.0 (label_of filter_shape)) (answers_to p.0 (label_of serve_shape)) (answers_to p.0 (label_of mta_shape)) (answers_to p.0 (label_of play_shape)) (answers_to p.0 (label_of replay_shape)) (answers_to p.0 (label_of load_shape)) (answers_to p.0 (label_of probe_shape)) (answers_to p.0 (label_of record_shape)) (answers_to p.0 (label_of (built_leaf help_shape)))
       (never_help p.0 other) below check unasked
 
   -- words without a fault ask for something

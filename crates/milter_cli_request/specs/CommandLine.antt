@@ -20,7 +20,7 @@ use Rattle.milter_cli_request.specs.declared.command_line.TheConstants.{PROBE_TI
 use Rattle.milter_cli_request.specs.declared.command_line.TheConstants.{TIMEOUT_DEFAULT}
 use Rattle.milter_cli_request.specs.declared.request.Request.{Request}
 use Rattle.milter_cli_request.specs.declared.request.Request.TheVariants.{Trace, Session, Rules, Answer, Filter}
-use Rattle.milter_cli_request.specs.declared.request.Request.TheVariants.{Serve, Mta, Play, Replay, Load, Probe}
+use Rattle.milter_cli_request.specs.declared.request.Request.TheVariants.{Serve, Mta, Play, Replay, Load, Probe, Record}
 use Rattle.milter_mta_outcome.specs.declared.fallback.OnLoss.{OnLoss}
 use Rattle.milter_mta_outcome.specs.declared.fallback.OnLoss.TheVariants.{Accept, Tempfail, Reject}
 
@@ -140,6 +140,11 @@ IsAsked (name, values) (Probe asked) =
     × (first_of (codes "only") values ≡ text_of asked.only)
     × IsNumberOr SEED_DEFAULT 0 SEED_MAX (first_of (codes "seed") values) asked.seed
     × IsNumberOr PROBE_TIMEOUT_DEFAULT 1 TIMEOUT_MAX (first_of (codes "timeout") values) asked.timeout
+IsAsked (name, values) (Record asked) =
+    (name ≡ codes "record") × (first_of (codes "listen") values ≡ Some asked.listen.now)
+    × (first_of (codes "address") values ≡ Some asked.address.now)
+    × (first_of (codes "directory") values ≡ Some asked.directory.now)
+    × IsNumberOr 0 1 COUNT_MAX (first_of (codes "count") values) asked.count
 
 -- the subcommand of this name, with these values, asks for nothing
 abbrev pub IsUnasked : Text × List Row → Type 0
@@ -154,6 +159,8 @@ IsUnasked (name, values) =
     × (name ≡ codes "replay" → (first_of (codes "address") values ≡ None) ⊎ (first_of (codes "trace") values ≡ None))
     × (name ≡ codes "load" → (first_of (codes "address") values ≡ None) ⊎ (first_of (codes "session") values ≡ None))
     × (name ≡ codes "probe" → (first_of (codes "address") values ≡ None) ⊎ (first_of (codes "session") values ≡ None))
+    × (name ≡ codes "record" → (first_of (codes "listen") values ≡ None)
+    ⊎ (first_of (codes "address") values ≡ None) ⊎ (first_of (codes "directory") values ≡ None))
 
 -- the request of the subcommand, or that it has none
 abbrev pub IsRequestOf : Option (Text × List Row) → Option Request → Type 0

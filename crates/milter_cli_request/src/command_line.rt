@@ -13,7 +13,7 @@ ghost use Rattle.milter_cli_request.specs.CommandLine.{MatchesAs, ParsesAs, text
 
 use crate::request::{
     AnswerRequest, FilterRequest, LoadRequest, MtaRequest, PlayRequest, ProbeRequest,
-    ReplayRequest, Request, ServeRequest, TraceRequest,
+    RecordRequest, ReplayRequest, Request, ServeRequest, TraceRequest,
 };
 use clap::{ArgMatches, Error};
 use milter_cli_words::command;
@@ -128,6 +128,7 @@ fn request_of<'a>(
         Some(("replay", given)) => Ok(replay_request(given)),
         Some(("load", given)) => Ok(load_request(given)),
         Some(("probe", given)) => Ok(probe_request(given)),
+        Some(("record", given)) => Ok(record_request(given)),
         _ => Ok(None),
     }
 }
@@ -306,6 +307,21 @@ fn probe_request<'a>(given: &ArgMatches<'a>) -> Option<Request<'a>>
         only: given.get_str("only"),
         seed: number_or(SEED_DEFAULT, given.get_str("seed")),
         timeout: number_or(PROBE_TIMEOUT_DEFAULT, given.get_str("timeout")),
+    }))
+}
+
+/// What the words after `record` ask for.
+fn record_request<'a>(given: &ArgMatches<'a>) -> Option<Request<'a>>
+    ensures { IsRequestOfNamed (codes "record") (rows_of (found_of given.now)) result }
+{
+    let listen = given.get_str("listen")?;
+    let address = given.get_str("address")?;
+    let directory = given.get_str("directory")?;
+    Some(Request::Record(RecordRequest {
+        listen,
+        address,
+        directory,
+        count: number_or(0, given.get_str("count")),
     }))
 }
 

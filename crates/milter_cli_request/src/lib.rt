@@ -17,7 +17,7 @@ pub use milter_cli_words::VERSION;
 pub use mode::parse_mode;
 pub use request::{
     AnswerRequest, FilterRequest, LoadRequest, MtaRequest, PlayRequest, ProbeRequest,
-    ReplayRequest, Request, ServeRequest, TraceRequest,
+    RecordRequest, ReplayRequest, Request, ServeRequest, TraceRequest,
 };
 pub use target::{Offer, Target};
 pub use usage_error::UsageError;

@@ -35,6 +35,8 @@ pub enum Request<'a> {
     Load(LoadRequest<'a>),
     /// To try how robust a filter is, and to print what breaks.
     Probe(ProbeRequest<'a>),
+    /// To pass connections of mail servers on to a filter, and to record each in a trace.
+    Record(RecordRequest<'a>),
 }
 
 /// Traces that are to be printed.
@@ -196,4 +198,17 @@ pub struct ProbeRequest<'a> {
     pub seed: u32,
     /// How many seconds one reply may take, from 1 to 3,600.
     pub timeout: u32,
+}
+
+/// Connections that are to be passed on and recorded.
+#[derive(Clone, Copy, Debug, PartialEq, Eq)]
+pub struct RecordRequest<'a> {
+    /// The text of the address of the socket on which they come.
+    pub listen: &'a str,
+    /// The text of the address of the filter's socket.
+    pub address: &'a str,
+    /// The path of the directory of the traces.
+    pub directory: &'a str,
+    /// How many connections, up to 1,000,000; 0 where there is no such limit.
+    pub count: u32,
 }

@@ -83,6 +83,12 @@ probe_app =
     (place_rule (codes "address") ∷ place_rule (codes "session") ∷ option_rule (codes "only")
     ∷ up_to_rule (codes "seed") SEED_MAX ∷ number_rule (codes "timeout") TIMEOUT_MAX ∷ flag_rule (codes "explain") ∷ [])
 
+abbrev pub record_app : App
+record_app =
+    app_with (codes "record")
+    (place_rule (codes "listen") ∷ place_rule (codes "address") ∷ place_rule (codes "directory")
+    ∷ number_rule (codes "count") COUNT_MAX ∷ flag_rule (codes "explain") ∷ [])
+
 -- the program, which wants a subcommand
 abbrev pub top_app : App
 top_app =
@@ -106,4 +112,5 @@ playing_app losses =
 
 -- the whole command line
 abbrev pub tool_app : BorrowedWords → App
-tool_app losses = with_subcommand (with_subcommand (playing_app losses) load_app.top) probe_app.top
+tool_app losses =
+    with_subcommand (with_subcommand (with_subcommand (playing_app losses) load_app.top) probe_app.top) record_app.top

@@ -6,6 +6,7 @@ mod limits;
 mod load_help;
 mod mta_help;
 mod probe_help;
+mod record_help;
 mod replay_help;
 mod rows;
 mod subcommands;

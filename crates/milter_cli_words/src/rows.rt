@@ -272,6 +272,27 @@ pub(crate) const PROBE_TIMEOUT: Word<'static> = Word {
     help: "For one reply, up to 3,600; without it 5",
 };
 
+pub(crate) const LISTEN: Word<'static> = Word {
+    kind: Kind::Place,
+    name: "listen",
+    value: "LISTEN",
+    help: "Where to listen: inet:PORT@HOST or unix:PATH",
+};
+
+pub(crate) const DIRECTORY: Word<'static> = Word {
+    kind: Kind::Place,
+    name: "directory",
+    value: "DIR",
+    help: "The directory of the traces, which is made if need be",
+};
+
+pub(crate) const RECORD_COUNT: Word<'static> = Word {
+    kind: Kind::Number(COUNT_MAX),
+    name: "count",
+    value: "N",
+    help: "Ends after N connections, up to 1,000,000",
+};
+
 pub(crate) const EVENTS: Word<'static> = Word {
     kind: Kind::Value,
     name: "events",

@@ -3,19 +3,19 @@
 ghost use Rattle.std.specs.Prelude.{◌≡◌, IfOk, false};
 ghost use Rattle.clap.specs.Words.{app_of, rule_of};
 ghost use Rattle.milter_cli_words.specs.Subcommands.{answer_app, filter_app, filtering_app, load_app, mta_app, play_app};
-ghost use Rattle.milter_cli_words.specs.Subcommands.{playing_app, probe_app, reading_app, replay_app, rules_app};
+ghost use Rattle.milter_cli_words.specs.Subcommands.{playing_app, probe_app, reading_app, record_app, replay_app, rules_app};
 ghost use Rattle.milter_cli_words.specs.Subcommands.{serve_app, session_app, tool_app, top_app, trace_app};
 ghost use Rattle.milter_cli_words.specs.Words.{IsLocal, loss_rule};
 
 use crate::rows::{
-    ACTIONS, ADDRESS, ADDRESSES, ALL_STAGES, AT_ONCE, BODIES, CHECK, COUNT, EVENTS, EXPECT,
-    EXPLAIN, FILTER_ADDRESS, IDLE, IGNORE_CASE, JSON, LEAST_STAGES, LENIENT, LOAD_AT_ONCE,
-    LOAD_SECONDS, LOG, LOSS, MACRO, MESSAGES, MODE, NAMES, ONLY, PCAP, PROBE_TIMEOUT, PROTOCOL,
-    RATE, REPLY_TIMEOUT, RULE_FILE, RULES, SEED, SESSION, SESSION_FILE, SHOW_NEGOTIATION, TIMEOUT,
-    TRACE, TRACE_FILES, WAIT,
+    ACTIONS, ADDRESS, ADDRESSES, ALL_STAGES, AT_ONCE, BODIES, CHECK, COUNT, DIRECTORY, EVENTS,
+    EXPECT, EXPLAIN, FILTER_ADDRESS, IDLE, IGNORE_CASE, JSON, LEAST_STAGES, LENIENT, LISTEN,
+    LOAD_AT_ONCE, LOAD_SECONDS, LOG, LOSS, MACRO, MESSAGES, MODE, NAMES, ONLY, PCAP, PROBE_TIMEOUT,
+    PROTOCOL, RATE, RECORD_COUNT, REPLY_TIMEOUT, RULE_FILE, RULES, SEED, SESSION, SESSION_FILE,
+    SHOW_NEGOTIATION, TIMEOUT, TRACE, TRACE_FILES, WAIT,
 };
 use crate::word::{Help, choice, subcommand, with_words};
-use crate::{help_text, load_help, mta_help, probe_help, replay_help, trace_help};
+use crate::{help_text, load_help, mta_help, probe_help, record_help, replay_help, trace_help};
 use clap::{Arg, Command};
 use std::alloc::{AllocError, Global};
 
@@ -28,7 +28,8 @@ pub fn command<'a>(alloc: Global, losses: &'a [&'a str]) -> Result<Command<'a>, 
 {
     playing(alloc, losses)?
         .subcommand(load(alloc)?)?
-        .subcommand(probe(alloc)?)
+        .subcommand(probe(alloc)?)?
+        .subcommand(record(alloc)?)
 }
 
 /// The command line with the subcommands that read files, those that are a filter's end, and those that play a mail
@@ -280,6 +281,22 @@ fn probe<'a>(alloc: Global) -> Result<Command<'a>, AllocError>
         "probe",
         help,
         &[FILTER_ADDRESS, SESSION, ONLY, SEED, PROBE_TIMEOUT, EXPLAIN],
+    )
+}
+
+fn record<'a>(alloc: Global) -> Result<Command<'a>, AllocError>
+    ensures shape { IfOk result (λ c. app_of c ≡ record_app) }
+    ensures local { IfOk result IsLocal }
+{
+    let help = Help {
+        about: "Passes connections on to a filter, and records each in a trace",
+        after: record_help::RECORD,
+    };
+    subcommand(
+        alloc,
+        "record",
+        help,
+        &[LISTEN, FILTER_ADDRESS, DIRECTORY, RECORD_COUNT, EXPLAIN],
     )
 }
 

@@ -73,7 +73,7 @@ fn settings_of(asked: LoadRequest<'_>, is_terminal: bool) -> Settings {
 }
 
 /// The filter at this address, whose host is looked up; or why it wasn't found.
-fn target_of<'x, R: Net + AllocGlobal>(
+pub(crate) fn target_of<'x, R: Net + AllocGlobal>(
     rt: &R,
     address: Address<'x>,
 ) -> Result<Target<'x>, ErrorKind> {

@@ -15,6 +15,7 @@ mod mta_command;
 mod opened_file;
 mod play_command;
 mod probe_command;
+mod record_command;
 mod replay_command;
 mod rule_file;
 mod rules_command;
@@ -31,6 +32,7 @@ use crate::load_command::put_load;
 use crate::mta_command::play_session;
 use crate::play_command::play_in_memory;
 use crate::probe_command::probe_filter;
+use crate::record_command::record_connections;
 use crate::replay_command::replay_trace;
 use crate::rules_command::{check_rules_at, print_rule_file};
 use crate::serve_command::serve_many;
@@ -117,7 +119,8 @@ fn report_with<E: Write>(error: ToolError, lines: &[u8], errors: &mut E) -> Exit
     ended
 }
 
-/// Does what a request asks for. What is written while it lasts goes to `errors`, where that is a terminal.
+/// Does what a request asks for. What is written while it lasts goes to `errors`: how far a load is, where that is a
+/// terminal, and what becomes of connections that aren't recorded to their end.
 fn run_request<
     'x,
     R: Net<Listener = TcpListener, Stream = TcpStream>
@@ -141,6 +144,7 @@ fn run_request<
         Request::Replay(asked) => replay_trace(rt, *asked),
         Request::Load(asked) => put_load(rt, *asked, is_terminal, errors),
         Request::Probe(asked) => probe_filter(rt, *asked),
+        Request::Record(asked) => record_connections(rt, *asked, errors),
     }
 }
 

@@ -226,7 +226,7 @@ fn listeners_at<'x, R: Net<Listener = TcpListener, Stream = TcpStream> + Files +
 }
 
 /// A listener on this address.
-fn listener_at<'x, R: Net<Listener = TcpListener, Stream = TcpStream> + Files>(
+pub(crate) fn listener_at<'x, R: Net<Listener = TcpListener, Stream = TcpStream> + Files>(
     rt: &R,
     address: &'x str,
     mode: u32,

@@ -1,0 +1,88 @@
+//! The subcommand `record`.
+
+use crate::load_command::target_of;
+use crate::serve_command::listener_at;
+use milter_cli_faults::Failure;
+use milter_cli_io::ToolError;
+use milter_cli_request::{Address, RecordRequest, UsageError};
+use milter_record::{RecordError, create_directory, has_traces, record};
+use milter_sockets::Target;
+use std::io::{ErrorKind, Write};
+use std::net::{Net, TcpListener, TcpStream};
+use std::rt::Files;
+
+/// The mode of a Unix socket.
+const MODE: u32 = 0o660;
+
+/// Passes connections of mail servers on to a filter, and records each in a trace. What becomes of connections that
+/// can't be passed on is written to `errors`.
+pub(crate) fn record_connections<
+    'x,
+    R: Net<Listener = TcpListener, Stream = TcpStream> + Files + AllocGlobal,
+    E: Write,
+>(rt: &R, asked: RecordRequest<'x>, errors: &mut E) -> Result<(), Failure<'x>> {
+    let filter = filter_of(asked)?;
+    let target = match target_of(rt, filter) {
+        Ok(target) => target,
+        Err(kind) => return Err(not_found(asked, kind)),
+    };
+    make_directory(rt, asked.directory)?;
+    record_at(rt, asked, target, errors)
+}
+
+/// The address of the filter, where both addresses are of their form.
+fn filter_of<'x>(asked: RecordRequest<'x>) -> Result<Address<'x>, ToolError> {
+    match (Address::parse(asked.listen), Address::parse(asked.address)) {
+        (Some(_), Some(filter)) => Ok(filter),
+        _ => Err(ToolError::Usage(UsageError::BadAddress)),
+    }
+}
+
+/// The filter's host was not found.
+fn not_found<'x>(asked: RecordRequest<'x>, kind: ErrorKind) -> Failure<'x> {
+    match kind {
+        ErrorKind::OutOfMemory => Failure::from(ToolError::NoMemory),
+        kind => Failure::of_socket(ToolError::Connect, asked.address, Some(kind)),
+    }
+}
+
+/// Makes the directory of the traces: an error where it has some already.
+fn make_directory<R: Files + AllocGlobal>(rt: &R, directory: &str) -> Result<(), ToolError> {
+    if let Err(error) = create_directory(rt, directory) {
+        return Err(match error.kind() {
+            ErrorKind::OutOfMemory => ToolError::NoMemory,
+            _ => ToolError::Record,
+        });
+    }
+    match has_traces(rt, rt.alloc(), directory) {
+        Ok(false) => Ok(()),
+        Ok(true) => Err(ToolError::Record),
+        Err(_) => Err(ToolError::NoMemory),
+    }
+}
+
+/// Records the connections that come at the address that is asked for.
+fn record_at<
+    'x,
+    R: Net<Listener = TcpListener, Stream = TcpStream> + Files + AllocGlobal,
+    E: Write,
+>(rt: &R, asked: RecordRequest<'x>, target: Target<'x>, errors: &mut E) -> Result<(), Failure<'x>> {
+    let listener = listener_at(rt, asked.listen, MODE)?;
+    let most = match asked.count {
+        0 => None,
+        count => Some(u64::from(count)),
+    };
+    match record(
+        rt,
+        rt.alloc(),
+        listener,
+        target,
+        asked.directory,
+        most,
+        errors,
+    ) {
+        Ok(()) => Ok(()),
+        Err(RecordError::Wait) => Err(Failure::from(ToolError::Listen)),
+        Err(RecordError::NoMemory) => Err(Failure::from(ToolError::NoMemory)),
+    }
+}
