@@ -2,25 +2,19 @@
 """Runs the scripts of examples/ that make traces and session files, and what README.md begins with: its rules, its
 session, and what it says that is printed.
 
-record.py is run between connections of this test and `milter_tool answer`, over TCP and over Unix sockets: with
-connections that overlap, one that is reset, one whose filter isn't there, and one that is open when it is ended. It
-records sessions that `milter_tool mta` plays to `milter_tool filter`: out of these trace_to_session.py has to make the
-canonical form of what was played. Of the captures cases/captures/*/stdin it has to make the session that
+`milter_tool record` records sessions that `milter_tool mta` plays to `milter_tool filter`, over TCP and over Unix
+sockets: out of these trace_to_session.py has to make the canonical form of what was played. Of the captures cases/captures/*/stdin it has to make the session that
 lib/captures.py works out of them. What else it makes of traces, and what eml_to_session.py makes of mails, is written
 in lib/sessions.py by hand. Each session has to be printed unchanged by `milter_tool session`.
 
-Counted are the connections and the runs.
+Counted are the runs.
 """
 import os
 import re
-import signal
-import socket
-import subprocess
 import sys
 import tempfile
-import threading
 
-from lib import captures, checks, first_rules, programs, serving, sessions, tables
+from lib import captures, checks, first_rules, programs, recording, serving, sessions
 from lib.checks import checked, expect
 
 TOOL = programs.tool(programs.BUILDS[0])
@@ -85,158 +79,6 @@ def captured():
         yield checked(os.path.basename(os.path.dirname(path)), run, path)
 
 
-class Recorder:
-    """A run of record.py before a filter at this place."""
-
-    def __init__(self, kind, folder, filter_at, *words):
-        self.at, self.address = serving.place_of(kind, folder)
-        places = [place if isinstance(place, str) else '%s:%d' % place for place in (self.at, filter_at)]
-        self.process = subprocess.Popen(
-            script('record.py', *places, *words), stdin=subprocess.DEVNULL, stdout=subprocess.PIPE,
-            stderr=subprocess.PIPE)
-
-    def __enter__(self):
-        return self
-
-    def __exit__(self, *_):
-        self.process.kill()
-        self.process.communicate()
-
-    def connected(self):
-        """A connection, made as soon as the recorder listens."""
-        return serving.connected(self.at, lambda: self.process.poll() is not None)
-
-    def end(self, signalled=None):
-        """How it ended, by itself or by a signal."""
-        if signalled is not None:
-            self.process.send_signal(signalled)
-        out, err = self.process.communicate(timeout=serving.SECONDS)
-        expect('whether a socket is left', isinstance(self.at, str) and os.path.exists(self.at), False)
-        return self.process.returncode, out.decode(), err.decode()
-
-
-class Answers:
-    """Answers each connection to a place by a run of `milter_tool answer` of its own, as a super-server does."""
-
-    def __init__(self, place):
-        self.listener = socket.socket(socket.AF_UNIX) if isinstance(place, str) else socket.create_server(place)
-        if isinstance(place, str):
-            self.listener.bind(place)
-            self.listener.listen()
-        self.runs = []
-        threading.Thread(target=self.serve, daemon=True).start()
-
-    def serve(self):
-        """Takes the connections, until the socket is closed."""
-        while True:
-            try:
-                connection, _ = self.listener.accept()
-            except OSError:
-                return
-            with connection:
-                self.runs.append(subprocess.Popen(
-                    [TOOL, 'answer'], stdin=connection, stdout=connection, stderr=subprocess.DEVNULL))
-
-    def __enter__(self):
-        return self
-
-    def __exit__(self, *_):
-        self.listener.shutdown(socket.SHUT_RDWR)
-        self.listener.close()
-        for run in self.runs:
-            run.kill()
-            run.wait()
-
-
-def talk_of(name):
-    """The packets of a connection by the client of this name, each with its reply."""
-    lines = sessions.OPENING + sessions.BEGINNING + sessions.ENDING + ['> Q']
-    packets = {mark: [tables.packet_of(text[2:].replace('h.example', name).encode(), None)
-                      for text in lines if text[0] == mark] for mark in '><'}
-    return list(zip(packets['>'], packets['<'] + [b'']))
-
-
-def trace_of(talk):
-    """The trace of a connection, each packet of which is a line."""
-    return ''.join('> %s\n' % given.hex() + ('< %s\n' % reply.hex() if reply else '') for given, reply in talk)
-
-
-def say(connection, talk):
-    """Sends these packets, each after the reply to the one before."""
-    for given, reply in talk:
-        connection.sendall(given)
-        serving.expect_replies(connection, reply)
-
-
-def expect_traces(directory, *talks):
-    """Compares the files of a directory with the traces of these connections."""
-    found = {}
-    for name in os.listdir(directory):
-        with open(os.path.join(directory, name), encoding='ascii') as file:
-            found[name] = file.read()
-    expect('the traces', found, {'%d.trace' % number: trace_of(talk) for number, talk in enumerate(talks, 1)})
-    for name, trace in found.items():
-        expect('the end of ' + name, ended([TOOL, 'trace'], trace.encode())[::2], (0, ''))
-
-
-def recorded(kind, folder):
-    """Connections that are recorded in a directory, and one on standard output."""
-    one, two, three = talk_of('one'), talk_of('two'), talk_of('three')
-    place, _ = serving.place_of(kind, folder)
-    directory = os.path.join(tempfile.mkdtemp(dir=folder), 'new', 'traces')
-
-    def overlapping():
-        with Answers(place), Recorder(kind, folder, place, directory) as recorder:
-            with recorder.connected() as first, recorder.connected() as second:
-                say(first, one[:4])
-                say(second, two[:6])
-                say(first, one[4:])
-                serving.expect_closed(first)
-                with recorder.connected() as third:
-                    say(third, three)
-                    say(second, two[6:])
-                    serving.expect_closed(second)
-                    serving.expect_closed(third)
-            expect('the end', recorder.end(signal.SIGINT), (0, '', ''))
-        expect_traces(directory, one, two, three)
-
-    def again():
-        with Recorder(kind, folder, place, directory) as recorder:
-            expect('the end', recorder.end(), (1, '', directory + ' has traces already\n'))
-        expect_traces(directory, one, two, three)
-
-    def lost():
-        place, _ = serving.place_of(kind, folder)
-        directory = tempfile.mkdtemp(dir=folder)
-        with Recorder(kind, folder, place, directory) as recorder:
-            with recorder.connected() as first:
-                serving.expect_closed(first)
-            with Answers(place):
-                with recorder.connected() as second:
-                    say(second, two[:3])
-                    serving.reset_at_end(second)
-                with recorder.connected() as third:
-                    say(third, three[:5])
-                    status, out, err = recorder.end(signal.SIGTERM)
-                    serving.expect_closed(third)
-        expect('the end', (status, out), (0, ''))
-        expect('what is said', re.sub(r'(?m): .*', '', err).splitlines()[:1], ['connection 1'])
-        expect_traces(directory, [], two[:3], three[:5])
-
-    def on_standard_output():
-        place, _ = serving.place_of(kind, folder)
-        with Answers(place), Recorder(kind, folder, place) as recorder:
-            with recorder.connected() as connection:
-                say(connection, one)
-                serving.expect_closed(connection)
-            expect('the end', recorder.end(), (0, trace_of(one), ''))
-
-    yield checked('connections that overlap', overlapping)
-    yield checked('a directory with traces', again)
-    yield checked('connections that are lost', lost)
-    yield checked('one connection', on_standard_output)
-
-
 def played(kind, folder):
     """Sessions that are played to `milter_tool filter`, recorded, and made of the trace again."""
     with open(os.path.join(FOLDER, 'two_messages.session'), encoding='utf-8') as file:
@@ -252,13 +94,13 @@ def played(kind, folder):
         with open(path, 'w', encoding='ascii') as file:
             file.write(rules)
         with serving.Filter(TOOL, kind, folder, ['--rules', path]) as served, \
-                Recorder(kind, folder, served.at, directory) as recorder:
+                recording.Recorder(TOOL, kind, folder, served.address, directory, '--count', '1') as recorder:
             serving.listening(served)
             serving.listening(recorder)
             status, _, err = ended([TOOL, 'mta', recorder.address, '/dev/stdin'], session.encode())
             expect('the end of mta', (status, err), (0, ''))
             served.expect_line(b'quit')
-            expect('the end of the recorder', recorder.end(signal.SIGINT), (0, '', ''))
+            expect('the end of the recorder', recorder.end(), (0, '', ''))
         with open(os.path.join(directory, '1.trace'), encoding='ascii') as file:
             return file.read()
 
@@ -295,7 +137,7 @@ def groups(folder):
     for group in mails, traces, captured:
         yield group.__name__, group, ()
     for kind in serving.KINDS:
-        for group in recorded, played, readme:
+        for group in played, readme:
             yield '%s at %s' % (group.__name__, kind), group, (kind, tempfile.mkdtemp(dir=folder))
 
 

@@ -235,12 +235,12 @@ def play_recorded(checks, program, new_server):
         address, recorder = ['inet:%d@127.0.0.1' % peers.free_port() for _ in range(2)]
         with peers.Service(program, address, peers.rules_of('mail_server')):
             with new_server(work, recorder, recorder) as server:
-                recording = peers.recording(recorder, address)
+                recording = peers.Recording(program, recorder, address)
                 client = Client(server, 'inet')
                 wrong = (client.greet('a.example') or client.mail(FROM) or client.greet('b.example')
                          or client.mail(FROM) or client.reset())
                 client.close()
-                lines = peers.recorded(program, recording)
+                lines = recording.lines(program)
     codes = [line.split()[1] for line in lines if line.startswith('> ') and not line.startswith('> D ')]
     checks.check(server.name + ': packets of a greeting within a transaction',
                  (wrong, [code for code, _ in itertools.groupby(codes)]),

@@ -1,9 +1,11 @@
 """What the parts of tests/interop.sh share: the filter under test, its addresses, and the count of checks."""
 import os
 import re
+import shutil
 import socket
 import subprocess
 import sys
+import tempfile
 import threading
 import time
 
@@ -53,7 +55,7 @@ def addresses(work):
 
 
 def plain(address):
-    """An address as the scripts of examples/ take it: HOST:PORT, or a path."""
+    """An address as HOST:PORT, or a path."""
     if address.startswith('unix:'):
         return address[len('unix:'):]
     port, host = address[len('inet:'):].split('@')
@@ -149,18 +151,24 @@ class Service:
         return b''.join(lines).decode(errors='replace') + ''.join(rest)
 
 
-def recording(recorder, address):
-    """A run of examples/record.py, which passes one connection to the recorder on, and prints it."""
-    process = subprocess.Popen([sys.executable, os.path.join(TOP, 'examples', 'record.py'), plain(recorder),
-                                plain(address)], stdout=subprocess.PIPE)
-    listening(recorder)
-    return process
+class Recording:
+    """A run of `milter_tool record`, which passes one connection to the recorder on to the address."""
 
+    def __init__(self, program, recorder, address, folder=None):
+        self.directory = tempfile.mkdtemp(dir=folder)
+        self.process = subprocess.Popen([program, 'record', recorder, address, self.directory, '--count', '1'])
+        listening(recorder)
 
-def recorded(program, process):
-    """The lines of `milter_tool trace` for the connection that was recorded."""
-    trace, _ = finished(process)
-    return subprocess.run([program, 'trace'], input=trace.encode(), stdout=subprocess.PIPE).stdout.decode().splitlines()
+    def trace(self):
+        """The path of what was recorded, once the connection has ended."""
+        finished(self.process)
+        return os.path.join(self.directory, '1.trace')
+
+    def lines(self, program):
+        """The lines of `milter_tool trace` for it; nothing is left of it then."""
+        printed = subprocess.run([program, 'trace', self.trace()], stdout=subprocess.PIPE).stdout
+        shutil.rmtree(self.directory)
+        return printed.decode().splitlines()
 
 
 def finished(process):

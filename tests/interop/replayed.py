@@ -33,16 +33,16 @@ def replay(program, address, trace):
 def recorded(checks, program, work):
     """The path of the trace of a message that Postfix sent to two recipients, one of which was refused."""
     address, recorder = ('inet:%d@127.0.0.1' % peers.free_port() for _ in range(2))
-    with peers.Service(program, address, rules_for(work, REFUSED)), \
-            peers.recording(recorder, address) as recording, postfix.Postfix(work, recorder, address) as server:
+    with peers.Service(program, address, rules_for(work, REFUSED)), postfix.Postfix(work, recorder, address) as server:
+        recording = peers.Recording(program, recorder, address, work)
         with server.connected('inet') as client:
             refused = client.sendmail(FROM, [TO, REFUSED], MESSAGE)
-        trace, _ = peers.finished(recording)
+        trace = recording.trace()
         text, = server.received(1)
     checks.check('recorded: refused', {to: code for to, (code, _) in refused.items()}, {REFUSED: 550})
     delivered = envelope(text)[1], fields(text, 'X-Passed')
     checks.check('recorded: delivered', delivered, (['<%s>' % TO], ['X-Passed: yes']))
-    return programs.written(os.path.join(work, 'postfix.trace'), trace)
+    return trace
 
 
 def play(checks, program):

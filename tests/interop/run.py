@@ -74,10 +74,10 @@ def play_at_once(checks, program, address):
 def record(checks, program, name, address, recorder):
     """Plays one message with each edit past a recorder, and compares the packets of its end."""
     with peers.Filter(program, address, peers.rules_of('edits'), 1) as served:
-        recording = peers.recording(recorder, address)
+        recording = peers.Recording(program, recorder, address)
         checks.check(name, miltertest('edits', recorder, '-D', 'recorded'), ('', 0))
         checks.check(name + ': the lines of the filter', served.finished(), ('connection 1 quit\n', 0))
-        replies = [line for line in peers.recorded(program, recording) if line.startswith('<')]
+        replies = [line for line in recording.lines(program) if line.startswith('<')]
     expected = text_of('edits.trace').splitlines()
     checks.check(name + ': packets', replies[-len(expected):], expected)
 
