@@ -29,6 +29,8 @@ pub(crate) enum Came {
     End,
     /// Nothing yet.
     Nothing,
+    /// Nothing, and it is to be asked again.
+    Again,
 }
 
 impl End {
@@ -71,7 +73,7 @@ impl End {
                     self.is_readable = false;
                     Ok(Came::Nothing)
                 }
-                ErrorKind::Interrupted => Ok(Came::Nothing),
+                ErrorKind::Interrupted => Ok(Came::Again),
                 _ => Err(error),
             },
         }

@@ -4,7 +4,7 @@ use crate::directory::create_trace;
 use crate::end::End;
 use crate::fault::Fault;
 use crate::record_error::RecordError;
-use crate::recording::Recording;
+use crate::recorded_connection::RecordedConnection;
 use milter_sockets::{Listener, Stream, Target};
 use mio::event::Event;
 use mio::{Events, Poll, Token};
@@ -39,7 +39,7 @@ struct Recorder<'r, 's, R: Net + Files> {
     is_ready: bool,
     // Whether the system had no room for a connection.
     is_full: bool,
-    recordings: Slab<Recording<R::File>>,
+    connections: Slab<RecordedConnection<R::File>>,
     // How many connections have come.
     came: u64,
     // How many are taken; all where there is no number.
@@ -70,7 +70,7 @@ pub fn record<'s, R: Net + Files, W: Write>(
         listener,
         is_ready: true,
         is_full: false,
-        recordings: Slab::with_capacity(alloc, AT_ONCE)?,
+        connections: Slab::with_capacity(alloc, AT_ONCE)?,
         came: 0,
         most,
     };
@@ -105,21 +105,21 @@ impl<'r, 's, R: Net + Files> Recorder<'r, 's, R> {
 
     /// Whether all connections that are taken have ended.
     fn is_over(&self) -> bool {
-        self.has_all() && self.recordings.is_empty()
+        self.has_all() && self.connections.is_empty()
     }
 
     /// Whether a connection may have come for which there is room.
     fn can_accept(&self) -> bool {
-        self.is_ready && !self.is_full && !self.has_all() && self.recordings.len() < AT_ONCE
+        self.is_ready && !self.is_full && !self.has_all() && self.connections.len() < AT_ONCE
     }
 
     /// How long nothing is to be done unless a socket becomes ready; for ever where that is `None`.
     fn time_to_wait(&self) -> Option<Duration> {
         if self.can_accept()
             || self
-                .recordings
+                .connections
                 .iter()
-                .any(|(_, recording)| recording.is_due)
+                .any(|(_, connection)| connection.is_due)
         {
             return Some(Duration::from_millis(0));
         }
@@ -146,21 +146,21 @@ impl<'r, 's, R: Net + Files> Recorder<'r, 's, R> {
     fn on_event(&mut self, event: &Event) -> Result<(), (usize, Fault)> {
         let Token(token) = event.token();
         let place = token / 2;
-        let Some(recording) = self.recordings.get_mut(place) else {
+        let Some(connection) = self.connections.get_mut(place) else {
             return Ok(());
         };
-        recording.is_due = true;
+        connection.is_due = true;
         if token % 2 == 0 {
-            recording.mail_server.note(event);
+            connection.mail_server.note(event);
             return Ok(());
         }
-        recording.filter.note(event);
-        if recording.is_made {
+        connection.filter.note(event);
+        if connection.is_made {
             return Ok(());
         }
-        match recording.filter.stream.on_connected() {
+        match connection.filter.stream.on_connected() {
             Ok(()) => {
-                recording.is_made = true;
+                connection.is_made = true;
                 Ok(())
             }
             Err(error) => match self.connect_again(place, error) {
@@ -179,22 +179,22 @@ impl<'r, 's, R: Net + Files> Recorder<'r, 's, R> {
 
     /// Gives a connection a turn, if it is to have one.
     fn take_turn<W: Write>(&mut self, place: usize, buffer: &mut [u8], errors: &mut W) {
-        let Some(recording) = self.recordings.get_mut(place) else {
+        let Some(connection) = self.connections.get_mut(place) else {
             return;
         };
-        if !recording.is_due {
+        if !connection.is_due {
             return;
         }
-        match recording.take_turn(self.alloc, buffer) {
+        match connection.take_turn(self.alloc, buffer) {
             Ok(false) => {}
-            Ok(true) => drop(self.recordings.try_remove(place)),
+            Ok(true) => drop(self.connections.try_remove(place)),
             Err(fault) => self.lose(place, &fault, errors),
         }
     }
 
     /// Closes a connection, and says why.
     fn lose<W: Write>(&mut self, place: usize, fault: &Fault, errors: &mut W) {
-        if let Some(lost) = self.recordings.try_remove(place) {
+        if let Some(lost) = self.connections.try_remove(place) {
             say(lost.number, fault, errors);
         }
     }
@@ -234,14 +234,17 @@ impl<'r, 's, R: Net + Files> Recorder<'r, 's, R> {
             Ok(file) => file,
             Err(error) => return Err(Fault::Create(error)),
         };
+        if let Err(error) = stream.on_connected() {
+            return Err(Fault::MailServer(error));
+        }
         let (mut to_filter, address) = self.connect(
             0,
             io::Error::from(ErrorKind::AddrNotAvailable),
         )?;
-        let place = self.recordings.vacant_key();
+        let place = self.connections.vacant_key();
         self.watch(&mut stream, mail_server_token(place))?;
         self.watch(&mut to_filter, filter_token(place))?;
-        let recording = Recording {
+        let connection = RecordedConnection {
             number,
             file,
             mail_server: End::new(self.alloc, stream),
@@ -250,7 +253,7 @@ impl<'r, 's, R: Net + Files> Recorder<'r, 's, R> {
             is_made: false,
             is_due: false,
         };
-        match self.recordings.insert(recording) {
+        match self.connections.insert(connection) {
             Ok(_) => Ok(()),
             Err(_) => Err(Fault::NoMemory),
         }
@@ -264,8 +267,8 @@ impl<'r, 's, R: Net + Files> Recorder<'r, 's, R> {
         }
     }
 
-    /// Begins to connect to the first address of the filter from this number on for which the system does so; after this
-    /// error at the one before.
+    /// Begins to connect to the first address of the filter, from this number on, for which the system does so; after
+    /// this error at the one before.
     fn connect(&self, from: usize, error: io::Error) -> Result<(Stream, usize), Fault> {
         let mut last = error;
         for address in from..usize::MAX {
@@ -282,15 +285,15 @@ impl<'r, 's, R: Net + Files> Recorder<'r, 's, R> {
 
     /// Connects to the next address of the filter, after this error.
     fn connect_again(&mut self, place: usize, error: io::Error) -> Result<(), Fault> {
-        let Some(recording) = self.recordings.get(place) else {
+        let Some(connection) = self.connections.get(place) else {
             return Ok(());
         };
-        let next = recording.address.saturating_add(1);
+        let next = connection.address.saturating_add(1);
         let (mut stream, address) = self.connect(next, error)?;
         self.watch(&mut stream, filter_token(place))?;
-        if let Some(recording) = self.recordings.get_mut(place) {
-            recording.filter = End::new(self.alloc, stream);
-            recording.address = address;
+        if let Some(connection) = self.connections.get_mut(place) {
+            connection.filter = End::new(self.alloc, stream);
+            connection.address = address;
         }
         Ok(())
     }

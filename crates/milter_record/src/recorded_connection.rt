@@ -11,7 +11,7 @@ const PIECES_MAX: u32 = 64;
 
 /// A connection that is passed on and recorded.
 #[derive(Drop)]
-pub(crate) struct Recording<F: Write + Drop> {
+pub(crate) struct RecordedConnection<F: Write + Drop> {
     /// Its number, from 1.
     pub(crate) number: u64,
     /// The trace.
@@ -26,7 +26,7 @@ pub(crate) struct Recording<F: Write + Drop> {
     pub(crate) is_due: bool,
 }
 
-impl<F: Write + Drop> Recording<F> {
+impl<F: Write + Drop> RecordedConnection<F> {
     /// Passes on what has come, as far as can be without waiting; whether both ends have ended.
     pub(crate) fn take_turn(&mut self, alloc: Global, buffer: &mut [u8]) -> Result<bool, Fault> {
         self.is_due = false;
@@ -101,6 +101,7 @@ fn pass<F: Write>(
 ) -> Result<bool, Fault> {
     match came {
         Came::Nothing => Ok(false),
+        Came::Again => Ok(true),
         Came::End => {
             // One that has hung up needs no word of it.
             let _ = other.stream.end_writing();
