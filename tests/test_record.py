@@ -16,11 +16,13 @@ import sys
 import tempfile
 import threading
 
-from lib import checks, programs, recording, serving
+from lib import checks, programs, recording, serving, talks
 from lib.checks import checked, expect
 
-# More than all buffers between two ends have, and the KiB of memory that a recorder takes at most meanwhile.
-MUCH = 32 * 1024 * 1024
+# More than all buffers between two ends have, by their kind, within how many seconds it comes, and the KiB of memory
+# that a recorder takes at most meanwhile.
+MUCH = {'inet': 12 * 1024 * 1024, 'unix': 1024 * 1024}
+MUCH_SECONDS = 120
 MEMORY_MAX = 16 * 1024
 # What is sent in one direction of a connection, and then in the other.
 FIRST, SECOND = b'\0\0\0\1Q', b'\0\0\0\1c'
@@ -62,9 +64,9 @@ class Peer:
     def __exit__(self, *_):
         self.listener.close()
 
-    def expect_done(self):
+    def expect_done(self, seconds=serving.SECONDS):
         """Waits until the peer has done what it is to do."""
-        self.thread.join(serving.SECONDS)
+        self.thread.join(seconds)
         expect('what was wrong at the filter', (self.thread.is_alive(), self.wrong), (False, None))
 
 
@@ -214,23 +216,23 @@ def directions(program, kind, folder):
     def much():
         directory = tempfile.mkdtemp(dir=folder)
         may_read = threading.Event()
-        sent = bytes(range(256)) * (MUCH // 256)
+        sent = bytes(range(256)) * (MUCH[kind] // 256)
 
         def act(connection):
             may_read.wait(serving.SECONDS)
-            expect('whether all came', serving.received(connection, MUCH + 1) == sent, True)
+            expect('whether all came', serving.received(connection, len(sent) + 1) == sent, True)
 
         with Peer(kind, folder, act) as peer, \
                 recording.Recorder(program, kind, folder, peer.address, directory, '--count', '1') as recorder:
             with recorder.connected() as connection:
                 connection.settimeout(0.5)
                 taken = sent_until_full(connection, sent)
-                expect('whether not all is taken', taken < MUCH // 2, True)
+                expect('whether not all is taken', taken < len(sent), True)
                 may_read.set()
-                connection.settimeout(serving.SECONDS)
+                connection.settimeout(MUCH_SECONDS)
                 connection.sendall(sent[taken:])
                 connection.shutdown(socket.SHUT_WR)
-                peer.expect_done()
+                peer.expect_done(MUCH_SECONDS)
                 expect('whether it takes little memory', recorder.memory() < MEMORY_MAX, True)
             expect('the end', recorder.end(), (0, '', ''))
         trace = recording.traces_in(directory)['1.trace']
@@ -255,12 +257,11 @@ def sent_until_full(connection, sent):
 def played(program, kind, folder):
     """Sessions and loads that are played through a recorder to `milter_tool serve`."""
     session = os.path.join(programs.TOP, 'examples', 'two_messages.session')
-    rules = programs.written(os.path.join(tempfile.mkdtemp(dir=folder), 'rules'),
-                             'at eob always do insert 0 "X-Seen" "yes"\n')
+    rules = talks.rules_file(folder, 'at eob do add-header "X-Seen" "yes"\n')
 
     def sent_again():
         directory = tempfile.mkdtemp(dir=folder)
-        with serving.Service(program, kind, folder, ['--rules', rules]) as served, \
+        with serving.Service(program, kind, folder, rules) as served, \
                 recording.Recorder(program, kind, folder, served.address, directory, '--count', '2') as recorder:
             serving.listening(served)
             serving.listening(recorder)
@@ -277,7 +278,7 @@ def played(program, kind, folder):
 
     def loaded():
         directory = tempfile.mkdtemp(dir=folder)
-        with serving.Service(program, kind, folder, ['--rules', rules]) as served, \
+        with serving.Service(program, kind, folder, rules) as served, \
                 recording.Recorder(program, kind, folder, served.address, directory) as recorder:
             serving.listening(served)
             serving.listening(recorder)
