@@ -6,6 +6,7 @@ import subprocess
 # The lines, with the words that each shell offers for their last ones.
 LINES = {
     'milter_tool se': ['serve', 'session'],
+    'milter_tool re': ['record', 'replay'],
     'milter_tool --ver': ['--version'],
     'milter_tool mta --e': ['--expect', '--explain'],
     'milter_tool trace --e': ['--explain'],
