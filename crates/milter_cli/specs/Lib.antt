@@ -1,4 +1,3 @@
 pub mod ExpectedReports
 pub mod FilterRuns
 pub mod InMemory
-pub mod MtaRuns

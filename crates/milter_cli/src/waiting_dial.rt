@@ -1,7 +1,7 @@
 //! Connections to a filter that may not listen yet.
 
 use crate::socket_dial::Connect;
-use milter_mta_client::{Dial, DialFault};
+use milter_dial::{Dial, DialFault};
 use std::io::ErrorKind;
 use std::rt::Clock;
 use std::thread;

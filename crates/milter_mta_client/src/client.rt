@@ -1,14 +1,17 @@
 //! How a mail server's end is driven over connections to filters, until every message is settled.
 
-ghost use Rattle.std.specs.Prelude.{◌≡◌, ◌↔◌, IsTrue};
+ghost use Rattle.std.specs.Prelude.{◌≡◌, ◌+◌, ◌↔◌, IsTrue, drop, length};
 ghost use Rattle.milter_mta.specs.declared.want.Want.TheVariants as wants;
 ghost use Rattle.milter_mta.specs.Output.{want};
 ghost use Rattle.milter_mta_client.specs.ClientRuns.{Converses, first_events};
 ghost use Rattle.milter_mta_client.specs.ConnectionRuns.{IsBetween, Steps};
+ghost use Rattle.milter_mta_laws.specs.AnyFilter.{IsOnDialogue};
 ghost use Rattle.milter_mta_client.specs.Events.{Runs};
+ghost use Rattle.milter_mta_client.specs.Observations.{Notes, NotesAdded, NotesEach};
 
-use crate::connection::drive;
+use crate::connection::{drive, lose};
 use crate::laws::{events_keep_to_dialogues, events_report_connections};
+use crate::observer::{NoObserver, Observer};
 use milter_dial::Dial;
 use milter_mta::{MtaCore, Reports, Want};
 use milter_mta_laws::messages_are_settled_by_dialogues;
@@ -30,25 +33,42 @@ use std::alloc::Global;
 pub fn converse<D: Dial>(alloc: Global, core: MtaCore, dial: &mut D) -> Reports
     ensures { Converses core result }
 {
+    converse_observed(alloc, core, dial, &mut NoObserver)
+}
+
+/// Plays a session as [`converse`] does, and shows the observer the report of each message once it is settled.
+pub fn converse_observed<D: Dial, O: Observer>(
+    alloc: Global,
+    core: MtaCore,
+    dial: &mut D,
+    observer: &mut O,
+) -> Reports
+    ensures converses { Converses core result }
+    // The reports that are added were shown, each once, in order. It holds of a core that was new or came from its
+    // calls.
+    ensures notes { IsOnDialogue core → NotesEach O.notes (length core.reports + 1)
+        (drop (length core.reports) result.messages) observer.old observer.new }
+{
     events_keep_to_dialogues();
     events_report_connections();
     messages_are_settled_by_dialogues();
     let mut core = core;
-    give_up_connection(&mut core);
+    give_up_connection(&mut core, observer);
     match read_buffer(alloc) {
-        Ok(mut buffer) => drive_all(&mut core, dial, buffer.as_mut_slice()),
-        Err(_) => give_up_messages(&mut core),
+        Ok(mut buffer) => drive_all(&mut core, dial, buffer.as_mut_slice(), observer),
+        Err(_) => give_up_messages(&mut core, observer),
     }
     core.finish()
 }
 
 /// Gives up a connection that was made before.
-fn give_up_connection(core: &mut MtaCore)
+fn give_up_connection<O: Observer>(core: &mut MtaCore, observer: &mut O)
     ensures events { Runs core.old (first_events (want core.old)) core.new }
     ensures between { IsBetween core.new }
+    ensures notes { NotesAdded O.notes core.old core.new observer.old observer.new }
 {
     if matches!(core.want(), Want::Send | Want::Receive) {
-        core.lost(Loss::Reset);
+        lose(core, Loss::Reset, observer);
     }
 }
 
@@ -60,29 +80,38 @@ fn wants_dial(core: &MtaCore) -> bool
 }
 
 /// Drives a mail server's end over one connection after another, until every message is settled.
-fn drive_all<D: Dial>(core: &mut MtaCore, dial: &mut D, buffer: &mut [u8])
+fn drive_all<D: Dial, O: Observer>(
+    core: &mut MtaCore,
+    dial: &mut D,
+    buffer: &mut [u8],
+    observer: &mut O,
+)
     requires { IsBetween core.old }
     ensures steps { Steps core.old core.new }
     ensures done { want core.new ≡ wants.Done }
+    ensures notes { Notes O.notes core.old core.new observer.old observer.new }
 {
+    events_keep_to_dialogues();
     while wants_dial(core) {
         match dial.dial() {
             Ok(link) => {
                 core.dialled();
-                drive(core, link, buffer);
+                drive(core, link, buffer, observer);
             }
-            Err(_) => core.lost(Loss::Reset),
+            Err(_) => lose(core, Loss::Reset, observer),
         }
     }
 }
 
 /// Gives up all messages that are left, for memory that was refused.
-fn give_up_messages(core: &mut MtaCore)
+fn give_up_messages<O: Observer>(core: &mut MtaCore, observer: &mut O)
     requires { IsBetween core.old }
     ensures steps { Steps core.old core.new }
     ensures done { want core.new ≡ wants.Done }
+    ensures notes { Notes O.notes core.old core.new observer.old observer.new }
 {
+    events_keep_to_dialogues();
     while wants_dial(core) {
-        core.lost(Loss::Memory);
+        lose(core, Loss::Memory, observer);
     }
 }

@@ -3,9 +3,13 @@
 ghost use Rattle.std.specs.Prelude.{◌≡◌, ◌≢◌, ◌<◌, [], length};
 ghost use Rattle.milter_mta.specs.declared.want.Want.TheVariants as wants;
 ghost use Rattle.milter_mta.specs.Output.{want};
+ghost use Rattle.milter_mta.specs.Dispositions.{lost};
 ghost use Rattle.milter_mta_client.specs.ConnectionRuns.{IsBetween, IsConnected, Receives, Steps, Transmits, Turns, dials_left};
+ghost use Rattle.milter_mta_client.specs.Observations.{Notes, NotesAdded};
 
+use crate::laws::events_keep_to_dialogues;
 use crate::link_calls::{Stop, read_once, write_once};
+use crate::observer::{Observer, show};
 use milter_mta::{MtaCore, Want};
 use milter_mta_outcome::Loss;
 use std::io::{Read, Write};
@@ -17,28 +21,62 @@ const RETRIES_MAX: u32 = 100;
 
 /// Drives a mail server's end over a connection that was just made, until nothing is left to do on it, or it is given
 /// up. The connection is closed then.
-pub(crate) fn drive<L: Read + Write + Drop>(core: &mut MtaCore, link: L, buffer: &mut [u8])
+pub(crate) fn drive<L: Read + Write + Drop, O: Observer>(
+    core: &mut MtaCore,
+    link: L,
+    buffer: &mut [u8],
+    observer: &mut O,
+)
     requires connected { IsConnected core.old }
     requires some_left { core.old.session.messages ≢ [] }
     ensures steps { Steps core.old core.new }
     ensures between { IsBetween core.new }
     ensures fewer { dials_left core.new < length core.old.session.messages }
+    ensures notes { Notes O.notes core.old core.new observer.old observer.new }
 {
+    events_keep_to_dialogues();
     let mut link = link;
     let mut retries = 0;
     for _ in 0..CALLS_MAX {
-        match turn(core, &mut link, buffer) {
+        match observed_turn(core, &mut link, buffer, observer) {
             Ok(()) => retries = 0,
             Err(Stop::Interrupted) if retries < RETRIES_MAX => retries += 1,
             Err(Stop::Interrupted) => break,
             Err(Stop::Lost(loss)) => {
-                core.lost(loss);
+                lose(core, loss, observer);
                 return;
             }
             Err(Stop::Over) => return,
         }
     }
-    core.lost(Loss::Reset);
+    lose(core, Loss::Reset, observer);
+}
+
+/// Gives up the connection, or the dial, and shows the observer what that settles.
+pub(crate) fn lose<O: Observer>(core: &mut MtaCore, loss: Loss, observer: &mut O)
+    ensures lost { core.new ≡ lost loss core.old }
+    ensures notes { NotesAdded O.notes core.old core.new observer.old observer.new }
+{
+    let shown = core.settled();
+    core.lost(loss);
+    show(core, shown, observer);
+}
+
+/// Makes the one read or write that is wanted next, and shows the observer what that settles.
+fn observed_turn<L: Read + Write, O: Observer>(
+    core: &mut MtaCore,
+    link: &mut L,
+    buffer: &mut [u8],
+    observer: &mut O,
+) -> Result<(), Stop>
+    requires { IsConnected core.old }
+    ensures turns { Turns core.old core.new result }
+    ensures notes { NotesAdded O.notes core.old core.new observer.old observer.new }
+{
+    let shown = core.settled();
+    let turned = turn(core, link, buffer);
+    show(core, shown, observer);
+    turned
 }
 
 /// Makes the one read or write that is wanted next.

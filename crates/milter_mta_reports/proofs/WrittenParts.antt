@@ -1,20 +1,19 @@
 -- Texts that are written to a writer one after the other.
-use Rattle.std.proofs.Common.{◌≡◌, ◌≢◌, ℕ, ◌+◌, ◌<◌, ◌≤◌, List, [], ◌++◌, Option, Result, Ok, Err, append_assoc, append-nil, drop, get_or, length, refl, sym, ap, subst, ◌∙◌, arith}
+use Rattle.std.proofs.Common.{◌≡◌, ◌≢◌, ℕ, suc, ◌+◌, ◌<◌, ◌≤◌, Bool, List, [], ◌∷◌, ◌++◌, Option, Result, Ok, Err, append_assoc, append-nil, drop, drop-cons, get_or, length, refl, sym, ap, subst, ◌∙◌, arith}
 use Rattle.std.specs.Prelude.{OnErr, OnOk}
 use Rattle.std.specs.Io.KnownBytes.{Appends}
 use Rattle.std.specs.Result.{IsErr}
-use Rattle.std.specs.List.{enumerate_from, flat_map}
 use Rattle.std.proofs.KnownBytes.{Appends-trans}
 use Rattle.std.proofs.lemmas.List.{drop_all}
-use Rattle.std.proofs.lemmas.List.FromFn.{get_or-enumerate_from, length-enumerate_from}
 use Rattle.milter_message.specs.declared.message.Held.{Held}
 use Rattle.milter_mta_outcome.specs.declared.outcome.Outcome.{Outcome}
 use Rattle.milter_mta_outcome.specs.declared.outcome.Outcome.TheVariants.{Released, Discarded, Refused, NoRecipients, RefusedAtConnection}
-use Rattle.milter_mta_reports.specs.ReportsText.{released_text}
+use Rattle.milter_mta_outcome.specs.declared.report.Report.{Report}
+use Rattle.milter_mta_outcome.specs.Losses.{is_by_client}
+use Rattle.milter_mta_reports.specs.ReportsText.{released_text, report_text, texts_from}
 use Rattle.milter_text.specs.WrittenText.{WritesPrefix, WritesText}
 use Rattle.milter_text.specs.TextWriter.{WritesAllBut}
 use Rattle.milter_text.specs.declared.text_fault.TextFault.{TextFault}
-use Rattle.milter_text.proofs.TextWriters.{flat_map-next}
 
 -- ---- a part of a text after those that were written
 
@@ -62,24 +61,25 @@ pub is_written : (text : List ℕ) (v u : Option (List ℕ)) (r : Result Unit Te
 is_written text v u (Ok k) done begun = done
 is_written text v u (Err e) done begun = begun
 
--- ---- numbered elements
+-- ---- texts of messages
 
 -- the next of them
-pub numbered-next : {X : Type 0} (f : ℕ × X → List ℕ) (xs : List X) (i : ℕ) (x : X) → i < length xs → x ≡ get_or xs i x
-    → flat_map f (drop i (enumerate_from 1 xs)) ≡ f (i + 1, x) ++ flat_map f (drop (i + 1) (enumerate_from 1 xs))
-numbered-next {X} f xs i x within is =
-    let n : 1 + i ≡ i + 1 = omega arith in
-    let all = enumerate_from 1 xs in
-    let inside : i < length all = rw (length-enumerate_from 1 xs) within in
-    let found : get_or all i (i + 1, x) ≡ (i + 1, x) =
-    get_or-enumerate_from 1 xs i (i + 1, x) within ∙ ap {B = ℕ × X} (λ k. (k, get_or xs i x)) n ∙ ap {B = ℕ × X} (λ y. (i + 1, y)) (sym is) in
-    flat_map-next f all i (i + 1, x) inside (sym found)
+pub texts-next : (is_named : Bool) (reports : List Report) (index : ℕ) (report : Report) → index < length reports → report ≡ get_or reports index report
+    → texts_from (index + 1) is_named (drop index reports)
+    ≡ report_text is_named (index + 1) report ++ texts_from (index + 1 + 1) (is_by_client report.settled_by) (drop (index + 1) reports)
+unfolding texts_from
+texts-next is_named reports index report within is =
+    let next : suc index ≡ index + 1 = omega arith in
+    let e : drop index reports ≡ report ∷ drop (index + 1) reports =
+    drop-cons reports index report within ∙ ap (λ (r : Report). r ∷ drop (suc index) reports) (sym is) ∙ ap (λ (k : ℕ). report ∷ drop k reports) next in
+    let n : suc (index + 1) ≡ index + 1 + 1 = omega arith in
+    ap (texts_from (index + 1) is_named) e
+    ∙ ap (λ (k : ℕ). report_text is_named (index + 1) report ++ texts_from k (is_by_client report.settled_by) (drop (index + 1) reports)) n
 
 -- none is left
-pub numbered-end : {X : Type 0} (f : ℕ × X → List ℕ) (xs : List X) (i : ℕ) → length xs ≤ i → flat_map f (drop i (enumerate_from 1 xs)) ≡ []
-numbered-end f xs i past =
-    let inside : length (enumerate_from 1 xs) ≤ i = rw (length-enumerate_from 1 xs) past in
-    ap (flat_map f) (drop_all i (enumerate_from 1 xs) inside)
+pub texts-end : (is_named : Bool) (reports : List Report) (index : ℕ) → length reports ≤ index → texts_from (index + 1) is_named (drop index reports) ≡ []
+unfolding texts_from
+texts-end is_named reports index past = ap (texts_from (index + 1) is_named) (drop_all index reports past)
 
 -- ---- the text of a message
 

@@ -1,7 +1,8 @@
--- How what became of a session's messages is written: a line for the verdict on the connection, and for each message a
--- line, one for each verdict that was acted on, and the text of a message that is released.
-use Rattle.std.specs.Prelude.{ℕ, List, [], ◌∷◌, ◌++◌, codes, decimal, Option, None, Some}
-use Rattle.std.specs.List.{enumerate_from, flat_map}
+-- How what became of a session's messages is written: for each message a line, one for each verdict that was acted on,
+-- and the text of a message that is released; and before the first message that a verdict on the client settled a line
+-- for that verdict.
+use Rattle.std.specs.Prelude.{ℕ, suc, Bool, true, false, List, [], ◌∷◌, ◌++◌, codes, decimal, Option, None, Some, option_map}
+use Rattle.std.specs.List.{flat_map}
 use Rattle.milter_wire.specs.declared.verdict.Verdict.{Verdict}
 use Rattle.milter_wire.specs.declared.verdict.Verdict.TheVariants.{Code}
 use Rattle.milter_wire.specs.Stages.{name_of}
@@ -14,8 +15,9 @@ use Rattle.milter_mta_outcome.specs.declared.loss.Loss.TheVariants.{Reset, Timeo
 use Rattle.milter_mta_outcome.specs.declared.outcome.Outcome.{Outcome}
 use Rattle.milter_mta_outcome.specs.declared.outcome.Outcome.TheVariants.{Released, Discarded, Refused, NoRecipients, RefusedAtConnection}
 use Rattle.milter_mta_outcome.specs.declared.report.Report.{Report}
-use Rattle.milter_mta_outcome.specs.Losses.{mta_fault_number}
+use Rattle.milter_mta_outcome.specs.Losses.{is_by_client, mta_fault_number}
 use Rattle.milter_mta_outcome.specs.Refusals.{refusal_text}
+use Rattle.milter_mta_transaction.specs.TransactionVerdicts.{last_verdict}
 use Rattle.milter_mta.specs.Accounts.{Disposition}
 
 -- a word and a number in decimal, and a blank after each
@@ -65,9 +67,26 @@ released_text other = []
 abbrev pub report_lines : ℕ → Report → List ℕ
 report_lines number report = message_line number report ++ flat_map acted_line report.acted
 
-unfoldable pub report_text : ℕ × Report → List ℕ
-report_text (number, report) = report_lines number report ++ released_text report.outcome
+-- The verdict on the client that settled a message, its last one, unless its line stands already: unless it is named.
+unfoldable pub named_verdict : Bool → Bool → List Acted → Option Verdict
+named_verdict false true acted = option_map (λ last. last.verdict) (last_verdict acted)
+named_verdict is_named is_by_client acted = None
+
+-- the lines of the message with this number, after that of the verdict on the client
+abbrev pub settled_lines : Bool → ℕ → Report → List ℕ
+settled_lines is_named number report =
+    connection_line (named_verdict is_named (is_by_client report.settled_by) report.acted)
+    ++ report_lines number report
+
+unfoldable pub report_text : Bool → ℕ → Report → List ℕ
+report_text is_named number report = settled_lines is_named number report ++ released_text report.outcome
+
+-- the texts of messages that are numbered from this number on
+unfoldable pub texts_from : ℕ → Bool → List Report → List ℕ
+texts_from number is_named [] = []
+texts_from number is_named (report ∷ reports) =
+    report_text is_named number report ++ texts_from (suc number) (is_by_client report.settled_by) reports
 
 -- the messages are numbered from 1
-unfoldable pub reports_text : Disposition → List ℕ
-reports_text s = connection_line s.connection ++ flat_map report_text (enumerate_from 1 s.messages)
+abbrev pub reports_text : Disposition → List ℕ
+reports_text s = texts_from 1 false s.messages

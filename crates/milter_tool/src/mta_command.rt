@@ -3,17 +3,16 @@
 use crate::session_file::session_at;
 use crate::session_reports::{end_reports, expected_at, kept_error};
 use milter_cli::{
-    Connect, Negotiation, SeenDial, TcpDial, UnixDial, WaitingDial, mta_run, parse_macros,
-    with_macros,
+    Connect, Negotiation, SeenDial, TcpDial, UnixDial, WaitingDial, parse_macros, with_macros,
 };
 use milter_cli_faults::Failure;
 use milter_cli_io::{ToolError, output_error};
 use milter_cli_request::{Address, GivenMacro, MtaRequest, Target};
 use milter_mail::Session;
 use milter_mta::Config;
-use milter_mta_client::Dial;
+use milter_mta_play::mta_run;
 use milter_text::write_text;
-use std::io::{self, Write};
+use std::io;
 use std::net::{Net, TcpStream};
 use std::rt::{Clock, Files};
 use std::time::Duration;
@@ -50,8 +49,9 @@ pub(crate) fn play_session<'x, R: Net<Stream = TcpStream> + Files + Clock + Prin
     }
 }
 
-/// Plays the session over the connections that `dial` makes. The reports are kept until it is known that there was a
-/// connection, what was negotiated on it, or that they are the expected ones, where that is asked for.
+/// Plays the session over the connections that `dial` makes. The report of each message is printed once it is settled.
+/// The reports are kept until it is known that there was a connection, what was negotiated on it, or that they are the
+/// expected ones, where that is asked for.
 fn play_session_over<'x, R: Files + Clock + Print + AllocGlobal, D: Connect + Drop>(
     rt: &R,
     config: Config,
@@ -67,13 +67,18 @@ fn play_session_over<'x, R: Files + Clock + Print + AllocGlobal, D: Connect + Dr
     let mut dial = SeenDial::new(waiting, negotiation.as_ref());
     if asked.wait == 0 && asked.expect.is_none() && !asked.show_negotiation {
         let session = session_with(rt, asked.session, macros.as_slice())?;
-        return Ok(play_over(rt, config, session, &mut dial, &mut io::writer(rt))?);
+        let (_, played) = mta_run(rt.alloc(), config, session, &mut dial, io::writer(rt));
+        return match played {
+            Ok(()) => Ok(()),
+            Err(fault) => Err(Failure::from(output_error(fault))),
+        };
     }
     let expected = expected_at(rt, asked.expect)?;
     let session = session_with(rt, asked.session, macros.as_slice())?;
-    let mut found = Vec::new(rt.alloc());
-    if let Err(error) = play_over(rt, config, session, &mut dial, &mut found) {
-        return Err(Failure::from(kept_error(error)));
+    let found = Vec::new(rt.alloc());
+    let (found, played) = mta_run(rt.alloc(), config, session, &mut dial, found);
+    if let Err(fault) = played {
+        return Err(Failure::from(kept_error(output_error(fault))));
     }
     let waited = dial.dial_below();
     if waited.has_failed() {
@@ -91,20 +96,6 @@ fn session_with<R: Files + AllocGlobal>(
 ) -> Result<Session, ToolError> {
     let session = session_at(rt, path)?;
     with_macros(rt.alloc(), session, macros)
-}
-
-/// Plays a session over the connections that `dial` makes.
-fn play_over<R: AllocGlobal, D: Dial, W: Write>(
-    rt: &R,
-    config: Config,
-    session: Session,
-    dial: &mut D,
-    writer: &mut W,
-) -> Result<(), ToolError> {
-    match mta_run(rt.alloc(), config, session, dial, writer) {
-        Ok(()) => Ok(()),
-        Err(fault) => Err(output_error(fault)),
-    }
 }
 
 /// Prints what was negotiated, where that is asked for.

@@ -1,0 +1,2 @@
+pub mod LoggedReports
+pub mod MtaRuns
