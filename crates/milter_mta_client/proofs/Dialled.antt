@@ -1,5 +1,5 @@
 -- A connection that was just made.
-use Rattle.std.proofs.Common.{◌≡◌, ◌≢◌, ◌<◌, arith, Bool, true, false, List, [], length, Option, None, Some, refl, sym, subst}
+use Rattle.std.proofs.Common.{◌≡◌, ◌≢◌, ◌<◌, arith, ℕ, Bool, true, false, List, [], length, Option, None, Some, refl, sym, subst}
 use Rattle.milter_message.specs.MailObject.{MailObject}
 use Rattle.milter_mta_outcome.specs.declared.loss.Loss.{Loss}
 use Rattle.milter_mta.specs.declared.want.Want.{Want}
@@ -9,7 +9,10 @@ use Rattle.milter_mta.specs.Mta.Position.{Ended, Offering, Quitting, Sending}
 use Rattle.milter_mta.specs.Output.{dialled, dialled_if, want, want_at, want_if_owed, want_in, want_unconnected}
 use Rattle.milter_mta.specs.Dispositions.{lost}
 use Rattle.milter_mta_client.specs.ConnectionRuns.{IsConnected, dials_left, dials_left_with}
+use Rattle.milter_mta_outcome.specs.declared.report.Report.{Report}
+use Rattle.milter_mta_client.specs.Observations.{Notes, NotesAdded}
 use Rattle.milter_mta_client.proofs.Connected.{lost-fewer}
+use Rattle.milter_mta_client.proofs.Noted.{notes-none}
 
 -- what is known where a connection is wanted
 pub record IsDialled (m : Mta) : Type 0 where
@@ -53,3 +56,13 @@ is-dialled m e = record {
 pub lost-down : (m : Mta) (loss : Loss) → want m ≡ wants.Dial → dials_left (lost loss m) < dials_left m
 lost-down m loss e =
     omega (arith, lost-fewer m m loss (omega arith) (some-left m.filter_connection m.session.messages e), all-left m.filter_connection m.session.messages e)
+
+-- no report is added
+pub dialled-notes : {O : Type 0} (notes : O → ℕ → Report → O → Type 0) (m : Mta) (a : O) → Notes notes m (dialled m) a a
+dialled-notes notes m a on = by_want (want m)
+  where
+    by_want : (w : Want) → NotesAdded notes m (dialled_if w m) a a
+    by_want wants.Dial = notes-none notes m a
+    by_want wants.Send = notes-none notes m a
+    by_want wants.Receive = notes-none notes m a
+    by_want wants.Done = notes-none notes m a

@@ -1,25 +1,34 @@
 -- Reports that an observer notes one after the other.
-use Rattle.std.proofs.Common.{◌≡◌, ◌+◌, ◌<◌, arith, ℕ, suc, List, [], ◌∷◌, ◌++◌, append_assoc, append-nil, drop, get_or, length, length-append, refl, sym, ap, ◌∙◌, subst}
+use Rattle.std.proofs.Common.{◌≡◌, ◌+◌, ◌<◌, arith, ℕ, suc, List, [], ◌∷◌, ◌++◌, append_assoc, append-nil, drop, drop-cons, get_or, length, length-append, refl, sym, ap, ◌∙◌, subst}
 use Rattle.std.proofs.Math.Seq.{drop-append_seam}
-use Rattle.std.proofs.lemmas.List.{drop-cons, drop_all}
+use Rattle.std.proofs.lemmas.List.{drop_all}
 use Rattle.milter_mta_outcome.specs.declared.report.Report.{Report}
+use Rattle.milter_mta_outcome.specs.declared.loss.Loss.{Loss}
 use Rattle.milter_mta.specs.Mta.{Mta}
+use Rattle.milter_mta.specs.Dispositions.{lost}
 use Rattle.milter_mta_laws.specs.AnyFilter.{GoesOnDialogues, IsOnDialogue}
 use Rattle.milter_mta_client.specs.ConnectionRuns.{Steps}
-use Rattle.milter_mta_client.specs.Events.{Event, Runs}
+use Rattle.milter_mta_client.specs.Events.{Event, IsOutside, Runs}
+use Rattle.milter_mta_client.specs.Events.Event.{GaveUp}
 use Rattle.milter_mta_client.specs.Observations.{Notes, NotesAdded, NotesEach}
+use Rattle.milter_mta_client.proofs.EventRuns.{one-step}
 
 -- whatever happens to a mail server's end on a dialogue, it goes on so
-pub KeepsToDialogues : Type 0
+abbrev pub KeepsToDialogues : Type 0
 KeepsToDialogues = (old new : Mta) (events : List Event) → IsOnDialogue old → Runs old events new → GoesOnDialogues old new
+
+-- what is noted of some reports completes what is noted of others
+abbrev pub Completes : {O : Type 0} → (O → ℕ → Report → O → Type 0) → ℕ → List Report → O → ℕ → List Report → O → Type 0
+Completes {O} notes number reports old first all begin = (last : O) → NotesEach notes number reports old last → NotesEach notes first all begin last
 
 module _ {O : Type 0} (notes : O → ℕ → Report → O → Type 0) where
   -- the report at an index, and then those after it
   pub noted-next : (reports : List Report) (index : ℕ) (report : Report) (a b c : O) → index < length reports → report ≡ get_or reports index report
       → notes a (index + 1) report b → NotesEach notes (index + 1 + 1) (drop (index + 1) reports) b c → NotesEach notes (index + 1) (drop index reports) a c
   noted-next reports index report a b c within is note rest =
+      let after : suc index ≡ index + 1 = omega arith in
       let e : drop index reports ≡ report ∷ drop (index + 1) reports =
-      drop-cons reports index report within ∙ ap (λ (r : Report). r ∷ drop (suc index) reports) (sym is) ∙ ap (λ (n : ℕ). report ∷ drop n reports) (omega arith) in
+      drop-cons reports index report within ∙ ap (λ (r : Report). r ∷ drop (suc index) reports) (sym is) ∙ ap (λ (k : ℕ). report ∷ drop k reports) after in
       let more : NotesEach notes (suc (index + 1)) (drop (index + 1) reports) b c =
       subst (λ (n : ℕ). NotesEach notes n (drop (index + 1) reports) b c) (omega arith) rest in
       subst (λ (l : List Report). NotesEach notes (index + 1) l a c) (sym e) (b, note, more)
@@ -58,3 +67,8 @@ module _ {O : Type 0} (notes : O → ℕ → Report → O → Type 0) where
       let one = law old between first.events on first.runs in
       let two = law between new next.events one.on_dialogue next.runs in
       noted-parts old.reports between.reports new.reports one.settles.added two.settles.added a b c one.settles.reports_are two.settles.reports_are (noted on) (then one.on_dialogue)
+
+-- ---- what a loss does
+
+pub lost-step : (m new : Mta) (loss : Loss) → IsOutside loss → new ≡ lost loss m → Steps m new
+lost-step m new loss outside is = subst (Steps m) (sym is) (one-step m (lost loss m) (GaveUp loss) (outside, refl))

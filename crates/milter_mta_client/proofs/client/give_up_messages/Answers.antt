@@ -5,14 +5,16 @@ use Rattle.milter_mta_client.specs.ConnectionRuns.{IsBetween, Steps}
 use Rattle.milter_mta_client.specs.Events.Event.{GaveUp}
 use Rattle.milter_mta_client.proofs.Connected.{lost-between}
 use Rattle.milter_mta_client.proofs.EventRuns.{one-step, steps-on}
+use Rattle.milter_mta_client.proofs.Noted.{notes-on}
 use Rattle.milter_mta_client.proofs.client.give_up_messages.Goals as goal
 
 pub loop-core-preserved : goal.loop-core-preserved
-loop-core-preserved c =
+loop-core-preserved g c =
     let start = c.args.core.now in
     let m = c.loop-core.core in
+    let step = subst (Steps m) (sym c.lose.ensures.lost) (one-step m (lost Memory m) (GaveUp Memory) (tt, refl)) in
     record {
-      steps = subst (Steps start) (sym c.lost.ensures)
-          (steps-on start m (lost Memory m) c.loop-core.invariant.steps (one-step m (lost Memory m) (GaveUp Memory) (tt, refl)));
-      between = subst IsBetween (sym c.lost.ensures) (lost-between Memory m);
+      steps = steps-on start m c.lose.new.core c.loop-core.invariant.steps step;
+      between = subst IsBetween (sym c.lose.ensures.lost) (lost-between Memory m);
+      notes = notes-on g.O.Observer.notes c.events_keep_to_dialogues.ensures start m c.lose.new.core _ _ _ c.loop-core.invariant.steps step c.loop-core.invariant.notes (λ on. c.lose.ensures.notes);
     }
