@@ -1,9 +1,11 @@
 -- What a log leaves of the reports that it is shown one after the other.
-use Rattle.std.proofs.Common.{◌≡◌, ℕ, suc, Bool, List, [], ◌∷◌, ◌++◌, Option, None, refl, sym, ap, ◌∙◌, subst}
+use Rattle.std.proofs.Common.{◌≡◌, ◌+◌, ℕ, suc, Bool, drop, length, List, [], ◌∷◌, ◌++◌, Option, None, refl, sym, ap, ◌∙◌, subst}
 use Rattle.std.specs.Io.KnownBytes.{Appends}
 use Rattle.std.proofs.KnownBytes.{Appends-nil, Appends-trans}
 use Rattle.milter_mta_outcome.specs.declared.report.Report.{Report}
 use Rattle.milter_mta_outcome.specs.Losses.{is_by_client}
+use Rattle.milter_mta.specs.Mta.{Mta}
+use Rattle.milter_mta_laws.specs.AnyFilter.{IsOnDialogue}
 use Rattle.milter_mta_client.specs.Observations.{NotesEach}
 use Rattle.milter_mta_reports.specs.ReportsText.{report_text, texts_from}
 use Rattle.milter_mta_play.specs.declared.report_log.ReportLog.{ReportLog}
@@ -31,3 +33,13 @@ are-logged contents number (report ∷ reports) old new notes none =
           Appends-trans (contents old.writer) (contents notes.0.writer) (contents new.writer) (report_text old.is_named number report)
           (texts_from (suc number) (is_by_client report.settled_by) reports) first.written others;
     }
+
+-- of a mail server's end without reports
+pub all-are-logged : {W : Type 0} (contents : W → Option (List ℕ)) (m start : Mta) (reports : List Report) (old new : ReportLog W) → m ≡ start → start.reports ≡ []
+    → (IsOnDialogue m → NotesEach (LogNotes contents) (length m.reports + 1) (drop (length m.reports) reports) old new) → IsOnDialogue start → new.fault ≡ None
+    → Appends (contents old.writer) (contents new.writer) (texts_from 1 old.is_named reports)
+all-are-logged contents m start reports old new is none notes on unbroken =
+    let noted : NotesEach (LogNotes contents) 1 reports old new =
+    subst (λ (l : List Report). NotesEach (LogNotes contents) (length l + 1) (drop (length l) reports) old new) none
+    (subst (λ (x : Mta). IsOnDialogue x → NotesEach (LogNotes contents) (length x.reports + 1) (drop (length x.reports) reports) old new) is notes on) in
+    (are-logged contents 1 reports old new noted unbroken).written
