@@ -1,3 +1,4 @@
 pub mod ExpectedReports
 pub mod FilterRuns
 pub mod InMemory
+pub mod LimitedLinks
