@@ -3,7 +3,8 @@
 `milter_tool filter` with the rules of the rows in lib/reports.py and in the tables of `play`, which are played in
 memory too, and with each of its allocations refused in turn; and to filters of this file's own that close, reset or
 keep silent after each of their replies, or that send what is no reply. Besides, what is printed of a negotiation, the
-macros of a command line, addresses where nothing listens, and a standard output that is full. What is run is what
+macros of a command line, connections that are closed after so many bytes, addresses where nothing listens, and a
+standard output that is full. What is run is what
 `rt ci` built; nothing is proved here.
 
 Counted are the runs.
@@ -312,6 +313,79 @@ def macros(program, kind, folder):
     yield checked('a macro that is too long', too_long)
 
 
+def whole_packets(stream):
+    """The packets of a stream that are whole."""
+    while len(stream) >= 4 and (end := 4 + int.from_bytes(stream[:4], 'big')) <= len(stream):
+        yield stream[:end]
+        stream = stream[end:]
+
+
+def recorded(found):
+    """A function that replies to what comes, and adds all of it to these once the connection has ended."""
+
+    def function(connection):
+        stream, end = b'', 0
+        try:
+            while piece := connection.recv(1 << 16):
+                stream += piece
+                for packet in whole_packets(stream[end:]):
+                    end += len(packet)
+                    if packet[4] not in UNANSWERED:
+                        connection.sendall(AGREED if packet[4:5] == b'O' else CONTINUE)
+        except ConnectionError:
+            # It was closed before the reply was read; nothing was sent after the command.
+            pass
+        found.append(stream)
+
+    return function
+
+
+def closings(program, kind, folder):
+    """Connections that --at-loss closes: the filter gets that many bytes and no more, and the message after the one
+    that is lost comes over a new connection, whole."""
+
+    def streams_of(functions, found, words=()):
+        stub = Stub(kind, folder, functions)
+        end = ended(program, stub.address, folder, reports.session(MESSAGES), words)
+        stub.end()
+        return found, end
+
+    found = []
+    whole, = streams_of([recorded(found)], found)[0]
+    found = []
+    second, = streams_of([reply([], 'close'), recorded(found)], found)[0]
+    ends, end = [], 0
+    for packet in whole_packets(whole):
+        end += len(packet)
+        ends.append((end, packet[4]))
+    answered = [end for end, code in ends if code not in UNANSWERED]
+    settled = [end for end, code in ends if code == ord('E')]
+
+    def run(count):
+        streams = [whole[:count]]
+        lost = count <= settled[0]
+        if lost:
+            # Each reply to a command before the last byte is read, and the first of them is no verdict.
+            acted = max(sum(end < count for end in answered) - 1, 0)
+            expected = defaults('reset', acted, count=1) + reports.expected(1).replace('message 1', 'message 2')
+            streams.append(second)
+        elif count <= settled[1]:
+            acted = len(reports.commands(reports.BODY)) - 1
+            expected = reports.expected(1) + defaults('reset', acted, first=2, count=1)
+        else:
+            expected = reports.expected(MESSAGES)
+        found = []
+        result = streams_of([recorded(found)] * len(streams), found, ['--at-loss', str(count)])
+        expect('the run', result, (streams, (0, expected, '')))
+
+    first = answered[0]
+    counts = {0, 1, 3, 4, 5, first - 1, first, first + 1, settled[0] - 1, settled[0], settled[1] - 1, settled[1]}
+    counts.update(answered[1:6])
+    counts.update(end + 2 for end in answered[1:6])
+    for count in sorted(counts | {len(whole) - 1, len(whole), len(whole) + 1, (1 << 32) - 1}):
+        yield checked('closed after %d bytes' % count, run, count)
+
+
 def unheard(program, kind, folder):
     """Addresses where nothing listens, and a standard output that is full."""
     _, address = serving.place_of(kind, folder)
@@ -363,7 +437,8 @@ def groups(folder):
         program = programs.tool(build)
         for kind in serving.KINDS:
             name = '%s at %s' % (os.path.basename(program), kind)
-            for group in [rows, in_memory, of_play, documented, losses, faults, negotiations, macros, unheard, refused]:
+            for group in [rows, in_memory, of_play, documented, losses, faults, negotiations, macros, closings, unheard,
+                          refused]:
                 yield name, group, (program, kind, tempfile.mkdtemp(dir=folder))
 
 

@@ -370,7 +370,7 @@ module _ (losses : BorrowedWords) where
   record_shape = built_leaf (inherited (with_leaf_noted (marked_built (tool_app losses).top)) record_app.top)
 
   mta_fills : Each Fills mta_shape.rules
-  mta_fills = (inr (inl refl), (inr (inl refl), (inr (inl refl), (inr (inl refl), (inr (inl refl), (inr (inl refl), (inr (inl refl), (inr (inl refl), (inr (inr refl), (inr (inl refl), (inr (inr refl), (inl refl, tt))))))))))))
+  mta_fills = (inr (inl refl), (inr (inl refl), (inr (inl refl), (inr (inl refl), (inr (inl refl), (inr (inl refl), (inr (inl refl), (inr (inl refl), (inr (inr refl), (inr (inl refl), (inr (inl refl), (inr (inr refl), (inl refl, tt)))))))))))))
 
   serve_fills : Each Fills serve_shape.rules
   serve_fills = (inr (inl refl), (inr (inl refl), (inr (inl refl), (inr (inl refl), (inr (inl refl), (inr (inr refl), (inr (inr refl), (inr (inr refl), (inr (inr refl), (inl refl, tt))))))))))

@@ -10,7 +10,7 @@ use Rattle.clap.specs.Walk.{texts}
 use Rattle.clap.specs.declared.error.Error.{Error}
 use Rattle.clap.specs.declared.parser.matches.ArgMatches.{ArgMatches}
 use Rattle.milter_cli_words.specs.declared.limits.TheConstants.{AT_ONCE_MAX, BODIES_MAX, COUNT_MAX, IDLE_MAX, MODE_MAX}
-use Rattle.milter_cli_words.specs.declared.limits.TheConstants.{LOAD_SECONDS_MAX, MESSAGES_MAX, RATE_MAX, SEED_MAX}
+use Rattle.milter_cli_words.specs.declared.limits.TheConstants.{LOAD_SECONDS_MAX, MESSAGES_MAX, RATE_MAX, SEED_MAX, SENT_MAX}
 use Rattle.milter_cli_words.specs.declared.limits.TheConstants.{TIMEOUT_MAX, WAIT_MAX}
 use Rattle.milter_cli_words.specs.Subcommands.{tool_app}
 use Rattle.milter_cli_words.specs.Words.{AreLossWords, BorrowedWords}
@@ -110,6 +110,7 @@ IsAsked (name, values) (Mta asked) =
     × (first_of (codes "expect") values ≡ text_of asked.expect)
     × IsFlag (first_of (codes "show-negotiation") values) asked.show_negotiation
     × (given_values (codes "macro") values ≡ texts asked.macros.items)
+    × IsNumber 0 SENT_MAX (first_of (codes "at-loss") values) asked.at_loss
 IsAsked (name, values) (Play asked) =
     (name ≡ codes "play") × (first_of (codes "session") values ≡ Some asked.session.now)
     × (first_of (codes "rules") values ≡ text_of asked.rules)

@@ -7,7 +7,7 @@ ghost use Rattle.clap.specs.Words.{found_of, rows_of, subcommand_rows_of};
 ghost use Rattle.milter_cli_words.specs.Words.{AreLossWords};
 ghost use Rattle.milter_cli_words.specs.declared.limits.TheConstants.{AT_ONCE_MAX, BODIES_MAX, COUNT_MAX, IDLE_MAX};
 ghost use Rattle.milter_cli_words.specs.declared.limits.TheConstants.{LOAD_SECONDS_MAX, MESSAGES_MAX, MODE_MAX, RATE_MAX};
-ghost use Rattle.milter_cli_words.specs.declared.limits.TheConstants.{SEED_MAX, TIMEOUT_MAX, WAIT_MAX};
+ghost use Rattle.milter_cli_words.specs.declared.limits.TheConstants.{SEED_MAX, SENT_MAX, TIMEOUT_MAX, WAIT_MAX};
 ghost use Rattle.milter_cli_request.specs.CommandLine.{IsLoss, IsNumber, IsNumberOr, IsRequestOf, IsRequestOfNamed};
 ghost use Rattle.milter_cli_request.specs.CommandLine.{MatchesAs, ParsesAs, text_of};
 
@@ -50,7 +50,7 @@ const PROBE_TIMEOUT_DEFAULT: u32 = 5;
 /// and the same two numbers of how many connections are open at once, of how many seconds they may be idle, and of the
 /// digits of a mode. Of a body's bytes that are printed, and of a load's seconds, messages and messages a second, there
 /// are these at most; a load has this many connections at once where the command line has no number, and trials have
-/// this seed, and this many seconds for a reply.
+/// this seed, and this many seconds for a reply. A connection is closed after so many bytes at most.
 pub fn command_line_limits()
     ensures count_default { COUNT_DEFAULT ≡ 1 }
     ensures count_most { COUNT_MAX ≡ 1000000 }
@@ -70,6 +70,7 @@ pub fn command_line_limits()
     ensures rate_most { RATE_MAX ≡ 1000000 }
     ensures seed_default { SEED_DEFAULT ≡ 1 }
     ensures seed_most { SEED_MAX ≡ 2 ^ 32 - 1 }
+    ensures sent_most { SENT_MAX ≡ 2 ^ 32 - 1 }
     ensures probe_timeout_default { PROBE_TIMEOUT_DEFAULT ≡ 5 }
 {}
 
@@ -242,6 +243,7 @@ fn mta_request<'a>(alloc: Global, given: &ArgMatches<'a>) -> Result<Option<Reque
         expect: given.get_str("expect"),
         show_negotiation: is_set(given.get_str("show-negotiation")),
         macros,
+        at_loss: number(given.get_str("at-loss")),
     })))
 }
 

@@ -126,6 +126,8 @@ pub struct MtaRequest<'a> {
     pub show_negotiation: bool,
     /// The macros that are sent besides those of the session, or in place of them: the text of each.
     pub macros: Vec<&'a str>,
+    /// After how many bytes to the filter the first connection is closed, where it is.
+    pub at_loss: Option<u32>,
 }
 
 /// A session that is to be played to a filter in memory.

@@ -2,7 +2,7 @@
 use Rattle.std.specs.Prelude.{List, [], ◌∷◌, codes, true}
 use Rattle.clap.specs.Words.{App, Rule, Text, new_app, with_subcommand}
 use Rattle.milter_cli_words.specs.declared.limits.TheConstants.{AT_ONCE_MAX, BODIES_MAX, COUNT_MAX, IDLE_MAX, MODE_MAX}
-use Rattle.milter_cli_words.specs.declared.limits.TheConstants.{LOAD_SECONDS_MAX, MESSAGES_MAX, RATE_MAX, SEED_MAX}
+use Rattle.milter_cli_words.specs.declared.limits.TheConstants.{LOAD_SECONDS_MAX, MESSAGES_MAX, RATE_MAX, SEED_MAX, SENT_MAX}
 use Rattle.milter_cli_words.specs.declared.limits.TheConstants.{TIMEOUT_MAX, WAIT_MAX}
 use Rattle.milter_cli_words.specs.Words.{BorrowedWords, any_places_rule, flag_rule, loss_rule, number_rule, option_rule}
 use Rattle.milter_cli_words.specs.Words.{options_rule, place_rule, places_rule, up_to_rule, with_rules}
@@ -53,7 +53,7 @@ mta_app losses =
     (place_rule (codes "address") ∷ place_rule (codes "session") ∷ loss_rule losses
     ∷ number_rule (codes "timeout") TIMEOUT_MAX ∷ option_rule (codes "actions") ∷ option_rule (codes "protocol")
     ∷ number_rule (codes "wait") WAIT_MAX ∷ option_rule (codes "expect") ∷ flag_rule (codes "show-negotiation")
-    ∷ options_rule (codes "macro") ∷ flag_rule (codes "explain") ∷ [])
+    ∷ options_rule (codes "macro") ∷ up_to_rule (codes "at-loss") SENT_MAX ∷ flag_rule (codes "explain") ∷ [])
 
 abbrev pub play_app : BorrowedWords → App
 play_app losses =

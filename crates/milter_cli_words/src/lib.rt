@@ -15,6 +15,6 @@ mod word;
 
 pub use limits::{
     AT_ONCE_MAX, BODIES_MAX, COUNT_MAX, IDLE_MAX, LOAD_SECONDS_MAX, MESSAGES_MAX, MODE_MAX,
-    RATE_MAX, SEED_MAX, TIMEOUT_MAX, WAIT_MAX,
+    RATE_MAX, SEED_MAX, SENT_MAX, TIMEOUT_MAX, WAIT_MAX,
 };
 pub use subcommands::{VERSION, command};

@@ -30,5 +30,8 @@ pub const RATE_MAX: u64 = 1_000_000;
 /// The greatest seed.
 pub const SEED_MAX: u64 = 4_294_967_295;
 
+/// The most bytes after which a connection is closed.
+pub const SENT_MAX: u64 = 4_294_967_295;
+
 /// The greatest digits of a mode.
 pub const MODE_MAX: u64 = 777;

@@ -12,7 +12,8 @@ as inet:8890@127.0.0.1. SESSION is a session file: milter_tool help session has
 its form. Its messages are played one after another. A connection that is lost
 settles the message that is being played by --loss, and the next one is played
 over a new connection. With --wait connecting is tried again until a filter
-listens.
+listens. With --at-loss the first connection is closed once N bytes were sent
+over it, as where a mail server goes away in mid-stream; with 0 at once.
 
 MACRO is STAGE:NAME=VALUE, where STAGE is connect, helo, mail, rcpt, data, eoh
 or eom. It is sent at STAGE after the macros of the session, and in place of

@@ -2,7 +2,7 @@
 
 use crate::limits::{
     AT_ONCE_MAX, BODIES_MAX, COUNT_MAX, IDLE_MAX, LOAD_SECONDS_MAX, MESSAGES_MAX, MODE_MAX,
-    RATE_MAX, SEED_MAX, TIMEOUT_MAX, WAIT_MAX,
+    RATE_MAX, SEED_MAX, SENT_MAX, TIMEOUT_MAX, WAIT_MAX,
 };
 use crate::word::{Kind, Word};
 
@@ -207,6 +207,13 @@ pub(crate) const MACRO: Word<'static> = Word {
     name: "macro",
     value: "MACRO",
     help: "STAGE:NAME=VALUE; may be given more than once",
+};
+
+pub(crate) const AT_LOSS: Word<'static> = Word {
+    kind: Kind::UpTo(SENT_MAX),
+    name: "at-loss",
+    value: "N",
+    help: "Closes once N bytes were sent, up to 4,294,967,295",
 };
 
 pub(crate) const LOAD_AT_ONCE: Word<'static> = Word {

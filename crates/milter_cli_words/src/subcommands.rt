@@ -8,11 +8,11 @@ ghost use Rattle.milter_cli_words.specs.Subcommands.{serve_app, session_app, too
 ghost use Rattle.milter_cli_words.specs.Words.{IsLocal, loss_rule};
 
 use crate::rows::{
-    ACTIONS, ADDRESS, ADDRESSES, ALL_STAGES, AT_ONCE, BODIES, CHECK, COUNT, DIRECTORY, EVENTS,
-    EXPECT, EXPLAIN, FILTER_ADDRESS, IDLE, IGNORE_CASE, JSON, LEAST_STAGES, LENIENT, LISTEN,
-    LOAD_AT_ONCE, LOAD_SECONDS, LOG, LOSS, MACRO, MESSAGES, MODE, NAMES, ONLY, PCAP, PROBE_TIMEOUT,
-    PROTOCOL, RATE, RECORD_COUNT, REPLY_TIMEOUT, RULE_FILE, RULES, SEED, SESSION, SESSION_FILE,
-    SHOW_NEGOTIATION, TIMEOUT, TRACE, TRACE_FILES, WAIT,
+    ACTIONS, ADDRESS, ADDRESSES, ALL_STAGES, AT_LOSS, AT_ONCE, BODIES, CHECK, COUNT, DIRECTORY,
+    EVENTS, EXPECT, EXPLAIN, FILTER_ADDRESS, IDLE, IGNORE_CASE, JSON, LEAST_STAGES, LENIENT,
+    LISTEN, LOAD_AT_ONCE, LOAD_SECONDS, LOG, LOSS, MACRO, MESSAGES, MODE, NAMES, ONLY, PCAP,
+    PROBE_TIMEOUT, PROTOCOL, RATE, RECORD_COUNT, REPLY_TIMEOUT, RULE_FILE, RULES, SEED, SESSION,
+    SESSION_FILE, SHOW_NEGOTIATION, TIMEOUT, TRACE, TRACE_FILES, WAIT,
 };
 use crate::word::{Help, choice, subcommand, with_words};
 use crate::{help_text, load_help, mta_help, probe_help, record_help, replay_help, trace_help};
@@ -200,6 +200,7 @@ fn mta<'a>(alloc: Global, losses: &'a [&'a str]) -> Result<Command<'a>, AllocErr
             EXPECT,
             SHOW_NEGOTIATION,
             MACRO,
+            AT_LOSS,
             EXPLAIN,
         ],
     )

@@ -3,7 +3,8 @@
 use crate::session_file::session_at;
 use crate::session_reports::{end_reports, expected_at, kept_error};
 use milter_cli::{
-    Connect, Negotiation, SeenDial, TcpDial, UnixDial, WaitingDial, parse_macros, with_macros,
+    Connect, LimitedDial, Negotiation, SeenDial, TcpDial, UnixDial, WaitingDial, parse_macros,
+    with_macros,
 };
 use milter_cli_faults::Failure;
 use milter_cli_io::{ToolError, output_error};
@@ -64,7 +65,8 @@ fn play_session_over<'x, R: Files + Clock + Print + AllocGlobal, D: Connect + Dr
         false => None,
     };
     let waiting = WaitingDial::new(rt, dial, asked.wait);
-    let mut dial = SeenDial::new(waiting, negotiation.as_ref());
+    let limited = LimitedDial::new(waiting, asked.at_loss);
+    let mut dial = SeenDial::new(limited, negotiation.as_ref());
     if asked.wait == 0 && asked.expect.is_none() && !asked.show_negotiation {
         let session = session_with(rt, asked.session, macros.as_slice())?;
         let (_, played) = mta_run(rt.alloc(), config, session, &mut dial, io::writer(rt));
@@ -80,7 +82,7 @@ fn play_session_over<'x, R: Files + Clock + Print + AllocGlobal, D: Connect + Dr
     if let Err(fault) = played {
         return Err(Failure::from(kept_error(output_error(fault))));
     }
-    let waited = dial.dial_below();
+    let waited = dial.dial_below().dial_below();
     if waited.has_failed() {
         return Err(Failure::of_socket(ToolError::Connect, asked.address, waited.refusal()));
     }

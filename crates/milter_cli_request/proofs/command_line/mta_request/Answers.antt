@@ -1,9 +1,9 @@
 use Rattle.std.proofs.Common.{codes, refl, arith}
 use Rattle.clap.specs.Words.{found_of}
 use Rattle.milter_cli_request.specs.CommandLine.{IsLoss}
-use Rattle.milter_cli_words.specs.declared.limits.TheConstants.{TIMEOUT_MAX, WAIT_MAX}
+use Rattle.milter_cli_words.specs.declared.limits.TheConstants.{SENT_MAX, TIMEOUT_MAX, WAIT_MAX}
 use Rattle.milter_cli_request.specs.declared.command_line.TheConstants.{TIMEOUT_DEFAULT}
-use Rattle.milter_cli_request.proofs.RequestLaws.{any_values_given, flag_given, holds_of, no_mta_address, no_mta_session, number_given, text_given, value_given}
+use Rattle.milter_cli_request.proofs.RequestLaws.{any_values_given, flag_given, holds_of, no_mta_address, no_mta_session, number_given, number_known, text_given, value_given}
 use Rattle.milter_cli_request.proofs.command_line.mta_request.Goals as goal
 
 pub returns-in_default : goal.returns-in_default
@@ -26,4 +26,5 @@ returns c =
       text_given found (codes "expect") c.get_str-8.result c.get_str-8.ensures,
       flag_given found (codes "show-negotiation") c.get_str-9.result c.is_set.result c.get_str-9.ensures c.is_set.ensures,
       rw (c.in_ok-macros.ensures.items, c.unwrap_or.ensures) (any_values_given found (codes "macro") c.get_strs.result _ refl c.get_strs.ensures),
+      number_known 0 SENT_MAX found (codes "at-loss") c.get_str-10.result c.number.result (omega arith) c.get_str-10.ensures c.number.ensures,
     )
