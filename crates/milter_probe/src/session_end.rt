@@ -149,7 +149,7 @@ impl<L: Read + Write> SessionEnd<L> {
     }
 
     /// Sends what a call queued, and receives the reply to it. The calls come in order and fit, so that one is refused
-    /// only for want of memory.
+    /// only where memory is refused.
     fn exchange(
         &mut self,
         place: Place,
