@@ -86,8 +86,8 @@ pub fn is_by_client(report: &Report) -> bool
     }
 }
 
-/// Writes the text of one message, as [`write_reports`] does, with the line `connection` before it where it is the first
-/// one that the verdict on the client settled.
+/// Writes the text of one message, as [`write_reports`] does, with the line `connection` before it where it is the
+/// first one that the verdict on the client settled.
 pub fn write_report<W: Write>(
     alloc: Global,
     writer: &mut W,
