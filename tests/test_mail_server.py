@@ -2,10 +2,10 @@
 """Plays sessions by `milter_tool mta`, as both compilers built it, to filters over TCP and over Unix sockets: to
 `milter_tool filter` with the rules of the rows in lib/reports.py and in the tables of `play`, which are played in
 memory too, and with each of its allocations refused in turn; and to filters of this file's own that close, reset or
-keep silent after each of their replies, or that send what is no reply. Besides, what is printed of a negotiation, the
-macros of a command line, connections that are closed after so many bytes, addresses where nothing listens, and a
-standard output that is full. What is run is what
-`rt ci` built; nothing is proved here.
+keep silent after each of their replies, or that send what is no reply. Besides, reports that are printed while later
+messages wait, what is printed of a negotiation, the macros of a command line, connections that are closed after so many
+bytes, addresses where nothing listens, and a standard output that is full. What is run is what `rt ci` built; nothing
+is proved here.
 
 Counted are the runs.
 """
@@ -242,6 +242,33 @@ def losses(program, kind, folder):
                       [reply([], 'close'), reply(whole, 'silent', by_bytes)], again, [])
 
 
+def settled(program, kind, folder):
+    """The report of a message is printed while the next one waits; and the verdict on a client that is refused on a later
+    connection stands before the first message that it settles."""
+    whole = [AGREED] + [CONTINUE] * len(reports.commands(reports.BODY))
+
+    def waits():
+        stub = Stub(kind, folder, [reply(whole, 'silent')])
+        command = [program, 'mta', stub.address, written(folder, reports.session(MESSAGES)), '--timeout', LONG]
+        due = reports.expected(1).encode()
+        with subprocess.Popen(command, stdout=subprocess.PIPE) as process:
+            found = process.stdout.read(len(due))
+            is_over = process.poll() is not None
+            process.kill()
+        stub.end()
+        expect('what is printed', (found, is_over), (due, False))
+
+    def refused_later():
+        lost, refused = reply([AGREED] + [CONTINUE] * 2, 'close'), reply([AGREED, packet_of(b'r')], 'silent')
+        stub = Stub(kind, folder, [lost, refused])
+        expect_reports(program, stub.address, folder, defaults('reset', 2, count=1) + (
+            'connection reject\nmessage 2 connection refused-at-connection\nacted connect 1 reject\n'))
+        stub.end()
+
+    yield checked('a report before the next message is settled', waits)
+    yield checked('a client is refused after a loss', refused_later)
+
+
 def faults(program, kind, folder):
     """Filters that send what can't be taken."""
 
@@ -437,8 +464,8 @@ def groups(folder):
         program = programs.tool(build)
         for kind in serving.KINDS:
             name = '%s at %s' % (os.path.basename(program), kind)
-            for group in [rows, in_memory, of_play, documented, losses, faults, negotiations, macros, closings, unheard,
-                          refused]:
+            for group in [rows, in_memory, of_play, documented, losses, settled, faults, negotiations, macros,
+                          closings, unheard, refused]:
                 yield name, group, (program, kind, tempfile.mkdtemp(dir=folder))
 
 
