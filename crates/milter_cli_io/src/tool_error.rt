@@ -43,7 +43,8 @@ pub enum ToolError {
         /// the first command ends that was answered otherwise.
         line: u64,
     },
-    /// Rules of which a warning was said.
+    /// What was printed has findings: a warning of rules, what broke in a filter that was tried, or a load of which the
+    /// filter settled no message.
     Findings,
     /// Help, the version, the line of a connection, the reports of a session, or the lines of a conversation that is
     /// sent again were not written.
