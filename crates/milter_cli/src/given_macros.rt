@@ -1,5 +1,7 @@
 //! Macros of a command line in the session of a file.
 
+ghost use Rattle.std.specs.Prelude.{◌≡◌, Ok, []};
+
 use milter_cli_io::ToolError;
 use milter_cli_request::{GivenMacro, UsageError};
 use milter_mail::{Macros, Session, SessionParts};
@@ -30,10 +32,21 @@ pub fn with_macros(
     alloc: Global,
     session: Session,
     macros: &[GivenMacro<'_>],
-) -> Result<Session, ToolError> {
+) -> Result<Session, ToolError>
+    ensures none { macros.entry.now ≡ [] → result ≡ Ok session }
+{
     if macros.is_empty() {
         return Ok(session);
     }
+    set_macros(alloc, session, macros)
+}
+
+/// The session with these macros set, one after another.
+fn set_macros(
+    alloc: Global,
+    session: Session,
+    macros: &[GivenMacro<'_>],
+) -> Result<Session, ToolError> {
     let SessionParts {
         client,
         helo,
