@@ -5,7 +5,7 @@ use crate::script_end::play_script;
 use crate::session_end::{SentSession, send_session};
 use milter_dial::Dial;
 use milter_mail::Session;
-use milter_mta_outcome::Loss;
+use milter_mta_outcome::{Loss, MtaFault};
 use milter_probe_trials::{Exchange, Place, Play, Script, Trial, first_difference, plain, play_of};
 use milter_protocol::{ACTIONS_MAX, PROTOCOL_MAX, VERSION_MAX};
 use milter_wire::{Actions, NoMemory, Options, Protocol};
@@ -73,7 +73,7 @@ impl<'a> Reference<'a> {
             return Ok(Some(Broken::NoConnection));
         };
         let sent = send_session(self.alloc, link, offer, self.session)?;
-        Ok(broken_by_offer(self.exchanges, &sent))
+        Ok(broken_by_offer(self.exchanges, offer, &sent))
     }
 
     /// Waits until the session is answered to its end again, at most so long. The result says whether it is.
@@ -108,11 +108,24 @@ pub(crate) fn is_lost(broken: Option<Broken>) -> bool {
     }
 }
 
-/// What broke where another offer was made: the filter may refuse it by closing the connection.
-fn broken_by_offer(before: &[Exchange], sent: &SentSession) -> Option<Broken> {
+/// What broke where another offer was made: the filter may refuse it by closing the connection, or take it for one of
+/// version 1.
+fn broken_by_offer(before: &[Exchange], offer: Options, sent: &SentSession) -> Option<Broken> {
     match sent.broken {
         Some(Broken::Lost(Loss::Reset, Place::Offer)) => None,
+        Some(Broken::Lost(Loss::Fault(fault), Place::Offer)) if is_version_1(offer, fault) => None,
         Some(broken) => Some(broken),
         None => first_difference(before, sent.exchanges.as_slice()).map(Broken::Other),
     }
+}
+
+/// Whether a filter that asks for bits that were not offered may have taken the offer for one of version 1: libmilter
+/// takes an offer of no bits so. Source: mfdef.h (SMFI_V1_ACTS, SMFI_V1_PROT).
+fn is_version_1(offer: Options, fault: MtaFault) -> bool {
+    let is_empty = offer.actions.0 == 0 && offer.protocol.0 == 0;
+    let is_more = matches!(
+        fault,
+        MtaFault::ActionsNotOffered | MtaFault::ProtocolNotOffered
+    );
+    is_empty && is_more
 }
