@@ -307,8 +307,9 @@ def same_offer(_, packet):
     return packet_of(b'O' + struct.pack('>III', 6, 0x11, 0)) if code_of(packet) == 'O' else reply_to(packet)
 
 
+# (the offer of no bits, 2, may be taken for one of version 1)
 SAME_OFFER = ['offer 1 in version not supported at offer']
-SAME_OFFER += ['offer %d in actions that were not offered at offer' % number for number in range(2, 12)]
+SAME_OFFER += ['offer %d in actions that were not offered at offer' % number for number in range(3, 12)]
 # Filters that break: of each a name, its replies, the kind of the trials, the messages, --timeout, and the lines.
 BROKEN = [
     ('silent at first', lambda number, packet: b'', 'abort', 1, SHORT, ['reference timeout at offer']),
@@ -325,7 +326,7 @@ BROKEN = [
         'byte-by-byte 1 after reject in place of continue at connect', tallied('byte-by-byte', 1, 1)]),
     ('two replies', twice, 'byte-by-byte', 1, LONG, [
         'byte-by-byte 1 in reply before its command at connect', tallied('byte-by-byte', 1, 1)]),
-    ('the same at each offer', same_offer, 'offer', 1, LONG, SAME_OFFER + [tallied('offer', OFFERS, 11)])]
+    ('the same at each offer', same_offer, 'offer', 1, LONG, SAME_OFFER + [tallied('offer', OFFERS, 10)])]
 
 
 def play_away(program, kind, folder):
