@@ -15,6 +15,8 @@ import peers
 SECONDS = 1800
 # The Pythons that may have pymilter: the one that runs this, and Debian's.
 PYTHONS = [sys.executable, '/usr/bin/python3']
+# How many kinds of trials there are.
+KINDS = 9
 SESSION = '''client 4 "client.example.org" 12345 "127.0.0.1"
 helo "client.example.org"
 message
@@ -65,9 +67,10 @@ def python_with_pymilter():
     return None
 
 
-def probe(checks, program, work, name, address, is_strict=False):
-    """Makes all trials of a filter: nothing breaks after one, and each kind is tried. What broke within one is printed,
-    and is no failure unless it is strict: filters on libmilter reply to offers and to K in ways of their own."""
+def probe(checks, program, work, name, address, kinds=KINDS, is_strict=False):
+    """Makes all trials of a filter: nothing breaks after one, and so many kinds are tried. What broke within one is
+    printed, and is no failure unless it is strict: filters on libmilter reply to offers and to K in ways of their
+    own."""
     path = os.path.join(work, 'session')
     with open(path, 'w') as file:
         file.write(SESSION)
@@ -79,7 +82,7 @@ def probe(checks, program, work, name, address, is_strict=False):
     for line in within:
         print('probe: %s at %s: %s' % (name, address, line), flush=True)
     broke = [line for line in lines if ' after ' in line] + (within if is_strict else [])
-    checks.check('probe: %s at %s' % (name, address), (broke, len(tallies), done.stderr), ([], 9, b''))
+    checks.check('probe: %s at %s' % (name, address), (broke, len(tallies), done.stderr), ([], kinds, b''))
 
 
 def play(checks, program):
@@ -89,11 +92,12 @@ def play(checks, program):
         python = python_with_pymilter()
         for address, other in peers.addresses(work):
             with running(address, [path, address]):
-                checks.part('probe: libmilter', probe, program, work, 'libmilter', address, True)
+                checks.part('probe: libmilter', probe, program, work, 'libmilter', address, is_strict=True)
             with mta.signing(work, other):
                 checks.part('probe: OpenDKIM', probe, program, work, 'OpenDKIM', other)
             if python is None:
                 print('pymilter: not run, it is not installed')
                 continue
             with running(address, [python, '-c', PYMILTER, address]):
-                checks.part('probe: pymilter', probe, program, work, 'pymilter', address)
+                # It is sent no stage of a message before the end, so that none is given up after one.
+                checks.part('probe: pymilter', probe, program, work, 'pymilter', address, KINDS - 1)
