@@ -141,11 +141,12 @@ def first_difference(out, other):
 
 
 def compared(command):
-    """The reports that a run compares its own with, or None."""
-    if '--expect' not in command:
+    """The reports that a run compares its own with, or None: also where there is no such file."""
+    path = command[command.index('--expect') + 1] if '--expect' in command else ''
+    path = os.path.join(programs.TOP, path)
+    if not os.path.isfile(path):
         return None
-    path = command[command.index('--expect') + 1]
-    with open(os.path.join(programs.TOP, path), 'rb') as file:
+    with open(path, 'rb') as file:
         return file.read()
 
 
