@@ -231,9 +231,9 @@ def directions(program, kind, folder):
                 may_read.set()
                 connection.settimeout(MUCH_SECONDS)
                 connection.sendall(sent[taken:])
+                expect('whether it takes little memory', recorder.memory() < MEMORY_MAX, True)
                 connection.shutdown(socket.SHUT_WR)
                 peer.expect_done(MUCH_SECONDS)
-                expect('whether it takes little memory', recorder.memory() < MEMORY_MAX, True)
             expect('the end', recorder.end(), (0, '', ''))
         trace = recording.traces_in(directory)['1.trace']
         expect('whether all is recorded', recording.bytes_of(trace, '>') == sent, True)
