@@ -92,7 +92,7 @@ def play(checks, program):
         python = python_with_pymilter()
         for address, other in peers.addresses(work):
             with running(address, [path, address]):
-                checks.part('probe: libmilter', probe, program, work, 'libmilter', address, is_strict=True)
+                checks.part('probe: libmilter', probe, program, work, 'libmilter', address, KINDS, True)
             with mta.signing(work, other):
                 checks.part('probe: OpenDKIM', probe, program, work, 'OpenDKIM', other)
             if python is None:
