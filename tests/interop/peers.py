@@ -156,7 +156,8 @@ class Recording:
 
     def __init__(self, program, recorder, address, folder=None):
         self.directory = tempfile.mkdtemp(dir=folder)
-        self.process = subprocess.Popen([program, 'record', recorder, address, self.directory, '--count', '1'])
+        self.process = subprocess.Popen([program, 'record', recorder, address, self.directory, '--count', '1'],
+                                        stdout=subprocess.PIPE)
         listening(recorder)
 
     def trace(self):
