@@ -155,7 +155,7 @@ fn change_field(
         drop(headers.remove(position));
         return Ok(());
     }
-    headers[position].value = put_value(alloc, value, leading_space)?;
+    headers[position].value = put_value(alloc, value.as_slice(), leading_space)?;
     Ok(())
 }
 

@@ -144,7 +144,7 @@ fn change_field<'a>(
 fn set_field<'a>(fields: &mut EditedFields<'a>, position: usize, source: Source<'a>)
     ensures { fields.new ≡ set_numbered position (changed source.entry).value fields.old }
 {
-    if source.value.as_slice().is_empty() {
+    if source.value.is_empty() {
         fields.remove(position);
     } else {
         fields.set_value(position, source);
@@ -162,7 +162,7 @@ fn add_field<'a>(
     ensures { IfOk result (λ after. after
         ≡ numbered_fields numbers.now (headers_of fields.entry ++ added_field (changed source.entry))) }
 {
-    if source.value.as_slice().is_empty() {
+    if source.value.is_empty() {
         return Ok(fields);
     }
     let position = fields.len();

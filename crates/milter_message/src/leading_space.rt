@@ -69,18 +69,18 @@ pub(crate) fn put_copy(
     ensures { IfOk result (λ copy. copy ≡ put_header leading_space header.now) }
 {
     let name = Text::copy_of(alloc, header.name.as_slice())?;
-    let value = put_value(alloc, &header.value, leading_space)?;
+    let value = put_value(alloc, header.value.as_slice(), leading_space)?;
     Ok(Header { name, value })
 }
 
 /// A copy of the value, after a blank where leading spaces aren't sent.
-pub(crate) fn put_value(alloc: Global, value: &Text, leading_space: bool) -> Result<Text, NoMemory>
+pub(crate) fn put_value(alloc: Global, value: &[u8], leading_space: bool) -> Result<Text, NoMemory>
     ensures { IfOk result (λ copy. copy ≡ put_value leading_space value.now) }
 {
-    let mut bytes = Vec::with_capacity(alloc, string_len(value.as_slice()))?;
+    let mut bytes = Vec::with_capacity(alloc, string_len(value))?;
     if !leading_space {
         bytes.push(LEADING_SPACE)?;
     }
-    bytes.extend_from_slice(value.as_slice())?;
+    bytes.extend_from_slice(value)?;
     Ok(Text::new(bytes))
 }

@@ -20,17 +20,17 @@ pub(crate) fn changed_names(alloc: Global, edits: &[Edit]) -> Result<Vec<Text>, 
     let mut names = Vec::new(alloc);
     for edit in edits {
         if let Edit::ChangeHeader { header, .. } = edit {
-            names.push(lower_case(alloc, &header.name)?)?;
+            names.push(lower_case(alloc, header.name.as_slice())?)?;
         }
     }
     Ok(names)
 }
 
 /// The name with its ASCII letters in lower case.
-fn lower_case(alloc: Global, name: &Text) -> Result<Text, NoMemory>
+fn lower_case(alloc: Global, name: &[u8]) -> Result<Text, NoMemory>
     ensures { IfOk result (λ lower. lower ≡ str_to_ascii_lowercase name.now) }
 {
-    Ok(Text::new(name.as_slice().to_ascii_lowercase(alloc)?))
+    Ok(Text::new(name.to_ascii_lowercase(alloc)?))
 }
 
 /// Numbers for these names, which are in lower case: 1, 2, 3 .. in the order in which they first stand here.
@@ -69,7 +69,7 @@ fn next(number: u32) -> Result<u32, NoMemory>
 pub(crate) fn number_of(
     alloc: Global,
     numbers: &NameNumbers<'_>,
-    name: &Text,
+    name: &[u8],
 ) -> Result<u32, NoMemory>
     ensures { IfOk result (λ number. number ≡ number_of numbers.now name.now) }
 {

@@ -9,13 +9,14 @@ use crate::leading_space::put_value;
 use milter_wire::{Header, NoMemory, Text};
 use std::alloc::Global;
 
-/// A header field whose texts stand in the message or in an edit.
+/// A header field whose texts stand in the message or in an edit. The bytes are borrowed, not the texts: a copy then
+/// follows one pointer less for each, which counts where the fields are far apart in memory.
 #[derive(Clone, Copy, Debug)]
 pub(crate) struct Source<'a> {
     /// The name.
-    pub(crate) name: &'a Text,
+    pub(crate) name: &'a [u8],
     /// The value.
-    pub(crate) value: &'a Text,
+    pub(crate) value: &'a [u8],
     /// Whether the value stays as it is; else it gets a blank.
     pub(crate) leading_space: bool,
 }
@@ -27,8 +28,8 @@ impl<'a> Source<'a> {
         ensures changed { changed result ≡ change_header leading_space header.now }
     {
         Source {
-            name: &header.name,
-            value: &header.value,
+            name: header.name.as_slice(),
+            value: header.value.as_slice(),
             leading_space,
         }
     }
@@ -54,7 +55,7 @@ pub(crate) fn copies_of(
 fn copy_of(alloc: Global, source: Source<'_>) -> Result<Header, NoMemory>
     ensures { IfOk result (λ copy. copy ≡ shown source.entry) }
 {
-    let name = Text::copy_of(alloc, source.name.as_slice())?;
+    let name = Text::copy_of(alloc, source.name)?;
     let value = put_value(alloc, source.value, source.leading_space)?;
     Ok(Header { name, value })
 }

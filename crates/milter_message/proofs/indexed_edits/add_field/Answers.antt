@@ -1,12 +1,11 @@
-use Rattle.std.proofs.Common.{◌≡◌, ◌==◌, ℕ, List, false, length, subst, sym, ◌∙◌}
+use Rattle.std.proofs.Common.{◌≡◌, ◌==◌, false, length, sym, ◌∙◌}
 use Rattle.milter_field_index.proofs.Results.{if_ok_then}
 use Rattle.milter_message.proofs.IndexedFields.{added_last}
 use Rattle.milter_message.proofs.indexed_edits.add_field.Goals as goal
 
 pub returns : goal.returns
 returns c =
-    let some : (length c.args.source.value.now == 0) ≡ false =
-    subst (λ (v : List ℕ). (length v == 0) ≡ false) c.as_slice.ensures (sym c.is_empty.ensures ∙ c.if-is_empty.false) in
+    let some : (length c.args.source.value.now == 0) ≡ false = sym c.is_empty.ensures ∙ c.if-is_empty.false in
     if_ok_then c.insert_field.result _ _ c.insert_field.ensures
     (λ after is. added_last c.args.numbers.now c.args.fields after c.len-position.result c.args.source
     c.len-position.ensures some is)
