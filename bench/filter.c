@@ -43,7 +43,7 @@ static sfsistat on_header(SMFICTX *context, char *name, char *value)
 	return SMFIS_CONTINUE;
 }
 
-static sfsistat on_body(SMFICTX *context, unsigned char *piece, size_t size)
+static sfsistat on_body(SMFICTX *context, unsigned char *chunk, size_t size)
 {
 	struct body *body = smfi_getpriv(context);
 
@@ -53,7 +53,7 @@ static sfsistat on_body(SMFICTX *context, unsigned char *piece, size_t size)
 		if (!body->bytes)
 			abort();
 	}
-	memcpy(body->bytes + body->size, piece, size);
+	memcpy(body->bytes + body->size, chunk, size);
 	body->size += size;
 	return SMFIS_CONTINUE;
 }

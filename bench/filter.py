@@ -23,7 +23,7 @@ FIELDS = [
     ('Subject', 'A message of an ordinary length, to be measured'), ('Date', 'Mon, 23 Nov 2026 14:00:00 +0000'),
     ('Message-ID', '<20261123140000.1234@example.org>'), ('MIME-Version', '1.0'),
     ('Content-Type', 'text/plain; charset=utf-8'), ('Content-Transfer-Encoding', '8bit'), ('User-Agent', 'Example/1.0')]
-PIECE = 65535
+CHUNK = 65535
 
 
 def packet(code, payload=b''):
@@ -51,9 +51,9 @@ def message(size):
     for field in FIELDS:
         yield packet(b'L', strings(*field))
     yield packet(b'N')
-    body = bytes((7 * at + 3) % 251 + 1 for at in range(min(size, PIECE))) * (size // PIECE + 1)
-    for at in range(0, size, PIECE):
-        yield packet(b'B', body[at:min(at + PIECE, size)])
+    body = bytes((7 * at + 3) % 251 + 1 for at in range(min(size, CHUNK))) * (size // CHUNK + 1)
+    for at in range(0, size, CHUNK):
+        yield packet(b'B', body[at:min(at + CHUNK, size)])
     yield packet(b'E')
 
 
@@ -83,7 +83,7 @@ def play(connection, packets):
     """Sends these packets, and receives the reply to each before the next."""
     for sent in packets:
         connection.sendall(sent)
-        reply = connection.recv(PIECE)
+        reply = connection.recv(CHUNK)
         if sent[4:5] != b'O' and reply not in (packet(b'c'), packet(b'a')):
             sys.exit('%r was replied to by %r' % (sent[:50], reply))
 
@@ -96,7 +96,7 @@ def play_messages(connection, count, packets):
         play(connection, packets)
     took = time.monotonic_ns() - start
     connection.sendall(packet(b'Q'))
-    connection.recv(PIECE)
+    connection.recv(CHUNK)
     connection.close()
     return took
 

@@ -113,7 +113,7 @@ def played(kind, folder):
     leading = 'protocol HDR_LEADSPC\n'
     yield checked('two messages, with leading spaces', run, leading, two_messages, canonical)
     yield checked('two messages, without leading spaces', run, '', two_messages, blanks)
-    yield checked('a body in pieces', run, '', great, great)
+    yield checked('a body in chunks', run, '', great, great)
     yield checked('what is not sent', run, leading + 'symbols eom "i"\n', canonical, canonical)
 
 

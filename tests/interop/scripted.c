@@ -6,7 +6,7 @@
  *     without=STAGE      the stage is not to be sent
  *     silent=STAGE       the stage is not answered
  *     symbols=STAGE:TEXT the macros that it asks for at a stage: connect, helo, mail, rcpt, data, eom or eoh
- *     skip               it asks that pieces of the body may be skipped
+ *     skip               it asks that chunks of the body may be skipped
  *     leading            it asks for header values with the space before them
  *     edits              at the end of a message it asks for each edit
  *     values             at the end of a message it adds a header field with each macro and value that it was sent
@@ -106,7 +106,7 @@ static sfsistat on_eoh(SMFICTX *context)
 	return ends(context, EOH);
 }
 
-static sfsistat on_body(SMFICTX *context, unsigned char *piece, size_t size)
+static sfsistat on_body(SMFICTX *context, unsigned char *chunk, size_t size)
 {
 	return ends(context, BODY);
 }

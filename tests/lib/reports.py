@@ -22,7 +22,7 @@ SENDER = 'sender "<ada@example.org>" "SIZE=100"\n'
 RECIPIENTS = ['recipient "<bob@example.net>"\n', 'recipient "<carol@example.net>" "NOTIFY=NEVER"\n']
 HEADERS = ['header "Subject" " first"\n', 'header "X-Remove" " gone"\n']
 BODY = 'body "a body\\r\\n"\n'
-# A body of three pieces.
+# A body of three chunks.
 LONG_BODY = 'body "%s"\n' % ('x' * 131071)
 EDITED = '''quarantine "looked at by a person"
 sender "<changed@example.org>" "RET=HDRS"

@@ -190,7 +190,7 @@ SENT = 'message\nsender "a@x"\nrecipient "b@y"\nbody ""\nend\n'
 BEGINNING = ['> M a@x{00}', '< c', '> R b@y{00}', '< c']
 # Traces: a name, their packets (other lines of a trace stand as they are), the session, and what is said of the rest.
 TRACES = [
-    ('a body in pieces', OPENING + BEGINNING + [
+    ('a body in chunks', OPENING + BEGINNING + [
         '> T', '< c', '> L A{00}b{00}', '< c', '> L A{00} {00}', '< c', '> N', '< c', '> B {0d}{0a}{00}', '< c',
         '> B "', '< c', '> E end', '< c', '> A', '> Q'], OPENED + r'''message
 sender "a@x"

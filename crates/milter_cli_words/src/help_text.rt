@@ -14,7 +14,7 @@ A session file has these lines, in this order:
   sender TEXT ..                 its sender and the parameters, once
   recipient TEXT ..              a recipient and the parameters, once or more
   header TEXT TEXT               a header field: name and value
-  body TEXT                      a piece of the body
+  body TEXT                      a part of the body
   end                            ends the message; others may follow
 
 TEXT is in double quotes, with the escapes \\\" \\\\ \\n \\r \\t and \\xHH. Blank lines,

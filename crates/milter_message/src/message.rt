@@ -162,7 +162,7 @@ impl Message {
 
     /// The chunk of the body with this number, counted from 0: the bytes from 65,535 times the number on, at most
     /// 65,535; or none, where the body has no byte there, as an empty one has nowhere. Doesn't allocate.
-    pub fn piece(&self, k: usize) -> Option<&[u8]>
+    pub fn chunk(&self, k: usize) -> Option<&[u8]>
         ensures { option_copied result ≡ slice_get (chunks_of self.now.body) k }
     {
         chunk_at(self.body(), k)

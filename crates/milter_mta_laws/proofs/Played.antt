@@ -38,7 +38,7 @@ use Rattle.milter_mta_laws.proofs.Closed.{closed-rules}
 use Rattle.milter_mta_laws.proofs.Exchanges.{answered-goes, packet-is, unanswered-goes, dialogue_so_far}
 use Rattle.milter_mta_laws.proofs.Ordered.{order-before, order-without}
 
--- a command of the stage of bodies is a piece of one
+-- a command of the stage of bodies is a chunk of one
 pub is_body_at : (command : Command) → stage_of command ≡ Some Body → is_body command ≡ true
 is_body_at (commands.Body bytes) at = refl
 is_body_at (commands.Connect client) at = absurd cc

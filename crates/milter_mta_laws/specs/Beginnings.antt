@@ -7,7 +7,7 @@ use Rattle.milter_protocol.specs.Dialogue.{is_skipping}
 use Rattle.milter_mta_transaction.specs.PlanCursor.{without_body}
 
 -- the commands of these exchanges, in order, are a beginning of the plan without the chunks of the body after its first
--- commands; and pieces are left out only where the filter answered Skip
+-- commands; and chunks are left out only where the filter answered Skip
 pub record IsBeginning (plan : List Command) (sent : List Exchange) : Type 0 where
   pub first : List Command
   pub others : List Command
@@ -17,7 +17,7 @@ pub record IsBeginning (plan : List Command) (sent : List Exchange) : Type 0 whe
   pub skip : others ≢ [] → list_any is_skipping sent ≡ true
 
 -- What was sent of a plan by these exchanges, the latest first, and what is left of it: both together, in order, are
--- the plan without the chunks of the body after its first commands, and pieces are left out only after a Skip.
+-- the plan without the chunks of the body after its first commands, and chunks are left out only after a Skip.
 pub record IsSentOf (plan : List Command) (dialogue : List Exchange) (left : List Command) : Type 0 where
   pub sent : List Command
   pub first : List Command

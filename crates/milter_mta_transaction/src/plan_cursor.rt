@@ -72,7 +72,7 @@ fn chunk_at(message: &Message, n: usize) -> Option<CommandRef<'_>>
     ensures { option_map command_of result
         ≡ slice_get (map (λ chunk. commands.Body chunk) (chunks_of message.now.body)) n }
 {
-    let chunk = message.piece(n)?;
+    let chunk = message.chunk(n)?;
     Some(CommandRef::Body(chunk))
 }
 
@@ -112,7 +112,7 @@ fn has_command(of: &OutgoingRef<'_>, stage: Stage, n: usize) -> bool
     match stage {
         Stage::Rcpt => n < of.message.recipients().len(),
         Stage::Header => n < of.message.headers().len(),
-        Stage::Body => of.message.piece(n).is_some(),
+        Stage::Body => of.message.chunk(n).is_some(),
         _ => n == 0,
     }
 }

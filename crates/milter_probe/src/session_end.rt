@@ -139,7 +139,7 @@ impl<L: Read + Write> SessionEnd<L> {
     /// Sends the chunks of the body.
     fn send_body(&mut self, message: &Message) -> Result<(), Loss> {
         for number in 0..message.body().len() {
-            let Some(chunk) = message.piece(number) else {
+            let Some(chunk) = message.chunk(number) else {
                 return Ok(());
             };
             let outcome = self.connection.body(chunk);

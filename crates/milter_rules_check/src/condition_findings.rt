@@ -242,7 +242,7 @@ fn say_absent<'x>(
     condition: &'x Condition,
     absence: Absence,
 ) -> Result<(), NoMemory> {
-    let condition_piece = Span::Condition(condition);
+    let condition_span = Span::Condition(condition);
     let holds: &[u8] = if is_met_absent(condition) {
         b" always holds: "
     } else {
@@ -255,12 +255,12 @@ fn say_absent<'x>(
             let sent = Span::Plain(b" isn't sent, by ");
             let end = Span::Plain(b" in the protocol line");
             let bit = Span::Protocol(bit);
-            notes.say(alloc, &[condition_piece, holds, field, sent, bit, end])
+            notes.say(alloc, &[condition_span, holds, field, sent, bit, end])
         }
         Absence::NotYet => {
             let known = Span::Plain(b" isn't known yet at ");
             let stage = Span::Plain(stage.name());
-            notes.say(alloc, &[condition_piece, holds, field, known, stage])
+            notes.say(alloc, &[condition_span, holds, field, known, stage])
         }
     }
 }
