@@ -77,7 +77,7 @@ def script_of(conversation, feeds):
         lines += ['send', 'want'] + fed
         printed += [command.hex(), 'receive' if replies else 'done' if command[4:] == b'Q' else 'send']
         printed += ['ok'] * len(fed)
-    return lines + ['finish messages'], printed + conversation.reports
+    return lines + ['reports messages'], printed + conversation.reports
 
 
 def by_packets(replies):

@@ -143,7 +143,7 @@ fn take_segment<'a>(
     let sequence = segment.sequence.wrapping_add(first);
     stream.receive(sequence, segment.bytes, segment.length)?;
     if segment.is_last {
-        stream.finish(sequence.wrapping_add(low_half(segment.length)));
+        stream.end_before(sequence.wrapping_add(low_half(segment.length)));
     }
     if let Some(acknowledged) = segment.acknowledged {
         other.acknowledge(acknowledged);

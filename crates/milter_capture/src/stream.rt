@@ -93,7 +93,7 @@ impl<'a> Stream<'a> {
     }
 
     /// That its last byte is the one before this sequence number.
-    pub(crate) fn finish(&mut self, sequence: u32) {
+    pub(crate) fn end_before(&mut self, sequence: u32) {
         let ahead = sequence.wrapping_sub(self.next_number());
         if ahead <= AHEAD_MOST && self.end.is_none() {
             self.end = Some(self.taken.saturating_add(u64::from(ahead)));

@@ -95,20 +95,20 @@ impl ListBuilder {
     }
 
     /// The entries of a list of this kind, as they are searched. Doesn't allocate.
-    pub(crate) fn finish(self, kind: ListKind) -> Entries
+    pub(crate) fn build(self, kind: ListKind) -> Entries
         ensures kind { kind_in result ≡ kind }
         ensures len { len_by kind (collected_in result) ≡ len_by kind self }
         ensures has { (value : List ℕ) → has kind (collected_in result) value ≡ has kind self value }
     {
         let ListBuilder { keys, v4, v6 } = self;
         match kind {
-            ListKind::Addresses => Entries::Addresses(keys.finish()),
-            ListKind::Domains => Entries::Domains(keys.finish()),
+            ListKind::Addresses => Entries::Addresses(keys.build()),
+            ListKind::Domains => Entries::Domains(keys.build()),
             ListKind::Networks => Entries::Networks(NetworkSet {
-                v4: v4.finish(),
-                v6: v6.finish(),
+                v4: v4.build(),
+                v6: v6.build(),
             }),
-            ListKind::Texts => Entries::Texts(keys.finish()),
+            ListKind::Texts => Entries::Texts(keys.build()),
         }
     }
 }

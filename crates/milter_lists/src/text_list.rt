@@ -33,7 +33,7 @@ impl TextList {
         ensures has { (value : List ℕ) → has_value result value ≡ false }
     {
         TextList {
-            entries: ListBuilder::new(alloc).finish(kind),
+            entries: ListBuilder::new(alloc).build(kind),
         }
     }
 
@@ -53,7 +53,7 @@ impl TextList {
     {
         let builder = read_entries(alloc, kind, bytes)?;
         Ok(TextList {
-            entries: builder.finish(kind),
+            entries: builder.build(kind),
         })
     }
 

@@ -1,7 +1,7 @@
 //! A mail server's end of the Sendmail milter protocol.
 //!
 //! An [`MtaCore`] plays a session to a filter, and says what becomes of each message. It neither reads nor writes: a
-//! caller does what [`MtaCore::want`] asks for, until that is [`Want::Done`], and then takes [`MtaCore::finish`].
+//! caller does what [`MtaCore::want`] asks for, until that is [`Want::Done`], and then takes [`MtaCore::into_reports`].
 //!
 //! - [`Want::Dial`]: connect to the filter, and note it with [`MtaCore::dialled`].
 //! - [`Want::Send`]: [`MtaCore::advance`] makes the next packet; write what is [`MtaCore::pending`], and note with

@@ -25,7 +25,7 @@ use std::marker::Model;
 
 /// A mail server's end of a connection to a filter: it plays a session to the filter, and settles each message by what
 /// the filter answers, or by default where the filter is lost. It neither reads nor writes: do what [`MtaCore::want`]
-/// asks for until that is [`Want::Done`], then take the reports with [`MtaCore::finish`].
+/// asks for until that is [`Want::Done`], then take the reports with [`MtaCore::into_reports`].
 #[derive(Drop)]
 pub struct MtaCore {
     state: SessionState,
@@ -223,7 +223,7 @@ impl MtaCore {
     }
 
     /// What became of the messages that were settled. Doesn't allocate.
-    pub fn finish(self) -> Reports
+    pub fn into_reports(self) -> Reports
         ensures connection { result.connection ≡ self.connection }
         ensures messages { result.messages ≡ self.reports }
     {

@@ -137,7 +137,7 @@ impl SessionState {
             Ok(None) => Ok(()),
             Ok(Some(answer)) => match filter_connection.take_position() {
                 Position::Sending(transaction) => {
-                    self.finish(filter_connection, transaction, stage, answer)
+                    self.settle(filter_connection, transaction, stage, answer)
                 }
                 _ => Ok(()),
             },

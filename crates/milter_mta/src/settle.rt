@@ -16,7 +16,7 @@ ghost use Rattle.milter_mta.specs.Dispositions.{after_message, default_report, r
 use crate::state::{FilterConnection, Position, SessionState};
 use milter_mail::{Macros, Message};
 use milter_mta_outcome::{
-    ActedVerdicts, By, Loss, Report, fall_back, finish, finish_at_connection, kept_message,
+    ActedVerdicts, By, Loss, Report, fall_back, kept_message, outcome_at_connection, outcome_of,
 };
 use milter_mta_transaction::{Transaction, begin_acted, copy_acted, without_last};
 use milter_protocol::Answer;
@@ -32,7 +32,7 @@ fn is_end(stage: Stage) -> bool
 impl SessionState {
     /// Settles a message under way, or each that is left, by the answer to its last command, which is of this stage.
     /// The verdict is the last that was acted on. Where memory is refused the filter is lost before that verdict.
-    pub(crate) fn finish(
+    pub(crate) fn settle(
         &mut self,
         filter_connection: &mut FilterConnection,
         transaction: Transaction,
@@ -49,12 +49,12 @@ impl SessionState {
         ensures consistent { IsConsistentAfter self.new filter_connection.new result }
     {
         match stage {
-            Stage::Connect | Stage::Helo => self.finish_all(
+            Stage::Connect | Stage::Helo => self.settle_all(
                 filter_connection,
                 transaction,
                 answer.verdict,
             ),
-            _ => self.finish_first(filter_connection, transaction, stage, answer),
+            _ => self.settle_first(filter_connection, transaction, stage, answer),
         }
     }
 
@@ -72,7 +72,7 @@ impl SessionState {
           };
         } }
     {
-        self.finish_by_default(message, without_last(acted), Loss::Memory);
+        self.settle_by_default(message, without_last(acted), Loss::Memory);
         Loss::Memory
     }
 
@@ -121,7 +121,7 @@ impl SessionState {
 
     /// Settles the message under way by the answer to its last command, which is of this stage, and goes on to the next
     /// one.
-    fn finish_first(
+    fn settle_first(
         &mut self,
         filter_connection: &mut FilterConnection,
         transaction: Transaction,
@@ -148,7 +148,7 @@ impl SessionState {
             return Err(self.refuse_last(message, acted));
         };
         let kept = kept_message(message, acted.as_slice());
-        match finish(
+        match outcome_of(
             self.alloc,
             negotiated.has_leading_space(),
             stage,
@@ -210,7 +210,7 @@ impl SessionState {
         ensures { self.new ≡ with_state_report
             (report acted (at_connection verdict.now message) By.Connection) self.old }
     {
-        let outcome = finish_at_connection(verdict, message);
+        let outcome = outcome_at_connection(verdict, message);
         self.queue.add_report(Report {
             acted,
             outcome,
@@ -235,7 +235,7 @@ impl SessionState {
     }
 
     /// Settles every message by a verdict on the client or its greeting, the last of those on the message under way.
-    fn finish_all(
+    fn settle_all(
         &mut self,
         filter_connection: &mut FilterConnection,
         transaction: Transaction,

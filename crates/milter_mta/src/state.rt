@@ -185,7 +185,7 @@ pub(crate) struct SessionState {
 
 impl SessionState {
     /// Settles a message by default, after these verdicts.
-    pub(crate) fn finish_by_default(&mut self, message: Message, acted: ActedVerdicts, loss: Loss)
+    pub(crate) fn settle_by_default(&mut self, message: Message, acted: ActedVerdicts, loss: Loss)
         requires { 0 < self.old.queue.spare }
         ensures { self.new
             ≡ with_state_report (default_report self.old.config.on_loss loss message acted) self.old }
@@ -205,7 +205,7 @@ impl SessionState {
         ensures consistent { IsConsistent self.new None }
     {
         let Transaction { message, acted, .. } = transaction;
-        self.finish_by_default(message, acted, loss);
+        self.settle_by_default(message, acted, loss);
     }
 
     /// The filter is lost while no message is under way. Doesn't allocate.
@@ -216,7 +216,7 @@ impl SessionState {
     {
         if let Some(message) = self.queue.next_message() {
             let acted = ActedVerdicts::new(self.queue.take_reserved(self.alloc));
-            self.finish_by_default(message, acted, loss);
+            self.settle_by_default(message, acted, loss);
         }
     }
 

@@ -58,7 +58,7 @@ pub fn converse_observed<D: Dial, O: Observer>(
         Ok(mut buffer) => drive_all(&mut core, dial, buffer.as_mut_slice(), observer),
         Err(_) => give_up_messages(&mut core, observer),
     }
-    core.finish()
+    core.into_reports()
 }
 
 /// Gives up a connection that was made before.

@@ -98,7 +98,7 @@ pub(crate) fn released(message: Message) -> Outcome
 
 /// What the last answer makes of the message, of which the refused recipients are gone already. Where memory was
 /// refused, which is at the end of a message alone, the message comes back.
-pub fn finish(
+pub fn outcome_of(
     alloc: Global,
     leading_space: bool,
     stage: Stage,
@@ -112,15 +112,15 @@ pub fn finish(
 {
     let Answer { edits, verdict } = answer;
     match stage {
-        Stage::Eob => finish_at_end(alloc, leading_space, verdict, edits.into_vec(), message),
-        Stage::Connect | Stage::Helo => Ok(finish_at_connection(&verdict, message)),
+        Stage::Eob => outcome_at_end(alloc, leading_space, verdict, edits.into_vec(), message),
+        Stage::Connect | Stage::Helo => Ok(outcome_at_connection(&verdict, message)),
         Stage::Rcpt => Ok(at_recipient(verdict, message)),
         _ => Ok(at_other(verdict, message)),
     }
 }
 
 /// What a verdict on the client or its greeting makes of each message that is left. Doesn't allocate.
-pub fn finish_at_connection(verdict: &Verdict, message: Message) -> Outcome
+pub fn outcome_at_connection(verdict: &Verdict, message: Message) -> Outcome
     ensures { result ≡ outcomes.at_connection verdict.now message }
 {
     match verdict {
@@ -152,7 +152,7 @@ fn at_other(verdict: Verdict, message: Message) -> Outcome
 }
 
 /// What the verdict at the end of the message makes of it, with these edits.
-fn finish_at_end(
+fn outcome_at_end(
     alloc: Global,
     leading_space: bool,
     verdict: Verdict,

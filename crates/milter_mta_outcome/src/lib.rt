@@ -16,7 +16,7 @@ mod refusal;
 mod report;
 
 pub use acted::{Acted, ActedVerdicts};
-pub use disposition::{finish, finish_at_connection, is_refusal, kept_message};
+pub use disposition::{is_refusal, kept_message, outcome_at_connection, outcome_of};
 pub use fallback::{OnLoss, fall_back};
 pub use laws::{received_options, received_replies};
 pub use loss::{By, Loss, MtaFault};

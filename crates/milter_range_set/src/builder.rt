@@ -59,7 +59,7 @@ impl RangeSetBuilder {
 
     /// The set of the numbers that are in some of the ranges. It takes time in the number of ranges times its
     /// logarithm. Doesn't allocate.
-    pub fn finish(self) -> RangeSet
+    pub fn build(self) -> RangeSet
         ensures len { length result ≡ length self }
         ensures numbers { (number : ℕ) → has_number result number ≡ has_number self number }
     {

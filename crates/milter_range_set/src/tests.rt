@@ -14,7 +14,7 @@ fn set_of(alloc: Global, ranges: &[(u128, u128)]) -> Result<RangeSet, NoMemory> 
             last: *last,
         })?;
     }
-    Ok(builder.finish())
+    Ok(builder.build())
 }
 
 #[test]

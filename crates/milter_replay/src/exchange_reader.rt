@@ -131,7 +131,7 @@ impl ExchangeReader {
     }
 
     /// The conversation, at the end of a trace whose last line has this number.
-    pub(crate) fn finish(self, line: u64) -> Result<Recording, RecordingFault>
+    pub(crate) fn into_recording(self, line: u64) -> Result<Recording, RecordingFault>
         requires { HasFitting self }
         ensures fitting { IfOk result (λ recording. AllFit recording.exchanges.items) }
         ensures commands { IfOk result (λ recording. commands_bytes recording.exchanges.items ≡ read_bytes self) }

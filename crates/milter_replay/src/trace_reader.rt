@@ -52,7 +52,7 @@ pub fn read_trace(alloc: Global, bytes: &[u8]) -> Result<Recording, RecordingFau
         rest = &rest[end + 1..];
     }
     read_line(alloc, &mut reader, number + 1, rest, false)?;
-    finish(reader, number + 1)
+    whole_recording(reader, number + 1)
 }
 
 /// Reads the line with this number, which has these bytes before its LF, or before the end of the trace.
@@ -120,7 +120,7 @@ fn read_packets(
 }
 
 /// The conversation, at the end of a trace whose last line has this number.
-fn finish(reader: TraceReader, line: u64) -> Result<Recording, RecordingFault>
+fn whole_recording(reader: TraceReader, line: u64) -> Result<Recording, RecordingFault>
     requires { HasFitting reader.exchanges }
     ensures fitting { IfOk result (λ recording. AllFit recording.exchanges.items) }
     ensures commands { IfOk result (λ recording. commands_bytes recording.exchanges.items ≡ bytes_so_far reader) }
@@ -133,5 +133,5 @@ fn finish(reader: TraceReader, line: u64) -> Result<Recording, RecordingFault>
     if to_filter.unread() != 0 || to_mta.unread() != 0 {
         return Err(RecordingFault::Truncated(line));
     }
-    exchanges.finish(line)
+    exchanges.into_recording(line)
 }

@@ -15,8 +15,8 @@
 //!   refused for a packet, the filter is lost. Nothing is printed.
 //! - `want`, `pending`, `settled`: what is wanted, the bytes that wait to be sent as HEX, and how many messages are
 //!   settled, are printed.
-//! - `finish`, the last: a line is printed for each report. It has the verdicts that were acted on, what became of the
-//!   message, and what settled it. `finish messages`: after the line of a message that is released comes its text.
+//! - `reports`, the last: a line is printed for each report. It has the verdicts that were acted on, what became of the
+//!   message, and what settled it. `reports messages`: after the line of a message that is released comes its text.
 
 mod commands;
 mod config_line;
@@ -38,8 +38,8 @@ fn obey_all<R: Print + AllocGlobal>(
 ) -> anyhow::Result<Option<Detail>> {
     for line in commands.lines() {
         match line {
-            "finish" => return Ok(Some(Detail::Outcomes)),
-            "finish messages" => return Ok(Some(Detail::Messages)),
+            "reports" => return Ok(Some(Detail::Outcomes)),
+            "reports messages" => return Ok(Some(Detail::Messages)),
             _ => obey(rt, core, line)?,
         }
     }
@@ -51,7 +51,7 @@ fn play_on<R: Print + AllocGlobal>(rt: &R, core: MtaCore, commands: &str) -> any
     let mut core = core;
     // The calls of `drop` are proved in a tenth of the time that drops at the end of the scope take.
     match obey_all(rt, &mut core, commands) {
-        Ok(Some(detail)) => print_reports(rt, &core.finish(), detail),
+        Ok(Some(detail)) => print_reports(rt, &core.into_reports(), detail),
         Ok(None) => {
             drop(core);
             Ok(())

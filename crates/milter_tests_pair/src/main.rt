@@ -42,7 +42,7 @@ fn play_to_filter(alloc: Global, core: &mut MtaCore) -> anyhow::Result<()> {
 fn count_settled(alloc: Global, core: MtaCore) -> anyhow::Result<usize> {
     let mut core = core;
     play_to_filter(alloc, &mut core)?;
-    Ok(core.finish().messages().len())
+    Ok(core.into_reports().messages().len())
 }
 
 /// Plays a session file, and answers how many messages were settled.

@@ -70,7 +70,7 @@ impl TextSetBuilder {
     }
 
     /// The set of the entries. It takes time in their number times its logarithm. Doesn't allocate.
-    pub fn finish(self) -> TextSet
+    pub fn build(self) -> TextSet
         ensures order { IsPermutation self result }
         ensures texts { (text : List ℕ) → Contains result text ↔ Contains self text }
     {

@@ -10,7 +10,7 @@ fn set_of(alloc: Global, entries: &[&[u8]]) -> Result<TextSet, EntryFault> {
     for entry in entries {
         builder.push(entry)?;
     }
-    Ok(builder.finish())
+    Ok(builder.build())
 }
 
 #[test]

@@ -151,7 +151,7 @@ next_state-lines h Skipped = refl
 next_state-lines h Bad = refl
 next_state-lines h (Carries d bytes) = ap (λ (n : ℕ). n + 1) (with_unread-lines h d (divide (unread_in d h ++ bytes)).rest)
 
--- ---- finishing
+-- ---- the last line
 
 abbrev last_entry : List ℕ → ParsedLine
 last_entry bytes = parsed_line (record { bytes = bytes; ended = false })
@@ -159,18 +159,18 @@ last_entry bytes = parsed_line (record { bytes = bytes; ended = false })
 some_bytes : (bytes : List ℕ) → (length bytes == 0) ≡ false → 0 < length bytes
 some_bytes bytes h = let other = eqb-false (length bytes) 0 h in omega arith
 
-pub finish-fault : (begun last old new : List ℕ) (h : TraceState) (fault : TraceFault) (r : Result Unit TraceFault) → last ≡ begun → HasNoLf begun → (length last == 0) ≡ false → r ≡ Err fault
+pub last-fault : (begun last old new : List ℕ) (h : TraceState) (fault : TraceFault) (r : Result Unit TraceFault) → last ≡ begun → HasNoLf begun → (length last == 0) ≡ false → r ≡ Err fault
     → AppendsTrace (next_trace h (last_entry last)) old new (Err fault) → AppendsTrace (trace_from h (lines_of begun)) old new r
-finish-fault begun last old new h fault r same none some is p =
+last-fault begun last old new h fault r same none some is p =
     let whole = last_line begun h none (some_bytes begun (ap (λ (x : List ℕ). length x == 0) (sym same) ∙ some)) in
     let parsed = last_entry begun in
     let shown = subst (λ (x : List ℕ). AppendsTrace (next_trace h (last_entry x)) old new (Err fault)) same p in
     let stops = AppendsTrace-fault_trace (next_trace h parsed) (trace_from (next_state h parsed) []) old new fault shown in
     subst (λ (s : Result Unit TraceFault). AppendsTrace (trace_from h (lines_of begun)) old new s) (sym is) (subst (λ (t : Trace). AppendsTrace t old new (Err fault)) (sym whole) stops)
 
-pub finish-end : (begun last old new : List ℕ) (h after : TraceState) (r : Result Unit TraceFault) → last ≡ begun → HasNoLf begun → (length last == 0) ≡ false → after ≡ next_state h (last_entry last)
+pub last-end : (begun last old new : List ℕ) (h after : TraceState) (r : Result Unit TraceFault) → last ≡ begun → HasNoLf begun → (length last == 0) ≡ false → after ≡ next_state h (last_entry last)
     → AppendsTrace (next_trace h (last_entry last)) old new (Ok tt) → AppendsTrace (end_trace (length after.to_filter) (length after.to_mta)) [] [] r → AppendsTrace (trace_from h (lines_of begun)) old new r
-finish-end begun last old new h after r same none some is p q =
+last-end begun last old new h after r same none some is p q =
     let whole = last_line begun h none (some_bytes begun (ap (λ (x : List ℕ). length x == 0) (sym same) ∙ some)) in
     let parsed = last_entry begun in
     let shown = subst (λ (x : List ℕ). AppendsTrace (next_trace h (last_entry x)) old new (Ok tt)) same p in
@@ -178,10 +178,10 @@ finish-end begun last old new h after r same none some is p q =
     let ends = subst (λ (k : TraceState). AppendsTrace (end_trace (length k.to_filter) (length k.to_mta)) [] [] r) state q in
     subst (λ (t : Trace). AppendsTrace t old new r) (sym whole) (AppendsTrace-end (next_trace h parsed) (trace_from (next_state h parsed) []) old new r shown ends)
 
-pub finish-none : (begun last text : List ℕ) (h : TraceState) (r : Result Unit TraceFault) → last ≡ begun → (length last == 0) ≡ true
+pub last-none : (begun last text : List ℕ) (h : TraceState) (r : Result Unit TraceFault) → last ≡ begun → (length last == 0) ≡ true
     → AppendsTrace (end_trace (length h.to_filter) (length h.to_mta)) [] [] r → AppendsTrace (trace_from h (lines_of begun)) text text r
-finish-none begun [] text h r same none q = subst (λ (x : List ℕ). AppendsTrace (trace_from h (lines_of x)) text text r) same (AppendsTrace-at_once (trace_from h []) text r q)
-finish-none begun (b ∷ last) text h r same none q = absurd (let zero = eqb-true (length (b ∷ last)) 0 none in omega arith)
+last-none begun [] text h r same none q = subst (λ (x : List ℕ). AppendsTrace (trace_from h (lines_of x)) text text r) same (AppendsTrace-at_once (trace_from h []) text r q)
+last-none begun (b ∷ last) text h r same none q = absurd (let zero = eqb-true (length (b ∷ last)) 0 none in omega arith)
 
 -- ---- two facts of a call that answered
 

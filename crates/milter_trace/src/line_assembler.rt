@@ -53,7 +53,7 @@ impl LineAssembler {
     }
 
     /// Prints the last line, if it has no LF. The fault may be a packet that isn't whole.
-    pub(crate) fn finish(&mut self) -> Result<(), TraceFault>
+    pub(crate) fn print_last(&mut self) -> Result<(), TraceFault>
         requires between_pieces { IsBetweenPieces self.old }
         requires few { self.old.printer.lines + 1 < 2 ^ 64 }
         ensures { AppendsTrace (trace_from (printer_state self.old.printer) (lines_of self.old.begun.items))

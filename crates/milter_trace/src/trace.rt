@@ -148,7 +148,7 @@ fn print_end<W: Write>(assembler: &mut LineAssembler, writer: &mut W) -> Result<
     ensures ends { EndsTrace (trace_from (printer_state assembler.old.printer) (lines_of assembler.old.begun.items))
         (W.contents writer.old) (W.contents writer.new) result }
 {
-    let outcome = assembler.finish();
+    let outcome = assembler.print_last();
     if is_memory(&outcome) {
         return outcome;
     }

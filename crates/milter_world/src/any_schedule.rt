@@ -106,5 +106,5 @@ pub fn run_in_order<P: Policy>(
     for event in events {
         world = world.step(*event)?;
     }
-    Ok(world.finish())
+    Ok(world.into_reports())
 }

@@ -46,7 +46,7 @@ pub fn play<P: Policy>(
     while let State::Linked(..) = world.state() {
         world = play_round(world)?;
     }
-    Ok(world.finish())
+    Ok(world.into_reports())
 }
 
 /// Sends the packet that is due, if one is, and passes on all that is on its way, each way.

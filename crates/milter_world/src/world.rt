@@ -156,12 +156,12 @@ impl<'p, P: Policy> World<'p, P> {
     }
 
     /// The reports of the mail server's end: one for each message that is settled, in order. It doesn't allocate.
-    pub fn finish(self) -> Reports
+    pub fn into_reports(self) -> Reports
         ensures connection { result.connection ≡ self.entry.mta.connection }
         ensures messages { result.messages ≡ self.entry.mta.reports }
     {
         let World { mta, .. } = self;
-        mta.finish()
+        mta.into_reports()
     }
 
     /// What the event does.

@@ -24,8 +24,8 @@ returns-clause-converses g c =
       | in-Ok w ↦ subst (λ (m : Mta). want m ≡ wants.Done) (sym w.core-is) w.drive_all.ensures.done
       | in-Err w ↦ subst (λ (m : Mta). want m ≡ wants.Done) (sym w.core-is) w.give_up_messages.ensures.done
     ] in
-    converses c.events_keep_to_dialogues.ensures c.events_report_connections.ensures c.messages_are_settled_by_dialogues.ensures.done c.args.core begun last c.finish.result
-    c.give_up_connection.ensures.events steps done (disposition-is c.finish.result last.connection last.reports c.finish.ensures.connection c.finish.ensures.messages)
+    converses c.events_keep_to_dialogues.ensures c.events_report_connections.ensures c.messages_are_settled_by_dialogues.ensures.done c.args.core begun last c.into_reports.result
+    c.give_up_connection.ensures.events steps done (disposition-is c.into_reports.result last.connection last.reports c.into_reports.ensures.connection c.into_reports.ensures.messages)
 
 pub returns-clause-notes : goal.returns-clause-notes
 returns-clause-notes g c =
@@ -44,4 +44,4 @@ returns-clause-notes g c =
     ] in
     let first : Steps c.args.core begun = record { events = first_events (want c.args.core); runs = c.give_up_connection.ensures.events } in
     let all = notes-on notes c.events_keep_to_dialogues.ensures c.args.core begun last _ _ _ first steps (λ on. c.give_up_connection.ensures.notes) noted in
-    rw c.finish.ensures.messages all
+    rw c.into_reports.ensures.messages all

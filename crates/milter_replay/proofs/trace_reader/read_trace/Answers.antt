@@ -31,4 +31,4 @@ returns-clause-commands c =
     let last = last_bytes rest (sym c.line_end.ensures ∙ c.in_default.is) in
     let whole = c.in_ok-read_line-2.ensures.bytes
     ∙ ap (λ (x : List ℕ). bytes_so_far c.loop-end.reader ++ x) (sym last) ∙ c.loop-end.invariant.read in
-    IfOk-weaker c.finish.result _ _ (λ recording is. is ∙ whole) c.finish.ensures.commands
+    IfOk-weaker c.whole_recording.result _ _ (λ recording is. is ∙ whole) c.whole_recording.ensures.commands

@@ -43,7 +43,7 @@ reports-are g c =
     let p : Scenario = scenario_of (g.P.Policy.behavior c.args.policy.now) c.args.config c.args.session in
     let none : drop c.loop-event.event-index c.args.events.now ≡ [] =
     drop_all c.loop-event.event-index c.args.events.now (let all = c.loop-event-test.false in omega (arith, all)) in
-    c.finish.ensures.messages
+    c.into_reports.ensures.messages
     ∙ ap (λ (a : After). a.reports)
     (sym (ap (after_all p (after_of c.loop-event.world)) none) ∙ c.loop-event.invariant.leads)
 
@@ -82,12 +82,12 @@ returns-clause-settles g c =
 pub returns-clause-given : goal.returns-clause-given
 returns-clause-given g c =
     let p : Scenario = scenario_of (g.P.Policy.behavior c.args.policy.now) c.args.config c.args.session in
-    let dialogues : AreReported p p.session.messages c.finish.result.messages =
+    let dialogues : AreReported p p.session.messages c.into_reports.result.messages =
     subst (λ (rs : List Report). AreReported p p.session.messages rs) (sym (reports-are g c)) (c.schedules_report_dialogues.ensures p c.args.events.now) in
     record {
       done = dialogues.done;
       rest = dialogues.rest;
       messages_are = dialogues.messages_are;
       each = zip-map (IsReportOf p) (λ message r. All (WasGiven p message) r.acted) (λ message r is. c.verdicts_were_given.ensures.verdicts p message r is)
-          dialogues.done c.finish.result.messages dialogues.each;
+          dialogues.done c.into_reports.result.messages dialogues.each;
     }

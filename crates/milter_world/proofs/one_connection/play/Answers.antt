@@ -54,7 +54,7 @@ returns g c =
     let p : Scenario = scenario_of (g.P.Policy.behavior c.args.policy.now) c.args.config c.args.session in
     let u : AreUndisturbed p c.loop-world.world = c.loop-world.invariant.undisturbed in
     let over : IsUndisturbed p u.events = is-over p c.loop-world.world u (λ settled counts is. c.in_default.not-Linked settled counts (c.state.ensures ∙ is)) in
-    let reports_are : c.finish.result.messages ≡ run_reports p u.events = c.finish.ensures.messages ∙ ap (λ (a : After). a.reports) u.after in
+    let reports_are : c.into_reports.result.messages ≡ run_reports p u.events = c.into_reports.ensures.messages ∙ ap (λ (a : After). a.reports) u.after in
     record {
       dialogues = subst (λ (rs : List Report). AllZip (IsRuledBy p) p.session.messages rs) (sym reports_are)
           (c.undisturbed_schedules_are_ruled.ensures.ruled p u.events over);
@@ -62,5 +62,5 @@ returns g c =
           (c.undisturbed_schedules_are_ruled.ensures.verdicts p u.events over);
       causes = subst (λ (rs : List Report). All (λ r. is_by_verdict r.settled_by ≡ true) rs) (sym reports_are)
           (c.undisturbed_schedules_are_ruled.ensures.causes p u.events over);
-      connection = connection-given c.loop-world.world.mta c.finish.result c.finish.ensures.connection c.finish.ensures.messages u.are.by_dialogues.connection;
+      connection = connection-given c.loop-world.world.mta c.into_reports.result c.into_reports.ensures.connection c.into_reports.ensures.messages u.are.by_dialogues.connection;
     }

@@ -15,11 +15,11 @@ returns-in_err-builder-clause-only c = λ good small.
 
 pub returns-clause-len : goal.returns-clause-len
 returns-clause-len c =
-    ap (λ k. len_by k (collected_in c.finish.result)) c.finish.ensures.kind ∙ c.finish.ensures.len
+    ap (λ k. len_by k (collected_in c.build.result)) c.build.ensures.kind ∙ c.build.ensures.len
     ∙ ap (len_by c.args.kind) c.in_ok-builder.ensures.entries
     ∙ collected_len c.args.kind (entries_in c.args.bytes.now) c.in_ok-builder.ensures.good
 
 pub returns-clause-has : goal.returns-clause-has
 returns-clause-has c =
-    has_entries c.args.kind (entries_in c.args.bytes.now) c.in_ok-builder.builder c.finish.result c.finish.ensures.kind
-    c.finish.ensures.has c.in_ok-builder.ensures.entries
+    has_entries c.args.kind (entries_in c.args.bytes.now) c.in_ok-builder.builder c.build.result c.build.ensures.kind
+    c.build.ensures.has c.in_ok-builder.ensures.entries

@@ -1,6 +1,6 @@
 use Rattle.std.proofs.Common.{arith}
 use Rattle.std.proofs.lemmas.Grind.{common_steps}
-use Rattle.milter_mta.proofs.state.SessionState.finish_by_default.Goals as goal
+use Rattle.milter_mta.proofs.state.SessionState.settle_by_default.Goals as goal
 
 pub returns : goal.returns
 returns c = grind (arith, common_steps)

@@ -17,10 +17,10 @@ use Rattle.milter_mta.specs.Mta.{Mta, Position, connection_at}
 use Rattle.milter_mta.specs.Dispositions.{next_message, report}
 use Rattle.milter_mta.proofs.Begun.{next_after}
 use Rattle.milter_mta.proofs.KeptRecipients.{kept_end}
-use Rattle.milter_mta.proofs.state.SessionState.finish_first.Goals as goal
+use Rattle.milter_mta.proofs.state.SessionState.settle_first.Goals as goal
 
-pub returns-in-Ok-finish-clause-settled : goal.returns-in-Ok-finish-clause-settled
-returns-in-Ok-finish-clause-settled c =
+pub returns-in-Ok-outcome_of-clause-settled : goal.returns-in-Ok-outcome_of-clause-settled
+returns-in-Ok-outcome_of-clause-settled c =
     let self = c.args.self.now in
     let transaction = c.args.transaction in
     let stage = c.args.stage in
@@ -32,13 +32,13 @@ returns-in-Ok-finish-clause-settled c =
     let reported : SessionState → Outcome → Accounts =
     λ s o. record s.queue { reports = s.queue.reports ++ report transaction.acted o Filter ∷ []; spare = s.queue.spare - 1 } in
     let space = has_leading_space transaction.negotiated in
-    let outcome_is = c.in-Ok-finish.ensures.settled
+    let outcome_is = c.in-Ok-outcome_of.ensures.settled
     ∙ ap (λ (b : Bool). outcome b stage c.args.answer c.kept_message-kept.result) c.has_leading_space.ensures
     ∙ ap (λ (k : MailObject). outcome space stage c.args.answer k)
     (c.kept_message-kept.ensures ∙ ap (λ (acted : List Acted). kept transaction.message acted) c.as_slice.ensures) in
     c.next_transaction.ensures.next
     ∙ ap (λ (l : Accounts). then_next c.opened_next.new.self l) c.add_report.ensures
-    ∙ ap (λ (s : SessionState). then_next s (reported s c.in-Ok-finish.outcome)) c.opened_next.ensures.same
+    ∙ ap (λ (s : SessionState). then_next s (reported s c.in-Ok-outcome_of.outcome)) c.opened_next.ensures.same
     ∙ ap (λ (o : Outcome). then_next self (reported self o)) outcome_is
     ∙ ap (at self (reported self (outcome space stage c.args.answer (kept transaction.message transaction.acted)))) next
 

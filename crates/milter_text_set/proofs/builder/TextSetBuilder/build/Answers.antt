@@ -2,8 +2,8 @@ use Rattle.std.proofs.Common.{List, subst, ℕ}
 use Rattle.std.specs.List.Sorted.{IsPermutation}
 use Rattle.std.proofs.lemmas.List.Sorted.{Contains-permutation, IsPermutation-sym}
 use Rattle.milter_text_set.specs.Entries.{entries_of}
-use Rattle.milter_text_set.proofs.builder.TextSetBuilder.finish.Goals as goal
-use Rattle.milter_text_set.proofs.builder.TextSetBuilder.finish.Goals.{After-new}
+use Rattle.milter_text_set.proofs.builder.TextSetBuilder.build.Goals as goal
+use Rattle.milter_text_set.proofs.builder.TextSetBuilder.build.Goals.{After-new}
 
 in_order : (c : After-new) → IsPermutation c.args.self c.new.result
 in_order c =

@@ -6,7 +6,7 @@ use Rattle.milter_mta.specs.Dispositions.{report}
 use Rattle.milter_mta_outcome.specs.declared.loss.By.TheVariants.{Connection}
 use Rattle.milter_mta_outcome.specs.Outcomes.{at_connection}
 use Rattle.milter_mta.proofs.Reported.{all_settled, all_stand}
-use Rattle.milter_mta.proofs.state.SessionState.finish_all.Goals as goal
+use Rattle.milter_mta.proofs.state.SessionState.settle_all.Goals as goal
 
 pub returns-clause-settled : goal.returns-clause-settled
 returns-clause-settled c =
