@@ -150,7 +150,7 @@ impl<'x, R: Files + Clock + AllocGlobal> Transactions<'x, R> {
     /// The reply to what came after DATA, which ends the message.
     pub(crate) fn on_text(&mut self, data: Data) -> anyhow::Result<Reply> {
         let reply = match data {
-            Data::Text(text) => self.take_text(text.as_slice())?,
+            Data::Text(text) => self.reply_to_text(text.as_slice())?,
             Data::Faulty(fault) => fault_reply(fault),
             Data::Closed => Reply::Fixed("421 4.4.2 The connection has ended"),
         };
@@ -159,7 +159,7 @@ impl<'x, R: Files + Clock + AllocGlobal> Transactions<'x, R> {
     }
 
     /// The reply to the text of a message, once the filters were shown it and it was stored.
-    fn take_text(&mut self, text: &[u8]) -> anyhow::Result<Reply> {
+    fn reply_to_text(&mut self, text: &[u8]) -> anyhow::Result<Reply> {
         let Some(
             Transaction {
                 id,

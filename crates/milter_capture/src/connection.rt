@@ -93,8 +93,8 @@ impl<'a> Connection<'a> {
             Sender::Server
         };
         match sender {
-            Sender::Client => take_segment(&mut self.to_server, &mut self.to_client, segment)?,
-            Sender::Server => take_segment(&mut self.to_client, &mut self.to_server, segment)?,
+            Sender::Client => receive_segment(&mut self.to_server, &mut self.to_client, segment)?,
+            Sender::Server => receive_segment(&mut self.to_client, &mut self.to_server, segment)?,
         }
         self.add_pieces(sender, time)
     }
@@ -133,8 +133,8 @@ impl<'a> Connection<'a> {
     }
 }
 
-/// Has a direction take a segment, and the other one what the segment acknowledges of it.
-fn take_segment<'a>(
+/// Gives a direction a segment, and the other one what the segment acknowledges of it.
+fn receive_segment<'a>(
     stream: &mut Stream<'a>,
     other: &mut Stream<'a>,
     segment: &Segment<'a>,

@@ -87,9 +87,9 @@ impl KnownFile {
         *self = KnownFile::new();
     }
 
-    /// Takes what was read of the file and its lists, or why it wasn't read: `None` where it is what is known, else the
+    /// Notes what was read of the file and its lists, or why it wasn't read: `None` where it is what is known, else the
     /// rules as they are used, or why they can't be given.
-    pub fn take(
+    pub fn note(
         &mut self,
         alloc: Global,
         read: Result<ReadFile, FileError>,
@@ -106,12 +106,12 @@ impl KnownFile {
             self.stamps = file.stamps;
             return None;
         }
-        Some(self.take_other(alloc, file, usage))
+        Some(self.note_other(alloc, file, usage))
     }
 
-    /// Takes a file that has other bytes than those that are known, or whose lists do.
+    /// Notes a file that has other bytes than those that are known, or whose lists do.
     #[tactic(auto, using(crate::proofs::KnownFileLaws::memory_refused))]
-    fn take_other(
+    fn note_other(
         &mut self,
         alloc: Global,
         file: ReadFile,

@@ -118,7 +118,7 @@ impl<'r, R: Files + Clock> RuleSource for RuleFile<'r, R> {
             }
         }
         let read = read_files(self.files, alloc, path, &mut self.lists);
-        self.known.take(alloc, read, self.usage)
+        self.known.note(alloc, read, self.usage)
     }
 
     fn forget(&mut self) {

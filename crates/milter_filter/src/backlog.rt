@@ -52,7 +52,7 @@ impl Backlog {
     }
 
     /// Drops the first `count` bytes, which were taken.
-    pub(crate) fn advance(&mut self, count: usize)
+    pub(crate) fn consume(&mut self, count: usize)
         requires { count ≤ length self.old }
         ensures { self.new ≡ drop count self.old }
     {

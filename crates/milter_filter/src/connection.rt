@@ -10,7 +10,7 @@ ghost use Rattle.milter_filter.specs.declared.turn.Turn.TheVariants as turns;
 
 use crate::backlog::Backlog;
 use crate::served::Served;
-use crate::steps::take_turn;
+use crate::steps::run_turn;
 use crate::turn::Turn;
 use milter_filter_core::{
     Answer, AnswerFault, CommandOrder, FilterConnection, Needle, PathPart, Pattern, Policy, Seen,
@@ -221,7 +221,7 @@ impl Connection {
             backlog,
             ended,
         } = self;
-        let end = match take_turn(filter, backlog, buffer, reader, writer) {
+        let end = match run_turn(filter, backlog, buffer, reader, writer) {
             Ok(turn) => return turn,
             Err(end) => end,
         };

@@ -32,7 +32,7 @@ fn write_pending<W: Write>(filter: &mut FilterConnection, writer: &mut W) -> Res
 
 /// Takes bytes of a piece and writes the replies to them, until the piece is at its end, a reply stays pending or a
 /// question is open; answers how many bytes it took, or how the connection ended in it.
-fn take_piece<W: Write>(
+fn feed_piece<W: Write>(
     filter: &mut FilterConnection,
     piece: &[u8],
     writer: &mut W,
@@ -78,7 +78,7 @@ fn turn_after(filter: &FilterConnection) -> Result<Turn, Served>
 }
 
 /// Takes what was read before.
-fn take_backlog<W: Write>(
+fn feed_backlog<W: Write>(
     filter: &mut FilterConnection,
     backlog: &mut Backlog,
     writer: &mut W,
@@ -91,11 +91,11 @@ fn take_backlog<W: Write>(
     ensures ends { IfErr result (λ end. (rest : Option (List ℕ)) → EndsBy (connected filter.old backlog.old) rest rest
         (W.contents writer.old) (W.contents writer.new) end) }
 {
-    let taken = match take_piece(filter, backlog.as_slice(), writer) {
+    let taken = match feed_piece(filter, backlog.as_slice(), writer) {
         Ok(taken) => taken,
         Err(end) => return Err(end),
     };
-    backlog.advance(taken);
+    backlog.consume(taken);
     turn_after(filter)
 }
 
@@ -116,13 +116,13 @@ fn catch_up<W: Write>(
         return Err(end);
     }
     match filter.next_step() {
-        NextStep::Feed => take_backlog(filter, backlog, writer),
+        NextStep::Feed => feed_backlog(filter, backlog, writer),
         _ => turn_after(filter),
     }
 }
 
 /// Takes a piece that was read, and keeps what it can't take while replies are pending or a question is open.
-fn take_read<W: Write>(
+fn feed_read<W: Write>(
     filter: &mut FilterConnection,
     backlog: &mut Backlog,
     piece: &[u8],
@@ -137,7 +137,7 @@ fn take_read<W: Write>(
         EndsBy (connected filter.old backlog.old) unread left
         (W.contents writer.old) (W.contents writer.new) end) }
 {
-    let taken = match take_piece(filter, piece, writer) {
+    let taken = match feed_piece(filter, piece, writer) {
         Ok(taken) => taken,
         Err(end) => return Err(end),
     };
@@ -166,7 +166,7 @@ fn read_once<R: Read, W: Write>(
 {
     match reader.read(buffer) {
         Ok(0) => Err(Served::Ended(filter.unread())),
-        Ok(count) => take_read(filter, backlog, &buffer[..count], writer),
+        Ok(count) => feed_read(filter, backlog, &buffer[..count], writer),
         Err(error) => match error.kind() {
             ErrorKind::WouldBlock => Ok(Turn::AwaitsInput),
             _ => Err(Served::ReadFault),
@@ -174,8 +174,8 @@ fn read_once<R: Read, W: Write>(
     }
 }
 
-/// Takes a turn: catches up, and then reads where all is done.
-pub(crate) fn take_turn<R: Read, W: Write>(
+/// Runs a turn: catches up, and then reads where all is done.
+pub(crate) fn run_turn<R: Read, W: Write>(
     filter: &mut FilterConnection,
     backlog: &mut Backlog,
     buffer: &mut [u8],

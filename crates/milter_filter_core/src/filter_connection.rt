@@ -188,7 +188,7 @@ impl FilterConnection {
                 if !stream.pending().is_empty() || stream.asked().is_some() {
                     return Ok(0);
                 }
-                stream.take(&wants.as_ref(), piece)
+                stream.feed(&wants.as_ref(), piece)
             }
         }
     }

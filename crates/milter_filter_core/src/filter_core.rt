@@ -144,14 +144,14 @@ impl<'p, P: Policy> FilterCore<'p, P> {
                 if !self.stream.pending().is_empty() {
                     return Ok(0);
                 }
-                self.take(piece)
+                self.feed_serving(piece)
             }
         }
     }
 
     /// Takes bytes of a piece where it serves and nothing waits to be sent.
     #[inline(always)]
-    fn take(&mut self, piece: &[u8]) -> Result<usize, FilterFault>
+    fn feed_serving(&mut self, piece: &[u8]) -> Result<usize, FilterFault>
         requires serving { self.old.order_state.state ≡ Serving }
         requires nothing_pending { self.old.pending ≡ [] }
         ensures takes { IfOk result (λ n. Takes (P.behavior self.old.policy) self.old piece.now n self.new) }
@@ -166,7 +166,7 @@ impl<'p, P: Policy> FilterCore<'p, P> {
             wants,
             stream,
         } = self;
-        let taken = match stream.take(wants, piece) {
+        let taken = match stream.feed(wants, piece) {
             Ok(taken) => taken,
             Err(fault) => return Err(fault),
         };

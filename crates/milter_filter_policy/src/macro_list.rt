@@ -46,8 +46,8 @@ impl MacroList {
         }
     }
 
-    /// Takes copies of the macros of a packet, all or none.
-    pub(crate) fn take(
+    /// Keeps copies of the macros of a packet, all or none.
+    pub(crate) fn note(
         &mut self,
         alloc: Global,
         pairs: &PairsRef<'_>,

@@ -231,7 +231,7 @@ impl Seen {
 
     /// Copies what the command shows; commands of no stage but macros show nothing. After `NoMemory` nothing has
     /// changed.
-    pub fn take(&mut self, alloc: Global, command: &CommandRef<'_>) -> Result<(), NoMemory>
+    pub fn note(&mut self, alloc: Global, command: &CommandRef<'_>) -> Result<(), NoMemory>
         ensures ok { OnOk result (self.new ≡ parts_with self.old (command_of command.now)) }
         ensures err { OnErr result (self.new ≡ self.old) }
     {
@@ -246,7 +246,7 @@ impl Seen {
             }
             CommandRef::Macro { command, pairs } => {
                 let of_connection = *command == SMFIC_CONNECT || *command == SMFIC_HELO;
-                self.macros.take(alloc, pairs, of_connection)?;
+                self.macros.note(alloc, pairs, of_connection)?;
             }
             _ => {}
         }

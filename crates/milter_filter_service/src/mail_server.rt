@@ -117,7 +117,7 @@ impl<S: Drop> MailServer<S> {
 
     /// Gives it a turn over its socket, as [`Connection::turn`] says. Of a socket nothing is known of what there is to
     /// read and of what was written: the clauses say what the connection takes and replies.
-    pub(crate) fn take_turn(&mut self, buffer: &mut [u8]) -> Turn
+    pub(crate) fn run_turn(&mut self, buffer: &mut [u8]) -> Turn
         requires { 0 < length buffer.old }
         ensures turns { self.old.connection.ended ≡ None →
             TurnsBy self.old.connection None None None None self.new.connection result }
@@ -132,7 +132,7 @@ impl<S: Drop> MailServer<S> {
     }
 
     /// Gives it turns as long as the host answers at once, up to [`QUESTIONS_MAX`] times.
-    pub(crate) fn take_turns<H: Host<Session = S>>(
+    pub(crate) fn run_turns<H: Host<Session = S>>(
         &mut self,
         place: usize,
         second: u64,
@@ -145,7 +145,7 @@ impl<S: Drop> MailServer<S> {
         self.is_active = true;
         self.last = second;
         for _ in 0..QUESTIONS_MAX {
-            match self.take_turn(buffer) {
+            match self.run_turn(buffer) {
                 Turn::Again => return Next::Turn,
                 Turn::AwaitsInput | Turn::AwaitsOutput => return Next::Wait,
                 Turn::Ended(served) => return Next::Close(served),

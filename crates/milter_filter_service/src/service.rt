@@ -122,7 +122,7 @@ impl<'r, R: Net + Clock, S: Drop> Service<'r, R, S> {
             self.on_events(&events, host)?;
             self.call_due(now, host)?;
             self.accept(second, host)?;
-            self.take_turns(second, buffer.as_mut_slice(), host)?;
+            self.run_turns(second, buffer.as_mut_slice(), host)?;
             self.look(second, host)?;
         }
         Ok(())
@@ -361,7 +361,7 @@ impl<'r, R: Net + Clock, S: Drop> Service<'r, R, S> {
     }
 
     /// Gives each mail server that waits for its turn one.
-    fn take_turns<H: Host<Session = S>>(
+    fn run_turns<H: Host<Session = S>>(
         &mut self,
         second: u64,
         buffer: &mut [u8],
@@ -371,14 +371,14 @@ impl<'r, R: Net + Clock, S: Drop> Service<'r, R, S> {
     {
         for _ in 0..self.mail_servers.waiting() {
             if let Some(place) = self.mail_servers.next_in_turn() {
-                self.take_turn(place, second, buffer, host)?;
+                self.run_turn(place, second, buffer, host)?;
             }
         }
         Ok(())
     }
 
     /// Gives a mail server its turn.
-    fn take_turn<H: Host<Session = S>>(
+    fn run_turn<H: Host<Session = S>>(
         &mut self,
         place: usize,
         second: u64,
@@ -390,7 +390,7 @@ impl<'r, R: Net + Clock, S: Drop> Service<'r, R, S> {
         let Some(mail_server) = self.mail_servers.at_mut(place) else {
             return Ok(());
         };
-        match mail_server.take_turns(place, second, buffer, host) {
+        match mail_server.run_turns(place, second, buffer, host) {
             Next::Turn => self.mail_servers.enqueue(place),
             Next::Wait => Ok(()),
             Next::Close(served) => self.close(place, served, host),

@@ -158,7 +158,7 @@ impl Asker {
     }
 
     /// Asks about a packet, or replies to it, or answers the fault of its command.
-    pub(crate) fn take_packet(
+    pub(crate) fn on_packet(
         &mut self,
         wants: &WantsRef<'_>,
         packet: &Packet<'_>,
@@ -180,12 +180,12 @@ impl Asker {
         if let Some(fault) = self.connection.fault_of(&command, len) {
             return Err(fault);
         }
-        self.take(wants, &command, len)?;
+        self.on_command(wants, &command, len)?;
         Ok(())
     }
 
-    /// Takes a command that is at no fault; its packet has `len` bytes.
-    fn take(
+    /// Goes on by a command that is at no fault; its packet has `len` bytes.
+    fn on_command(
         &mut self,
         wants: &WantsRef<'_>,
         command: &CommandRef<'_>,
@@ -250,13 +250,13 @@ impl Asker {
         ensures { OnOk result (self.new ≡ shown_and_asked self.old (command_of command.now)) }
     {
         let Some(stage) = command.stage() else {
-            return self.connection.take(self.alloc, command, len);
+            return self.connection.note(self.alloc, command, len);
         };
         let Some(stage) = self.connection.question_at(stage) else {
-            return self.connection.take(self.alloc, command, len);
+            return self.connection.note(self.alloc, command, len);
         };
         if !self.connection.counts_late(stage) {
-            self.connection.take(self.alloc, command, len)?;
+            self.connection.note(self.alloc, command, len)?;
             self.asked = Some(stage);
             return Ok(());
         }
@@ -279,7 +279,7 @@ impl Asker {
         };
         put_answer(self.alloc, negotiated, answer, &mut self.pending)?;
         self.asked = None;
-        self.connection.take_effect(effect);
+        self.connection.apply_effect(effect);
         Ok(())
     }
 

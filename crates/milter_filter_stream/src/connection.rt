@@ -241,8 +241,8 @@ impl Connection {
         self.seen.search_body(alloc, place, pattern);
     }
 
-    /// Takes a command that is shown, or none of it; its packet has `len` bytes.
-    pub(crate) fn take(
+    /// Keeps a command that is shown, or none of it; its packet has `len` bytes.
+    pub(crate) fn note(
         &mut self,
         alloc: Global,
         command: &CommandRef<'_>,
@@ -255,7 +255,7 @@ impl Connection {
         if !is_shown(command) {
             return Ok(());
         }
-        self.seen.take(alloc, command)?;
+        self.seen.note(alloc, command)?;
         if let Some(stage) = command.stage() {
             self.last_rank = rank_of(stage);
         }
@@ -299,7 +299,7 @@ impl Connection {
 
     /// Does this to what is kept.
     #[inline(always)]
-    pub(crate) fn take_effect(&mut self, effect: AnswerEffect)
+    pub(crate) fn apply_effect(&mut self, effect: AnswerEffect)
         requires { effect ≡ AnswerEffect.CountsData → HEAD_LEN + self.old.shown.bytes ≤ WEIGHT_MAX }
         ensures { self.new ≡ with_effect self.old effect }
     {

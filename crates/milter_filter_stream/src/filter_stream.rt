@@ -12,7 +12,7 @@ ghost use Rattle.milter_filter_stream.specs.Streams.{received_in};
 
 use crate::asker::Asker;
 use crate::next_step::NextStep;
-use crate::pieces::take_piece;
+use crate::pieces::feed_piece;
 use milter_filter_answer::WantsRef;
 use milter_filter_policy::{Needle, PathPart, Pattern, Policy, Seen};
 use milter_protocol::{Answer, CommandOrder, FilterFault, FilterState};
@@ -180,7 +180,7 @@ impl FilterStream {
 
     /// Takes bytes of a piece, where commands are taken and nothing is pending.
     #[inline(always)]
-    pub fn take(&mut self, wants: &WantsRef<'_>, piece: &[u8]) -> Result<usize, FilterFault>
+    pub fn feed(&mut self, wants: &WantsRef<'_>, piece: &[u8]) -> Result<usize, FilterFault>
         requires taking { IsTaking self.old.state }
         requires nothing_pending { self.old.pending ≡ [] }
         ensures takes { IfOk result (λ n. TakesIn (conversation_of wants.now self.old) piece.now n
@@ -196,7 +196,7 @@ impl FilterStream {
         } = self;
         asker.clear_pending();
         *sent = 0;
-        let taken = match take_piece(wants, splitter, asker, piece) {
+        let taken = match feed_piece(wants, splitter, asker, piece) {
             Ok(taken) => taken,
             Err(fault) => {
                 asker.fail(fault);

@@ -12,7 +12,7 @@ use milter_wire::{HEAD_LEN, NoMemory, Packet, Splitter};
 
 /// Takes bytes of a piece up to the end of one packet, asks about the packet or replies to it if it is whole, and
 /// answers how many bytes were taken. A packet that is whole in the piece is read where it lies.
-fn take_packet(
+fn feed_packet(
     wants: &WantsRef<'_>,
     splitter: &mut Splitter,
     asker: &mut Asker,
@@ -24,17 +24,17 @@ fn take_packet(
 {
     if splitter.unread() == 0 {
         if let Some(packet) = Packet::first_of(piece) {
-            if let Err(fault) = asker.take_packet(wants, &packet) {
+            if let Err(fault) = asker.on_packet(wants, &packet) {
                 return Err(fault);
             }
             return Ok(packet.payload.len() + HEAD_LEN);
         }
     }
-    take_through_splitter(wants, splitter, asker, piece)
+    feed_through_splitter(wants, splitter, asker, piece)
 }
 
 /// The same by way of the splitter's buffer.
-fn take_through_splitter(
+fn feed_through_splitter(
     wants: &WantsRef<'_>,
     splitter: &mut Splitter,
     asker: &mut Asker,
@@ -48,7 +48,7 @@ fn take_through_splitter(
     match splitter.next() {
         Ok(None) => {}
         Ok(Some(packet)) => {
-            if let Err(fault) = asker.take_packet(wants, &packet) {
+            if let Err(fault) = asker.on_packet(wants, &packet) {
                 return Err(fault);
             }
         }
@@ -76,7 +76,7 @@ fn feed_or_clear(splitter: &mut Splitter, piece: &[u8]) -> Result<usize, NoMemor
 
 /// Takes bytes of a piece up to the end of the first packet that has replies or a question, or of one with which the
 /// mail server quits, or else all of them, and answers how many.
-pub(crate) fn take_piece(
+pub(crate) fn feed_piece(
     wants: &WantsRef<'_>,
     splitter: &mut Splitter,
     asker: &mut Asker,
@@ -93,7 +93,7 @@ pub(crate) fn take_piece(
 {
     let mut taken = 0;
     while taken < piece.len() {
-        let more = match take_packet(wants, splitter, asker, &piece[taken..]) {
+        let more = match feed_packet(wants, splitter, asker, &piece[taken..]) {
             Ok(more) => more,
             Err(fault) => return Err(fault),
         };

@@ -192,7 +192,7 @@ impl<'r, 's, R: Net + Clock> Load<'r, 's, R> {
             let Token(place) = event.token();
             match self.on_event(place, event, now) {
                 Some(kind) => self.close(place, kind, now)?,
-                None => self.take_turns(place, buffer, now)?,
+                None => self.run_turns(place, buffer, now)?,
             }
         }
         self.note_over()
@@ -235,11 +235,11 @@ impl<'r, 's, R: Net + Clock> Load<'r, 's, R> {
     }
 
     /// Goes on with a connection.
-    fn take_turns(&mut self, place: usize, buffer: &mut [u8], now: u64) -> Result<(), LoadError> {
+    fn run_turns(&mut self, place: usize, buffer: &mut [u8], now: u64) -> Result<(), LoadError> {
         let Some(open) = open_at(&mut self.slots, place) else {
             return Ok(());
         };
-        match open.take_turns(&mut self.work, buffer, now) {
+        match open.run_turns(&mut self.work, buffer, now) {
             Next::Wait => self.watch(place, false, now),
             Next::WaitToWrite => self.watch(place, true, now),
             Next::Message => {
@@ -304,7 +304,7 @@ impl<'r, 's, R: Net + Clock> Load<'r, 's, R> {
             if let Some(slot) = self.slots.get_mut(place) {
                 slot.is_idle = false;
             }
-            self.take_turns(place, buffer, now)?;
+            self.run_turns(place, buffer, now)?;
         }
         self.note_over()
     }

@@ -64,7 +64,7 @@ impl OpenConnection {
     }
 
     /// Goes on as far as can be without waiting.
-    pub(crate) fn take_turns(&mut self, work: &mut Work<'_>, buffer: &mut [u8], now: u64) -> Next {
+    pub(crate) fn run_turns(&mut self, work: &mut Work<'_>, buffer: &mut [u8], now: u64) -> Next {
         for _ in 0..TURNS_MAX {
             if let Some(next) = self.turn(work, buffer, now) {
                 return next;
@@ -129,7 +129,7 @@ impl OpenConnection {
             Ok(count) => {
                 let (piece, rest) = buffer.split_at(count.min(buffer.len()));
                 self.is_readable = rest.is_empty() || self.is_closed;
-                self.take(piece, work, now)
+                self.feed(piece, work, now)
             }
             Err(error) => match error.kind() {
                 ErrorKind::WouldBlock => {
@@ -143,7 +143,7 @@ impl OpenConnection {
     }
 
     /// Takes a piece of what the filter sent.
-    fn take(&mut self, piece: &[u8], work: &mut Work<'_>, now: u64) -> Option<Next> {
+    fn feed(&mut self, piece: &[u8], work: &mut Work<'_>, now: u64) -> Option<Next> {
         self.since = now;
         match self.conversation.feed(piece, now, &mut work.totals) {
             Ok(()) => None,

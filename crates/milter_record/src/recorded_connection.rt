@@ -28,7 +28,7 @@ pub(crate) struct RecordedConnection<F: Write + Drop> {
 
 impl<F: Write + Drop> RecordedConnection<F> {
     /// Passes on what has come, as far as can be without waiting; whether both ends have ended.
-    pub(crate) fn take_turn(&mut self, alloc: Global, buffer: &mut [u8]) -> Result<bool, Fault> {
+    pub(crate) fn run_turn(&mut self, alloc: Global, buffer: &mut [u8]) -> Result<bool, Fault> {
         self.is_due = false;
         if !self.is_made {
             return Ok(false);

@@ -90,7 +90,7 @@ impl<'r, 's, R: Net + Files> Recorder<'r, 's, R> {
             self.poll.poll(&mut events, timeout)?;
             self.on_events(&events, errors);
             self.accept(errors);
-            self.take_turns(buffer.as_mut_slice(), errors);
+            self.run_turns(buffer.as_mut_slice(), errors);
         }
         Ok(())
     }
@@ -171,21 +171,21 @@ impl<'r, 's, R: Net + Files> Recorder<'r, 's, R> {
     }
 
     /// Gives each connection that is to have a turn one.
-    fn take_turns<W: Write>(&mut self, buffer: &mut [u8], errors: &mut W) {
+    fn run_turns<W: Write>(&mut self, buffer: &mut [u8], errors: &mut W) {
         for place in 0..AT_ONCE {
-            self.take_turn(place, buffer, errors);
+            self.run_turn(place, buffer, errors);
         }
     }
 
     /// Gives a connection a turn, if it is to have one.
-    fn take_turn<W: Write>(&mut self, place: usize, buffer: &mut [u8], errors: &mut W) {
+    fn run_turn<W: Write>(&mut self, place: usize, buffer: &mut [u8], errors: &mut W) {
         let Some(connection) = self.connections.get_mut(place) else {
             return;
         };
         if !connection.is_due {
             return;
         }
-        match connection.take_turn(self.alloc, buffer) {
+        match connection.run_turn(self.alloc, buffer) {
             Ok(false) => {}
             Ok(true) => drop(self.connections.try_remove(place)),
             Err(fault) => self.lose(place, &fault, errors),

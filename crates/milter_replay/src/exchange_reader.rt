@@ -44,7 +44,7 @@ impl ExchangeReader {
     }
 
     /// Takes a packet, which became whole in the line with this number.
-    pub(crate) fn take(
+    pub(crate) fn on_packet(
         &mut self,
         line: u64,
         direction: Direction,
@@ -57,13 +57,13 @@ impl ExchangeReader {
             ≡ read_bytes self.old ++ bytes_if ToFilter direction (frame_bytes (frame_of packet.now))) }
     {
         match direction {
-            Direction::ToFilter => self.take_command(line, packet),
-            Direction::ToMta => self.take_reply(line, packet),
+            Direction::ToFilter => self.on_command(line, packet),
+            Direction::ToMta => self.on_reply(line, packet),
         }
     }
 
     /// Takes a packet of the filter.
-    fn take_reply(&mut self, line: u64, packet: &Packet<'_>) -> Result<(), RecordingFault>
+    fn on_reply(&mut self, line: u64, packet: &Packet<'_>) -> Result<(), RecordingFault>
         requires payload { IsPayload packet.now.payload.now }
         requires fitting { HasFitting self.old }
         ensures fitting { OnOk result (HasFitting self.new) }
@@ -97,7 +97,7 @@ impl ExchangeReader {
     }
 
     /// Takes a packet of the mail server.
-    fn take_command(&mut self, line: u64, packet: &Packet<'_>) -> Result<(), RecordingFault>
+    fn on_command(&mut self, line: u64, packet: &Packet<'_>) -> Result<(), RecordingFault>
         requires payload { IsPayload packet.now.payload.now }
         requires fitting { HasFitting self.old }
         ensures fitting { OnOk result (HasFitting self.new) }

@@ -109,7 +109,7 @@ fn read_packets(
         let taken = splitter.feed(rest)?;
         rest = &rest[taken..];
         match splitter.next() {
-            Ok(Some(packet)) => exchanges.take(number, direction, &packet)?,
+            Ok(Some(packet)) => exchanges.on_packet(number, direction, &packet)?,
             Ok(None) => {}
             Err(fault) => {
                 return Err(RecordingFault::Trace(packet_fault(number, direction, fault)));

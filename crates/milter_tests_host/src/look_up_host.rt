@@ -52,7 +52,7 @@ impl LookUpHost {
     }
 
     /// Takes what was read of the look-up server, and gives the answers in it.
-    fn take(
+    fn feed(
         &mut self,
         bytes: &[u8],
         mail_servers: &mut MailServers<u32>,
@@ -137,7 +137,7 @@ impl Host for LookUpHost {
         for _ in 0..u64::MAX {
             match (&self.server).read(&mut piece) {
                 Ok(0) | Err(_) => return Ok(()),
-                Ok(count) => self.take(&piece[..count], mail_servers)?,
+                Ok(count) => self.feed(&piece[..count], mail_servers)?,
             }
         }
         Ok(())

@@ -52,7 +52,7 @@ pub(crate) fn feed_filter<P: Policy>(
     let count = count.min(pipe.bytes().len());
     match filter.feed(&pipe.bytes()[..count]) {
         Ok(taken) => {
-            pipe.take(taken);
+            pipe.consume(taken);
             Ok(taken)
         }
         Err(fault) => match fault {
@@ -88,7 +88,7 @@ pub(crate) fn feed_mta(mta: &mut MtaCore, pipe: &mut Pipe, count: usize) -> Resu
     let count = count.min(pipe.bytes().len());
     match mta.feed(&pipe.bytes()[..count]) {
         Ok(()) => {
-            pipe.take(count);
+            pipe.consume(count);
             Ok(count)
         }
         Err(Loss::Memory) => Err(NoMemory),

@@ -55,7 +55,7 @@ impl Pipe {
     }
 
     /// Takes the first `count` bytes out.
-    pub(crate) fn take(&mut self, count: usize)
+    pub(crate) fn consume(&mut self, count: usize)
         requires { count ≤ length self.old }
         ensures { self.new ≡ drop count self.old }
     {

@@ -20,16 +20,16 @@ returns-in-Feed-clause-turns g c =
     let filter = c.args.filter.now in
     let mid = c.write_pending.new.filter in
     let waiting = c.args.backlog.now in
-    let new = connected c.take_backlog.new.filter c.take_backlog.new.backlog in
+    let new = connected c.feed_backlog.new.filter c.feed_backlog.new.backlog in
     let w = g.W.Write.contents c.args.writer.now in
     let v = g.W.Write.contents c.write_pending.new.writer in
-    let u = g.W.Write.contents c.take_backlog.new.writer in
+    let u = g.W.Write.contents c.feed_backlog.new.writer in
     let is = c.in_default.ensures.rest in
     let writes = c.in_default.ensures.writes in
     let serving = (sent-serves filter mid c.requires is).serving in
-    if-ok c.take_backlog.result _ _
+    if-ok c.feed_backlog.result _ _
     (λ turn turns rest. turns-by (connected filter waiting) (connected mid waiting) rest rest rest w v u (sent-by filter mid waiting rest w v c.requires is writes) serving new turn (turns rest))
-    c.take_backlog.ensures.turns
+    c.feed_backlog.ensures.turns
 
 pub returns-in-Feed-clause-ends : goal.returns-in-Feed-clause-ends
 returns-in-Feed-clause-ends g c =
@@ -38,13 +38,13 @@ returns-in-Feed-clause-ends g c =
     let waiting = c.args.backlog.now in
     let w = g.W.Write.contents c.args.writer.now in
     let v = g.W.Write.contents c.write_pending.new.writer in
-    let u = g.W.Write.contents c.take_backlog.new.writer in
+    let u = g.W.Write.contents c.feed_backlog.new.writer in
     let is = c.in_default.ensures.rest in
     let writes = c.in_default.ensures.writes in
     let serving = (sent-serves filter mid c.requires is).serving in
-    if-err c.take_backlog.result _ _
+    if-err c.feed_backlog.result _ _
     (λ end ends rest. ends-by (connected filter waiting) (connected mid waiting) rest rest rest w v u (sent-by filter mid waiting rest w v c.requires is writes) serving end (ends rest))
-    c.take_backlog.ensures.ends
+    c.feed_backlog.ensures.ends
 
 pub returns-in_default-next_step : goal.returns-in_default-next_step
 returns-in_default-next_step g c =

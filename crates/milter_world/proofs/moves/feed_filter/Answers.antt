@@ -35,4 +35,4 @@ pub returns-in-Ok-clause-count : goal.returns-in-Ok-clause-count
 returns-in-Ok-clause-count = count-is
 
 pub returns-in-Ok-clause-pipe : goal.returns-in-Ok-clause-pipe
-returns-in-Ok-clause-pipe g c = c.take.ensures ∙ same-drop c.in-Ok.taken c.args.count c.args.pipe.now (count-is g c)
+returns-in-Ok-clause-pipe g c = c.consume.ensures ∙ same-drop c.in-Ok.taken c.args.count c.args.pipe.now (count-is g c)

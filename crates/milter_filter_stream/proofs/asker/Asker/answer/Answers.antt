@@ -16,8 +16,8 @@ returns-clause-ok c =
     let stage = c.args.stage in
     let some : s.negotiated ≡ Some n = sym c.negotiated.ensures ∙ ap option_copied c.in-Some.is in
     let at = ap (λ (r : Asking). r.state.asked) c.self.view_is ∙ c.requires.asked in
-    let kept : c.take_effect.new.self ≡ answered_to s (sent_answer s.negotiated answer) inside.asked =
-    c.take_effect.ensures
+    let kept : c.apply_effect.new.self ≡ answered_to s (sent_answer s.negotiated answer) inside.asked =
+    c.apply_effect.ensures
     ∙ ap (with_effect s) c.effect_at-effect.ensures
     ∙ sym (effects-are s n answer stage)
     ∙ ap (λ m. answered_to s (sent_answer m answer) (Some stage)) (sym some)

@@ -5,7 +5,7 @@ use Rattle.milter_filter_stream.specs.Asking.{IsUnread}
 use Rattle.milter_filter_stream.proofs.FirstReplies.{serves}
 use Rattle.milter_filter_stream.proofs.LengthFaults.{fed-bytes, field-unread, no-bytes, piece-bytes}
 use Rattle.milter_filter_stream.proofs.PieceStreams.{length-gives_up, one-packet, one-unfinished, packet-gives_up, replied-packet, replied-unfinished, rest-packet, rest-unfinished}
-use Rattle.milter_filter_stream.proofs.pieces.take_through_splitter.Goals as goal
+use Rattle.milter_filter_stream.proofs.pieces.feed_through_splitter.Goals as goal
 
 pub returns-in-Err : goal.returns-in-Err
 returns-in-Err c =
@@ -43,16 +43,16 @@ returns-in-Ok-None c =
       one-unfinished bytes whole,
     )
 
-pub returns-in-Err-take_packet : goal.returns-in-Err-take_packet
-returns-in-Err-take_packet c =
+pub returns-in-Err-on_packet : goal.returns-in-Err-on_packet
+returns-in-Err-on_packet c =
     let s = c.args.asker.now.state in
     let w = c.args.wants.now in
     let handed = rw c.in-Ok-Some.field-0-is at c.in-Ok-Some.ensures.packet in
     let left = rw (c.in-Ok-Some.is, c.in-Ok-Some.field-0-is) at c.next.follows.holds-at-none in
-    let fails = c.in-Err-take_packet.ensures.fails in
+    let fails = c.in-Err-on_packet.ensures.fails in
     record {
       left_is = left ∙ sym fails.no_length;
-      cause = λ other. packet-gives_up w s c.args.splitter.now c.args.piece.now c.feed_or_clear.new.splitter c.in_ok-taken.taken c.in_ok-taken.ensures.taken (frame_of c.in-Ok-Some.packet) c.in-Err-take_packet.fault
+      cause = λ other. packet-gives_up w s c.args.splitter.now c.args.piece.now c.feed_or_clear.new.splitter c.in_ok-taken.taken c.in_ok-taken.ensures.taken (frame_of c.in-Ok-Some.packet) c.in-Err-on_packet.fault
           handed.1 handed.0 (fails.failed other) (fails.silent other);
     }
 
@@ -67,7 +67,7 @@ returns-in_default c =
       record {
         within = c.in_ok-taken.ensures.within;
         progress = c.in_ok-taken.ensures.progress c.requires.unread.0;
-        replied = replied-packet w c.args.asker.now f bytes c.take_packet.new.self handed.0 whole c.in_default.ensures.replied;
+        replied = replied-packet w c.args.asker.now f bytes c.on_packet.new.self handed.0 whole c.in_default.ensures.replied;
         left_is = left ∙ rest-packet f bytes handed.0 whole;
         is_unread = subst IsUnread (sym left) (tt, no-bytes);
         going = c.in_default.ensures.going;

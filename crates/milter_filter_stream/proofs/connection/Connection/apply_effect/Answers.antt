@@ -2,7 +2,7 @@ use Rattle.std.proofs.Common.{◌≡◌, ◌+◌, ℕ, sym, ◌∙◌, ap, arith
 use Rattle.milter_wire.specs.declared.command.Command.TheVariants.{DataCmd}
 use Rattle.milter_protocol.specs.OrderStates.{OrderState, with_shown}
 use Rattle.milter_filter_stream.proofs.AnswerEffects.{data-len}
-use Rattle.milter_filter_stream.proofs.connection.Connection.take_effect.Goals as goal
+use Rattle.milter_filter_stream.proofs.connection.Connection.apply_effect.Goals as goal
 
 pub returns-in-CountsData : goal.returns-in-CountsData
 returns-in-CountsData c =

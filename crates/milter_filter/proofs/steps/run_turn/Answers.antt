@@ -1,7 +1,7 @@
 use Rattle.std.proofs.Common.{None, inr, subst}
 use Rattle.milter_filter.specs.Connections.{GoesBy, TurnsBy, connected}
 use Rattle.milter_filter.proofs.Turns.{ends-by, if-err, if-ok, turns-by}
-use Rattle.milter_filter.proofs.steps.take_turn.Goals as goal
+use Rattle.milter_filter.proofs.steps.run_turn.Goals as goal
 
 pub read_once-requires-clause-serving : goal.read_once-requires-clause-serving
 read_once-requires-clause-serving g c =

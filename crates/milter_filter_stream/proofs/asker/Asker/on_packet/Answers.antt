@@ -7,7 +7,7 @@ use Rattle.milter_wire.specs.BorrowedCommand.{command_of}
 use Rattle.milter_filter_stream.specs.Asking.{Asking, FailsAt, asking_next, asking_step}
 use Rattle.milter_protocol.specs.Questions.{AskState, IsTaking, unasked}
 use Rattle.milter_filter_stream.proofs.PacketCommands.{encoded-len, fault-by_len, ready-is, step-fault, step-in_order}
-use Rattle.milter_filter_stream.proofs.asker.Asker.take_packet.Goals as goal
+use Rattle.milter_filter_stream.proofs.asker.Asker.on_packet.Goals as goal
 
 pub returns-in-Some-clause-fails : goal.returns-in-Some-clause-fails
 returns-in-Some-clause-fails c =
@@ -29,11 +29,11 @@ returns-in-Some-clause-fails c =
     } in
     subst (λ (r : Asking). FailsAt w r.state (frame_command f) c.in-Some.fault) c.self.view_is fails
 
-pub take-requires-clause-len : goal.take-requires-clause-len
-take-requires-clause-len c = encoded-len (frame_of c.args.packet.now) (command_of c.in-Ok.command) c.in-Ok.ensures.encoded
+pub on_command-requires-clause-len : goal.on_command-requires-clause-len
+on_command-requires-clause-len c = encoded-len (frame_of c.args.packet.now) (command_of c.in-Ok.command) c.in-Ok.ensures.encoded
 
-pub take-requires-clause-no_fault : goal.take-requires-clause-no_fault
-take-requires-clause-no_fault c =
+pub on_command-requires-clause-no_fault : goal.on_command-requires-clause-no_fault
+on_command-requires-clause-no_fault c =
     fault-by_len c.end_message_before.new.self (frame_of c.args.packet.now) (command_of c.in-Ok.command) c.fault_of.result c.in-Ok.ensures.encoded c.fault_of.ensures.fault ∙ c.in_default.is
 
 pub returns-clause-replied : goal.returns-clause-replied
@@ -51,5 +51,5 @@ returns-clause-replied c =
     let serving = c.end_message_before.ensures.serving ∙ taking.serving in
     let none = fault-by_len ready f command c.fault_of.result c.in-Ok.ensures.encoded c.fault_of.ensures.fault ∙ c.in_default.is in
     let step = step-in_order w s ready (frame_command f) command is c.in-Ok.ensures.read serving taking.unasked none in
-    let new : c.take.new.self ≡ asking_next w old (frame_command f) = c.in_ok-take.ensures ∙ ap (asking_step old) step in
-    subst (λ (r : Asking). c.take.new.self ≡ asking_next w r (frame_command f)) c.self.view_is new
+    let new : c.on_command.new.self ≡ asking_next w old (frame_command f) = c.in_ok-on_command.ensures ∙ ap (asking_step old) step in
+    subst (λ (r : Asking). c.on_command.new.self ≡ asking_next w r (frame_command f)) c.self.view_is new

@@ -1,7 +1,7 @@
 use Rattle.std.proofs.Common.{◌≡◌, ◌≤◌, ◌-◌, List, Option, ℕ, [], drop, length}
 use Rattle.milter_protocol.specs.Questions.{IsTaking}
 use Rattle.milter_filter.specs.Connections.{GoesBy, IsServing, connected}
-use Rattle.milter_filter.proofs.steps.take_piece.Given as goal
+use Rattle.milter_filter.proofs.steps.feed_piece.Given as goal
 
 -- what was taken so far, with all replies to it written, and no question
 abbrev pub invariant-loop-taken : goal.invariant-loop-taken

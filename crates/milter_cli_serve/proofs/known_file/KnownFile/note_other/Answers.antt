@@ -1,6 +1,6 @@
 use Rattle.std.proofs.Common.{rules}
 use Rattle.milter_cli_serve.proofs.KnownFileLaws.{are_used, fault_taken}
-use Rattle.milter_cli_serve.proofs.known_file.KnownFile.take_other.Goals as goal
+use Rattle.milter_cli_serve.proofs.known_file.KnownFile.note_other.Goals as goal
 
 pub returns-in-Ok : goal.returns-in-Ok
 returns-in-Ok c = (

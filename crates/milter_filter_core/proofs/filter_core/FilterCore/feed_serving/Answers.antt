@@ -3,7 +3,7 @@ use Rattle.milter_filter_stream.specs.Conversations.{conversation_of}
 use Rattle.milter_filter_core.specs.Cores.{Core, GivesUp, Takes}
 use Rattle.milter_filter_stream.specs.Streams.{received_in}
 use Rattle.milter_filter_core.proofs.PolicyCores.{core-answers, core-gives-up, core-takes, core_of}
-use Rattle.milter_filter_core.proofs.filter_core.FilterCore.take.Goals as goal
+use Rattle.milter_filter_core.proofs.filter_core.FilterCore.feed_serving.Goals as goal
 
 pub returns-in-Err-clause-cause : goal.returns-in-Err-clause-cause
 returns-in-Err-clause-cause g c = λ other.
@@ -20,7 +20,7 @@ returns-in_default-clause-takes g c =
     let b = g.P.Policy.behavior i.policy.now in
     let old = conversation_of i.wants i.stream in
     let piece = c.args.piece.now in
-    let d = conversation_of i.wants c.take.new.self in
+    let d = conversation_of i.wants c.feed.new.self in
     let taken = c.in-Ok.taken in
     let none : i.stream.pending ≡ [] = ap (λ (x : Core g.row.P.Denot). x.pending) c.self.view_is ∙ c.requires.nothing_pending in
     let takes = core-takes b old c.self.invariant.0 c.self.invariant.1 i.policy.now piece taken d none c.in-Ok.ensures.takes (sym c.asked.ensures.asked ∙ c.in_default.is) in
@@ -32,7 +32,7 @@ returns-clause-takes g c =
     let b = g.P.Policy.behavior i.policy.now in
     let old = conversation_of i.wants i.stream in
     let piece = c.args.piece.now in
-    let d = conversation_of i.wants c.take.new.self in
+    let d = conversation_of i.wants c.feed.new.self in
     let taken = c.in-Ok.taken in
     let none : i.stream.pending ≡ [] = ap (λ (x : Core g.row.P.Denot). x.pending) c.self.view_is ∙ c.requires.nothing_pending in
     let takes = core-answers b old c.self.invariant.0 c.self.invariant.1 i.policy.now piece taken d none c.in-Ok.ensures.takes c.in-Some.stage (sym c.asked.ensures.asked ∙ c.in-Some.is) in

@@ -3,7 +3,7 @@ use Rattle.milter_protocol.specs.declared.filter_state.FilterState.TheVariants.{
 use Rattle.milter_filter_stream.specs.Conversations.{Conversation, StreamState, TakesIn, conversation_of}
 use Rattle.milter_filter_stream.specs.Asking.{Asking, StopsAt, TakesBytes}
 use Rattle.milter_filter_stream.proofs.Progress.{all-taken}
-use Rattle.milter_filter_stream.proofs.filter_stream.FilterStream.take.Goals as goal
+use Rattle.milter_filter_stream.proofs.filter_stream.FilterStream.feed.Goals as goal
 
 pub returns-clause-takes : goal.returns-clause-takes
 returns-clause-takes c =
@@ -11,8 +11,8 @@ returns-clause-takes c =
     let r = inside.asker in
     let w = c.args.wants.now in
     let piece = c.args.piece.now in
-    let now = c.take_piece.new.asker in
-    let left = c.take_piece.new.splitter in
+    let now = c.feed_piece.new.asker in
+    let left = c.feed_piece.new.splitter in
     let taken = c.in-Ok.taken in
     let old : Conversation = record { wanted = w; state = r.state; unread = inside.splitter; pending = drop inside.sent r.pending } in
     let new : Conversation = record { wanted = w; state = now.state; unread = c.clear.new.self; pending = now.pending } in

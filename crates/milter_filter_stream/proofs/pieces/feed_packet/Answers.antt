@@ -3,7 +3,7 @@ use Rattle.std.proofs.lemmas.List.{nil_from_length}
 use Rattle.milter_wire_stream.specs.Splitter.{frame_of}
 use Rattle.milter_wire_stream.specs.Stream.{frame_bytes}
 use Rattle.milter_filter_stream.proofs.PieceStreams.{one-packet, packet-gives_up, replied-packet, rest-packet}
-use Rattle.milter_filter_stream.proofs.pieces.take_packet.Goals as goal
+use Rattle.milter_filter_stream.proofs.pieces.feed_packet.Goals as goal
 
 pub returns-in-Err : goal.returns-in-Err
 returns-in-Err c =
@@ -31,10 +31,10 @@ returns-in-Some c =
       record {
         within = c.in-Some.ensures.within;
         progress = λ some. omega arith;
-        replied = replied-packet w c.args.asker.now f bytes c.take_packet.new.self fits whole c.in_default-take_packet.ensures.replied;
+        replied = replied-packet w c.args.asker.now f bytes c.on_packet.new.self fits whole c.in_default-on_packet.ensures.replied;
         left_is = empty ∙ rest-packet f bytes fits whole;
         is_unread = c.requires.unread;
-        going = c.in_default-take_packet.ensures.going;
+        going = c.in_default-on_packet.ensures.going;
       },
       one-packet f bytes fits whole,
     )

@@ -8,7 +8,7 @@ use Rattle.milter_filter.specs.declared.served.Served.TheVariants.{Failed}
 use Rattle.milter_filter.specs.Connections.{EndsBy, GoesBy, Stops, connected}
 use Rattle.milter_filter.proofs.Taken.{given_up-by, nothing-by, step-feed, taken-by, taken-serves, taken-stops}
 use Rattle.milter_filter.proofs.Turns.{by-joins, ends-by}
-use Rattle.milter_filter.proofs.steps.take_piece.Goals as goal
+use Rattle.milter_filter.proofs.steps.feed_piece.Goals as goal
 
 pub loop-taken-init : goal.loop-taken-init
 loop-taken-init g c = record {
