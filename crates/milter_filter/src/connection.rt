@@ -8,10 +8,10 @@ ghost use Rattle.milter_filter_answer.specs.declared.answer_fault.AnswerFault.Th
 ghost use Rattle.milter_filter_answer.specs.AnswerFaults.{Breaks};
 ghost use Rattle.milter_filter.specs.declared.turn.Turn.TheVariants as turns;
 
-use crate::backlog::Backlog;
 use crate::served::Served;
 use crate::steps::run_turn;
 use crate::turn::Turn;
+use milter_byte_queue::ByteQueue;
 use milter_filter_core::{
     Answer, AnswerFault, CommandOrder, FilterConnection, Needle, PathPart, Pattern, Policy, Seen,
     Wants,
@@ -29,7 +29,8 @@ use std::marker::Model;
 #[derive(Drop)]
 pub struct Connection {
     filter: FilterConnection,
-    backlog: Backlog,
+    // What was read and is not taken, since replies are pending or a question is open.
+    backlog: ByteQueue,
     ended: Option<Served>,
 }
 
@@ -58,7 +59,7 @@ impl Connection {
     {
         Connection {
             filter: FilterConnection::new(alloc, wants, order),
-            backlog: Backlog::new(alloc),
+            backlog: ByteQueue::new(alloc),
             ended: None,
         }
     }

@@ -3,7 +3,6 @@
 //! and writes until the connection ends.
 #![tactic(auto)]
 
-mod backlog;
 mod connection;
 mod output;
 mod served;

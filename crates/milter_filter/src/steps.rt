@@ -9,10 +9,10 @@ ghost use Rattle.milter_filter.specs.declared.turn.Turn.TheVariants as turns;
 ghost use Rattle.milter_filter.specs.ServedPieces.{Writes};
 ghost use Rattle.milter_filter.specs.Connections.{EndsBy, GoesBy, IsDone, IsOver, IsServing, ReadsWhereDone, StandsAt, Stops, TurnsBy, connected};
 
-use crate::backlog::Backlog;
 use crate::output::write_now;
 use crate::served::Served;
 use crate::turn::Turn;
+use milter_byte_queue::ByteQueue;
 use milter_filter_core::{FilterConnection, FilterFault, NextStep};
 use std::io::{ErrorKind, Read, Write};
 
@@ -80,7 +80,7 @@ fn turn_after(filter: &FilterConnection) -> Result<Turn, Served>
 /// Takes what was read before.
 fn feed_backlog<W: Write>(
     filter: &mut FilterConnection,
-    backlog: &mut Backlog,
+    backlog: &mut ByteQueue,
     writer: &mut W,
 ) -> Result<Turn, Served>
     requires serving { IsServing filter.old }
@@ -95,14 +95,14 @@ fn feed_backlog<W: Write>(
         Ok(taken) => taken,
         Err(end) => return Err(end),
     };
-    backlog.consume(taken);
+    backlog.advance(taken);
     turn_after(filter)
 }
 
 /// Writes the replies that are pending and takes what was read before. Where a question is open it takes nothing.
 fn catch_up<W: Write>(
     filter: &mut FilterConnection,
-    backlog: &mut Backlog,
+    backlog: &mut ByteQueue,
     writer: &mut W,
 ) -> Result<Turn, Served>
     requires { IsServing filter.old }
@@ -124,7 +124,7 @@ fn catch_up<W: Write>(
 /// Takes a piece that was read, and keeps what it can't take while replies are pending or a question is open.
 fn feed_read<W: Write>(
     filter: &mut FilterConnection,
-    backlog: &mut Backlog,
+    backlog: &mut ByteQueue,
     piece: &[u8],
     writer: &mut W,
 ) -> Result<Turn, Served>
@@ -141,7 +141,7 @@ fn feed_read<W: Write>(
         Ok(taken) => taken,
         Err(end) => return Err(end),
     };
-    if let Err(_) = backlog.add(&piece[taken..]) {
+    if let Err(_) = backlog.append(&piece[taken..]) {
         return Err(Served::Failed(FilterFault::NoMemory));
     }
     turn_after(filter)
@@ -150,7 +150,7 @@ fn feed_read<W: Write>(
 /// Reads once, where all is done, and takes what was read.
 fn read_once<R: Read, W: Write>(
     filter: &mut FilterConnection,
-    backlog: &mut Backlog,
+    backlog: &mut ByteQueue,
     buffer: &mut [u8],
     reader: &mut R,
     writer: &mut W,
@@ -177,7 +177,7 @@ fn read_once<R: Read, W: Write>(
 /// Runs a turn: catches up, and then reads where all is done.
 pub(crate) fn run_turn<R: Read, W: Write>(
     filter: &mut FilterConnection,
-    backlog: &mut Backlog,
+    backlog: &mut ByteQueue,
     buffer: &mut [u8],
     reader: &mut R,
     writer: &mut W,

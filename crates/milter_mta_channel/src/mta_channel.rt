@@ -12,7 +12,8 @@ ghost use Rattle.milter_mta_channel.specs.ChannelParts.{Receives};
 use crate::channel_state::ChannelState;
 use crate::expected_reply::ExpectedReply;
 use crate::filter_event::{Fed, FilterEvent};
-use crate::pending::Pending;
+use crate::pending::append;
+use milter_byte_queue::ByteQueue;
 use milter_message::Edit;
 use milter_mta_outcome::{Loss, MtaFault, ReceivedEdits};
 use milter_protocol::Edits;
@@ -26,7 +27,7 @@ use std::mem;
 #[derive(Debug, Drop)]
 pub struct MtaChannel {
     state: ChannelState,
-    pending: Pending,
+    pending: ByteQueue,
     splitter: Splitter,
 }
 
@@ -55,7 +56,7 @@ impl MtaChannel {
                 expected: ExpectedReply::Nothing,
                 edits: ReceivedEdits::new(alloc),
             },
-            pending: Pending::new(alloc),
+            pending: ByteQueue::new(alloc),
             splitter: Splitter::new(alloc),
         }
     }
@@ -82,7 +83,7 @@ impl MtaChannel {
         ensures err { OnErr result (self.new ≡ self.old) }
     {
         let offer = CommandRef::Options(self.offer());
-        self.pending.append(self.state.alloc, &offer)?;
+        append(&mut self.pending, self.state.alloc, &offer)?;
         self.state.expected = ExpectedReply::Options;
         Ok(())
     }
@@ -157,7 +158,7 @@ impl MtaChannel {
         requires { count ≤ length self.old.pending }
         ensures { self.new ≡ sent count self.old }
     {
-        self.pending.sent(count);
+        self.pending.advance(count);
     }
 
     /// Queues the packet of a command after what is pending. Where the command is answered, it is the last one to be
@@ -182,7 +183,7 @@ impl MtaChannel {
         ensures ok { OnOk result (self.new ≡ queue_expecting (command_of command.now) expected self.old) }
         ensures err { OnErr result (self.new ≡ self.old) }
     {
-        self.pending.append(self.state.alloc, command)?;
+        append(&mut self.pending, self.state.alloc, command)?;
         self.state.expected = expected;
         Ok(())
     }

@@ -10,7 +10,6 @@
 mod any_schedule;
 mod moves;
 mod one_connection;
-mod pipe;
 mod scenario;
 mod world;
 

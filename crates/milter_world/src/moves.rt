@@ -8,7 +8,7 @@ ghost use Rattle.milter_mta.specs.Output.{advanced, pending};
 ghost use Rattle.milter_world_ends.specs.Ends.{mta_sent, sent_count};
 ghost use Rattle.milter_world.specs.Reached.{CanTake};
 
-use crate::pipe::Pipe;
+use milter_byte_queue::ByteQueue;
 use milter_filter_core::{FilterCore, FilterFault, Policy};
 use milter_mta::{Loss, MtaCore};
 use milter_wire::NoMemory;
@@ -17,7 +17,7 @@ use milter_wire::NoMemory;
 /// takes them they are dropped.
 pub(crate) fn send_bytes(
     mta: &mut MtaCore,
-    pipe: &mut Pipe,
+    pipe: &mut ByteQueue,
     is_taken: bool,
     count: usize,
 ) -> Result<usize, NoMemory>
@@ -29,7 +29,7 @@ pub(crate) fn send_bytes(
     mta.advance()?;
     let count = count.min(mta.pending().len());
     if is_taken {
-        pipe.put(&mta.pending()[..count])?;
+        pipe.append(&mta.pending()[..count])?;
     }
     mta.sent(count);
     Ok(count)
@@ -38,7 +38,7 @@ pub(crate) fn send_bytes(
 /// Hands at most `count` bytes to the filter, and answers how many it took.
 pub(crate) fn feed_filter<P: Policy>(
     filter: &mut FilterCore<'_, P>,
-    pipe: &mut Pipe,
+    pipe: &mut ByteQueue,
     count: usize,
 ) -> Result<usize, NoMemory>
     requires serves { filter.old.order_state.state ≡ Serving }
@@ -49,10 +49,10 @@ pub(crate) fn feed_filter<P: Policy>(
     ensures taken { IfOk result (λ n. filter.old.pending ≡ [] →
         Takes (P.behavior filter.old.policy) filter.old (take count pipe.old) n filter.new) }
 {
-    let count = count.min(pipe.bytes().len());
-    match filter.feed(&pipe.bytes()[..count]) {
+    let count = count.min(pipe.as_slice().len());
+    match filter.feed(&pipe.as_slice()[..count]) {
         Ok(taken) => {
-            pipe.consume(taken);
+            pipe.advance(taken);
             Ok(taken)
         }
         Err(fault) => match fault {
@@ -65,7 +65,7 @@ pub(crate) fn feed_filter<P: Policy>(
 /// Takes at most `count` bytes that the filter has to answer, and answers how many.
 pub(crate) fn take_replies<P: Policy>(
     filter: &mut FilterCore<'_, P>,
-    pipe: &mut Pipe,
+    pipe: &mut ByteQueue,
     count: usize,
 ) -> Result<usize, NoMemory>
     ensures count { IfOk result (λ n. n ≡ length (take count filter.old.pending)) }
@@ -73,22 +73,26 @@ pub(crate) fn take_replies<P: Policy>(
     ensures pipe { OnOk result (pipe.new ≡ pipe.old ++ take count filter.old.pending) }
 {
     let count = count.min(filter.pending().len());
-    pipe.put(&filter.pending()[..count])?;
+    pipe.append(&filter.pending()[..count])?;
     filter.sent(count);
     Ok(count)
 }
 
 /// Hands at most `count` bytes to the mail server's end, and answers how many.
-pub(crate) fn feed_mta(mta: &mut MtaCore, pipe: &mut Pipe, count: usize) -> Result<usize, NoMemory>
+pub(crate) fn feed_mta(
+    mta: &mut MtaCore,
+    pipe: &mut ByteQueue,
+    count: usize,
+) -> Result<usize, NoMemory>
     requires { (received mta.old (take count pipe.old)).loss ≡ None }
     ensures count { IfOk result (λ n. n ≡ length (take count pipe.old)) }
     ensures mta { OnOk result (mta.new ≡ (received mta.old (take count pipe.old)).mta) }
     ensures pipe { OnOk result (pipe.new ≡ drop count pipe.old) }
 {
-    let count = count.min(pipe.bytes().len());
-    match mta.feed(&pipe.bytes()[..count]) {
+    let count = count.min(pipe.as_slice().len());
+    match mta.feed(&pipe.as_slice()[..count]) {
         Ok(()) => {
-            pipe.consume(count);
+            pipe.advance(count);
             Ok(count)
         }
         Err(Loss::Memory) => Err(NoMemory),

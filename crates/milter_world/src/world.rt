@@ -9,8 +9,8 @@ ghost use Rattle.milter_world_ends.specs.Ends.{AreEndsOf, IsLossBy, Steps, fresh
 ghost use Rattle.milter_world.specs.Reached.{AreReached, StepsTo};
 
 use crate::moves::{feed_filter, feed_mta, send_bytes, take_replies};
-use crate::pipe::Pipe;
 use crate::scenario::possible_session;
+use milter_byte_queue::ByteQueue;
 use milter_filter_core::{CommandOrder, FilterCore, Policy};
 use milter_mail::Session;
 use milter_mta::{Config, Loss, MtaCore, Reports, Want};
@@ -36,8 +36,8 @@ pub struct World<'p, P: Policy> {
     order: CommandOrder,
     mta: MtaCore,
     filter: Option<FilterCore<'p, P>>,
-    to_filter: Pipe,
-    to_mta: Pipe,
+    to_filter: ByteQueue,
+    to_mta: ByteQueue,
     state: State,
 }
 
@@ -124,8 +124,8 @@ impl<'p, P: Policy> World<'p, P> {
             order,
             mta,
             filter: None,
-            to_filter: Pipe::new(alloc),
-            to_mta: Pipe::new(alloc),
+            to_filter: ByteQueue::new(alloc),
+            to_mta: ByteQueue::new(alloc),
             state,
         })
     }

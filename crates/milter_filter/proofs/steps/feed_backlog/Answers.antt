@@ -16,14 +16,14 @@ returns-clause-turns g c =
     let filter = c.args.filter.now in
     let new = c.feed_piece.new.filter in
     let n = c.in-Ok.taken in
-    let left = c.consume.new.self in
+    let left = c.advance.new.self in
     let w = g.W.Write.contents c.args.writer.now in
     let v = g.W.Write.contents c.feed_piece.new.writer in
     let old = connected filter c.args.backlog.now in
-    let stops = subst (Stops new) (sym c.consume.ensures) (subst (λ piece. Stops new (drop n piece)) c.as_slice.ensures c.in-Ok.ensures.stops) in
+    let stops = subst (Stops new) (sym c.advance.ensures) (subst (λ piece. Stops new (drop n piece)) c.as_slice.ensures c.in-Ok.ensures.stops) in
     let goes : (rest : Option (List ℕ)) → GoesBy old rest rest w v (connected new left) =
     λ rest.
-    subst (λ kept. GoesBy old rest rest w v (connected new kept)) (sym c.consume.ensures)
+    subst (λ kept. GoesBy old rest rest w v (connected new kept)) (sym c.advance.ensures)
     (subst (λ piece. GoesBy (connected filter piece) rest rest w v (connected new (drop n piece))) c.as_slice.ensures (c.in-Ok.ensures.goes rest)) in
     if-ok c.turn_after.result _ _ (λ turn at rest. stands-turns old new left rest rest w v (goes rest) stops turn at) c.turn_after.ensures.stands
 

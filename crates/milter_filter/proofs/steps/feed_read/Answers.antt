@@ -16,8 +16,8 @@ returns-in-Err-clause-ends g c = λ unread left read.
     let from = read-by filter waiting piece unread left w c.requires.serving c.requires.done.nothing_waiting read in
     ends-by (connected filter waiting) (connected filter piece) unread left left w w v from c.requires.serving.serving c.in-Err.end (c.in-Err.ensures.ends left)
 
-pub returns-in-Err-add-clause-ends : goal.returns-in-Err-add-clause-ends
-returns-in-Err-add-clause-ends g c = λ unread left read.
+pub returns-in-Err-append-clause-ends : goal.returns-in-Err-append-clause-ends
+returns-in-Err-append-clause-ends g c = λ unread left read.
     let filter = c.args.filter.now in
     let piece = c.args.piece.now in
     let waiting = c.args.backlog.now in
@@ -36,10 +36,10 @@ returns-clause-turns g c =
     let old = connected filter waiting in
     let new = c.feed_piece.new.filter in
     let n = c.in-Ok.taken in
-    let kept = c.add.new.self in
+    let kept = c.append.new.self in
     let w = g.W.Write.contents c.args.writer.now in
     let v = g.W.Write.contents c.feed_piece.new.writer in
-    let added = rw (take_rest piece n) at c.in_default.ensures in
+    let added = rw (take_rest piece n) at c.in_default.ensures.ok in
     let is : kept ≡ drop n piece = added ∙ ap (λ xs. xs ++ drop n piece) c.requires.done.nothing_waiting in
     let stops = subst (Stops new) (sym is) c.in-Ok.ensures.stops in
     let goes : (unread left : Option (List ℕ)) → Consumes unread left piece → GoesBy old unread left w v (connected new kept) =

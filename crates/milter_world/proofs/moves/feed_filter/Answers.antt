@@ -18,14 +18,14 @@ taken-is a b e = cc
 
 pub unreachable-requires : goal.unreachable-requires
 unreachable-requires g c =
-    let p = piece-is _ c.args.count _ _ c.args.pipe.now c.min-count.ensures c.bytes.ensures c.bytes-2.ensures in
+    let p = piece-is _ c.args.count _ _ c.args.pipe.now c.min-count.ensures c.as_slice.ensures c.as_slice-2.ensures in
     let can = subst (λ (l : List ℕ). CanTake (g.P.Policy.behavior c.args.filter.now.policy) c.args.filter.now l) (sym p) c.requires.takes in
     fails-not (g.P.Policy.behavior c.args.filter.now.policy) c.args.filter.now c.args.filter.now _ can c.feed.result c.in-Err.fault c.in-Err.is c.in_default.not-NoMemory
     (λ some. (c.feed.ensures.waits c.requires.serves some).0) (c.in-Err.ensures.cause c.requires.serves)
 
 count-is : goal.returns-in-Ok-clause-count
 count-is g c =
-    let p = piece-is _ c.args.count _ _ c.args.pipe.now c.min-count.ensures c.bytes.ensures c.bytes-2.ensures in
+    let p = piece-is _ c.args.count _ _ c.args.pipe.now c.min-count.ensures c.as_slice.ensures c.as_slice-2.ensures in
     let can = subst (λ (l : List ℕ). CanTake (g.P.Policy.behavior c.args.filter.now.policy) c.args.filter.now l) (sym p) c.requires.takes in
     all (g.P.Policy.behavior c.args.filter.now.policy) c.args.filter.now c.feed.new.self _ can c.in-Ok.taken
     (λ some. taken-is _ _ (sym c.in-Ok.is ∙ (c.feed.ensures.waits c.requires.serves some).0)) (c.in-Ok.ensures.takes c.requires.serves)
@@ -35,4 +35,4 @@ pub returns-in-Ok-clause-count : goal.returns-in-Ok-clause-count
 returns-in-Ok-clause-count = count-is
 
 pub returns-in-Ok-clause-pipe : goal.returns-in-Ok-clause-pipe
-returns-in-Ok-clause-pipe g c = c.consume.ensures ∙ same-drop c.in-Ok.taken c.args.count c.args.pipe.now (count-is g c)
+returns-in-Ok-clause-pipe g c = c.advance.ensures ∙ same-drop c.in-Ok.taken c.args.count c.args.pipe.now (count-is g c)
