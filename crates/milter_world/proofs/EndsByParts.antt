@@ -6,7 +6,7 @@ use Rattle.milter_filter_core.specs.Cores.{Core}
 use Rattle.milter_world_schedule.specs.declared.event.Event.{Event}
 use Rattle.milter_world_schedule.specs.declared.state.State.{State}
 use Rattle.milter_world_schedule.specs.Schedule.{Scenario}
-use Rattle.milter_world_ends.specs.Ends.{AreEndsOf, Ends, Steps}
+use Rattle.milter_world_laws.specs.Ends.{AreEndsOf, Ends, Steps}
 
 pub steps-as : {P : Type 0} (p : Scenario) (old : Ends P) (event : Event) (new : Ends P) (policy : P) (order : CommandOrder) (mta : Mta) (filter : Option (Core P))
     (to_filter to_mta : List ℕ) (state : State) → policy ≡ new.policy → order ≡ new.order → mta ≡ new.mta → filter ≡ new.filter → to_filter ≡ new.to_filter → to_mta ≡ new.to_mta

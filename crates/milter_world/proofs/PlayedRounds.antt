@@ -9,7 +9,7 @@ use Rattle.milter_world_schedule.specs.declared.state.State.TheVariants.{Idle, L
 use Rattle.milter_world_schedule.specs.Rounds.{MovesOn, round}
 use Rattle.milter_world_schedule.specs.Schedule.{After, Scenario, after_all, first, happens, idle_at, lines_at, stays}
 use Rattle.milter_world_schedule.specs.DialogueReports.{IsUndisturbed, count_events, is_lose, is_timeout}
-use Rattle.milter_world_ends.specs.Ends.{Ends, Steps, fresh_ends}
+use Rattle.milter_world_laws.specs.Ends.{Ends, Steps, fresh_ends}
 use Rattle.milter_world.specs.PlayedSessions.{AreUndisturbed, Lives, left_to_move}
 use Rattle.milter_world.specs.Reached.{Leads, after_of}
 use Rattle.milter_world.proofs.EventRuns.{after-both, at_after, then-events}

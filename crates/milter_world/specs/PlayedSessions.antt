@@ -6,7 +6,7 @@ use Rattle.milter_world_schedule.specs.declared.state.State.TheVariants.{Idle, L
 use Rattle.milter_world_schedule.specs.Rounds.{to_move}
 use Rattle.milter_world_schedule.specs.Schedule.{Scenario, after_all, first, lines_at, stays}
 use Rattle.milter_world_schedule.specs.DialogueReports.{count_events, is_lose, is_timeout}
-use Rattle.milter_world_ends.specs.Ends.{AreEndsOf, Ends}
+use Rattle.milter_world_laws.specs.Ends.{AreEndsOf, Ends}
 use Rattle.milter_world.specs.Reached.{after_of}
 
 -- a connection with a filter that lives is there, or all is over

@@ -5,7 +5,7 @@ ghost use Rattle.std.specs.List.{AllZip};
 ghost use Rattle.milter_world_schedule.specs.Rounds.{round};
 ghost use Rattle.milter_world_schedule.specs.Schedule.{Scenario};
 ghost use Rattle.milter_world_schedule.specs.DialogueReports.{HasAllVerdicts, IsRuledBy, is_by_verdict};
-ghost use Rattle.milter_world_ends.specs.Ends.{AreEndsOf};
+ghost use Rattle.milter_world_laws.specs.Ends.{AreEndsOf};
 ghost use Rattle.milter_world.specs.Outcomes.{ConnectionIsGiven};
 ghost use Rattle.milter_world.specs.Reached.{AreReached, Leads, scenario_of};
 

@@ -23,7 +23,7 @@ use Rattle.milter_world_schedule.specs.declared.state.State.{State}
 use Rattle.milter_world_schedule.specs.declared.state.State.TheVariants.{Idle, Linked, Done}
 use Rattle.milter_world_schedule.specs.Schedule.{Scenario, after_all, happens, happens_linked, entries_at}
 use Rattle.milter_world_schedule.specs.DialogueReports.{IsRuledBy, negotiated_of, count_events, count_reports, dialogue_about}
-use Rattle.milter_world_transcript.specs.ConnectionEntries.{Entry, default_reports, default_within, reports_within}
+use Rattle.milter_world_schedule.specs.ConnectionEntries.{Entry, default_reports, default_within, reports_within}
 
 -- of some kind of cause, each event adds at most so many
 module _ (is_by : By → Bool) (is_event : Event → Bool) (not_filter : is_by Filter ≡ false) (not_client : is_by Connection ≡ false)

@@ -22,11 +22,11 @@ use Rattle.milter_mta_laws.specs.Sessions.{report_by, settled_through}
 use Rattle.milter_mta_laws.specs.Settled.{ends_with_client, ends_with_message}
 use Rattle.milter_mta_laws.specs.Dialogues.{opening_of}
 use Rattle.milter_world_schedule.specs.DialogueReports.{Begins, IsDefaultAfter, IsRuledBy, negotiated_of, dialogue_about}
-use Rattle.milter_world_transcript.specs.ByteCounts.{to_mta}
+use Rattle.milter_world_schedule.specs.ByteCounts.{to_mta}
 use Rattle.milter_protocol.proofs.WholeDialogues.{dialogue_with-some}
 use Rattle.milter_world_schedule.specs.Schedule.{Scenario}
-use Rattle.milter_world_transcript.specs.ConnectionEntries.{Entry, exchange_entries, default_reports, lines_of, default_within, connection_entries, reports_of, reports_within, entry_of, entries_after, entries_from}
-use Rattle.milter_world_transcript.proofs.CountedBytes.{by_lt}
+use Rattle.milter_world_schedule.specs.ConnectionEntries.{Entry, exchange_entries, default_reports, lines_of, default_within, connection_entries, reports_of, reports_within, entry_of, entries_after, entries_from}
+use Rattle.milter_world_schedule.proofs.CountedBytes.{by_lt}
 
 pub drop-past : {A : Type 0} (xs ys : List A) → drop (length xs) (xs ++ ys) ≡ ys
 drop-past [] ys = refl

@@ -1,3 +1,5 @@
+pub mod CountedBytes
+pub mod EntryLines
 pub mod EntryAccounts
 mod RunReports
 mod DefaultCounts

@@ -1,10 +1,10 @@
 -- Undisturbed, a connection comes to its end.
 use Rattle.std.proofs.Common.{◌≡◌, ℕ, ◌+◌, ◌-◌, ◌≤◌, ◌<◌, min, List, length, sym, ap, subst, arith}
 use Rattle.milter_mta_laws.specs.Lines.{Line}
-use Rattle.milter_world_transcript.specs.ByteCounts.{due, owed, packet_end, to_filter, to_mta}
+use Rattle.milter_world_schedule.specs.ByteCounts.{due, owed, packet_end, to_filter, to_mta}
 use Rattle.milter_world_schedule.specs.declared.state.Counts.{Counts}
 use Rattle.milter_world_schedule.specs.Rounds.{AreCounts}
-use Rattle.milter_world_transcript.proofs.CountedBytes.{by_lt, due-owed, owed-le, owed-mono, packet_end-due, packet_end-more}
+use Rattle.milter_world_schedule.proofs.CountedBytes.{by_lt, due-owed, owed-le, owed-mono, packet_end-due, packet_end-more}
 
 -- how many bytes are to move yet
 abbrev pub to_move : List Line → Counts → ℕ

@@ -7,10 +7,10 @@ use Rattle.milter_mta_outcome.specs.declared.loss.Loss.TheVariants as losses
 use Rattle.milter_mta_outcome.specs.declared.report.Report.{Report}
 use Rattle.milter_protocol.specs.Exchanges.{Exchange}
 use Rattle.milter_mta_laws.specs.Lines.{Line}
-use Rattle.milter_world_transcript.specs.ByteCounts.{due, packet_end, to_filter, to_mta}
-use Rattle.milter_world_transcript.specs.ConnectionEntries.{Entry, default_reports, default_within, reports_within}
-use Rattle.milter_world_transcript.proofs.CountedBytes.{by_lt, due-le, owed-mono, packet_end-due}
-use Rattle.milter_world_transcript.proofs.EntryLines.{lines-are, session-ends}
+use Rattle.milter_world_schedule.specs.ByteCounts.{due, packet_end, to_filter, to_mta}
+use Rattle.milter_world_schedule.specs.ConnectionEntries.{Entry, default_reports, default_within, reports_within}
+use Rattle.milter_world_schedule.proofs.CountedBytes.{by_lt, due-le, owed-mono, packet_end-due}
+use Rattle.milter_world_schedule.proofs.EntryLines.{lines-are, session-ends}
 use Rattle.milter_world_schedule.specs.declared.event.Event.{Event}
 use Rattle.milter_world_schedule.specs.declared.event.Event.TheVariants.{Dial, Send, ToFilter, Answer, ToMta, Die, Lose, Timeout}
 use Rattle.milter_world_schedule.specs.declared.state.Counts.{Counts}

@@ -3,7 +3,7 @@ use Rattle.std.proofs.Common.{◌≡◌, ◌⊎◌, inl, inr, ℕ, ◌+◌, ◌<
 use Rattle.std.proofs.lemmas.Bool.{eq-eqb, le-ltb, true≢false}
 use Rattle.milter_mta_laws.specs.Lines.{Line}
 use Rattle.milter_mta_outcome.specs.declared.report.Report.{Report}
-use Rattle.milter_world_transcript.specs.ByteCounts.{due, owed, packet_end, to_filter}
+use Rattle.milter_world_schedule.specs.ByteCounts.{due, owed, packet_end, to_filter}
 use Rattle.milter_world_schedule.specs.declared.event.Event.TheVariants.{ToFilter, Answer, ToMta}
 use Rattle.milter_world_schedule.specs.declared.state.Counts.{Counts}
 use Rattle.milter_world_schedule.specs.declared.state.State.{State}
@@ -11,7 +11,7 @@ use Rattle.milter_world_schedule.specs.declared.state.State.TheVariants.{Linked,
 use Rattle.milter_world_schedule.specs.Rounds.{MovesOn, after_round, round}
 use Rattle.milter_world_schedule.specs.Rounds.{AreCounts}
 use Rattle.milter_world_schedule.specs.Schedule.{After, Scenario, after_all, if_lives, lines_at, sends, sent_to}
-use Rattle.milter_world_transcript.proofs.CountedBytes.{by_lt, due-le, lt-ltb, owed-mono, packet_end-due}
+use Rattle.milter_world_schedule.proofs.CountedBytes.{by_lt, due-le, lt-ltb, owed-mono, packet_end-due}
 use Rattle.milter_world_schedule.proofs.Moves.{sends-moves, waits-moves}
 
 not_all : (a b : ℕ) → (a == b) ≡ false → a ≤ b → a < b

@@ -18,11 +18,11 @@ use Rattle.milter_world_schedule.specs.declared.state.Counts.{Counts}
 use Rattle.milter_world_schedule.specs.declared.state.State.{State}
 use Rattle.milter_world_schedule.specs.declared.state.State.TheVariants.{Idle, Linked, Done}
 use Rattle.milter_mta_outcome.specs.declared.loss.Loss.TheVariants as losses
-use Rattle.milter_world_transcript.specs.ByteCounts.{due, owed, packet_end, to_filter}
+use Rattle.milter_world_schedule.specs.ByteCounts.{due, owed, packet_end, to_filter}
 use Rattle.milter_world_schedule.specs.Schedule.{Scenario, after_all, first, gives_up, happens, happens_linked, receives_bytes, idle_at, if_lives, lines_at, loses, run_reports, sends, sent_to, entries_at}
-use Rattle.milter_world_transcript.specs.ConnectionEntries.{default_reports, default_within, connection_entries, reports_within}
+use Rattle.milter_world_schedule.specs.ConnectionEntries.{default_reports, default_within, connection_entries, reports_within}
 use Rattle.milter_protocol.proofs.WholeDialogues.{dialogue_with-some}
-use Rattle.milter_world_transcript.proofs.CountedBytes.{by_lt, lt-ltb, owed-mono, packet_end-more}
+use Rattle.milter_world_schedule.proofs.CountedBytes.{by_lt, lt-ltb, owed-mono, packet_end-more}
 use Rattle.milter_world_schedule.proofs.EntryAccounts.{Settles, DialogueLaws, added, drop-past, given-up, session, within, zip-append}
 
 pub zip-length : {A B : Type 0} (R : A → B → Type 0) (xs : List A) (ys : List B) → AllZip R xs ys → length xs ≡ length ys

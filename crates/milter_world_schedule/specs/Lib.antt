@@ -1,3 +1,5 @@
+pub mod ByteCounts
+pub mod ConnectionEntries
 pub mod Schedule
 pub mod DialogueReports
 pub mod Rounds

@@ -13,8 +13,8 @@ use Rattle.milter_world_schedule.specs.declared.event.Event.TheVariants.{Dial, S
 use Rattle.milter_world_schedule.specs.declared.state.Counts.{Counts}
 use Rattle.milter_world_schedule.specs.declared.state.State.{State}
 use Rattle.milter_world_schedule.specs.declared.state.State.TheVariants.{Idle, Linked, Done}
-use Rattle.milter_world_transcript.specs.ByteCounts.{due, owed, packet_end, to_filter}
-use Rattle.milter_world_transcript.specs.ConnectionEntries.{Entry, default_reports, lines_of, default_within, connection_entries, reports_within}
+use Rattle.milter_world_schedule.specs.ByteCounts.{due, owed, packet_end, to_filter}
+use Rattle.milter_world_schedule.specs.ConnectionEntries.{Entry, default_reports, lines_of, default_within, connection_entries, reports_within}
 
 -- a filter, what is offered to it with what a lost one leaves, and the session
 pub record Scenario : Type 0 where

@@ -5,7 +5,7 @@ use Rattle.milter_mta_outcome.specs.declared.report.Report.{Report}
 use Rattle.milter_world_schedule.specs.declared.state.State.{State}
 use Rattle.milter_world_schedule.specs.Schedule.{After, Scenario, run_reports}
 use Rattle.milter_world_schedule.specs.DialogueReports.{HasAllVerdicts, IsRuledBy, IsUndisturbed, is_by_verdict}
-use Rattle.milter_world_ends.specs.Ends.{IsAt, IsLinked}
+use Rattle.milter_world_laws.specs.Ends.{IsAt, IsLinked}
 use Rattle.milter_world.specs.PlayedSessions.{AreUndisturbed, Lives}
 use Rattle.milter_world.specs.Reached.{scenario_of}
 use Rattle.milter_world.proofs.Connections.{connection-given}

@@ -1,7 +1,7 @@
 use Rattle.std.proofs.Common.{◌≡◌, ◌≢◌, ℕ, ◌+◌, List, [], ◌∷◌, Some, arith, take, drop, length, refl, sym, ap, ◌∙◌, subst}
 use Rattle.milter_world_schedule.specs.declared.event.Event.TheVariants as events
 use Rattle.milter_world_schedule.specs.declared.state.State.TheVariants.{Linked}
-use Rattle.milter_world_ends.specs.Ends.{AreEndsOf, Steps}
+use Rattle.milter_world_laws.specs.Ends.{AreEndsOf, Steps}
 use Rattle.milter_world_schedule.specs.Schedule.{Scenario}
 use Rattle.milter_world.proofs.EndsByParts.{steps-as}
 use Rattle.milter_world.proofs.world.World.pass_to_filter.Goals as goal

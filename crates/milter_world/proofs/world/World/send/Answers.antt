@@ -5,7 +5,7 @@ use Rattle.milter_world.proofs.EndsByParts.{steps-as}
 use Rattle.milter_world.proofs.world.World.send.Goals as goal
 use Rattle.std.proofs.Common.{Bool, true, false, if◌then◌else◌}
 use Rattle.milter_mta.specs.Output.{advanced, pending, want}
-use Rattle.milter_world_ends.specs.Ends.{mta_sent, sent_count}
+use Rattle.milter_world_laws.specs.Ends.{mta_sent, sent_count}
 use Rattle.milter_world.proofs.world.World.send.Goals.{in-Done-want, in_default-want}
 
 pub returns-in_default : goal.returns-in_default

@@ -1,6 +1,0 @@
-mod PieceMoves
-mod EndSteps
-mod EventMoves
-mod EventCases
-mod FreshEnds
-mod ShortLines

@@ -1,0 +1,15 @@
+mod PlanAborts
+mod DialogueAnswers
+mod ByteAnswers
+mod SessionAnswers
+mod Steps
+mod FollowedPieces
+mod DialogueFollowed
+mod Opened
+mod Reported
+mod PieceMoves
+mod EndSteps
+mod EventMoves
+mod EventCases
+mod FreshEnds
+mod ShortLines

@@ -1,0 +1,4 @@
+pub mod Answered
+pub mod FilterTranscript
+pub mod FollowedLines
+pub mod Ends

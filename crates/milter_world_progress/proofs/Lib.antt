@@ -1,5 +1,0 @@
-pub mod Steps
-pub mod Pieces
-pub mod DialogueFollowed
-pub mod Opened
-pub mod Reported

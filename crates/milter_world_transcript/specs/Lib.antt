@@ -1,4 +1,0 @@
-pub mod ByteCounts
-pub mod Answered
-pub mod FilterTranscript
-pub mod ConnectionEntries
