@@ -3,7 +3,6 @@
 use crate::known_names::say_unknown;
 use milter_rules_faults::{Notes, Span};
 use milter_wire::NoMemory;
-use std::alloc::Global;
 
 /// What an address is.
 const FORMS: &str = "an address is inet:PORT@HOST, as inet:8890@127.0.0.1, or unix:PATH";
@@ -17,28 +16,17 @@ enum Meant<'a> {
 }
 
 /// Says why the text is no address, and which one is meant.
-pub(crate) fn say_bad_address(
-    alloc: Global,
-    notes: &mut Notes<'_>,
-    text: &str,
-) -> Result<(), NoMemory> {
+pub(crate) fn say_bad_address(notes: &mut Notes<'_>, text: &str) -> Result<(), NoMemory> {
     match text.split_once(':') {
-        Some(("inet" | "inet6", place)) => say_bad_place(alloc, notes, text, place),
-        Some(("unix", _)) => say_plainly(alloc, notes, text, "has no path after unix:"),
-        Some(("local", path)) if !path.is_empty() => {
-            say_meant(alloc, notes, text, Meant::Unix(path))
-        }
-        _ => say_bad_kind(alloc, notes, text),
+        Some(("inet" | "inet6", place)) => say_bad_place(notes, text, place),
+        Some(("unix", _)) => say_plainly(notes, text, "has no path after unix:"),
+        Some(("local", path)) if !path.is_empty() => { say_meant(notes, text, Meant::Unix(path)) }
+        _ => say_bad_kind(notes, text),
     }
 }
 
 /// Says what is wrong with a text, and what an address is.
-fn say_plainly<'x>(
-    alloc: Global,
-    notes: &mut Notes<'_>,
-    text: &'x str,
-    trouble: &'x str,
-) -> Result<(), NoMemory> {
+fn say_plainly<'x>(notes: &mut Notes<'_>, text: &'x str, trouble: &'x str) -> Result<(), NoMemory> {
     let spans = [
         Span::Quoted(text.as_bytes()),
         Span::Plain(b" "),
@@ -46,24 +34,19 @@ fn say_plainly<'x>(
         Span::Plain(b"; "),
         Span::Plain(FORMS.as_bytes()),
     ];
-    notes.say(alloc, &spans)
+    notes.say(&spans)
 }
 
 /// Says how the address is written that a text means.
-fn say_meant(
-    alloc: Global,
-    notes: &mut Notes<'_>,
-    text: &str,
-    meant: Meant<'_>,
-) -> Result<(), NoMemory> {
+fn say_meant(notes: &mut Notes<'_>, text: &str, meant: Meant<'_>) -> Result<(), NoMemory> {
+    let alloc = notes.alloc();
     let mut address = Vec::new(alloc);
     put_address(&mut address, meant)?;
-    say_written(alloc, notes, text.as_bytes(), address.as_slice())
+    say_written(notes, text.as_bytes(), address.as_slice())
 }
 
 /// Says that a text is written here as this address.
 fn say_written<'x>(
-    alloc: Global,
     notes: &mut Notes<'_>,
     text: &'x [u8],
     address: &'x [u8],
@@ -75,7 +58,7 @@ fn say_written<'x>(
         Span::Plain(b"; "),
         Span::Plain(FORMS.as_bytes()),
     ];
-    notes.say(alloc, &spans)
+    notes.say(&spans)
 }
 
 /// Puts an address as it is written here.
@@ -96,67 +79,56 @@ fn put_address(out: &mut Vec<u8>, meant: Meant<'_>) -> Result<(), NoMemory> {
 }
 
 /// Says what is wrong with what stands after `inet:`.
-fn say_bad_place(
-    alloc: Global,
-    notes: &mut Notes<'_>,
-    text: &str,
-    place: &str,
-) -> Result<(), NoMemory> {
+fn say_bad_place(notes: &mut Notes<'_>, text: &str, place: &str) -> Result<(), NoMemory> {
     if let Some((port, host)) = place.split_once('@') {
         if !is_port(port) {
-            return say_bad_port(alloc, notes, port);
+            return say_bad_port(notes, port);
         }
         if host.is_empty() {
-            return say_plainly(alloc, notes, text, "has no host after the @");
+            return say_plainly(notes, text, "has no host after the @");
         }
-        return say_meant(alloc, notes, text, Meant::Inet(port, host));
+        return say_meant(notes, text, Meant::Inet(port, host));
     }
     match host_and_port(place) {
-        Some((host, port)) => say_meant(alloc, notes, text, Meant::Inet(port, host)),
-        None if is_port(place) => say_plainly(alloc, notes, text, "has no @HOST after the port"),
-        None => say_plainly(
-            alloc,
-            notes,
-            text,
-            "has no port and host after its first word",
-        ),
+        Some((host, port)) => say_meant(notes, text, Meant::Inet(port, host)),
+        None if is_port(place) => say_plainly(notes, text, "has no @HOST after the port"),
+        None => say_plainly(notes, text, "has no port and host after its first word"),
     }
 }
 
 /// Says that this is no port.
-fn say_bad_port(alloc: Global, notes: &mut Notes<'_>, port: &str) -> Result<(), NoMemory> {
+fn say_bad_port(notes: &mut Notes<'_>, port: &str) -> Result<(), NoMemory> {
     let end = b" is no port, which is a number from 1 to 65535; an address is inet:PORT@HOST";
-    notes.say(alloc, &[Span::Quoted(port.as_bytes()), Span::Plain(end)])
+    notes.say(&[Span::Quoted(port.as_bytes()), Span::Plain(end)])
 }
 
 /// Says what is wrong with a text that begins with no kind of address.
-fn say_bad_kind(alloc: Global, notes: &mut Notes<'_>, text: &str) -> Result<(), NoMemory> {
+fn say_bad_kind(notes: &mut Notes<'_>, text: &str) -> Result<(), NoMemory> {
     if text.starts_with('/') {
-        return say_meant(alloc, notes, text, Meant::Unix(text));
+        return say_meant(notes, text, Meant::Unix(text));
     }
     if let Some((port, host)) = text.split_once('@')
         && is_port(port)
         && !host.is_empty()
     {
-        return say_meant(alloc, notes, text, Meant::Inet(port, host));
+        return say_meant(notes, text, Meant::Inet(port, host));
     }
     match host_and_port(text) {
-        Some((host, port)) => say_meant(alloc, notes, text, Meant::Inet(port, host)),
-        None => say_other_kind(alloc, notes, text),
+        Some((host, port)) => say_meant(notes, text, Meant::Inet(port, host)),
+        None => say_other_kind(notes, text),
     }
 }
 
 /// Says that the word before the colon is no kind of address, or that there is none.
-fn say_other_kind(alloc: Global, notes: &mut Notes<'_>, text: &str) -> Result<(), NoMemory> {
+fn say_other_kind(notes: &mut Notes<'_>, text: &str) -> Result<(), NoMemory> {
     match text.split_once(':') {
         Some((kind, _)) if !kind.is_empty() => say_unknown(
-            alloc,
             notes,
             "kind of address",
             "inet|unix",
             kind.as_bytes(),
         ),
-        _ => say_plainly(alloc, notes, text, "has no inet: or unix: before it"),
+        _ => say_plainly(notes, text, "has no inet: or unix: before it"),
     }
 }
 

@@ -7,7 +7,6 @@ use milter_rules_faults::{Notes, Span, say_fault};
 use milter_text::Word;
 use milter_wire::NoMemory;
 use milter_world_events::{EventFault, read_events};
-use std::alloc::Global;
 
 /// The first words of lines.
 const FIRST_WORDS: &str = "dial|send|to-filter|answer|to-mta|die|lose|timeout|round|rounds";
@@ -16,52 +15,49 @@ const FIRST_WORDS: &str = "dial|send|to-filter|answer|to-mta|die|lose|timeout|ro
 const NUMBER_MAX: u64 = 4_294_967_295;
 
 /// Says why a file with these bytes has no events.
-pub(crate) fn say_events(
-    alloc: Global,
-    notes: &mut Notes<'_>,
-    bytes: &[u8],
-) -> Result<(), NoMemory> {
+pub(crate) fn say_events(notes: &mut Notes<'_>, bytes: &[u8]) -> Result<(), NoMemory> {
+    let alloc = notes.alloc();
     let number = match read_events(alloc, bytes) {
         Ok(_) => return Ok(()),
         Err(EventFault::NoMemory) => return Err(NoMemory),
         Err(EventFault::TooMany(number)) => {
             notes.go_to(Some(number));
             let text = b"with this line there are more than 10,000,000 events, the most of a file";
-            return notes.say(alloc, &[Span::Plain(text)]);
+            return notes.say(&[Span::Plain(text)]);
         }
         Err(EventFault::UnknownLine(number)) => number,
     };
     notes.go_to(Some(number));
     let line = line_at(alloc, bytes, number)?;
     match &line.content {
-        Content::Words(words) => say_line(alloc, notes, words.as_slice()),
+        Content::Words(words) => say_line(notes, words.as_slice()),
         // A line that isn't in words is one of no file.
         Content::NoWords | Content::End => {
-            say_fault(alloc, notes, bytes, RuleFault::UnknownWord(number))
+            say_fault(notes, bytes, RuleFault::UnknownWord(number))
         }
     }
 }
 
 /// Says what is wrong with a line of these words.
-fn say_line(alloc: Global, notes: &mut Notes<'_>, words: &[Word]) -> Result<(), NoMemory> {
+fn say_line(notes: &mut Notes<'_>, words: &[Word]) -> Result<(), NoMemory> {
     if let Some(word) = words.iter().find(|word| word.quoted) {
         let shown = Span::Quoted(word.text.as_slice());
         let end = Span::Plain(b" is due without quotes");
-        return notes.say(alloc, &[shown, end]);
+        return notes.say(&[shown, end]);
     }
     let first = first_word(words);
     if !has_name(FIRST_WORDS, first) {
-        return say_unknown(alloc, notes, "first word", FIRST_WORDS, first);
+        return say_unknown(notes, "first word", FIRST_WORDS, first);
     }
     match no_number(words) {
         Some(word) => {
             let shown = Span::Quoted(word.text.as_slice());
             let end = Span::Plain(b" is no number up to 4,294,967,295, of ten digits at most");
-            notes.say(alloc, &[shown, end])
+            notes.say(&[shown, end])
         }
         None => {
             let begin = Span::Plain(b"the line has too few words or too many; it is written ");
-            notes.say(alloc, &[begin, Span::Plain(form_of(first).as_bytes())])
+            notes.say(&[begin, Span::Plain(form_of(first).as_bytes())])
         }
     }
 }

@@ -103,7 +103,7 @@ fn explain_trace(
         fault => {
             let name = shown_name(alloc, path.unwrap_or("standard input"))?;
             let mut notes = Notes::new(alloc, name.as_str());
-            say_trace(alloc, &mut notes, fault)?;
+            say_trace(&mut notes, fault)?;
             text_of(alloc, &notes)
         }
     }
@@ -141,7 +141,7 @@ fn text_of(alloc: Global, notes: &Notes<'_>) -> Result<Vec<u8>, NoMemory> {
 fn line(alloc: Global, name: &str, text: &str) -> Result<Vec<u8>, NoMemory> {
     let name = shown_name(alloc, name)?;
     let mut notes = Notes::new(alloc, name.as_str());
-    notes.say(alloc, &[Span::Plain(text.as_bytes())])?;
+    notes.say(&[Span::Plain(text.as_bytes())])?;
     text_of(alloc, &notes)
 }
 
@@ -155,16 +155,16 @@ fn explain_usage(
     match error {
         UsageError::BadActions => {
             let names = actions_of(request).unwrap_or("");
-            say_bad_names(alloc, &mut notes, "actions", names)?;
+            say_bad_names(&mut notes, "actions", names)?;
         }
         UsageError::BadProtocol => {
             let names = protocol_of(request).unwrap_or("");
-            say_bad_names(alloc, &mut notes, "protocol", names)?;
+            say_bad_names(&mut notes, "protocol", names)?;
         }
-        UsageError::BadMacro => say_bad_macros(alloc, &mut notes, macros_of(request))?,
-        UsageError::BadTrials => say_bad_trials(alloc, &mut notes, only_of(request).unwrap_or(""))?,
-        UsageError::BadMode => say_bad_mode(alloc, &mut notes, mode_of(request).unwrap_or(0))?,
-        UsageError::BadAddress => say_addresses(alloc, &mut notes, request)?,
+        UsageError::BadMacro => say_bad_macros(&mut notes, macros_of(request))?,
+        UsageError::BadTrials => say_bad_trials(&mut notes, only_of(request).unwrap_or(""))?,
+        UsageError::BadMode => say_bad_mode(&mut notes, mode_of(request).unwrap_or(0))?,
+        UsageError::BadAddress => say_addresses(&mut notes, request)?,
         // They say it themselves.
         UsageError::CommandLine(_) | UsageError::NotUtf8 => {}
     }
@@ -185,25 +185,21 @@ fn place_of(error: &UsageError) -> &'static str {
 }
 
 /// Says of each text of a request that is to be an address, and is none, which one is meant.
-fn say_addresses(
-    alloc: Global,
-    notes: &mut Notes<'_>,
-    request: &Request<'_>,
-) -> Result<(), NoMemory> {
+fn say_addresses(notes: &mut Notes<'_>, request: &Request<'_>) -> Result<(), NoMemory> {
     if let Some(address) = address_of(request) {
-        return say_bad_address(alloc, notes, address);
+        return say_bad_address(notes, address);
     }
     if let Request::Record(asked) = request {
-        return say_bad_addresses(alloc, notes, &[asked.listen, asked.address]);
+        return say_bad_addresses(notes, &[asked.listen, asked.address]);
     }
-    say_bad_addresses(alloc, notes, addresses_of(request))
+    say_bad_addresses(notes, addresses_of(request))
 }
 
 /// Says of each of these texts that is no address which one is meant.
-fn say_bad_addresses(alloc: Global, notes: &mut Notes<'_>, texts: &[&str]) -> Result<(), NoMemory> {
+fn say_bad_addresses(notes: &mut Notes<'_>, texts: &[&str]) -> Result<(), NoMemory> {
     for text in texts {
         if Address::parse(text).is_none() {
-            say_bad_address(alloc, notes, text)?;
+            say_bad_address(notes, text)?;
         }
     }
     Ok(())
@@ -225,8 +221,8 @@ fn explain_socket<R: Files>(
     let name = shown_name(alloc, socket.address)?;
     let mut notes = Notes::new(alloc, name.as_str());
     match &failure.error {
-        ToolError::Connect => say_unconnected(alloc, &mut notes, socket)?,
-        _ => say_unbound(files, alloc, &mut notes, socket)?,
+        ToolError::Connect => say_unconnected(&mut notes, socket)?,
+        _ => say_unbound(files, &mut notes, socket)?,
     }
     text_of(alloc, &notes)
 }
@@ -330,7 +326,7 @@ fn explain_number(
     let name = shown_name(alloc, path)?;
     let mut notes = Notes::new(alloc, name.as_str());
     notes.go_to(Some(number));
-    notes.say(alloc, &[Span::Plain(meaning.as_bytes())])?;
+    notes.say(&[Span::Plain(meaning.as_bytes())])?;
     text_of(alloc, &notes)
 }
 
@@ -348,11 +344,11 @@ fn explain_bytes<R: Files>(
         return Ok(Vec::new(alloc));
     };
     match file {
-        InputFile::Session => say_session(alloc, &mut notes, bytes.as_slice())?,
-        InputFile::Events => say_events(alloc, &mut notes, bytes.as_slice())?,
-        InputFile::Rules => say_rules(files, alloc, &mut notes, path, bytes.as_slice())?,
+        InputFile::Session => say_session(&mut notes, bytes.as_slice())?,
+        InputFile::Events => say_events(&mut notes, bytes.as_slice())?,
+        InputFile::Rules => say_rules(files, &mut notes, path, bytes.as_slice())?,
         InputFile::Reports | InputFile::Capture => {}
-        InputFile::Trace => say_recording(alloc, &mut notes, bytes.as_slice())?,
+        InputFile::Trace => say_recording(&mut notes, bytes.as_slice())?,
     }
     let mut said = text_of(alloc, &notes)?;
     if let InputFile::Rules = file {

@@ -4,7 +4,6 @@ use milter_cli_request::GivenMacro;
 use milter_rules::RuleFault;
 use milter_rules_faults::{Notes, Span, say_fault};
 use milter_wire::NoMemory;
-use std::alloc::Global;
 
 /// What is said of a value of `--macro` that gives no macro.
 const MACRO_FORM: &[u8] =
@@ -17,22 +16,22 @@ const MACROS_TOO_LARGE: &[u8] =
 /// Says why the value of an option names no set: as of the line of a rule file with this first word, after which the
 /// same names stand.
 pub(crate) fn say_bad_names(
-    alloc: Global,
     notes: &mut Notes<'_>,
     first_word: &str,
     names: &str,
 ) -> Result<(), NoMemory> {
+    let alloc = notes.alloc();
     if names.is_empty() {
         let text = b"no value is given; it is names joined by |, or none";
-        return notes.say(alloc, &[Span::Plain(text)]);
+        return notes.say(&[Span::Plain(text)]);
     }
     let mut line = Vec::new(alloc);
     line.extend_from_slice(first_word.as_bytes())?;
     line.push(b' ')?;
     line.extend_from_slice(names.as_bytes())?;
     let mut said = Notes::new(alloc, "");
-    say_fault(alloc, &mut said, line.as_slice(), RuleFault::UnknownWord(1))?;
-    notes.say(alloc, &[Span::Plain(after_place(said.text()))])
+    say_fault(&mut said, line.as_slice(), RuleFault::UnknownWord(1))?;
+    notes.say(&[Span::Plain(after_place(said.text()))])
 }
 
 /// The line that was said, without its place, `:1: `, and its end.
@@ -43,48 +42,36 @@ fn after_place(said: &[u8]) -> &[u8] {
 
 /// Says of each of these values of `--macro` that gives no macro what is due; or, where each gives one, that they are
 /// too large with the session.
-pub(crate) fn say_bad_macros(
-    alloc: Global,
-    notes: &mut Notes<'_>,
-    macros: &[&str],
-) -> Result<(), NoMemory> {
+pub(crate) fn say_bad_macros(notes: &mut Notes<'_>, macros: &[&str]) -> Result<(), NoMemory> {
     let mut are_macros = true;
     for given in macros {
         if GivenMacro::parse(given).is_none() {
             let spans = [Span::Quoted(given.as_bytes()), Span::Plain(MACRO_FORM)];
-            notes.say(alloc, &spans)?;
+            notes.say(&spans)?;
             are_macros = false;
         }
     }
     if are_macros {
-        notes.say(alloc, &[Span::Plain(MACROS_TOO_LARGE)])?;
+        notes.say(&[Span::Plain(MACROS_TOO_LARGE)])?;
     }
     Ok(())
 }
 
 /// Says that no trials have this name.
-pub(crate) fn say_bad_trials(
-    alloc: Global,
-    notes: &mut Notes<'_>,
-    name: &str,
-) -> Result<(), NoMemory> {
+pub(crate) fn say_bad_trials(notes: &mut Notes<'_>, name: &str) -> Result<(), NoMemory> {
     let spans = [
         Span::Plain(b"no trials have the name "),
         Span::Quoted(name.as_bytes()),
         Span::Plain(b"; milter_tool help probe lists the names"),
     ];
-    notes.say(alloc, &spans)
+    notes.say(&spans)
 }
 
 /// Says why these digits are no mode.
-pub(crate) fn say_bad_mode(
-    alloc: Global,
-    notes: &mut Notes<'_>,
-    digits: u32,
-) -> Result<(), NoMemory> {
+pub(crate) fn say_bad_mode(notes: &mut Notes<'_>, digits: u32) -> Result<(), NoMemory> {
     let spans = [
         Span::Number(u64::from(digits)),
         Span::Plain(b" has a digit above 7; a mode is up to three octal digits, as 660"),
     ];
-    notes.say(alloc, &spans)
+    notes.say(&spans)
 }

@@ -15,21 +15,21 @@ use std::rt::Files;
 /// unless one of them is no file, whose end might never come.
 pub(crate) fn say_rules<R: Files>(
     files: &R,
-    alloc: Global,
     notes: &mut Notes<'_>,
     path: &str,
     bytes: &[u8],
 ) -> Result<(), NoMemory> {
+    let alloc = notes.alloc();
     match read_rule_lines(alloc, bytes) {
         Ok(rules) => {
             drop(rules);
             if has_endless_list(files, alloc, path, bytes)? {
                 return Ok(());
             }
-            say_lists(files, alloc, notes, path, bytes)
+            say_lists(files, notes, path, bytes)
         }
         Err(RuleFault::NoMemory) => Err(NoMemory),
-        Err(fault) => say_fault(alloc, notes, bytes, fault),
+        Err(fault) => say_fault(notes, bytes, fault),
     }
 }
 
@@ -72,7 +72,7 @@ pub(crate) fn unread_lists<R: Files>(
         if !path.is_file(files) || fs::open(files, path).is_err() {
             let name = shown_name(alloc, path.as_str())?;
             let mut notes = Notes::new(alloc, name.as_str());
-            notes.say(alloc, &[Span::Plain(unread_reason(files, path).as_bytes())])?;
+            notes.say(&[Span::Plain(unread_reason(files, path).as_bytes())])?;
             said.extend_from_slice(notes.text())?;
         }
     }

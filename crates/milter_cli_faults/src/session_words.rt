@@ -10,14 +10,10 @@ use milter_rules::RuleFault;
 use milter_rules_faults::{Notes, Span, say_fault};
 use milter_text::Word;
 use milter_wire::NoMemory;
-use std::alloc::Global;
 
 /// Says why a file with these bytes has no session.
-pub(crate) fn say_session(
-    alloc: Global,
-    notes: &mut Notes<'_>,
-    bytes: &[u8],
-) -> Result<(), NoMemory> {
+pub(crate) fn say_session(notes: &mut Notes<'_>, bytes: &[u8]) -> Result<(), NoMemory> {
+    let alloc = notes.alloc();
     let fault = match read_session(alloc, bytes) {
         Ok(session) => {
             drop(session);
@@ -32,20 +28,20 @@ pub(crate) fn say_session(
     let line = line_at(alloc, bytes, number)?;
     match &line.content {
         // A line that isn't in words is one of no file.
-        Content::NoWords => say_fault(alloc, notes, bytes, RuleFault::UnknownWord(number)),
-        Content::End => say_end(alloc, notes, &line),
-        Content::Words(words) => say_line(alloc, notes, &line, words.as_slice(), fault),
+        Content::NoWords => say_fault(notes, bytes, RuleFault::UnknownWord(number)),
+        Content::End => say_end(notes, &line),
+        Content::Words(words) => say_line(notes, &line, words.as_slice(), fault),
     }
 }
 
 /// Says what the file lacks at its end.
-fn say_end(alloc: Global, notes: &mut Notes<'_>, line: &FaultyLine) -> Result<(), NoMemory> {
+fn say_end(notes: &mut Notes<'_>, line: &FaultyLine) -> Result<(), NoMemory> {
     let due = due_after(first_before(line));
     let spans = [
         Span::Plain(b"the file ends here, where a line is due that begins with "),
         Span::List(due),
     ];
-    notes.say(alloc, &spans)
+    notes.say(&spans)
 }
 
 /// The first word of the line before.
@@ -58,7 +54,6 @@ fn first_before(line: &FaultyLine) -> &[u8] {
 
 /// Says what is wrong with a line of these words.
 fn say_line(
-    alloc: Global,
     notes: &mut Notes<'_>,
     line: &FaultyLine,
     words: &[Word],
@@ -66,21 +61,19 @@ fn say_line(
 ) -> Result<(), NoMemory> {
     match fault {
         SessionFault::UnknownLine(_) | SessionFault::NoEnd(_) => {
-            say_unknown_line(alloc, notes, line, words)
+            say_unknown_line(notes, line, words)
         }
-        SessionFault::BadClient(_) => say_bad_client(alloc, notes, line, words),
+        SessionFault::BadClient(_) => say_bad_client(notes, line, words),
         SessionFault::NoRecipient(_) => {
             let text =
                 b"the message that ends here has no line recipient; one or more stand after its sender";
-            notes.say(alloc, &[Span::Plain(text)])
+            notes.say(&[Span::Plain(text)])
         }
-        SessionFault::BadHeader(_) => say_bad_header(alloc, notes, words),
-        SessionFault::TooLarge(_) => {
-            notes.say(alloc, &[Span::Plain(limit_of(words).as_bytes())])
-        }
+        SessionFault::BadHeader(_) => say_bad_header(notes, words),
+        SessionFault::TooLarge(_) => { notes.say(&[Span::Plain(limit_of(words).as_bytes())]) }
         SessionFault::Nul(_) => {
             let text = b"a text has a NUL, which is left to the texts of a body";
-            notes.say(alloc, &[Span::Plain(text)])
+            notes.say(&[Span::Plain(text)])
         }
         SessionFault::NoMemory => Err(NoMemory),
     }
@@ -98,24 +91,23 @@ fn limit_of(words: &[Word]) -> &'static str {
 
 /// Says what is wrong with a line that isn't known where it stands.
 fn say_unknown_line(
-    alloc: Global,
     notes: &mut Notes<'_>,
     line: &FaultyLine,
     words: &[Word],
 ) -> Result<(), NoMemory> {
     let first = first_word(words);
     if !has_name(FIRST_WORDS, first) {
-        return say_unknown_first(alloc, notes, words);
+        return say_unknown_first(notes, words);
     }
     if !has_name(due_after(first_before(line)), first) {
-        return say_not_due(alloc, notes, line, first);
+        return say_not_due(notes, line, first);
     }
     match words {
         [first, stage, ..] if first.is_keyword(b"macro") && !is_macro_stage(stage) => {
-            say_unknown(alloc, notes, "stage", MACRO_STAGES, stage.text.as_slice())
+            say_unknown(notes, "stage", MACRO_STAGES, stage.text.as_slice())
         }
-        words if !has_form(words) => say_bad_form(alloc, notes, words),
-        _ => say_not_due(alloc, notes, line, first),
+        words if !has_form(words) => say_bad_form(notes, words),
+        _ => say_not_due(notes, line, first),
     }
 }
 
@@ -125,24 +117,15 @@ fn is_macro_stage(word: &Word) -> bool {
 }
 
 /// Says that the first of the words is none of a line.
-fn say_unknown_first(alloc: Global, notes: &mut Notes<'_>, words: &[Word]) -> Result<(), NoMemory> {
+fn say_unknown_first(notes: &mut Notes<'_>, words: &[Word]) -> Result<(), NoMemory> {
     match words {
-        [first, ..] => {
-            say_unknown(
-                alloc,
-                notes,
-                "first word",
-                FIRST_WORDS,
-                first.text.as_slice(),
-            )
-        }
+        [first, ..] => { say_unknown(notes, "first word", FIRST_WORDS, first.text.as_slice()) }
         [] => Ok(()),
     }
 }
 
 /// Says that a line with this first word isn't due here, and which one is.
 fn say_not_due<'x>(
-    alloc: Global,
     notes: &mut Notes<'_>,
     line: &'x FaultyLine,
     first: &'x [u8],
@@ -152,7 +135,7 @@ fn say_not_due<'x>(
     let first = Span::Plain(first);
     if before.is_empty() {
         let middle = Span::Plain(b" can't be the first line, which begins with ");
-        return notes.say(alloc, &[first, middle, due]);
+        return notes.say(&[first, middle, due]);
     }
     let spans = [
         first,
@@ -161,31 +144,27 @@ fn say_not_due<'x>(
         Span::Plain(b"; a line is due that begins with "),
         due,
     ];
-    notes.say(alloc, &spans)
+    notes.say(&spans)
 }
 
 /// Says how a line of these words is written.
-fn say_bad_form(alloc: Global, notes: &mut Notes<'_>, words: &[Word]) -> Result<(), NoMemory> {
+fn say_bad_form(notes: &mut Notes<'_>, words: &[Word]) -> Result<(), NoMemory> {
     let form = Span::Plain(form_of(first_word(words)).as_bytes());
     match unquoted_text(words) {
         Some(word) => {
             let middle = b" is due in double quotes; the line is written ";
             let shown = Span::Quoted(word.text.as_slice());
-            notes.say(
-                alloc,
-                &[Span::Plain(b"the text "), shown, Span::Plain(middle), form],
-            )
+            notes.say(&[Span::Plain(b"the text "), shown, Span::Plain(middle), form])
         }
         None => {
             let begin = Span::Plain(b"the line has too few words or too many; it is written ");
-            notes.say(alloc, &[begin, form])
+            notes.say(&[begin, form])
         }
     }
 }
 
 /// Says what is wrong with the line of the client, or with one that stands in its place.
 fn say_bad_client(
-    alloc: Global,
     notes: &mut Notes<'_>,
     line: &FaultyLine,
     words: &[Word],
@@ -194,30 +173,30 @@ fn say_bad_client(
         [first, family, ..] if first.is_keyword(b"client") => {
             if !has_name(FAMILIES, family.keyword().unwrap_or(b"")) {
                 let name = family.text.as_slice();
-                return say_unknown(alloc, notes, "family", FAMILIES, name);
+                return say_unknown(notes, "family", FAMILIES, name);
             }
-            say_bad_endpoint(alloc, notes, words)
+            say_bad_endpoint(notes, words)
         }
         [first, ..] if !first.is_keyword(b"client") => {
             if has_name(FIRST_WORDS, first_word(words)) {
-                say_not_due(alloc, notes, line, first_word(words))
+                say_not_due(notes, line, first_word(words))
             } else {
-                say_unknown_first(alloc, notes, words)
+                say_unknown_first(notes, words)
             }
         }
-        words => say_bad_form(alloc, notes, words),
+        words => say_bad_form(notes, words),
     }
 }
 
 /// Says what is wrong with the words of a client's line after a family that is known.
-fn say_bad_endpoint(alloc: Global, notes: &mut Notes<'_>, words: &[Word]) -> Result<(), NoMemory> {
+fn say_bad_endpoint(notes: &mut Notes<'_>, words: &[Word]) -> Result<(), NoMemory> {
     match words {
         [_, _, host, port, address] if host.quoted && address.quoted && !is_port(port) => {
             let shown = Span::Quoted(port.text.as_slice());
             let end = b" is no port, which is a number up to 65535 without quotes";
-            notes.say(alloc, &[shown, Span::Plain(end)])
+            notes.say(&[shown, Span::Plain(end)])
         }
-        words => say_bad_form(alloc, notes, words),
+        words => say_bad_form(notes, words),
     }
 }
 
@@ -228,13 +207,13 @@ fn is_port(word: &Word) -> bool {
 }
 
 /// Says what is wrong with a header line.
-fn say_bad_header(alloc: Global, notes: &mut Notes<'_>, words: &[Word]) -> Result<(), NoMemory> {
+fn say_bad_header(notes: &mut Notes<'_>, words: &[Word]) -> Result<(), NoMemory> {
     match words {
         [_, name, value] if name.quoted && value.quoted => {
             let shown = Span::Quoted(name.text.as_slice());
             let end = b" is no name of a header field: visible ASCII characters without a colon";
-            notes.say(alloc, &[shown, Span::Plain(end)])
+            notes.say(&[shown, Span::Plain(end)])
         }
-        words => say_bad_form(alloc, notes, words),
+        words => say_bad_form(notes, words),
     }
 }

@@ -5,7 +5,6 @@ use crate::file_words::has_folder;
 use milter_cli_request::Address;
 use milter_rules_faults::{Notes, Span};
 use milter_wire::NoMemory;
-use std::alloc::Global;
 use std::io::ErrorKind;
 use std::path::Path;
 use std::rt::Files;
@@ -13,42 +12,33 @@ use std::rt::Files;
 /// Says why the program can't listen at an address.
 pub(crate) fn say_unbound<R: Files>(
     files: &R,
-    alloc: Global,
     notes: &mut Notes<'_>,
     fault: SocketFault<'_>,
 ) -> Result<(), NoMemory> {
     let Some(kind) = fault.kind else {
-        return notes.say(
-            alloc,
-            &[Span::Plain(b"the system doesn't wait for connections")],
-        );
+        return notes.say(&[Span::Plain(b"the system doesn't wait for connections")]);
     };
     match Address::parse(fault.address) {
-        Some(Address::Inet { host, .. }) => say_unbound_port(alloc, notes, host, kind),
+        Some(Address::Inet { host, .. }) => say_unbound_port(notes, host, kind),
         Some(Address::Unix { path }) => {
             let reason = unbound_path(files, Path::new(path), kind);
-            notes.say(alloc, &[Span::Plain(reason.as_bytes())])
+            notes.say(&[Span::Plain(reason.as_bytes())])
         }
         None => Ok(()),
     }
 }
 
 /// Says why the program can't listen on a port of this host.
-fn say_unbound_port(
-    alloc: Global,
-    notes: &mut Notes<'_>,
-    host: &str,
-    kind: ErrorKind,
-) -> Result<(), NoMemory> {
+fn say_unbound_port(notes: &mut Notes<'_>, host: &str, kind: ErrorKind) -> Result<(), NoMemory> {
     let host_span = Span::Quoted(host.as_bytes());
     match kind {
         ErrorKind::AddrNotAvailable => {
             let end =
                 b" is no address of this machine; 0.0.0.0 stands for all that it has, 127.0.0.1 for itself";
-            notes.say(alloc, &[host_span, Span::Plain(end)])
+            notes.say(&[host_span, Span::Plain(end)])
         }
-        ErrorKind::Uncategorized => say_no_name(alloc, notes, host),
-        _ => notes.say(alloc, &[Span::Plain(unbound_port(kind).as_bytes())]),
+        ErrorKind::Uncategorized => say_no_name(notes, host),
+        _ => notes.say(&[Span::Plain(unbound_port(kind).as_bytes())]),
     }
 }
 
@@ -66,21 +56,18 @@ fn unbound_port(kind: ErrorKind) -> &'static str {
 }
 
 /// Says that no host has this name.
-fn say_no_name(alloc: Global, notes: &mut Notes<'_>, host: &str) -> Result<(), NoMemory> {
+fn say_no_name(notes: &mut Notes<'_>, host: &str) -> Result<(), NoMemory> {
     let host_span = Span::Quoted(host.as_bytes());
     let end: &[u8] = if host.starts_with('[') {
         b"; an IPv6 address stands without brackets"
     } else {
         b"; a host is a name that the system finds, or an IP address"
     };
-    notes.say(
-        alloc,
-        &[
-            Span::Plain(b"name not found: "),
-            host_span,
-            Span::Plain(end),
-        ],
-    )
+    notes.say(&[
+        Span::Plain(b"name not found: "),
+        host_span,
+        Span::Plain(end),
+    ])
 }
 
 /// Why the program can't listen on this path.
@@ -107,16 +94,15 @@ fn unbound_path<R: Files>(files: &R, path: Path<'_>, kind: ErrorKind) -> &'stati
 
 /// Says why no filter was reached at an address.
 pub(crate) fn say_unconnected(
-    alloc: Global,
     notes: &mut Notes<'_>,
     fault: SocketFault<'_>,
 ) -> Result<(), NoMemory> {
     let kind = fault.kind.unwrap_or(ErrorKind::Other);
     match Address::parse(fault.address) {
         Some(Address::Inet { host, .. }) if kind == ErrorKind::Uncategorized => {
-            say_no_name(alloc, notes, host)
+            say_no_name(notes, host)
         }
-        _ => notes.say(alloc, &[Span::Plain(unconnected(kind).as_bytes())]),
+        _ => notes.say(&[Span::Plain(unconnected(kind).as_bytes())]),
     }
 }
 

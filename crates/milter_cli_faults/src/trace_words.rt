@@ -5,36 +5,28 @@ use milter_replay::{RecordingFault, read_trace};
 use milter_rules_faults::{Notes, Span};
 use milter_trace::TraceFault;
 use milter_wire::{NoMemory, WireFault};
-use std::alloc::Global;
 
 /// Says what a fault of a trace means.
-pub(crate) fn say_trace(
-    alloc: Global,
-    notes: &mut Notes<'_>,
-    fault: TraceFault,
-) -> Result<(), NoMemory> {
+pub(crate) fn say_trace(notes: &mut Notes<'_>, fault: TraceFault) -> Result<(), NoMemory> {
     notes.go_to(line_of(fault));
-    notes.say(alloc, &[Span::Plain(meaning(fault).as_bytes())])
+    notes.say(&[Span::Plain(meaning(fault).as_bytes())])
 }
 
 /// Says why a trace with these bytes can't be sent again.
-pub(crate) fn say_recording(
-    alloc: Global,
-    notes: &mut Notes<'_>,
-    bytes: &[u8],
-) -> Result<(), NoMemory> {
+pub(crate) fn say_recording(notes: &mut Notes<'_>, bytes: &[u8]) -> Result<(), NoMemory> {
+    let alloc = notes.alloc();
     let Err(fault) = read_trace(alloc, bytes) else {
         return Ok(());
     };
     let text = match fault {
         RecordingFault::Trace(TraceFault::NoMemory) => return Err(NoMemory),
-        RecordingFault::Trace(fault) => return say_trace(alloc, notes, fault),
+        RecordingFault::Trace(fault) => return say_trace(notes, fault),
         RecordingFault::Truncated(_) => TRUNCATED,
         RecordingFault::NoOffer(_) => NO_OFFER,
         RecordingFault::SecondOffer(_) => SECOND_OFFER,
     };
     notes.go_to(fault.line());
-    notes.say(alloc, &[Span::Plain(text.as_bytes())])
+    notes.say(&[Span::Plain(text.as_bytes())])
 }
 
 /// The number of the line that is at fault.

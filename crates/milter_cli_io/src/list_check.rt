@@ -24,7 +24,7 @@ pub(crate) fn check_lists<R: Files, W: Write>(
     writer: &mut W,
 ) -> Result<bool, TextFault> {
     let mut notes = Notes::new(alloc, path);
-    say_lists(files, alloc, &mut notes, path, bytes)?;
+    say_lists(files, &mut notes, path, bytes)?;
     write_text(writer, notes.text())?;
     Ok(notes.severity().is_some())
 }
@@ -33,11 +33,11 @@ pub(crate) fn check_lists<R: Files, W: Write>(
 /// Of none it says so where the line of a list is at fault.
 pub fn say_lists<R: Files>(
     files: &R,
-    alloc: Global,
     notes: &mut Notes<'_>,
     path: &str,
     bytes: &[u8],
 ) -> Result<(), NoMemory> {
+    let alloc = notes.alloc();
     let sources = match list_sources(alloc, bytes) {
         Ok(sources) => sources,
         Err(RuleFault::NoMemory) => return Err(NoMemory),
@@ -48,7 +48,7 @@ pub fn say_lists<R: Files>(
     next_number(alloc, &mut lines)?;
     for source in sources.as_slice() {
         notes.go_to(next_number(alloc, &mut lines)?);
-        say_list(files, alloc, notes, path, source)?;
+        say_list(files, notes, path, source)?;
     }
     Ok(())
 }
@@ -65,66 +65,59 @@ fn next_number(alloc: Global, lines: &mut LineCursor<'_>) -> Result<Option<u64>,
 /// Says why the list can't be used, if it can't.
 fn say_list<R: Files>(
     files: &R,
-    alloc: Global,
     notes: &mut Notes<'_>,
     path: &str,
     source: &ListSource,
 ) -> Result<(), NoMemory> {
+    let alloc = notes.alloc();
     let Some(file) = list_path(alloc, path, source)? else {
-        return say_unread(alloc, notes, source, source.file.as_slice());
+        return say_unread(notes, source, source.file.as_slice());
     };
     let shown = file.as_path().as_str().as_bytes();
     match read_list_at(files, alloc, file.as_path())? {
-        Some(bytes) => say_entries(alloc, notes, source, shown, bytes.as_slice()),
-        None => say_unread(alloc, notes, source, shown),
+        Some(bytes) => say_entries(notes, source, shown, bytes.as_slice()),
+        None => say_unread(notes, source, shown),
     }
 }
 
 /// Says that the file of the list, shown so, isn't read.
 fn say_unread<'x>(
-    alloc: Global,
     notes: &mut Notes<'_>,
     source: &'x ListSource,
     shown: &'x [u8],
 ) -> Result<(), NoMemory> {
-    notes.say(
-        alloc,
-        &[
-            Span::Plain(b"list "),
-            Span::Plain(source.name.as_slice()),
-            Span::Plain(b": "),
-            Span::Quoted(shown),
-            Span::Plain(b" can't be read, or has more than 134,217,728 bytes"),
-        ],
-    )
+    notes.say(&[
+        Span::Plain(b"list "),
+        Span::Plain(source.name.as_slice()),
+        Span::Plain(b": "),
+        Span::Quoted(shown),
+        Span::Plain(b" can't be read, or has more than 134,217,728 bytes"),
+    ])
 }
 
 /// Says which line of the file of the list, shown so, is at fault, if one is.
 fn say_entries<'x>(
-    alloc: Global,
     notes: &mut Notes<'_>,
     source: &'x ListSource,
     shown: &'x [u8],
     bytes: &[u8],
 ) -> Result<(), NoMemory> {
+    let alloc = notes.alloc();
     let (line, said) = match TextList::read(alloc, source.kind, bytes) {
         Ok(_) => return Ok(()),
         Err(ListFault::BadEntry(line)) => (line, bad_entry(source.kind)),
         Err(ListFault::TooLarge(line)) => (line, TOO_LARGE),
         Err(ListFault::NoMemory) => return Err(NoMemory),
     };
-    notes.say(
-        alloc,
-        &[
-            Span::Plain(b"list "),
-            Span::Plain(source.name.as_slice()),
-            Span::Plain(b": line "),
-            Span::Number(line),
-            Span::Plain(b" of "),
-            Span::Quoted(shown),
-            Span::Plain(said),
-        ],
-    )
+    notes.say(&[
+        Span::Plain(b"list "),
+        Span::Plain(source.name.as_slice()),
+        Span::Plain(b": line "),
+        Span::Number(line),
+        Span::Plain(b" of "),
+        Span::Quoted(shown),
+        Span::Plain(said),
+    ])
 }
 
 /// What is said of a line with which a list is too large.

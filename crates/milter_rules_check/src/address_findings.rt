@@ -6,7 +6,6 @@ use memchr::memrchr;
 use milter_filter_rules::{PathPart, Test};
 use milter_rules_faults::{Compared, Notes};
 use milter_wire::NoMemory;
-use std::alloc::Global;
 
 /// Why an address isn't found by a text with a bracket.
 const NO_BRACKETS: &[u8] = b"this field has an address without <>";
@@ -19,28 +18,23 @@ const DOMAIN_ALONE: &[u8] = b"this field has the domain alone";
 
 /// Says what is to be said of a text that is compared with this part of an address.
 pub(crate) fn say_part_text(
-    alloc: Global,
     notes: &mut Notes<'_>,
     compared: Compared<'_>,
     part: PathPart,
 ) -> Result<(), NoMemory> {
     match part {
-        PathPart::Domain => say_domain_text(alloc, notes, compared),
-        _ => say_address_text(alloc, notes, compared),
+        PathPart::Domain => say_domain_text(notes, compared),
+        _ => say_address_text(notes, compared),
     }
 }
 
 /// Says what is to be said of a text that is compared with the canonical address.
-fn say_address_text(
-    alloc: Global,
-    notes: &mut Notes<'_>,
-    compared: Compared<'_>,
-) -> Result<(), NoMemory> {
+fn say_address_text(notes: &mut Notes<'_>, compared: Compared<'_>) -> Result<(), NoMemory> {
     let text = compared.text;
     if compared.test == Test::Is {
         return match text {
             [b'@', domain @ ..] => {
-                say_domain_instead(alloc, notes, compared, WHOLE, without_brackets(domain))
+                say_domain_instead(notes, compared, WHOLE, without_brackets(domain))
             }
             _ => Ok(()),
         };
@@ -50,15 +44,11 @@ fn say_address_text(
         return Ok(());
     }
     let instead = compared.with_text(bare);
-    say_unfound_instead(alloc, notes, compared, NO_BRACKETS, instead)
+    say_unfound_instead(notes, compared, NO_BRACKETS, instead)
 }
 
 /// Says what is to be said of a text that is compared with a domain.
-fn say_domain_text(
-    alloc: Global,
-    notes: &mut Notes<'_>,
-    compared: Compared<'_>,
-) -> Result<(), NoMemory> {
+fn say_domain_text(notes: &mut Notes<'_>, compared: Compared<'_>) -> Result<(), NoMemory> {
     let bare = without_brackets(compared.text);
     let domain = match memrchr(b'@', bare) {
         Some(at) => &bare[at + 1..],
@@ -68,12 +58,11 @@ fn say_domain_text(
         return Ok(());
     }
     let instead = compared.with_text(domain);
-    say_unfound_instead(alloc, notes, compared, DOMAIN_ALONE, instead)
+    say_unfound_instead(notes, compared, DOMAIN_ALONE, instead)
 }
 
 /// Says that the text is never found, for this reason, and the condition on the domain that is to be written instead.
 fn say_domain_instead<'x>(
-    alloc: Global,
     notes: &mut Notes<'_>,
     compared: Compared<'x>,
     reason: &'x [u8],
@@ -82,8 +71,8 @@ fn say_domain_instead<'x>(
     match part_field(compared.field, PathPart::Domain) {
         Some(field) => {
             let instead = on_part(compared, &field, Test::Is, domain);
-            say_unfound_instead(alloc, notes, compared, reason, instead)
+            say_unfound_instead(notes, compared, reason, instead)
         }
-        None => say_unfound(alloc, notes, compared, reason),
+        None => say_unfound(notes, compared, reason),
     }
 }

@@ -7,35 +7,32 @@ use milter_filter_rules::Test;
 use milter_network::{Address, Network};
 use milter_rules_faults::{Compared, FileForm, Notes, Span};
 use milter_wire::NoMemory;
-use std::alloc::Global;
 
 /// Says what is to be said of a text that is compared with the address of a client, in a file of this form.
 pub(crate) fn say_client_text(
-    alloc: Global,
     notes: &mut Notes<'_>,
     form: FileForm,
     compared: Compared<'_>,
 ) -> Result<(), NoMemory> {
     let text = compared.text;
     if text.is_empty() {
-        return say_empty(alloc, notes, compared);
+        return say_empty(notes, compared);
     }
     if Address::parse(text).is_some() {
         return Ok(());
     }
     if Network::parse(text).is_some() {
-        return say_network(alloc, notes, form, compared);
+        return say_network(notes, form, compared);
     }
     // What begins with a slash is the path of a Unix socket.
     if compared.test == Test::Is && !text.starts_with(b"/") {
-        return say_no_address(alloc, notes, form, compared);
+        return say_no_address(notes, form, compared);
     }
     Ok(())
 }
 
 /// Says that no address of a client is this network, and which condition finds those within it.
 fn say_network(
-    alloc: Global,
     notes: &mut Notes<'_>,
     form: FileForm,
     compared: Compared<'_>,
@@ -48,16 +45,16 @@ fn say_network(
         Span::Quoted(compared.text),
         advice_end(form),
     ];
-    notes.say(alloc, &spans)
+    notes.say(&spans)
 }
 
 /// Says that the text is no address, and which condition finds those of the network that is meant, if one is.
 fn say_no_address(
-    alloc: Global,
     notes: &mut Notes<'_>,
     form: FileForm,
     compared: Compared<'_>,
 ) -> Result<(), NoMemory> {
+    let alloc = notes.alloc();
     let condition = Span::Compared(compared);
     let outcome = Span::Plain(outcome_unfound(compared));
     let colon = Span::Plain(b": ");
@@ -74,11 +71,11 @@ fn say_no_address(
                 Span::Quoted(network.as_slice()),
                 advice_end(form),
             ];
-            notes.say(alloc, &spans)
+            notes.say(&spans)
         }
         None => {
             let end = Span::Plain(b" is no IP address, such as 192.0.2.1");
-            notes.say(alloc, &[condition, outcome, colon, text, end])
+            notes.say(&[condition, outcome, colon, text, end])
         }
     }
 }

@@ -3,7 +3,6 @@
 use milter_filter_rules::{Test, TextCheck};
 use milter_rules_faults::{Compared, Notes, Span};
 use milter_wire::NoMemory;
-use std::alloc::Global;
 
 /// Whether a condition with this test is met where no text of it is found.
 pub(crate) fn is_met_unfound(negated: bool, test: Test) -> bool {
@@ -26,7 +25,6 @@ pub(crate) fn outcome_by(is_met: bool) -> &'static [u8] {
 
 /// Says that the text is never found, for this reason.
 pub(crate) fn say_unfound<'x>(
-    alloc: Global,
     notes: &mut Notes<'_>,
     compared: Compared<'x>,
     reason: &'x [u8],
@@ -37,12 +35,11 @@ pub(crate) fn say_unfound<'x>(
         Span::Plain(b": "),
         Span::Plain(reason),
     ];
-    notes.say(alloc, &spans)
+    notes.say(&spans)
 }
 
 /// Says that the text is never found, for this reason, and which condition is to be written instead.
 pub(crate) fn say_unfound_instead<'x>(
-    alloc: Global,
     notes: &mut Notes<'_>,
     compared: Compared<'x>,
     reason: &'x [u8],
@@ -56,15 +53,11 @@ pub(crate) fn say_unfound_instead<'x>(
         Span::Plain(b"; write "),
         Span::Compared(instead),
     ];
-    notes.say(alloc, &spans)
+    notes.say(&spans)
 }
 
 /// Says of an empty text that is compared with a whole value that it isn't found where there is no value.
-pub(crate) fn say_empty(
-    alloc: Global,
-    notes: &mut Notes<'_>,
-    compared: Compared<'_>,
-) -> Result<(), NoMemory> {
+pub(crate) fn say_empty(notes: &mut Notes<'_>, compared: Compared<'_>) -> Result<(), NoMemory> {
     let is_for_empty = matches!(compared.test, Test::Is | Test::Like | Test::Under);
     if !compared.text.is_empty() || !is_for_empty || compared.negated {
         return Ok(());
@@ -73,10 +66,7 @@ pub(crate) fn say_empty(
     let middle = Span::Plain(b" doesn't hold where there is no ");
     let end = Span::Plain(b" lacks \"\" does");
     let semicolon = Span::Plain(b"; ");
-    notes.say(
-        alloc,
-        &[Span::Compared(compared), middle, name, semicolon, name, end],
-    )
+    notes.say(&[Span::Compared(compared), middle, name, semicolon, name, end])
 }
 
 /// The condition that finds this text in a part of a value.

@@ -8,7 +8,6 @@ use milter_filter_rules::{Check, Condition, Field, Joint, Measure};
 use milter_protocol::rank_of;
 use milter_rules_faults::{Notes, Span};
 use milter_wire::{NoMemory, Options, Protocol, Stage, Text};
-use std::alloc::Global;
 
 /// Why a field has no value.
 #[derive(Clone, Copy, Debug)]
@@ -113,7 +112,6 @@ fn finds_empty_body(check: &Check) -> bool {
 /// is, though it looks at a field. Of several groups it says what becomes of the rule by that. Answers whether there is
 /// something to be said.
 pub(crate) fn say_conditions(
-    alloc: Global,
     notes: &mut Notes<'_>,
     options: Options,
     stage: Stage,
@@ -124,7 +122,7 @@ pub(crate) fn say_conditions(
     let mut is_said = false;
     let mut rest = conditions;
     while let Some((group, after)) = first_group(rest) {
-        is_said = say_group(alloc, notes, place, group)? || is_said;
+        is_said = say_group(notes, place, group)? || is_said;
         certainty = certainty.or(certainty_of_group(place, group));
         rest = after;
     }
@@ -132,7 +130,7 @@ pub(crate) fn say_conditions(
         .iter()
         .any(|condition| condition.joint == Joint::Or)
     {
-        say_certainty(alloc, notes, certainty)?;
+        say_certainty(notes, certainty)?;
     }
     Ok(is_said)
 }
@@ -151,31 +149,22 @@ fn first_group(conditions: &[Condition]) -> Option<(&[Condition], &[Condition])>
 }
 
 /// Says what becomes of a rule with several groups of conditions, where that is known.
-fn say_certainty(
-    alloc: Global,
-    notes: &mut Notes<'_>,
-    certainty: Certainty,
-) -> Result<(), NoMemory> {
+fn say_certainty(notes: &mut Notes<'_>, certainty: Certainty) -> Result<(), NoMemory> {
     let text: &[u8] = match certainty {
         Certainty::Never =>
             b"this rule never applies: each group of its conditions has one that never holds",
         Certainty::Always => b"this rule always applies: the conditions of one group always hold",
         Certainty::Open => return Ok(()),
     };
-    notes.say(alloc, &[Span::Plain(text)])
+    notes.say(&[Span::Plain(text)])
 }
 
 /// Says which condition of a group is never met, or where none is which one always is; answers whether there is one.
-fn say_group(
-    alloc: Global,
-    notes: &mut Notes<'_>,
-    place: Place,
-    group: &[Condition],
-) -> Result<bool, NoMemory> {
+fn say_group(notes: &mut Notes<'_>, place: Place, group: &[Condition]) -> Result<bool, NoMemory> {
     let never = first_absent(group, place, false);
     match never.or_else(|| first_absent(group, place, true)) {
         Some((condition, absence)) => {
-            say_absent(alloc, notes, place.stage, condition, absence)?;
+            say_absent(notes, place.stage, condition, absence)?;
             Ok(true)
         }
         None => Ok(false),
@@ -236,7 +225,6 @@ fn absence_of(condition: &Condition, place: Place) -> Option<Absence> {
 
 /// Says that the condition never holds, or always does, since its field has no value.
 fn say_absent<'x>(
-    alloc: Global,
     notes: &mut Notes<'_>,
     stage: Stage,
     condition: &'x Condition,
@@ -255,19 +243,18 @@ fn say_absent<'x>(
             let sent = Span::Plain(b" isn't sent, by ");
             let end = Span::Plain(b" in the protocol line");
             let bit = Span::Protocol(bit);
-            notes.say(alloc, &[condition_span, holds, field, sent, bit, end])
+            notes.say(&[condition_span, holds, field, sent, bit, end])
         }
         Absence::NotYet => {
             let known = Span::Plain(b" isn't known yet at ");
             let stage = Span::Plain(stage.name());
-            notes.say(alloc, &[condition_span, holds, field, known, stage])
+            notes.say(&[condition_span, holds, field, known, stage])
         }
     }
 }
 
 /// Says which condition looks for a header field by what is no name of one.
 pub(crate) fn say_condition_names(
-    alloc: Global,
     notes: &mut Notes<'_>,
     conditions: &[Condition],
 ) -> Result<(), NoMemory> {
@@ -276,7 +263,7 @@ pub(crate) fn say_condition_names(
             && let Field::Header(name) = &check.field
             && !is_header_name(name)
         {
-            return say_header_name(alloc, notes, name);
+            return say_header_name(notes, name);
         }
     }
     Ok(())
@@ -292,11 +279,7 @@ pub(crate) fn is_header_name(name: &Text) -> bool {
 }
 
 /// Says that the text is no name of a header field.
-pub(crate) fn say_header_name(
-    alloc: Global,
-    notes: &mut Notes<'_>,
-    name: &Text,
-) -> Result<(), NoMemory> {
+pub(crate) fn say_header_name(notes: &mut Notes<'_>, name: &Text) -> Result<(), NoMemory> {
     let end = b" is no name of a header field: that is visible ASCII characters without a colon";
-    notes.say(alloc, &[Span::Quoted(name.as_slice()), Span::Plain(end)])
+    notes.say(&[Span::Quoted(name.as_slice()), Span::Plain(end)])
 }

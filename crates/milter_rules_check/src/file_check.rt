@@ -22,8 +22,8 @@ pub fn check_rules<W: Write>(
 ) -> Result<Option<Severity>, TextFault> {
     let mut notes = Notes::new(alloc, name);
     match read_rule_lines(alloc, bytes) {
-        Ok(rules) => say_findings(alloc, &mut notes, bytes, &rules)?,
-        Err(fault) => say_fault(alloc, &mut notes, bytes, fault)?,
+        Ok(rules) => say_findings(&mut notes, bytes, &rules)?,
+        Err(fault) => say_fault(&mut notes, bytes, fault)?,
     }
     write_text(writer, notes.text())?;
     Ok(notes.severity())

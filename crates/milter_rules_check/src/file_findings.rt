@@ -8,11 +8,8 @@ use std::alloc::Global;
 use std::str;
 
 /// Says which stages no rule needs that a line `protocol` of the file has sent all the same.
-pub(crate) fn say_stages(
-    alloc: Global,
-    notes: &mut Notes<'_>,
-    rules: &Rules,
-) -> Result<(), NoMemory> {
+pub(crate) fn say_stages(notes: &mut Notes<'_>, rules: &Rules) -> Result<(), NoMemory> {
+    let alloc = notes.alloc();
     if !rules.is_protocol_stated() {
         return Ok(());
     }
@@ -37,7 +34,7 @@ pub(crate) fn say_stages(
         Span::List(names),
         Span::Plain(end),
     ];
-    notes.say_hint(alloc, &spans)
+    notes.say_hint(&spans)
 }
 
 /// The bit by which the stage isn't sent, or none.

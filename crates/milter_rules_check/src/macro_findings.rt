@@ -6,7 +6,6 @@ use crate::compared::{outcome_by, outcome_unfound, say_unfound_instead};
 use milter_filter_rules::Condition;
 use milter_rules_faults::{Compared, FileForm, Notes, Span};
 use milter_wire::{MacroStage, NoMemory, SymList};
-use std::alloc::Global;
 
 /// A macro with an address as the mail server reads it.
 struct AddressMacro {
@@ -44,7 +43,6 @@ struct MacroCondition<'a> {
 /// Says what is to be said of the name of a macro in a condition of the file, or else of the text that it is compared
 /// with.
 pub(crate) fn say_macro_text(
-    alloc: Global,
     notes: &mut Notes<'_>,
     file: CheckedFile<'_>,
     compared: Compared<'_>,
@@ -54,18 +52,17 @@ pub(crate) fn say_macro_text(
         shown: Span::Compared(compared),
         outcome: outcome_unfound(compared),
     };
-    if say_macro_name(alloc, notes, file.rules.lists(), condition, name)? {
+    if say_macro_name(notes, file.rules.lists(), condition, name)? {
         return Ok(());
     }
     if ADDRESS_MACROS.iter().any(|found| found.name == name) {
-        return say_address_text(alloc, notes, file.form, compared);
+        return say_address_text(notes, file.form, compared);
     }
     Ok(())
 }
 
 /// Says what is to be said of the name of a macro that the condition looks for in a list.
 pub(crate) fn say_listed_macro(
-    alloc: Global,
     notes: &mut Notes<'_>,
     file: CheckedFile<'_>,
     condition: &Condition,
@@ -75,23 +72,23 @@ pub(crate) fn say_listed_macro(
         shown: Span::Condition(condition),
         outcome: outcome_by(condition.negated),
     };
-    say_macro_name(alloc, notes, file.rules.lists(), shown, name)?;
+    say_macro_name(notes, file.rules.lists(), shown, name)?;
     Ok(())
 }
 
 /// Says why no macro of the name is sent, where these are the symbol lists of the file; answers whether that is so.
 fn say_macro_name(
-    alloc: Global,
     notes: &mut Notes<'_>,
     lists: &[SymList],
     condition: MacroCondition<'_>,
     name: &[u8],
 ) -> Result<bool, NoMemory> {
+    let alloc = notes.alloc();
     let bare = without(name, b'{', b'}');
     let is_braced = matches!(name, [b'{', .., b'}']);
     if bare.len() == 1 && name.len() > 1 {
         let reason = b"Postfix and Sendmail send names of one character without braces, as ";
-        say_name(alloc, notes, condition, reason, bare)?;
+        say_name(notes, condition, reason, bare)?;
         return Ok(true);
     }
     if bare.len() > 1 && !is_braced {
@@ -100,12 +97,12 @@ fn say_macro_name(
         due.extend_from_slice(bare)?;
         due.push(b'}')?;
         let reason = b"Postfix and Sendmail send names of more than one character in braces, as ";
-        say_name(alloc, notes, condition, reason, due.as_slice())?;
+        say_name(notes, condition, reason, due.as_slice())?;
         return Ok(true);
     }
     match ADDRESS_MACROS.iter().find(|found| found.name == name) {
         Some(found) if has_list(lists, found.stage) && !is_asked_for(lists, name) => {
-            say_absent(alloc, notes, condition, found.not_asked_for)?;
+            say_absent(notes, condition, found.not_asked_for)?;
             Ok(true)
         }
         _ => Ok(false),
@@ -133,7 +130,6 @@ fn has_name(names: &[u8], name: &[u8]) -> bool {
 
 /// Says that no macro has the name, for this reason, and which one has a name like it.
 fn say_name<'x>(
-    alloc: Global,
     notes: &mut Notes<'_>,
     condition: MacroCondition<'x>,
     reason: &'x [u8],
@@ -146,39 +142,35 @@ fn say_name<'x>(
         Span::Plain(reason),
         Span::Quoted(due),
     ];
-    notes.say(alloc, &spans)
+    notes.say(&spans)
 }
 
 /// Says that the macro isn't sent, for this reason.
 fn say_absent<'x>(
-    alloc: Global,
     notes: &mut Notes<'_>,
     condition: MacroCondition<'x>,
     reason: &'x [u8],
 ) -> Result<(), NoMemory> {
     let outcome = Span::Plain(condition.outcome);
     let reason = Span::Plain(reason);
-    notes.say(
-        alloc,
-        &[condition.shown, outcome, Span::Plain(b": "), reason],
-    )
+    notes.say(&[condition.shown, outcome, Span::Plain(b": "), reason])
 }
 
 /// Says what is to be said of a text that is compared with an address as a mail server reads it, in a file of this
 /// form.
 fn say_address_text(
-    alloc: Global,
     notes: &mut Notes<'_>,
     form: FileForm,
     compared: Compared<'_>,
 ) -> Result<(), NoMemory> {
+    let alloc = notes.alloc();
     let bare = without_brackets(compared.text);
     if bare.is_empty() {
         return Ok(());
     }
     let lower = bare.to_ascii_lowercase(alloc)?;
     if bare.len() < compared.text.len() {
-        return say_no_brackets(alloc, notes, compared, lower.as_slice());
+        return say_no_brackets(notes, compared, lower.as_slice());
     }
     if compared.any_case || lower.as_slice() == bare {
         return Ok(());
@@ -187,24 +179,22 @@ fn say_address_text(
         FileForm::First => b" needs --ignore-case",
         FileForm::Second => b" needs any-case",
     };
-    say_case(alloc, notes, compared, needs, lower.as_slice())
+    say_case(notes, compared, needs, lower.as_slice())
 }
 
 /// Says that the macro has no brackets, and the text that is to be written without them.
 fn say_no_brackets<'x>(
-    alloc: Global,
     notes: &mut Notes<'_>,
     compared: Compared<'x>,
     text: &'x [u8],
 ) -> Result<(), NoMemory> {
     let reason = b"this macro has an address without <>";
     let instead = compared.with_text(text);
-    say_unfound_instead(alloc, notes, compared, reason, instead)
+    say_unfound_instead(notes, compared, reason, instead)
 }
 
 /// Says that the condition needs this by the case of its letters, and the text that may be written instead.
 fn say_case<'x>(
-    alloc: Global,
     notes: &mut Notes<'_>,
     compared: Compared<'x>,
     needs: &'x [u8],
@@ -216,5 +206,5 @@ fn say_case<'x>(
         Span::Plain(b": over SMTP Postfix sends this macro in lower case; or write "),
         Span::Compared(compared.with_text(text)),
     ];
-    notes.say(alloc, &spans)
+    notes.say(&spans)
 }

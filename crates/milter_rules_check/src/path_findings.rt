@@ -7,7 +7,6 @@ use milter_address::{canonical_address, domain_of};
 use milter_filter_rules::{Check, Condition, Field, PathPart, Rule, Rules, Test, TextCheck};
 use milter_rules_faults::{Compared, FileForm, Notes, Span};
 use milter_wire::{NoMemory, Stage};
-use std::alloc::Global;
 
 /// What is said of an address without brackets.
 const BARE: &[u8] = b" holds only where a client leaves out the <> of an address";
@@ -48,24 +47,17 @@ fn form_of(text: &[u8], address: &[u8]) -> Form {
 /// Says what is to be said of a text that is compared with an address as the client wrote it, where no other condition
 /// of the file compares the same address otherwise.
 pub(crate) fn say_path_text(
-    alloc: Global,
     notes: &mut Notes<'_>,
     file: CheckedFile<'_>,
     compared: Compared<'_>,
 ) -> Result<(), NoMemory> {
     if compared.test == Test::Is {
-        return say_whole_text(alloc, notes, file, compared);
+        return say_whole_text(notes, file, compared);
     }
     if !is_bare_part(compared.test, compared.text) {
         return Ok(());
     }
-    say_bare(
-        alloc,
-        notes,
-        file.form,
-        compared,
-        without_brackets(compared.text),
-    )
+    say_bare(notes, file.form, compared, without_brackets(compared.text))
 }
 
 /// Whether the text is compared with an end of an address, and lacks the bracket there.
@@ -85,11 +77,11 @@ fn is_bare_part(test: Test, text: &[u8]) -> bool {
 
 /// Says what is to be said of a text that is compared with a whole address.
 fn say_whole_text(
-    alloc: Global,
     notes: &mut Notes<'_>,
     file: CheckedFile<'_>,
     compared: Compared<'_>,
 ) -> Result<(), NoMemory> {
+    let alloc = notes.alloc();
     let address = canonical_address(alloc, compared.text)?;
     let address = address.as_slice();
     let form = form_of(compared.text, address);
@@ -98,28 +90,23 @@ fn say_whole_text(
     }
     match form {
         Form::Other => Ok(()),
-        Form::Empty => say_empty_path(alloc, notes, compared),
-        Form::End => say_end(alloc, notes, file.form, compared),
-        Form::Bare => say_bare(alloc, notes, file.form, compared, address),
-        Form::InBrackets => say_in_brackets(alloc, notes, file.form, compared, address),
+        Form::Empty => say_empty_path(notes, compared),
+        Form::End => say_end(notes, file.form, compared),
+        Form::Bare => say_bare(notes, file.form, compared, address),
+        Form::InBrackets => say_in_brackets(notes, file.form, compared, address),
     }
 }
 
 /// Says that the null sender isn't written so.
-fn say_empty_path(
-    alloc: Global,
-    notes: &mut Notes<'_>,
-    compared: Compared<'_>,
-) -> Result<(), NoMemory> {
+fn say_empty_path(notes: &mut Notes<'_>, compared: Compared<'_>) -> Result<(), NoMemory> {
     let outcome = Span::Plain(outcome_unfound(compared));
     let end = Span::Plain(b" over SMTP: the null sender is written \"<>\"");
-    notes.say(alloc, &[Span::Compared(compared), outcome, end])
+    notes.say(&[Span::Compared(compared), outcome, end])
 }
 
 /// Says of an address without brackets where it is found; and which condition finds this one however the client wrote
 /// it, where that has a domain.
 fn say_bare<'x>(
-    alloc: Global,
     notes: &mut Notes<'_>,
     form: FileForm,
     compared: Compared<'x>,
@@ -136,16 +123,15 @@ fn say_bare<'x>(
                 Span::Compared(on_part(compared, &field, compared.test, address)),
                 advice_end(form),
             ];
-            notes.say(alloc, &spans)
+            notes.say(&spans)
         }
-        _ => notes.say(alloc, &[Span::Compared(compared), Span::Plain(text)]),
+        _ => notes.say(&[Span::Compared(compared), Span::Plain(text)]),
     }
 }
 
 /// Says of an address in brackets that it is written in other ways too, and which condition finds it however the
 /// client wrote it.
 fn say_in_brackets<'x>(
-    alloc: Global,
     notes: &mut Notes<'_>,
     form: FileForm,
     compared: Compared<'x>,
@@ -161,28 +147,24 @@ fn say_in_brackets<'x>(
         Span::Compared(on_part(compared, &field, Test::Is, address)),
         advice_end(form),
     ];
-    notes.say_hint(alloc, &spans)
+    notes.say_hint(&spans)
 }
 
 /// Says that the text is the end of an address alone.
-fn say_end(
-    alloc: Global,
-    notes: &mut Notes<'_>,
-    form: FileForm,
-    compared: Compared<'_>,
-) -> Result<(), NoMemory> {
+fn say_end(notes: &mut Notes<'_>, form: FileForm, compared: Compared<'_>) -> Result<(), NoMemory> {
+    let alloc = notes.alloc();
     let middle = Span::Plain(b" compares the whole address; write ");
     match (form, part_field(compared.field, PathPart::Domain)) {
         (FileForm::Second, Some(field)) => {
             let domain = end_domain(compared.text);
             let instead = on_part(compared, &field, Test::Is, domain);
             let spans = [Span::Compared(compared), middle, Span::Compared(instead)];
-            notes.say(alloc, &spans)
+            notes.say(&spans)
         }
         _ => {
             let part = end_of_path(alloc, compared.text)?;
             let instead = Span::Compared(part_of(compared, part.as_slice()));
-            notes.say(alloc, &[Span::Compared(compared), middle, instead])
+            notes.say(&[Span::Compared(compared), middle, instead])
         }
     }
 }

@@ -2,7 +2,6 @@
 
 use milter_rules_faults::{Notes, Span};
 use milter_wire::NoMemory;
-use std::alloc::Global;
 
 /// What becomes of a reply that Postfix doesn't take.
 const MALFORMED: &[u8] = b"; Postfix takes it for malformed, and answers 451 4.3.5 in its place";
@@ -23,60 +22,46 @@ enum LineTrouble {
 }
 
 /// Says what is to be said of a reply, which begins with three digits.
-pub(crate) fn say_reply(alloc: Global, notes: &mut Notes<'_>, text: &[u8]) -> Result<(), NoMemory> {
+pub(crate) fn say_reply(notes: &mut Notes<'_>, text: &[u8]) -> Result<(), NoMemory> {
     let [class, _, _, rest @ ..] = text else {
         return Ok(());
     };
     if let [] | [b' ' | b'-', ..] = rest {
-        say_status(alloc, notes, text, *class, after_joint(rest))?;
+        say_status(notes, text, *class, after_joint(rest))?;
     }
     if let Some(trouble) = line_trouble(text) {
-        say_line_trouble(alloc, notes, text, trouble)?;
+        say_line_trouble(notes, text, trouble)?;
     }
     if has_single_percent(text) {
         let end = b" has a single %, which Postfix leaves out; write %%";
-        notes.say(
-            alloc,
-            &[Span::Plain(b"code "), Span::Quoted(text), Span::Plain(end)],
-        )?;
+        notes.say(&[Span::Plain(b"code "), Span::Quoted(text), Span::Plain(end)])?;
     }
     Ok(())
 }
 
 /// Says what is to be said of the enhanced status code of a reply of this class, and of the text after it, where these
 /// bytes come after its reply code.
-fn say_status(
-    alloc: Global,
-    notes: &mut Notes<'_>,
-    text: &[u8],
-    class: u8,
-    bytes: &[u8],
-) -> Result<(), NoMemory> {
+fn say_status(notes: &mut Notes<'_>, text: &[u8], class: u8, bytes: &[u8]) -> Result<(), NoMemory> {
     let begin = Span::Plain(b"code ");
     let code = Span::Quoted(text);
     let Some((status, rest)) = status_code(bytes) else {
-        return say_no_status(alloc, notes, text, is_blank(bytes));
+        return say_no_status(notes, text, is_blank(bytes));
     };
     if status != class {
         let middle = Span::Plain(b" has an enhanced status code of another class than ");
         let reply_code = Span::Plain(first(text, 3));
         let end = Span::Plain(MALFORMED);
-        notes.say(alloc, &[begin, code, middle, reply_code, end])?;
+        notes.say(&[begin, code, middle, reply_code, end])?;
     }
     if is_blank(rest) {
         let end = Span::Plain(b" has no text after its status codes");
-        notes.say(alloc, &[begin, code, end])?;
+        notes.say(&[begin, code, end])?;
     }
     Ok(())
 }
 
 /// Says that a code has no enhanced status code.
-fn say_no_status(
-    alloc: Global,
-    notes: &mut Notes<'_>,
-    text: &[u8],
-    is_alone: bool,
-) -> Result<(), NoMemory> {
+fn say_no_status(notes: &mut Notes<'_>, text: &[u8], is_alone: bool) -> Result<(), NoMemory> {
     let begin = Span::Plain(b"code ");
     let code = Span::Quoted(text);
     let middle = Span::Plain(b" has no enhanced status code, such as ");
@@ -85,11 +70,11 @@ fn say_no_status(
         let end = Span::Plain(b".7.1, and no text");
         let outcome: &[u8] = if text.len() == 3 { MALFORMED } else { b"" };
         let outcome = Span::Plain(outcome);
-        return notes.say(alloc, &[begin, code, middle, class, end, outcome]);
+        return notes.say(&[begin, code, middle, class, end, outcome]);
     }
     let end = Span::Plain(b".7.1, after ");
     let reply_code = Span::Plain(first(text, 3));
-    notes.say_hint(alloc, &[begin, code, middle, class, end, reply_code])
+    notes.say_hint(&[begin, code, middle, class, end, reply_code])
 }
 
 /// What is wrong with the first line of a reply that isn't right.
@@ -138,7 +123,6 @@ fn trouble_of_line(
 
 /// Says what is wrong with the lines of a reply.
 fn say_line_trouble(
-    alloc: Global,
     notes: &mut Notes<'_>,
     text: &[u8],
     trouble: LineTrouble,
@@ -149,7 +133,7 @@ fn say_line_trouble(
     let (middle, end): (&[u8], &[u8]) = match trouble {
         LineTrouble::LoneByte => {
             let end = b" has a \\r or a \\n alone, which ends no line; write \\r\\n";
-            return notes.say(alloc, &[begin, code, Span::Plain(end)]);
+            return notes.say(&[begin, code, Span::Plain(end)]);
         }
         LineTrouble::NoCode => (
             b" has a line without ",
@@ -172,7 +156,7 @@ fn say_line_trouble(
         reply_code,
         Span::Plain(end),
     ];
-    notes.say(alloc, &spans)
+    notes.say(&spans)
 }
 
 /// The first bytes, so many.

@@ -10,7 +10,6 @@ use milter_filter_rules::{Action, Rule, RuleAction, Rules};
 use milter_protocol::rank_of;
 use milter_rules_faults::{Notes, RuleLine, Span, form_of_file, rule_lines};
 use milter_wire::{NoMemory, Options, Stage};
-use std::alloc::Global;
 
 /// How far the rules of a stage were looked at.
 #[derive(Clone, Copy, Debug)]
@@ -23,11 +22,11 @@ struct Progress {
 
 /// Says what is to be said of the rules, and of their file, which is these bytes.
 pub(crate) fn say_findings(
-    alloc: Global,
     notes: &mut Notes<'_>,
     bytes: &[u8],
     rules: &Rules,
 ) -> Result<(), NoMemory> {
+    let alloc = notes.alloc();
     let form = form_of_file(alloc, bytes)?;
     let file = CheckedFile { rules, form };
     let lines = rule_lines(alloc, bytes)?;
@@ -38,15 +37,14 @@ pub(crate) fn say_findings(
     }; 10];
     for line in &lines {
         let rank = usize::from(rank_of(line.stage));
-        stages[rank] = say_next(alloc, notes, file, line, stages[rank])?;
+        stages[rank] = say_next(notes, file, line, stages[rank])?;
     }
     notes.go_to(None);
-    say_stages(alloc, notes, rules)
+    say_stages(notes, rules)
 }
 
 /// Says what is to be said of the next rule of its stage, which is this line.
 fn say_next(
-    alloc: Global,
     notes: &mut Notes<'_>,
     file: CheckedFile<'_>,
     line: &RuleLine,
@@ -56,7 +54,7 @@ fn say_next(
         return Ok(progress);
     };
     notes.go_to(Some(line.number));
-    say_rule(alloc, notes, file, line.stage, progress.last, rule)?;
+    say_rule(notes, file, line.stage, progress.last, rule)?;
     let last = match progress.last {
         None if is_last(rule) => Some(line.number),
         last => last,
@@ -74,7 +72,6 @@ fn is_last(rule: &Rule) -> bool {
 /// Says what is to be said of a rule of the file, before which the rule in line `last` is the last one that is looked
 /// at.
 fn say_rule(
-    alloc: Global,
     notes: &mut Notes<'_>,
     file: CheckedFile<'_>,
     stage: Stage,
@@ -83,18 +80,17 @@ fn say_rule(
 ) -> Result<(), NoMemory> {
     let options = file.rules.options();
     let conditions = rule.conditions.as_slice();
-    let is_said = say_dead_rule(alloc, notes, options, stage, last)?
-        || say_conditions(alloc, notes, options, stage, conditions)?;
+    let is_said = say_dead_rule(notes, options, stage, last)?
+        || say_conditions(notes, options, stage, conditions)?;
     if !is_said {
-        say_texts(alloc, notes, file, conditions)?;
+        say_texts(notes, file, conditions)?;
     }
-    say_condition_names(alloc, notes, conditions)?;
-    say_action(alloc, notes, options, &rule.action)
+    say_condition_names(notes, conditions)?;
+    say_action(notes, options, &rule.action)
 }
 
 /// Says why a rule of this stage never applies, whatever its conditions; answers whether that is so.
 fn say_dead_rule(
-    alloc: Global,
     notes: &mut Notes<'_>,
     options: Options,
     stage: Stage,
@@ -105,21 +101,18 @@ fn say_dead_rule(
     let by_line = Span::Plain(b" in the protocol line");
     if let Some(bit) = bit_among(options, stage.not_sent()) {
         let sent = Span::Plain(b" isn't sent, by ");
-        notes.say(alloc, &[never, name, sent, Span::Protocol(bit), by_line])?;
+        notes.say(&[never, name, sent, Span::Protocol(bit), by_line])?;
     } else if !has_stage(options, stage) {
         let sent = Span::Plain(b" isn't sent before version 4");
-        notes.say(alloc, &[never, name, sent])?;
+        notes.say(&[never, name, sent])?;
     } else if let Some(bit) = bit_among(options, stage.not_answered()) {
         let no_effect = Span::Plain(b"this rule has no effect: ");
         let answered = Span::Plain(b" isn't answered, by ");
-        notes.say(
-            alloc,
-            &[no_effect, name, answered, Span::Protocol(bit), by_line],
-        )?;
+        notes.say(&[no_effect, name, answered, Span::Protocol(bit), by_line])?;
     } else if let Some(line) = last {
         let rule = Span::Plain(b"the rule in line ");
         let ends = Span::Plain(b" ends those of ");
-        notes.say(alloc, &[never, rule, Span::Number(line), ends, name])?;
+        notes.say(&[never, rule, Span::Number(line), ends, name])?;
     } else {
         return Ok(false);
     }

@@ -10,20 +10,18 @@ use crate::wildcards::say_wildcard;
 use milter_filter_rules::{Check, Condition, Field, PathPart, TextCheck};
 use milter_rules_faults::{Compared, Notes};
 use milter_wire::NoMemory;
-use std::alloc::Global;
 
 /// Says what is to be said of the texts of these conditions of the file, and of their macros in lists.
 pub(crate) fn say_texts(
-    alloc: Global,
     notes: &mut Notes<'_>,
     file: CheckedFile<'_>,
     conditions: &[Condition],
 ) -> Result<(), NoMemory> {
     for condition in conditions {
         match &condition.check {
-            Check::Text(check) => say_texts_of(alloc, notes, file, condition.negated, check)?,
+            Check::Text(check) => say_texts_of(notes, file, condition.negated, check)?,
             Check::In(Field::Macro(name), _) => {
-                say_listed_macro(alloc, notes, file, condition, name.as_slice())?;
+                say_listed_macro(notes, file, condition, name.as_slice())?;
             }
             Check::Within(_) | Check::Over(..) | Check::In(..) => {}
         }
@@ -33,7 +31,6 @@ pub(crate) fn say_texts(
 
 /// Says what is to be said of the texts of the check, which is negated or not.
 fn say_texts_of(
-    alloc: Global,
     notes: &mut Notes<'_>,
     file: CheckedFile<'_>,
     negated: bool,
@@ -41,8 +38,8 @@ fn say_texts_of(
 ) -> Result<(), NoMemory> {
     for text in check.texts.as_slice() {
         let compared = Compared::new(negated, check, text.as_slice());
-        if !say_wildcard(alloc, notes, file.form, compared)? {
-            say_text(alloc, notes, file, compared)?;
+        if !say_wildcard(notes, file.form, compared)? {
+            say_text(notes, file, compared)?;
         }
     }
     Ok(())
@@ -50,50 +47,41 @@ fn say_texts_of(
 
 /// Says what is to be said of a text without wildcards.
 fn say_text(
-    alloc: Global,
     notes: &mut Notes<'_>,
     file: CheckedFile<'_>,
     compared: Compared<'_>,
 ) -> Result<(), NoMemory> {
     match compared.field {
-        Field::Host | Field::Helo => say_empty(alloc, notes, compared),
-        Field::Address => say_client_text(alloc, notes, file.form, compared),
+        Field::Host | Field::Helo => say_empty(notes, compared),
+        Field::Address => say_client_text(notes, file.form, compared),
         Field::Rcpt(PathPart::Sent) | Field::Recipients(PathPart::Sent)
-            if compared.text.is_empty() => { say_empty(alloc, notes, compared) }
+            if compared.text.is_empty() => { say_empty(notes, compared) }
         Field::Sender(part) | Field::Rcpt(part) | Field::Recipients(part) => match part {
-            PathPart::Sent => say_path_text(alloc, notes, file, compared),
-            PathPart::Address | PathPart::Domain => say_part_text(alloc, notes, compared, *part),
+            PathPart::Sent => say_path_text(notes, file, compared),
+            PathPart::Address | PathPart::Domain => say_part_text(notes, compared, *part),
         },
-        Field::Header(_) => say_header_text(alloc, notes, compared),
-        Field::Body => say_body_text(alloc, notes, compared),
-        Field::Macro(name) => say_macro_text(alloc, notes, file, compared, name.as_slice()),
+        Field::Header(_) => say_header_text(notes, compared),
+        Field::Body => say_body_text(notes, compared),
+        Field::Macro(name) => say_macro_text(notes, file, compared, name.as_slice()),
     }
 }
 
 /// Says of a text with a CR that no header field has it.
-fn say_header_text(
-    alloc: Global,
-    notes: &mut Notes<'_>,
-    compared: Compared<'_>,
-) -> Result<(), NoMemory> {
+fn say_header_text(notes: &mut Notes<'_>, compared: Compared<'_>) -> Result<(), NoMemory> {
     if !compared.text.contains(&b'\r') {
         return Ok(());
     }
     let reason = b"between the lines of a header field mail servers send \\n alone";
-    say_unfound(alloc, notes, compared, reason)
+    say_unfound(notes, compared, reason)
 }
 
 /// Says of a text with a LF after another byte than CR that no body has it.
-fn say_body_text(
-    alloc: Global,
-    notes: &mut Notes<'_>,
-    compared: Compared<'_>,
-) -> Result<(), NoMemory> {
+fn say_body_text(notes: &mut Notes<'_>, compared: Compared<'_>) -> Result<(), NoMemory> {
     if !has_lone_line_feed(compared.text) {
         return Ok(());
     }
     let reason = b"mail servers send \\r\\n at the end of each line of a body";
-    say_unfound(alloc, notes, compared, reason)
+    say_unfound(notes, compared, reason)
 }
 
 /// Whether there is a LF that comes after another byte than CR.

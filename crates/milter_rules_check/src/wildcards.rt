@@ -17,21 +17,21 @@ const FOR_ITSELF: &[u8] = b" takes the * for itself, and not for any text";
 /// Says of a text with a `*`, in a file of this form, that this stands for itself, where that can't be meant; answers
 /// whether that is so.
 pub(crate) fn say_wildcard(
-    alloc: Global,
     notes: &mut Notes<'_>,
     form: FileForm,
     compared: Compared<'_>,
 ) -> Result<bool, NoMemory> {
+    let alloc = notes.alloc();
     if !is_wildcard_meant(compared) {
         return Ok(false);
     }
     if let Some(network) = network_of(alloc, compared)? {
-        say_network(alloc, notes, form, compared, network.as_slice())?;
+        say_network(notes, form, compared, network.as_slice())?;
         return Ok(true);
     }
     match form {
-        FileForm::First => say_part_meant(alloc, notes, compared)?,
-        FileForm::Second => say_test_meant(alloc, notes, compared)?,
+        FileForm::First => say_part_meant(notes, compared)?,
+        FileForm::Second => say_test_meant(notes, compared)?,
     }
     Ok(true)
 }
@@ -46,7 +46,6 @@ fn network_of(alloc: Global, compared: Compared<'_>) -> Result<Option<Vec<u8>>, 
 
 /// Says that the `*` stands for itself, and which condition finds the addresses of this network.
 fn say_network<'x>(
-    alloc: Global,
     notes: &mut Notes<'_>,
     form: FileForm,
     compared: Compared<'x>,
@@ -60,25 +59,21 @@ fn say_network<'x>(
         Span::Quoted(network),
         advice_end(form),
     ];
-    notes.say(alloc, &spans)
+    notes.say(&spans)
 }
 
 /// Says that the `*` stands for itself, and which part of a value is to be looked for instead, where there is one.
-fn say_part_meant(
-    alloc: Global,
-    notes: &mut Notes<'_>,
-    compared: Compared<'_>,
-) -> Result<(), NoMemory> {
+fn say_part_meant(notes: &mut Notes<'_>, compared: Compared<'_>) -> Result<(), NoMemory> {
+    let alloc = notes.alloc();
     let condition = Span::Compared(compared);
     match part_meant(alloc, compared)? {
-        Some(part) => say_instead(alloc, notes, compared, part_of(compared, part.as_slice())),
-        None => notes.say(alloc, &[condition, Span::Plain(FOR_ITSELF)]),
+        Some(part) => say_instead(notes, compared, part_of(compared, part.as_slice())),
+        None => notes.say(&[condition, Span::Plain(FOR_ITSELF)]),
     }
 }
 
 /// Says that the `*` stands for itself, and which condition is to be written instead.
 fn say_instead<'x>(
-    alloc: Global,
     notes: &mut Notes<'_>,
     compared: Compared<'x>,
     instead: Compared<'x>,
@@ -89,15 +84,12 @@ fn say_instead<'x>(
         Span::Plain(b"; write "),
         Span::Compared(instead),
     ];
-    notes.say(alloc, &spans)
+    notes.say(&spans)
 }
 
 /// Says that the `*` stands for itself, and with which test it doesn't.
-fn say_test_meant(
-    alloc: Global,
-    notes: &mut Notes<'_>,
-    compared: Compared<'_>,
-) -> Result<(), NoMemory> {
+fn say_test_meant(notes: &mut Notes<'_>, compared: Compared<'_>) -> Result<(), NoMemory> {
+    let alloc = notes.alloc();
     let negated = compared.negated != (compared.test == Test::Lacks);
     let compared_again = Compared {
         negated,
@@ -108,14 +100,14 @@ fn say_test_meant(
     };
     if let Some(domain) = domain_meant(compared) {
         let instead = on_part(compared_again, compared.field, Test::Under, domain);
-        return say_instead(alloc, notes, compared, instead);
+        return say_instead(notes, compared, instead);
     }
     if is_path(compared.field)
         && let Some(field) = part_field(compared.field, PathPart::Address)
     {
         let pattern = pattern_meant(alloc, compared.test, without_brackets(compared.text))?;
         let instead = on_part(compared_again, &field, Test::Like, pattern.as_slice());
-        return say_instead(alloc, notes, compared, instead);
+        return say_instead(notes, compared, instead);
     }
     let pattern = pattern_meant(alloc, compared.test, compared.text)?;
     let instead = Compared {
@@ -125,7 +117,7 @@ fn say_test_meant(
         any_case: compared.any_case,
         text: pattern.as_slice(),
     };
-    say_instead(alloc, notes, compared, instead)
+    say_instead(notes, compared, instead)
 }
 
 /// Whether the field is an address as the client wrote it.

@@ -8,7 +8,6 @@ use crate::known_words::{
 use crate::notes::{Notes, Span};
 use milter_text::Word;
 use milter_wire::NoMemory;
-use std::alloc::Global;
 
 /// What stands after the word of an action.
 #[derive(Clone, Copy)]
@@ -91,44 +90,38 @@ fn actions_of(file: FileForm) -> Kind<'static> {
 
 /// Says what is wrong with these words, which are to be an action of a file of this form.
 pub(crate) fn say_bad_action(
-    alloc: Global,
     notes: &mut Notes<'_>,
     file: FileForm,
     words: &[Word],
 ) -> Result<(), NoMemory> {
     let known = actions_of(file);
     match words {
-        [] => say_missing(alloc, notes, &known, Span::Plain(b"do")),
+        [] => say_missing(notes, &known, Span::Plain(b"do")),
         [action, ..] if file == FileForm::First && is_one_of(action, WIDE_ACTIONS) => {
-            say_needs_form(alloc, notes, Span::Word(action), b"")
+            say_needs_form(notes, Span::Word(action), b"")
         }
         [action, rest @ ..] if is_one_of(action, known.names) => {
-            say_bad_words(alloc, notes, action, rest)
+            say_bad_words(notes, action, rest)
         }
-        [action, ..] => say_unknown(alloc, notes, &known, action),
+        [action, ..] => say_unknown(notes, &known, action),
     }
 }
 
 /// Says what is wrong with these words, which stand after an action.
-fn say_bad_words(
-    alloc: Global,
-    notes: &mut Notes<'_>,
-    action: &Word,
-    words: &[Word],
-) -> Result<(), NoMemory> {
+fn say_bad_words(notes: &mut Notes<'_>, action: &Word, words: &[Word]) -> Result<(), NoMemory> {
     let form = form_of(action);
     if form.most == 0 {
-        return say_not_alone(alloc, notes, action);
+        return say_not_alone(notes, action);
     }
     if !form.has_number {
-        return say_bad_texts(alloc, notes, action, form, action, words);
+        return say_bad_texts(notes, action, form, action, words);
     }
     match words {
-        [] => say_form(alloc, notes, action, form),
+        [] => say_form(notes, action, form),
         [number, texts @ ..] if is_index(number) => {
-            say_bad_texts(alloc, notes, action, form, number, texts)
+            say_bad_texts(notes, action, form, number, texts)
         }
-        [number, ..] => say_bad_number(alloc, notes, action, number),
+        [number, ..] => say_bad_number(notes, action, number),
     }
 }
 
@@ -141,30 +134,24 @@ fn is_index(word: &Word) -> bool {
 }
 
 /// Says that nothing may stand after the action.
-fn say_not_alone(alloc: Global, notes: &mut Notes<'_>, action: &Word) -> Result<(), NoMemory> {
+fn say_not_alone(notes: &mut Notes<'_>, action: &Word) -> Result<(), NoMemory> {
     let begin = Span::Plain(b"nothing is due after ");
     let end: &[u8] = if is_one_of(action, "reject|tempfail") {
         b"; an answer with a text is code TEXT"
     } else {
         b""
     };
-    notes.say(alloc, &[begin, Span::Word(action), Span::Plain(end)])
+    notes.say(&[begin, Span::Word(action), Span::Plain(end)])
 }
 
 /// Says that the action has another form.
-fn say_form(
-    alloc: Global,
-    notes: &mut Notes<'_>,
-    action: &Word,
-    form: Form,
-) -> Result<(), NoMemory> {
+fn say_form(notes: &mut Notes<'_>, action: &Word, form: Form) -> Result<(), NoMemory> {
     let begin = Span::Plain(b"the form is ");
-    notes.say(alloc, &[begin, Span::Word(action), Span::Plain(form.text)])
+    notes.say(&[begin, Span::Word(action), Span::Plain(form.text)])
 }
 
 /// Says that this word is no index.
 fn say_bad_number<'x>(
-    alloc: Global,
     notes: &mut Notes<'_>,
     action: &'x Word,
     number: &'x Word,
@@ -175,12 +162,11 @@ fn say_bad_number<'x>(
         Span::Plain(b", in place of "),
         Span::Quoted(number.text.as_slice()),
     ];
-    notes.say(alloc, &spans)
+    notes.say(&spans)
 }
 
 /// Says what is wrong with these words, which are to be the texts of the action, after this word of it.
 fn say_bad_texts(
-    alloc: Global,
     notes: &mut Notes<'_>,
     action: &Word,
     form: Form,
@@ -188,21 +174,21 @@ fn say_bad_texts(
     words: &[Word],
 ) -> Result<(), NoMemory> {
     if form.most == 1 && !words.is_empty() && words.iter().all(|word| !word.quoted) {
-        return say_unquoted_words(alloc, notes, action, words);
+        return say_unquoted_words(notes, action, words);
     }
     if let Some((before, rest)) = first_unquoted(before, words, form.most) {
-        return say_unquoted(alloc, notes, b"a text", before, rest);
+        return say_unquoted(notes, b"a text", before, rest);
     }
     if words.len() < form.least || words.len() > form.most {
-        return say_form(alloc, notes, action, form);
+        return say_form(notes, action, form);
     }
     match words.iter().find(|word| !word.text.has_no_nul()) {
         Some(_) => {
             let begin = Span::Plain(b"a text of ");
             let end = Span::Plain(b" can't have a NUL");
-            notes.say(alloc, &[begin, Span::Word(action), end])
+            notes.say(&[begin, Span::Word(action), end])
         }
-        None => say_bad_code(alloc, notes, words),
+        None => say_bad_code(notes, words),
     }
 }
 
@@ -222,11 +208,11 @@ fn first_unquoted<'a>(
 
 /// Says that these words are due in double quotes, as one text.
 fn say_unquoted_words(
-    alloc: Global,
     notes: &mut Notes<'_>,
     action: &Word,
     words: &[Word],
 ) -> Result<(), NoMemory> {
+    let alloc = notes.alloc();
     let mut text = Vec::new(alloc);
     for word in words {
         if !text.is_empty() {
@@ -240,24 +226,20 @@ fn say_unquoted_words(
         Span::Plain(b": "),
         Span::Quoted(text.as_slice()),
     ];
-    notes.say(alloc, &spans)
+    notes.say(&spans)
 }
 
 /// Says that the text of a code doesn't have the form of one.
-fn say_bad_code(alloc: Global, notes: &mut Notes<'_>, words: &[Word]) -> Result<(), NoMemory> {
+fn say_bad_code(notes: &mut Notes<'_>, words: &[Word]) -> Result<(), NoMemory> {
     let [code, ..] = words else {
         return Ok(());
     };
     let end = b" is no reply code: it begins with three digits, the first of them 4 or 5";
-    notes.say(
-        alloc,
-        &[Span::Quoted(code.text.as_slice()), Span::Plain(end)],
-    )
+    notes.say(&[Span::Quoted(code.text.as_slice()), Span::Plain(end)])
 }
 
 /// Says that the action of these words may not be done at the stage of the line.
 pub(crate) fn say_action_not_here<'x>(
-    alloc: Global,
     notes: &mut Notes<'_>,
     line: &'x [Word],
     action: &'x [Word],
@@ -272,8 +254,5 @@ pub(crate) fn say_action_not_here<'x>(
     } else {
         b" is an edit, and is done at eob alone, not at "
     };
-    notes.say(
-        alloc,
-        &[Span::Word(action), Span::Plain(rule), Span::Word(stage)],
-    )
+    notes.say(&[Span::Word(action), Span::Plain(rule), Span::Word(stage)])
 }

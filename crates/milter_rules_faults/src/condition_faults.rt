@@ -49,20 +49,15 @@ fn tests_of(form: FileForm) -> Kind<'static> {
 }
 
 /// Says what is wrong with the stage of a line of these words.
-pub(crate) fn say_bad_stage(
-    alloc: Global,
-    notes: &mut Notes<'_>,
-    words: &[Word],
-) -> Result<(), NoMemory> {
+pub(crate) fn say_bad_stage(notes: &mut Notes<'_>, words: &[Word]) -> Result<(), NoMemory> {
     match words {
-        [_, stage, ..] if !is_joint(stage) => say_unknown(alloc, notes, &STAGE, stage),
-        _ => say_missing(alloc, notes, &STAGE, Span::Plain(b"at")),
+        [_, stage, ..] if !is_joint(stage) => say_unknown(notes, &STAGE, stage),
+        _ => say_missing(notes, &STAGE, Span::Plain(b"at")),
     }
 }
 
 /// Says what is wrong with a line of these words, of a file that begins so, after its stage and before its action.
 pub(crate) fn say_bad_conditions(
-    alloc: Global,
     notes: &mut Notes<'_>,
     head: FileHead<'_>,
     words: &[Word],
@@ -71,19 +66,19 @@ pub(crate) fn say_bad_conditions(
     let mut rest = after_stage(words);
     while let Some((joint, after)) = joint_in(head.form, is_first, rest) {
         let Some(condition) = condition_in(after) else {
-            return say_bad_condition(alloc, notes, Place { head, joint }, after);
+            return say_bad_condition(notes, Place { head, joint }, after);
         };
-        if say_misfit(alloc, notes, head, condition)? {
+        if say_misfit(notes, head, condition)? {
             return Ok(());
         }
         rest = condition.rest;
         is_first = false;
     }
     match rest {
-        [word, ..] => say_bad_joint(alloc, notes, head.form, is_first, word),
+        [word, ..] => say_bad_joint(notes, head.form, is_first, word),
         [] => {
             let text = b"do and an action are missing at the end of the line";
-            notes.say(alloc, &[Span::Plain(text)])
+            notes.say(&[Span::Plain(text)])
         }
     }
 }
@@ -109,71 +104,67 @@ fn joint_due(is_first: bool) -> &'static [u8] {
 
 /// Says what is wrong with the condition at this place.
 fn say_bad_condition(
-    alloc: Global,
     notes: &mut Notes<'_>,
     place: Place<'_>,
     words: &[Word],
 ) -> Result<(), NoMemory> {
     let (negated, rest) = flag_in(b"not", words);
     if negated && place.head.form == FileForm::First {
-        return say_needs_form(alloc, notes, Span::Plain(b"not"), WITHOUT_NOT);
+        return say_needs_form(notes, Span::Plain(b"not"), WITHOUT_NOT);
     }
     match field_in(rest) {
-        Some(found) => say_bad_test(alloc, notes, place.head, found),
+        Some(found) => say_bad_test(notes, place.head, found),
         None => {
             let before: &[u8] = if negated { b"not" } else { place.joint };
-            say_bad_field(alloc, notes, place.head.form, before, rest)
+            say_bad_field(notes, place.head.form, before, rest)
         }
     }
 }
 
 /// Says what is wrong with the field after this word.
 fn say_bad_field(
-    alloc: Global,
     notes: &mut Notes<'_>,
     form: FileForm,
     before: &[u8],
     words: &[Word],
 ) -> Result<(), NoMemory> {
     match words {
-        [word, ..] if is_not(word) => say_not_place(alloc, notes, form),
-        [word, ..] if word.is_keyword(b"any-case") => say_any_case_place(alloc, notes, form),
+        [word, ..] if is_not(word) => say_not_place(notes, form),
+        [word, ..] if word.is_keyword(b"any-case") => say_any_case_place(notes, form),
         [field, rest @ ..] if is_one_of(field, NAMED_FIELDS) => {
-            say_unquoted(alloc, notes, b"a name", field, rest)
+            say_unquoted(notes, b"a name", field, rest)
         }
-        [field, ..] if !is_joint(field) => say_unknown(alloc, notes, &fields_of(form), field),
-        _ => say_missing(alloc, notes, &fields_of(form), Span::Plain(before)),
+        [field, ..] if !is_joint(field) => say_unknown(notes, &fields_of(form), field),
+        _ => say_missing(notes, &fields_of(form), Span::Plain(before)),
     }
 }
 
 /// Says what is wrong with this field, or with the test or the texts after it.
 fn say_bad_test(
-    alloc: Global,
     notes: &mut Notes<'_>,
     head: FileHead<'_>,
     found: FieldWords<'_>,
 ) -> Result<(), NoMemory> {
     let form = head.form;
     if form == FileForm::First && is_one_of(found.field, WIDE_FIELDS) {
-        return say_needs_form(alloc, notes, Span::Word(found.field), b"");
+        return say_needs_form(notes, Span::Word(found.field), b"");
     }
     if is_one_of(found.field, NUMBER_FIELDS) {
-        return say_bad_over(alloc, notes, found);
+        return say_bad_over(notes, found);
     }
     match found.rest {
-        [word, ..] if is_not(word) => say_not_place(alloc, notes, form),
-        [word, ..] if word.is_keyword(b"any-case") => say_any_case_place(alloc, notes, form),
+        [word, ..] if is_not(word) => say_not_place(notes, form),
+        [word, ..] if word.is_keyword(b"any-case") => say_any_case_place(notes, form),
         [test, rest @ ..] if is_one_of(test, WIDE_TEST.names) => {
-            say_bad_texts(alloc, notes, head, found.field, test, rest)
+            say_bad_texts(notes, head, found.field, test, rest)
         }
-        [test, ..] if !is_joint(test) => say_unknown(alloc, notes, &tests_of(form), test),
-        _ => say_missing(alloc, notes, &tests_of(form), Span::Word(found.last)),
+        [test, ..] if !is_joint(test) => say_unknown(notes, &tests_of(form), test),
+        _ => say_missing(notes, &tests_of(form), Span::Word(found.last)),
     }
 }
 
 /// Says what is wrong with this test of the field, or with the texts after it.
 fn say_bad_texts(
-    alloc: Global,
     notes: &mut Notes<'_>,
     head: FileHead<'_>,
     field: &Word,
@@ -182,19 +173,19 @@ fn say_bad_texts(
 ) -> Result<(), NoMemory> {
     let form = head.form;
     if form == FileForm::First && is_one_of(test, WIDE_TESTS) {
-        return say_needs_form(alloc, notes, Span::Word(test), b"");
+        return say_needs_form(notes, Span::Word(test), b"");
     }
-    if say_other_field(alloc, notes, field, test)? {
+    if say_other_field(notes, field, test)? {
         return Ok(());
     }
     match words {
-        [word, ..] if is_not(word) => say_not_place(alloc, notes, form),
-        _ if test.is_keyword(b"in") => say_no_name(alloc, notes, head, field, words),
+        [word, ..] if is_not(word) => say_not_place(notes, form),
+        _ if test.is_keyword(b"in") => say_no_name(notes, head, field, words),
         [any_case, rest @ ..] if any_case.is_keyword(b"any-case") => match form {
-            FileForm::First => say_any_case_place(alloc, notes, form),
-            FileForm::Second => say_unquoted(alloc, notes, b"a text", any_case, rest),
+            FileForm::First => say_any_case_place(notes, form),
+            FileForm::Second => say_unquoted(notes, b"a text", any_case, rest),
         },
-        _ => say_unquoted(alloc, notes, text_due(test), test, words),
+        _ => say_unquoted(notes, text_due(test), test, words),
     }
 }
 
@@ -209,7 +200,6 @@ fn text_due(test: &Word) -> &'static [u8] {
 
 /// Says what is wrong with the word that stands in place of a word before a condition, or of `do`.
 fn say_bad_joint<'x>(
-    alloc: Global,
     notes: &mut Notes<'_>,
     form: FileForm,
     is_first: bool,
@@ -217,39 +207,39 @@ fn say_bad_joint<'x>(
 ) -> Result<(), NoMemory> {
     let quoted = Span::Quoted(word.text.as_slice());
     if is_one_of(word, WIDE_ACTION.names) {
-        return notes.say(alloc, &[Span::Plain(b"do is missing before "), quoted]);
+        return notes.say(&[Span::Plain(b"do is missing before "), quoted]);
     }
     if is_one_of(word, WIDE_FIELD.names) {
         let middle = Span::Plain(b" is missing before ");
-        return notes.say(alloc, &[Span::Plain(joint_due(is_first)), middle, quoted]);
+        return notes.say(&[Span::Plain(joint_due(is_first)), middle, quoted]);
     }
     if word.is_keyword(b"any-case") {
-        return say_any_case_place(alloc, notes, form);
+        return say_any_case_place(notes, form);
     }
     match form {
-        _ if is_first => say_no_joint(alloc, notes, &FIRST_JOINT, joint_due(is_first), word),
+        _ if is_first => say_no_joint(notes, &FIRST_JOINT, joint_due(is_first), word),
         FileForm::First if word.is_keyword(b"or") => {
-            say_needs_form(alloc, notes, Span::Plain(b"or"), WITHOUT_OR)
+            say_needs_form(notes, Span::Plain(b"or"), WITHOUT_OR)
         }
-        FileForm::First => say_no_joint(alloc, notes, &NEXT_JOINT, joint_due(is_first), word),
-        FileForm::Second => say_unknown(alloc, notes, &WIDE_JOINT, word),
+        FileForm::First => say_no_joint(notes, &NEXT_JOINT, joint_due(is_first), word),
+        FileForm::Second => say_unknown(notes, &WIDE_JOINT, word),
     }
 }
 
 /// Says that this joint or `do` is due in place of the word, or which word of this kind it is near to.
 fn say_no_joint<'x>(
-    alloc: Global,
     notes: &mut Notes<'_>,
     kind: &Kind<'x>,
     joint: &'x [u8],
     word: &'x Word,
 ) -> Result<(), NoMemory> {
+    let alloc = notes.alloc();
     if is_near(alloc, kind, word)? {
-        return say_unknown(alloc, notes, kind, word);
+        return say_unknown(notes, kind, word);
     }
     let middle = Span::Plain(b" or do is due in place of ");
     let quoted = Span::Quoted(word.text.as_slice());
-    notes.say(alloc, &[Span::Plain(joint), middle, quoted])
+    notes.say(&[Span::Plain(joint), middle, quoted])
 }
 
 /// Whether the word is plain, and near to one of this kind.

@@ -6,7 +6,6 @@ use crate::known_words::is_one_of;
 use crate::notes::{Notes, Span};
 use milter_text::Word;
 use milter_wire::NoMemory;
-use std::alloc::Global;
 
 /// Whether the word is meant to turn a condition into its opposite.
 pub(crate) fn is_not(word: &Word) -> bool {
@@ -14,45 +13,33 @@ pub(crate) fn is_not(word: &Word) -> bool {
 }
 
 /// Says where `not` is due.
-pub(crate) fn say_not_place(
-    alloc: Global,
-    notes: &mut Notes<'_>,
-    form: FileForm,
-) -> Result<(), NoMemory> {
+pub(crate) fn say_not_place(notes: &mut Notes<'_>, form: FileForm) -> Result<(), NoMemory> {
     match form {
         FileForm::First => {
             let end = b", and is due before the field; lacks TEXT holds where has TEXT doesn't";
-            say_needs_form(alloc, notes, Span::Plain(b"not"), end)
+            say_needs_form(notes, Span::Plain(b"not"), end)
         }
         FileForm::Second => {
             let text = b"not is due before the field: not FIELD TEST TEXT";
-            notes.say(alloc, &[Span::Plain(text)])
+            notes.say(&[Span::Plain(text)])
         }
     }
 }
 
 /// Says where `any-case` is due.
-pub(crate) fn say_any_case_place(
-    alloc: Global,
-    notes: &mut Notes<'_>,
-    form: FileForm,
-) -> Result<(), NoMemory> {
+pub(crate) fn say_any_case_place(notes: &mut Notes<'_>, form: FileForm) -> Result<(), NoMemory> {
     match form {
-        FileForm::First => say_needs_form(alloc, notes, Span::Plain(b"any-case"), b""),
+        FileForm::First => say_needs_form(notes, Span::Plain(b"any-case"), b""),
         FileForm::Second => {
             let text = b"any-case is due after a test, before its texts";
-            notes.say(alloc, &[Span::Plain(text)])
+            notes.say(&[Span::Plain(text)])
         }
     }
 }
 
 /// Says that `any-case` doesn't go with this field or this test.
-pub(crate) fn say_no_case(
-    alloc: Global,
-    notes: &mut Notes<'_>,
-    word: &Word,
-) -> Result<(), NoMemory> {
+pub(crate) fn say_no_case(notes: &mut Notes<'_>, word: &Word) -> Result<(), NoMemory> {
     let begin = Span::Plain(b"any-case isn't written with ");
     let end = Span::Plain(b", where the case of letters never counts");
-    notes.say(alloc, &[begin, Span::Word(word), end])
+    notes.say(&[begin, Span::Word(word), end])
 }

@@ -4,7 +4,6 @@ use crate::file_form::{FileForm, is_form_line};
 use crate::notes::{Notes, Span};
 use milter_text::Word;
 use milter_wire::NoMemory;
-use std::alloc::Global;
 
 /// What a word of the second form is said to need in a file of the first.
 const NEEDS_FORM: &[u8] = b" needs rules 2 as the first line of the file";
@@ -17,7 +16,6 @@ pub(crate) const WITHOUT_OR: &[u8] = b"; without it write two rules";
 
 /// Says what is wrong with a line that begins with `rules`, in a file of this form.
 pub(crate) fn say_bad_form_line(
-    alloc: Global,
     notes: &mut Notes<'_>,
     form: FileForm,
     words: &[Word],
@@ -29,15 +27,14 @@ pub(crate) fn say_bad_form_line(
     } else {
         b"rules 2 is due before all other lines"
     };
-    notes.say(alloc, &[Span::Plain(text)])
+    notes.say(&[Span::Plain(text)])
 }
 
 /// Says that the word is known in files of the second form alone; `end` is what is said beside that.
 pub(crate) fn say_needs_form<'x>(
-    alloc: Global,
     notes: &mut Notes<'_>,
     word: Span<'x>,
     end: &'x [u8],
 ) -> Result<(), NoMemory> {
-    notes.say(alloc, &[word, Span::Plain(NEEDS_FORM), Span::Plain(end)])
+    notes.say(&[word, Span::Plain(NEEDS_FORM), Span::Plain(end)])
 }

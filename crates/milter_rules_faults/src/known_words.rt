@@ -4,7 +4,6 @@ use crate::nearest::name_meant;
 use crate::notes::{Notes, Span};
 use milter_text::Word;
 use milter_wire::NoMemory;
-use std::alloc::Global;
 
 /// Words that may stand at one place.
 #[derive(Clone, Copy)]
@@ -188,19 +187,18 @@ pub(crate) fn is_joint(word: &Word) -> bool {
 
 /// Says that the word is none of its kind, and which one may be meant.
 pub(crate) fn say_unknown<'x>(
-    alloc: Global,
     notes: &mut Notes<'_>,
     kind: &Kind<'x>,
     word: &'x Word,
 ) -> Result<(), NoMemory> {
     let text = word.text.as_slice();
     if !word.quoted {
-        return say_unknown_name(alloc, notes, kind, text);
+        return say_unknown_name(notes, kind, text);
     }
     let called = Span::Plain(kind.called);
     if has_name(kind.names, text) {
         let end = Span::Plain(b" is due without quotes");
-        return notes.say(alloc, &[called, Span::Plain(b" "), Span::Quoted(text), end]);
+        return notes.say(&[called, Span::Plain(b" "), Span::Quoted(text), end]);
     }
     let spans = [
         called,
@@ -209,16 +207,16 @@ pub(crate) fn say_unknown<'x>(
         Span::Plain(b"; known are "),
         Span::List(kind.names),
     ];
-    notes.say(alloc, &spans)
+    notes.say(&spans)
 }
 
 /// Says that the name is none of its kind, and which one may be meant.
 pub(crate) fn say_unknown_name<'x>(
-    alloc: Global,
     notes: &mut Notes<'_>,
     kind: &Kind<'x>,
     name: &'x [u8],
 ) -> Result<(), NoMemory> {
+    let alloc = notes.alloc();
     let meant = name_meant(alloc, kind, name)?;
     let called = Span::Plain(kind.called);
     let blank = Span::Plain(b" ");
@@ -227,24 +225,17 @@ pub(crate) fn say_unknown_name<'x>(
         Some(meant) => {
             let middle = Span::Plain(b" isn't known; did you mean ");
             let meant = Span::Plain(meant.as_bytes());
-            notes.say(
-                alloc,
-                &[called, blank, quoted, middle, meant, Span::Plain(b"?")],
-            )
+            notes.say(&[called, blank, quoted, middle, meant, Span::Plain(b"?")])
         }
         None => {
             let middle = Span::Plain(b" isn't known; known are ");
-            notes.say(
-                alloc,
-                &[called, blank, quoted, middle, Span::List(kind.names)],
-            )
+            notes.say(&[called, blank, quoted, middle, Span::List(kind.names)])
         }
     }
 }
 
 /// Says that a word of this kind is missing after this one.
 pub(crate) fn say_missing<'x>(
-    alloc: Global,
     notes: &mut Notes<'_>,
     kind: &Kind<'x>,
     before: Span<'x>,
@@ -256,12 +247,11 @@ pub(crate) fn say_missing<'x>(
         Span::Plain(b"; known are "),
         Span::List(kind.names),
     ];
-    notes.say(alloc, &spans)
+    notes.say(&spans)
 }
 
 /// Says that something in double quotes, as a text, is due after this word, in place of those that stand there.
 pub(crate) fn say_unquoted<'x>(
-    alloc: Global,
     notes: &mut Notes<'_>,
     due: &'x [u8],
     before: &'x Word,
@@ -273,8 +263,8 @@ pub(crate) fn say_unquoted<'x>(
     match words {
         [word, ..] if !is_one_of(word, "when|and|or|do|is|has|lacks") => {
             let word = Span::Quoted(word.text.as_slice());
-            notes.say(alloc, &[due, middle, before, Span::Plain(b": "), word])
+            notes.say(&[due, middle, before, Span::Plain(b": "), word])
         }
-        _ => notes.say(alloc, &[due, middle, before]),
+        _ => notes.say(&[due, middle, before]),
     }
 }

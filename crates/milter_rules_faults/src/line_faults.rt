@@ -28,12 +28,8 @@ struct FaultyLine<'a> {
 }
 
 /// Says why the file has no rules: what is wrong with the line that is at fault.
-pub fn say_fault(
-    alloc: Global,
-    notes: &mut Notes<'_>,
-    bytes: &[u8],
-    fault: RuleFault,
-) -> Result<(), NoMemory> {
+pub fn say_fault(notes: &mut Notes<'_>, bytes: &[u8], fault: RuleFault) -> Result<(), NoMemory> {
+    let alloc = notes.alloc();
     let Some(number) = fault.line() else {
         return Err(NoMemory);
     };
@@ -48,14 +44,14 @@ pub fn say_fault(
     if let Some(start) = comment_start(line)
         && is_right_alone(alloc, head, &line[..start.min(line.len())])?
     {
-        return say_comment(alloc, notes, &line[start.min(line.len())..]);
+        return say_comment(notes, &line[start.min(line.len())..]);
     }
     match words(alloc, line) {
         Ok(words) => {
             let line = faulty_line(head, line, words.as_slice());
-            say_line_fault(alloc, notes, bytes, line, fault)
+            say_line_fault(notes, bytes, line, fault)
         }
-        Err(WordFault::BadWord) => say_no_words(alloc, notes, line),
+        Err(WordFault::BadWord) => say_no_words(notes, line),
         Err(WordFault::NoMemory) => Err(NoMemory),
     }
 }
@@ -66,59 +62,56 @@ fn faulty_line<'x>(head: FileHead<'x>, bytes: &'x [u8], words: &'x [Word]) -> Fa
 }
 
 /// Says that this comment comes after a line that is right without it.
-fn say_comment(alloc: Global, notes: &mut Notes<'_>, comment: &[u8]) -> Result<(), NoMemory> {
+fn say_comment(notes: &mut Notes<'_>, comment: &[u8]) -> Result<(), NoMemory> {
     let begin = Span::Plain(b"a comment is due in a line of its own: ");
-    notes.say(alloc, &[begin, Span::Quoted(comment)])
+    notes.say(&[begin, Span::Quoted(comment)])
 }
 
 /// Says what is wrong with the line of a file of these bytes.
 fn say_line_fault(
-    alloc: Global,
     notes: &mut Notes<'_>,
     bytes: &[u8],
     line: FaultyLine<'_>,
     fault: RuleFault,
 ) -> Result<(), NoMemory> {
+    let alloc = notes.alloc();
     let words = line.words;
     match fault {
-        RuleFault::UnknownWord(_) => say_unknown_line(alloc, notes, line),
-        RuleFault::BadStage(_) => say_bad_stage(alloc, notes, words),
-        RuleFault::BadCondition(_) => say_bad_conditions(alloc, notes, line.head, words),
-        RuleFault::BadAction(_) => say_bad_action(alloc, notes, line.head.form, after_do(words)),
-        RuleFault::ActionNotHere(_) => say_action_not_here(alloc, notes, words, after_do(words)),
+        RuleFault::UnknownWord(_) => say_unknown_line(notes, line),
+        RuleFault::BadStage(_) => say_bad_stage(notes, words),
+        RuleFault::BadCondition(_) => say_bad_conditions(notes, line.head, words),
+        RuleFault::BadAction(_) => say_bad_action(notes, line.head.form, after_do(words)),
+        RuleFault::ActionNotHere(_) => say_action_not_here(notes, words, after_do(words)),
         RuleFault::TooLarge(number) => {
             let text = if is_right_alone(alloc, line.head, line.bytes)? {
                 limit_of(words, rules_before(alloc, bytes, number)?)
             } else {
                 b"a text is too large for a packet, which has room for 65,535 bytes"
             };
-            notes.say(alloc, &[Span::Plain(text)])
+            notes.say(&[Span::Plain(text)])
         }
         RuleFault::BadList(_) => {
             let text =
                 b"the list can't be read: its file is missing, too large, or has a bad entry";
-            notes.say(alloc, &[Span::Plain(text)])
+            notes.say(&[Span::Plain(text)])
         }
         RuleFault::NoMemory => Err(NoMemory),
     }
 }
 
 /// Says what is wrong with a line that is no rule.
-fn say_unknown_line(
-    alloc: Global,
-    notes: &mut Notes<'_>,
-    line: FaultyLine<'_>,
-) -> Result<(), NoMemory> {
+fn say_unknown_line(notes: &mut Notes<'_>, line: FaultyLine<'_>) -> Result<(), NoMemory> {
+    let alloc = notes.alloc();
     match line.words {
         [first, ..] if first.is_keyword(b"rules") => {
-            say_bad_form_line(alloc, notes, line.head.form, line.words)
+            say_bad_form_line(notes, line.head.form, line.words)
         }
         [first, ..] if first.is_keyword(b"list") => {
-            say_bad_list_line(alloc, notes, line.head, line.words)
+            say_bad_list_line(notes, line.head, line.words)
         }
         words => {
             let is_repeated = is_right_alone(alloc, line.head, line.bytes)?;
-            say_bad_option(alloc, notes, words, is_repeated)
+            say_bad_option(notes, words, is_repeated)
         }
     }
 }

@@ -13,43 +13,37 @@ use crate::reference_faults::say_bad_reference;
 use milter_network::Network;
 use milter_text::Word;
 use milter_wire::NoMemory;
-use std::alloc::Global;
 
 /// Says what of the condition files that begin so don't have; answers whether there is such a thing.
 pub(crate) fn say_misfit(
-    alloc: Global,
     notes: &mut Notes<'_>,
     head: FileHead<'_>,
     condition: ConditionWords<'_>,
 ) -> Result<bool, NoMemory> {
     match head.form {
-        FileForm::First => say_wide_word(alloc, notes, condition),
+        FileForm::First => say_wide_word(notes, condition),
         FileForm::Second if condition.test.is_keyword(b"in") => {
-            say_bad_reference(alloc, notes, head, condition)
+            say_bad_reference(notes, head, condition)
         }
         FileForm::Second => {
-            let is_said = say_other_field(alloc, notes, condition.field, condition.test)?;
-            Ok(is_said || say_bad_texts(alloc, notes, condition)?)
+            let is_said = say_other_field(notes, condition.field, condition.test)?;
+            Ok(is_said || say_bad_texts(notes, condition)?)
         }
     }
 }
 
 /// Says what of the condition needs the second form; answers whether there is such a thing.
-fn say_wide_word(
-    alloc: Global,
-    notes: &mut Notes<'_>,
-    condition: ConditionWords<'_>,
-) -> Result<bool, NoMemory> {
+fn say_wide_word(notes: &mut Notes<'_>, condition: ConditionWords<'_>) -> Result<bool, NoMemory> {
     if condition.negated {
-        say_needs_form(alloc, notes, Span::Plain(b"not"), WITHOUT_NOT)?;
+        say_needs_form(notes, Span::Plain(b"not"), WITHOUT_NOT)?;
     } else if is_one_of(condition.field, WIDE_FIELDS) {
-        say_needs_form(alloc, notes, Span::Word(condition.field), b"")?;
+        say_needs_form(notes, Span::Word(condition.field), b"")?;
     } else if is_one_of(condition.test, WIDE_TESTS) {
-        say_needs_form(alloc, notes, Span::Word(condition.test), b"")?;
+        say_needs_form(notes, Span::Word(condition.test), b"")?;
     } else if condition.any_case {
-        say_needs_form(alloc, notes, Span::Plain(b"any-case"), b"")?;
+        say_needs_form(notes, Span::Plain(b"any-case"), b"")?;
     } else if condition.texts.len() > 1 {
-        say_needs_form(alloc, notes, Span::Plain(b"a second text"), WITHOUT_OR)?;
+        say_needs_form(notes, Span::Plain(b"a second text"), WITHOUT_OR)?;
     } else {
         return Ok(false);
     }
@@ -58,7 +52,6 @@ fn say_wide_word(
 
 /// Says which fields have the test, where this one doesn't; answers whether that is so.
 pub(crate) fn say_other_field<'x>(
-    alloc: Global,
     notes: &mut Notes<'_>,
     field: &'x Word,
     test: &'x Word,
@@ -79,30 +72,26 @@ pub(crate) fn say_other_field<'x>(
         Span::Plain(b", and not of "),
         Span::Word(field),
     ];
-    notes.say(alloc, &spans)?;
+    notes.say(&spans)?;
     Ok(true)
 }
 
 /// Says what is wrong with the texts of a condition whose field has its test; answers whether there is such a thing.
-fn say_bad_texts(
-    alloc: Global,
-    notes: &mut Notes<'_>,
-    condition: ConditionWords<'_>,
-) -> Result<bool, NoMemory> {
+fn say_bad_texts(notes: &mut Notes<'_>, condition: ConditionWords<'_>) -> Result<bool, NoMemory> {
     if condition.any_case && is_one_of(condition.test, "under|within") {
-        say_no_case(alloc, notes, condition.test)?;
+        say_no_case(notes, condition.test)?;
         return Ok(true);
     }
     match condition.test.keyword() {
-        Some(b"under") => say_dotted_domain(alloc, notes, condition.texts),
-        Some(b"within") => say_no_network(alloc, notes, condition.texts),
+        Some(b"under") => say_dotted_domain(notes, condition.texts),
+        Some(b"within") => say_no_network(notes, condition.texts),
         Some(b"like") if condition.field.is_keyword(b"body") => {
             let text = b"body isn't compared with patterns; body has TEXT finds a text in it";
-            notes.say(alloc, &[Span::Plain(text)])?;
+            notes.say(&[Span::Plain(text)])?;
             Ok(true)
         }
         _ if condition.any_case && is_one_of(condition.field, CANONICAL_FIELDS) => {
-            say_no_case(alloc, notes, condition.field)?;
+            say_no_case(notes, condition.field)?;
             Ok(true)
         }
         _ => Ok(false),
@@ -110,18 +99,14 @@ fn say_bad_texts(
 }
 
 /// Says which of the texts is a domain with a dot before it; answers whether there is one.
-fn say_dotted_domain(
-    alloc: Global,
-    notes: &mut Notes<'_>,
-    texts: &[Word],
-) -> Result<bool, NoMemory> {
+fn say_dotted_domain(notes: &mut Notes<'_>, texts: &[Word]) -> Result<bool, NoMemory> {
     match texts
         .iter()
         .find(|text| text.text.as_slice().starts_with(b"."))
     {
         Some(text) => {
             let begin = Span::Plain(b"a domain after under is due without a dot before it: ");
-            notes.say(alloc, &[begin, Span::Word(text)])?;
+            notes.say(&[begin, Span::Word(text)])?;
             Ok(true)
         }
         None => Ok(false),
@@ -129,14 +114,14 @@ fn say_dotted_domain(
 }
 
 /// Says which of the texts is no network; answers whether there is one.
-fn say_no_network(alloc: Global, notes: &mut Notes<'_>, texts: &[Word]) -> Result<bool, NoMemory> {
+fn say_no_network(notes: &mut Notes<'_>, texts: &[Word]) -> Result<bool, NoMemory> {
     match texts
         .iter()
         .find(|text| Network::parse(text.text.as_slice()).is_none())
     {
         Some(text) => {
             let end = Span::Plain(b" is no network, such as 192.0.2.0/24 or 2001:db8::/32");
-            notes.say(alloc, &[Span::Word(text), end])?;
+            notes.say(&[Span::Word(text), end])?;
             Ok(true)
         }
         None => Ok(false),

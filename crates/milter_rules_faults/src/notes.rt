@@ -48,6 +48,8 @@ pub enum Span<'a> {
 /// The lines that are said of a rule file, as far as it was looked at.
 #[derive(Drop)]
 pub struct Notes<'n> {
+    /// What allocates the lines, and what is made for them.
+    alloc: Global,
     /// The name of the file.
     name: &'n str,
     /// The line of the file that is looked at; none where that is the file as a whole.
@@ -62,11 +64,17 @@ impl<'n> Notes<'n> {
     /// No lines, of a file of this name.
     pub fn new(alloc: Global, name: &'n str) -> Self {
         Notes {
+            alloc,
             name,
             line: None,
             text: Vec::new(alloc),
             severity: None,
         }
+    }
+
+    /// What allocates the lines, and what is made for them.
+    pub fn alloc(&self) -> Global {
+        self.alloc
     }
 
     /// Goes to the line with this number, or to the file as a whole.
@@ -85,22 +93,22 @@ impl<'n> Notes<'n> {
     }
 
     /// Says a warning of these spans, as a line.
-    pub fn say(&mut self, alloc: Global, spans: &[Span<'_>]) -> Result<(), NoMemory> {
+    pub fn say(&mut self, spans: &[Span<'_>]) -> Result<(), NoMemory> {
         self.severity = Some(Severity::Warning);
-        self.put_line(alloc, spans)
+        self.put_line(spans)
     }
 
     /// Says a hint of these spans, as a line.
-    pub fn say_hint(&mut self, alloc: Global, spans: &[Span<'_>]) -> Result<(), NoMemory> {
+    pub fn say_hint(&mut self, spans: &[Span<'_>]) -> Result<(), NoMemory> {
         self.severity = Some(self.severity.unwrap_or(Severity::Hint));
-        self.put_line(alloc, spans)
+        self.put_line(spans)
     }
 
     /// Puts a line of these spans.
-    fn put_line(&mut self, alloc: Global, spans: &[Span<'_>]) -> Result<(), NoMemory> {
+    fn put_line(&mut self, spans: &[Span<'_>]) -> Result<(), NoMemory> {
         self.put_place()?;
         for span in spans {
-            self.put(alloc, span)?;
+            self.put(span)?;
         }
         self.text.push(b'\n')?;
         Ok(())
@@ -118,13 +126,13 @@ impl<'n> Notes<'n> {
     }
 
     /// Puts a span.
-    fn put(&mut self, alloc: Global, span: &Span<'_>) -> Result<(), NoMemory> {
+    fn put(&mut self, span: &Span<'_>) -> Result<(), NoMemory> {
         match span {
             Span::Plain(bytes) => self.put_plain(bytes),
-            Span::Quoted(bytes) => self.put_quoted(alloc, bytes),
-            Span::Word(word) => self.put_word(alloc, word),
-            Span::Condition(condition) => self.put_condition(alloc, condition),
-            Span::Compared(compared) => self.put_compared(alloc, *compared),
+            Span::Quoted(bytes) => self.put_quoted(bytes),
+            Span::Word(word) => self.put_word(word),
+            Span::Condition(condition) => self.put_condition(condition),
+            Span::Compared(compared) => self.put_compared(*compared),
             Span::List(names) => self.put_list(names),
             Span::Actions(actions) => actions.put_names(&mut self.text),
             Span::Protocol(protocol) => protocol.put_names(&mut self.text),
@@ -139,16 +147,16 @@ impl<'n> Notes<'n> {
     }
 
     /// Puts bytes as a text in quotes.
-    fn put_quoted(&mut self, alloc: Global, bytes: &[u8]) -> Result<(), NoMemory> {
-        quote(alloc, shown(bytes), &mut self.text)?;
+    fn put_quoted(&mut self, bytes: &[u8]) -> Result<(), NoMemory> {
+        quote(self.alloc, shown(bytes), &mut self.text)?;
         self.put_dots(bytes)
     }
 
     /// Puts a word as it stands in the file.
-    fn put_word(&mut self, alloc: Global, word: &Word) -> Result<(), NoMemory> {
+    fn put_word(&mut self, word: &Word) -> Result<(), NoMemory> {
         let bytes = word.text.as_slice();
         if word.quoted {
-            return self.put_quoted(alloc, bytes);
+            return self.put_quoted(bytes);
         }
         self.put_plain(shown(bytes))?;
         self.put_dots(bytes)
@@ -163,16 +171,16 @@ impl<'n> Notes<'n> {
     }
 
     /// Puts a condition as it is written.
-    fn put_condition(&mut self, alloc: Global, condition: &Condition) -> Result<(), NoMemory> {
+    fn put_condition(&mut self, condition: &Condition) -> Result<(), NoMemory> {
         match &condition.check {
             Check::Text(check) => {
-                self.put_subject(alloc, Compared::new(condition.negated, check, b""))?;
-                self.put_texts(alloc, check.texts.as_slice())
+                self.put_subject(Compared::new(condition.negated, check, b""))?;
+                self.put_texts(check.texts.as_slice())
             }
             Check::Within(networks) => {
                 self.put_not(condition.negated)?;
                 self.put_plain(b"address within")?;
-                self.put_texts(alloc, networks.as_slice())
+                self.put_texts(networks.as_slice())
             }
             Check::Over(measure, limit) => {
                 self.put_not(condition.negated)?;
@@ -182,7 +190,7 @@ impl<'n> Notes<'n> {
             }
             Check::In(field, list) => {
                 self.put_not(condition.negated)?;
-                self.put_field(alloc, field)?;
+                self.put_field(field)?;
                 self.put_plain(b" in ")?;
                 self.put_plain(shown(list.as_slice()))?;
                 self.put_dots(list.as_slice())
@@ -191,10 +199,10 @@ impl<'n> Notes<'n> {
     }
 
     /// Puts the texts of a condition: of many the first, and two dots.
-    fn put_texts(&mut self, alloc: Global, texts: &[Text]) -> Result<(), NoMemory> {
+    fn put_texts(&mut self, texts: &[Text]) -> Result<(), NoMemory> {
         for text in &texts[..texts.len().min(TEXTS_SHOWN_MAX)] {
             self.put_plain(b" ")?;
-            self.put_quoted(alloc, text.as_slice())?;
+            self.put_quoted(text.as_slice())?;
         }
         if texts.len() > TEXTS_SHOWN_MAX {
             self.put_plain(b" ..")?;
@@ -211,16 +219,16 @@ impl<'n> Notes<'n> {
     }
 
     /// Puts a condition with one text as it is written.
-    fn put_compared(&mut self, alloc: Global, compared: Compared<'_>) -> Result<(), NoMemory> {
-        self.put_subject(alloc, compared)?;
+    fn put_compared(&mut self, compared: Compared<'_>) -> Result<(), NoMemory> {
+        self.put_subject(compared)?;
         self.put_plain(b" ")?;
-        self.put_quoted(alloc, compared.text)
+        self.put_quoted(compared.text)
     }
 
     /// Puts what stands before the texts of a condition.
-    fn put_subject(&mut self, alloc: Global, compared: Compared<'_>) -> Result<(), NoMemory> {
+    fn put_subject(&mut self, compared: Compared<'_>) -> Result<(), NoMemory> {
         self.put_not(compared.negated)?;
-        self.put_field(alloc, compared.field)?;
+        self.put_field(compared.field)?;
         self.put_plain(b" ")?;
         self.put_plain(compared.test.name())?;
         if compared.any_case {
@@ -230,11 +238,11 @@ impl<'n> Notes<'n> {
     }
 
     /// Puts a field with its name, where it has one.
-    fn put_field(&mut self, alloc: Global, field: &Field) -> Result<(), NoMemory> {
+    fn put_field(&mut self, field: &Field) -> Result<(), NoMemory> {
         self.put_plain(field.name())?;
         if let Field::Header(name) | Field::Macro(name) = field {
             self.put_plain(b" ")?;
-            self.put_quoted(alloc, name.as_slice())?;
+            self.put_quoted(name.as_slice())?;
         }
         Ok(())
     }

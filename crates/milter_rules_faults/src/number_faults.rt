@@ -8,55 +8,44 @@ use crate::notes::{Notes, Span};
 use crate::number_words::{has_digits_alone, has_needless_zero, highest_of};
 use milter_text::Word;
 use milter_wire::NoMemory;
-use std::alloc::Global;
 
 /// Says what is wrong with what stands after this field, which is a number, in a file of the second form.
-pub(crate) fn say_bad_over(
-    alloc: Global,
-    notes: &mut Notes<'_>,
-    found: FieldWords<'_>,
-) -> Result<(), NoMemory> {
+pub(crate) fn say_bad_over(notes: &mut Notes<'_>, found: FieldWords<'_>) -> Result<(), NoMemory> {
     let due = Span::Plain(b"over NUMBER is due after ");
     let field = Span::Word(found.field);
     match found.rest {
-        [word, ..] if is_not(word) => say_not_place(alloc, notes, FileForm::Second),
+        [word, ..] if is_not(word) => say_not_place(notes, FileForm::Second),
         [test, rest @ ..] if test.is_keyword(b"over") => {
-            say_bad_number(alloc, notes, found.field, rest)
+            say_bad_number(notes, found.field, rest)
         }
         [word, ..] if !is_joint(word) => {
             let quoted = Span::Quoted(word.text.as_slice());
-            notes.say(alloc, &[due, field, Span::Plain(b", in place of "), quoted])
+            notes.say(&[due, field, Span::Plain(b", in place of "), quoted])
         }
-        _ => notes.say(alloc, &[due, field]),
+        _ => notes.say(&[due, field]),
     }
 }
 
 /// Says what is wrong with the number that is due after `over`, for this field.
-fn say_bad_number(
-    alloc: Global,
-    notes: &mut Notes<'_>,
-    field: &Word,
-    words: &[Word],
-) -> Result<(), NoMemory> {
+fn say_bad_number(notes: &mut Notes<'_>, field: &Word, words: &[Word]) -> Result<(), NoMemory> {
     match words {
-        [word, ..] if is_not(word) => say_not_place(alloc, notes, FileForm::Second),
+        [word, ..] if is_not(word) => say_not_place(notes, FileForm::Second),
         [number, ..] if number.quoted && has_digits_alone(number) => {
             let quoted = Span::Quoted(number.text.as_slice());
             let end = Span::Plain(b" is due without quotes");
-            notes.say(alloc, &[Span::Plain(b"number "), quoted, end])
+            notes.say(&[Span::Plain(b"number "), quoted, end])
         }
         [number, ..] if !number.quoted && has_needless_zero(number) => {
             let begin = Span::Plain(b"a number after over is due without zeros before it: ");
-            notes.say(alloc, &[begin, Span::Quoted(number.text.as_slice())])
+            notes.say(&[begin, Span::Quoted(number.text.as_slice())])
         }
-        [word, ..] if !is_joint(word) => say_number_due(alloc, notes, field, Some(word)),
-        _ => say_number_due(alloc, notes, field, None),
+        [word, ..] if !is_joint(word) => say_number_due(notes, field, Some(word)),
+        _ => say_number_due(notes, field, None),
     }
 }
 
 /// Says that a number for this field is due after `over`, in place of the word that stands there, if there is one.
 fn say_number_due<'x>(
-    alloc: Global,
     notes: &mut Notes<'_>,
     field: &'x Word,
     word: Option<&'x Word>,
@@ -68,8 +57,8 @@ fn say_number_due<'x>(
         Some(word) => {
             let quoted = Span::Quoted(word.text.as_slice());
             let middle = Span::Plain(b", in place of ");
-            notes.say(alloc, &[begin, highest, due, middle, quoted])
+            notes.say(&[begin, highest, due, middle, quoted])
         }
-        None => notes.say(alloc, &[begin, highest, due]),
+        None => notes.say(&[begin, highest, due]),
     }
 }

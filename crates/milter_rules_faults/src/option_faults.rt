@@ -8,12 +8,10 @@ use crate::notes::{Notes, Span};
 use milter_protocol::{ACTIONS_MAX, PROTOCOL_MAX};
 use milter_text::Word;
 use milter_wire::{Actions, NoMemory, Protocol};
-use std::alloc::Global;
 use std::str;
 
 /// Says what is wrong with a line of these words, which is a repeated line of options, or none.
 pub(crate) fn say_bad_option(
-    alloc: Global,
     notes: &mut Notes<'_>,
     words: &[Word],
     is_repeated: bool,
@@ -22,24 +20,23 @@ pub(crate) fn say_bad_option(
         return Ok(());
     };
     if is_repeated {
-        return say_repeated(alloc, notes, first, rest);
+        return say_repeated(notes, first, rest);
     }
     match first.keyword() {
-        Some(b"version") => say_bad_version(alloc, notes, rest),
-        Some(b"actions") => say_bad_actions(alloc, notes, first, rest),
-        Some(b"protocol") => say_bad_protocol(alloc, notes, first, rest),
-        Some(b"symbols") => say_bad_symbols(alloc, notes, rest),
+        Some(b"version") => say_bad_version(notes, rest),
+        Some(b"actions") => say_bad_actions(notes, first, rest),
+        Some(b"protocol") => say_bad_protocol(notes, first, rest),
+        Some(b"symbols") => say_bad_symbols(notes, rest),
         _ if is_one_of(first, STAGE.names) => {
             let begin = Span::Plain(b"at is missing before the stage ");
-            notes.say(alloc, &[begin, Span::Quoted(first.text.as_slice())])
+            notes.say(&[begin, Span::Quoted(first.text.as_slice())])
         }
-        _ => say_unknown(alloc, notes, &FIRST_WORD, first),
+        _ => say_unknown(notes, &FIRST_WORD, first),
     }
 }
 
 /// Says that the line is there already.
 fn say_repeated<'x>(
-    alloc: Global,
     notes: &mut Notes<'_>,
     first: &'x Word,
     rest: &'x [Word],
@@ -48,48 +45,39 @@ fn say_repeated<'x>(
     match rest {
         [stage, _] => {
             let blank = Span::Plain(b" ");
-            notes.say(alloc, &[Span::Word(first), blank, Span::Word(stage), end])
+            notes.say(&[Span::Word(first), blank, Span::Word(stage), end])
         }
-        _ => notes.say(alloc, &[Span::Word(first), end]),
+        _ => notes.say(&[Span::Word(first), end]),
     }
 }
 
 /// Says what is wrong with the words after `version`.
-fn say_bad_version(alloc: Global, notes: &mut Notes<'_>, rest: &[Word]) -> Result<(), NoMemory> {
+fn say_bad_version(notes: &mut Notes<'_>, rest: &[Word]) -> Result<(), NoMemory> {
     let text = b"version is followed by one number from 2 to 6";
     match rest {
-        [version] => say_unknown(alloc, notes, &VERSION, version),
-        _ => notes.say(alloc, &[Span::Plain(text)]),
+        [version] => say_unknown(notes, &VERSION, version),
+        _ => notes.say(&[Span::Plain(text)]),
     }
 }
 
 /// Says what is wrong with the words after `actions`.
-fn say_bad_actions(
-    alloc: Global,
-    notes: &mut Notes<'_>,
-    first: &Word,
-    rest: &[Word],
-) -> Result<(), NoMemory> {
+fn say_bad_actions(notes: &mut Notes<'_>, first: &Word, rest: &[Word]) -> Result<(), NoMemory> {
+    let alloc = notes.alloc();
     let mut known = Vec::new(alloc);
     Actions(ACTIONS_MAX).put_names(&mut known)?;
-    say_bad_names(alloc, notes, first, rest, b"action", known.as_slice())
+    say_bad_names(notes, first, rest, b"action", known.as_slice())
 }
 
 /// Says what is wrong with the words after `protocol`.
-fn say_bad_protocol(
-    alloc: Global,
-    notes: &mut Notes<'_>,
-    first: &Word,
-    rest: &[Word],
-) -> Result<(), NoMemory> {
+fn say_bad_protocol(notes: &mut Notes<'_>, first: &Word, rest: &[Word]) -> Result<(), NoMemory> {
+    let alloc = notes.alloc();
     let mut known = Vec::new(alloc);
     Protocol(PROTOCOL_MAX).put_names(&mut known)?;
-    say_bad_names(alloc, notes, first, rest, b"protocol bit", known.as_slice())
+    say_bad_names(notes, first, rest, b"protocol bit", known.as_slice())
 }
 
 /// Says what is wrong with the words after the first one, which are to be one: of these known names, joined by `|`.
 fn say_bad_names(
-    alloc: Global,
     notes: &mut Notes<'_>,
     first: &Word,
     rest: &[Word],
@@ -102,7 +90,7 @@ fn say_bad_names(
     };
     let Some(names) = names else {
         let end = b" is followed by one word without quotes: names joined by |, or none";
-        return notes.say(alloc, &[Span::Word(first), Span::Plain(end)]);
+        return notes.say(&[Span::Word(first), Span::Plain(end)]);
     };
     let (Ok(names), Ok(known)) = (str::from_utf8(names), str::from_utf8(known)) else {
         return Ok(());
@@ -113,8 +101,8 @@ fn say_bad_names(
         others: &[],
     };
     match names.split('|').find(|name| is_no_name(known, name)) {
-        Some(name) => say_unknown_name(alloc, notes, &kind, name.as_bytes()),
-        None => notes.say(alloc, &[Span::Plain(b"none isn't joined with other names")]),
+        Some(name) => say_unknown_name(notes, &kind, name.as_bytes()),
+        None => notes.say(&[Span::Plain(b"none isn't joined with other names")]),
     }
 }
 
@@ -124,19 +112,19 @@ fn is_no_name(known: &str, name: &str) -> bool {
 }
 
 /// Says what is wrong with the words after `symbols`.
-fn say_bad_symbols(alloc: Global, notes: &mut Notes<'_>, rest: &[Word]) -> Result<(), NoMemory> {
+fn say_bad_symbols(notes: &mut Notes<'_>, rest: &[Word]) -> Result<(), NoMemory> {
     match rest {
         [stage, _] if !is_one_of(stage, MACRO_STAGE.names) => {
-            say_unknown(alloc, notes, &MACRO_STAGE, stage)
+            say_unknown(notes, &MACRO_STAGE, stage)
         }
         [_, names] if names.quoted => {
             let text = b"the names of macros can't have a NUL";
-            notes.say(alloc, &[Span::Plain(text)])
+            notes.say(&[Span::Plain(text)])
         }
-        [stage, _] => say_unquoted(alloc, notes, b"a text", stage, &rest[1..]),
+        [stage, _] => say_unquoted(notes, b"a text", stage, &rest[1..]),
         _ => {
             let text = b"symbols is followed by a stage and a text in double quotes";
-            notes.say(alloc, &[Span::Plain(text)])
+            notes.say(&[Span::Plain(text)])
         }
     }
 }

@@ -11,7 +11,6 @@ use milter_network::Network;
 use milter_rules::ListSource;
 use milter_text::Word;
 use milter_wire::NoMemory;
-use std::alloc::Global;
 use std::str;
 
 /// The most bytes of the names of all lists that are shown.
@@ -19,7 +18,6 @@ const NAMES_SHOWN_MAX: usize = 200;
 
 /// Says what is due after `in`, after this field, in place of these words, which don't begin with a plain one.
 pub(crate) fn say_no_name(
-    alloc: Global,
     notes: &mut Notes<'_>,
     head: FileHead<'_>,
     field: &Word,
@@ -27,13 +25,13 @@ pub(crate) fn say_no_name(
 ) -> Result<(), NoMemory> {
     let due = Span::Plain(b"the name of a list is due after in");
     let [word, ..] = words else {
-        return notes.say(alloc, &[due]);
+        return notes.say(&[due]);
     };
     let text = word.text.as_slice();
     let quoted = Span::Quoted(text);
     if head.list_named(text).is_some() {
         let end = Span::Plain(b" is due without quotes");
-        return notes.say(alloc, &[Span::Plain(b"list "), quoted, end]);
+        return notes.say(&[Span::Plain(b"list "), quoted, end]);
     }
     let middle = Span::Plain(b", in place of ");
     let end: &[u8] = if field.is_keyword(b"address") && Network::parse(text).is_some() {
@@ -41,13 +39,12 @@ pub(crate) fn say_no_name(
     } else {
         b""
     };
-    notes.say(alloc, &[due, middle, quoted, Span::Plain(end)])
+    notes.say(&[due, middle, quoted, Span::Plain(end)])
 }
 
 /// Says what is wrong with the list of a condition, or with what comes after its name; answers whether there is such a
 /// thing.
 pub(crate) fn say_bad_reference(
-    alloc: Global,
     notes: &mut Notes<'_>,
     head: FileHead<'_>,
     condition: ConditionWords<'_>,
@@ -58,12 +55,12 @@ pub(crate) fn say_bad_reference(
     match head.list_named(name.text.as_slice()) {
         Some(list) => {
             Ok(
-                say_other_kind(alloc, notes, list, condition.field)?
-                    || say_second_name(alloc, notes, head, condition.rest)?,
+                say_other_kind(notes, list, condition.field)?
+                    || say_second_name(notes, head, condition.rest)?,
             )
         }
         None => {
-            say_no_list(alloc, notes, head, condition.test, name)?;
+            say_no_list(notes, head, condition.test, name)?;
             Ok(true)
         }
     }
@@ -71,29 +68,28 @@ pub(crate) fn say_bad_reference(
 
 /// Says that the plain word after `in` is the name of no list.
 fn say_no_list(
-    alloc: Global,
     notes: &mut Notes<'_>,
     head: FileHead<'_>,
     test: &Word,
     name: &Word,
 ) -> Result<(), NoMemory> {
     if name.is_keyword(b"any-case") {
-        return say_no_case(alloc, notes, test);
+        return say_no_case(notes, test);
     }
     if is_joint(name) {
         let text = b"the name of a list is due after in";
-        return notes.say(alloc, &[Span::Plain(text)]);
+        return notes.say(&[Span::Plain(text)]);
     }
-    say_unknown_list(alloc, notes, head, name.text.as_slice())
+    say_unknown_list(notes, head, name.text.as_slice())
 }
 
 /// Says that no list has the name, and which one may be meant.
 fn say_unknown_list(
-    alloc: Global,
     notes: &mut Notes<'_>,
     head: FileHead<'_>,
     name: &[u8],
 ) -> Result<(), NoMemory> {
+    let alloc = notes.alloc();
     let names = head.list_names(alloc)?;
     let Ok(names) = str::from_utf8(names.as_slice()) else {
         return Ok(());
@@ -105,16 +101,15 @@ fn say_unknown_list(
     };
     let are_shown = !names.is_empty() && names.len() <= NAMES_SHOWN_MAX;
     if are_shown || name_meant(alloc, &kind, name)?.is_some() {
-        return say_unknown_name(alloc, notes, &kind, name);
+        return say_unknown_name(notes, &kind, name);
     }
     let begin = Span::Plain(b"list ");
     let end = Span::Plain(b" isn't known; a line list NAME KIND FILE gives one");
-    notes.say(alloc, &[begin, Span::Quoted(name), end])
+    notes.say(&[begin, Span::Quoted(name), end])
 }
 
 /// Says that the list isn't for this field, and for which ones it is; answers whether that is so.
 fn say_other_kind<'x>(
-    alloc: Global,
     notes: &mut Notes<'_>,
     list: &'x ListSource,
     field: &'x Word,
@@ -133,13 +128,12 @@ fn say_other_kind<'x>(
         Span::Plain(b", and not for "),
         Span::Word(field),
     ];
-    notes.say(alloc, &spans)?;
+    notes.say(&spans)?;
     Ok(true)
 }
 
 /// Says that one list is due after `in`, where another one follows it; answers whether that is so.
 fn say_second_name(
-    alloc: Global,
     notes: &mut Notes<'_>,
     head: FileHead<'_>,
     words: &[Word],
@@ -148,7 +142,7 @@ fn say_second_name(
         [word, ..] if !is_joint(word) && head.list_named(word.text.as_slice()).is_some() => {
             let begin = Span::Plain(b"one list is due after in; ");
             let end = Span::Plain(b" is due in a condition of its own");
-            notes.say(alloc, &[begin, Span::Quoted(word.text.as_slice()), end])?;
+            notes.say(&[begin, Span::Quoted(word.text.as_slice()), end])?;
             Ok(true)
         }
         _ => Ok(false),

@@ -2,7 +2,6 @@
 
 use crate::notes::{Notes, Span};
 use milter_wire::NoMemory;
-use std::alloc::Global;
 
 /// What the next byte of a line belongs to.
 #[derive(Clone, Copy, Debug, PartialEq, Eq)]
@@ -43,11 +42,7 @@ enum Trouble {
 }
 
 /// Says what is wrong with the letters of the line.
-pub(crate) fn say_no_words(
-    alloc: Global,
-    notes: &mut Notes<'_>,
-    line: &[u8],
-) -> Result<(), NoMemory> {
+pub(crate) fn say_no_words(notes: &mut Notes<'_>, line: &[u8]) -> Result<(), NoMemory> {
     let mut place = Place::Between;
     let mut start = 0;
     for (index, byte) in line.iter().enumerate() {
@@ -56,21 +51,21 @@ pub(crate) fn say_no_words(
         }
         place = match place_after(place, *byte) {
             Ok(next) => next,
-            Err(trouble) => return say_trouble(alloc, notes, line, start, index, trouble),
+            Err(trouble) => return say_trouble(notes, line, start, index, trouble),
         };
     }
-    say_unclosed(alloc, notes, after(line, start.saturating_add(1)))
+    say_unclosed(notes, after(line, start.saturating_add(1)))
 }
 
 /// Says that these bytes are a text that isn't closed.
-fn say_unclosed(alloc: Global, notes: &mut Notes<'_>, text: &[u8]) -> Result<(), NoMemory> {
+fn say_unclosed(notes: &mut Notes<'_>, text: &[u8]) -> Result<(), NoMemory> {
     let begin = Span::Plain(b"a text isn't closed by a double quote; it begins with ");
     let end: &[u8] = if has_curly_quote(text) {
         b"; a curly quote closes none"
     } else {
         b""
     };
-    notes.say(alloc, &[begin, Span::Quoted(text), Span::Plain(end)])
+    notes.say(&[begin, Span::Quoted(text), Span::Plain(end)])
 }
 
 /// Whether a curly quote is among the bytes, in UTF-8.
@@ -150,7 +145,6 @@ fn after_backslash(byte: u8) -> Result<Place, Trouble> {
 
 /// Says what is wrong with the byte at this index, which is in the word that begins at `start`.
 fn say_trouble(
-    alloc: Global,
     notes: &mut Notes<'_>,
     line: &[u8],
     start: usize,
@@ -162,35 +156,34 @@ fn say_trouble(
     match trouble {
         Trouble::Tab => {
             let text = b"a TAB stands outside of texts; words are separated by blanks";
-            notes.say(alloc, &[Span::Plain(text)])
+            notes.say(&[Span::Plain(text)])
         }
         Trouble::Byte if has_curly_quote(up_to_blank(after(line, start))) => {
             let end = b" has curly quotes; a text is due in plain double quotes";
-            notes.say(alloc, &[word, Span::Plain(end)])
+            notes.say(&[word, Span::Plain(end)])
         }
         Trouble::Byte => {
             let end =
                 b" has other than visible ASCII characters; as a text it is due in double quotes";
-            notes.say(alloc, &[word, Span::Plain(end)])
+            notes.say(&[word, Span::Plain(end)])
         }
         Trouble::Quote => {
             let begin = b"a blank is due before the double quote in ";
-            notes.say(alloc, &[Span::Plain(begin), word])
+            notes.say(&[Span::Plain(begin), word])
         }
         Trouble::Touching => {
             let begin = Span::Plain(b"a blank is due between a text and ");
             let end = Span::Plain(b"; in a text a double quote is written \\\"");
-            notes.say(alloc, &[begin, from_here, end])
+            notes.say(&[begin, from_here, end])
         }
         Trouble::Control | Trouble::Escape | Trouble::Digit => {
-            say_trouble_in_text(alloc, notes, after(line, index), trouble)
+            say_trouble_in_text(notes, after(line, index), trouble)
         }
     }
 }
 
 /// Says what is wrong with the first of these bytes, which are in a text.
 fn say_trouble_in_text(
-    alloc: Global,
     notes: &mut Notes<'_>,
     bytes: &[u8],
     trouble: Trouble,
@@ -199,16 +192,16 @@ fn say_trouble_in_text(
     match trouble {
         Trouble::Control => {
             let begin = b"a control character stands in a text; it is written as in ";
-            notes.say(alloc, &[Span::Plain(begin), Span::Quoted(first)])
+            notes.say(&[Span::Plain(begin), Span::Quoted(first)])
         }
         Trouble::Digit => {
             let text = b"\\x is due with two hexadecimal digits";
-            notes.say(alloc, &[Span::Plain(text)])
+            notes.say(&[Span::Plain(text)])
         }
         _ => {
             let begin = Span::Plain(b"a backslash before ");
             let end = b" begins no escape; known are \\\" \\\\ \\n \\r \\t and \\xHH";
-            notes.say(alloc, &[begin, Span::Quoted(first), Span::Plain(end)])
+            notes.say(&[begin, Span::Quoted(first), Span::Plain(end)])
         }
     }
 }
