@@ -16,13 +16,25 @@ pub trait Connect: Dial {
 #[derive(Drop)]
 pub struct TcpDial<'a, R> {
     /// What makes sockets.
-    pub net: &'a R,
+    net: &'a R,
     /// The port.
-    pub port: u16,
+    port: u16,
     /// The name of the host, or its IP address.
-    pub host: &'a str,
+    host: &'a str,
     /// How long a read or a write may take, above 0.
-    pub limit: Duration,
+    limit: Duration,
+}
+
+impl<'a, R> TcpDial<'a, R> {
+    /// Connects to this port of this host.
+    pub fn new(net: &'a R, port: u16, host: &'a str, limit: Duration) -> Self {
+        TcpDial {
+            net,
+            port,
+            host,
+            limit,
+        }
+    }
 }
 
 impl<'a, R: Net<Stream = TcpStream>> Dial for TcpDial<'a, R> {
@@ -52,11 +64,18 @@ fn connect_tcp<R: Net<Stream = TcpStream>>(dial: &TcpDial<'_, R>) -> io::Result<
 #[derive(Drop)]
 pub struct UnixDial<'a, R> {
     /// What makes sockets.
-    pub net: &'a R,
+    net: &'a R,
     /// The path of the socket.
-    pub path: &'a str,
+    path: &'a str,
     /// How long a read or a write may take, above 0.
-    pub limit: Duration,
+    limit: Duration,
+}
+
+impl<'a, R> UnixDial<'a, R> {
+    /// Connects to the socket of this path.
+    pub fn new(net: &'a R, path: &'a str, limit: Duration) -> Self {
+        UnixDial { net, path, limit }
+    }
 }
 
 impl<'a, R: Net> Dial for UnixDial<'a, R> {

@@ -31,21 +31,10 @@ pub(crate) fn play_session<'x, R: Net<Stream = TcpStream> + Files + Clock + Prin
     let limit = Duration::from_secs(u64::from(asked.timeout));
     match target.address {
         Address::Inet { port, host } => {
-            let dial = TcpDial {
-                net: rt,
-                port,
-                host,
-                limit,
-            };
-            play_session_over(rt, config, asked, dial)
+            play_session_over(rt, config, asked, TcpDial::new(rt, port, host, limit))
         }
         Address::Unix { path } => {
-            let dial = UnixDial {
-                net: rt,
-                path,
-                limit,
-            };
-            play_session_over(rt, config, asked, dial)
+            play_session_over(rt, config, asked, UnixDial::new(rt, path, limit))
         }
     }
 }

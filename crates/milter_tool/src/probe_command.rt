@@ -33,20 +33,11 @@ pub(crate) fn probe_filter<'x, R: Net<Stream = TcpStream> + Files + Clock + Prin
     };
     match address {
         Address::Inet { port, host } => {
-            let dial = TcpDial {
-                net: rt,
-                port,
-                host,
-                limit,
-            };
+            let dial = TcpDial::new(rt, port, host, limit);
             probe_over(rt, asked, &session, settings, dial)
         }
         Address::Unix { path } => {
-            let dial = UnixDial {
-                net: rt,
-                path,
-                limit,
-            };
+            let dial = UnixDial::new(rt, path, limit);
             probe_over(rt, asked, &session, settings, dial)
         }
     }

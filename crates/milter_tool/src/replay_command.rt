@@ -26,22 +26,11 @@ pub(crate) fn replay_trace<'x, R: Net<Stream = TcpStream> + Files + Clock + Prin
     let limit = Duration::from_secs(u64::from(asked.timeout));
     match address {
         Address::Inet { port, host } => {
-            let dial = TcpDial {
-                net: rt,
-                port,
-                host,
-                limit,
-            };
-            let link = connected(rt, asked, dial)?;
+            let link = connected(rt, asked, TcpDial::new(rt, port, host, limit))?;
             Ok(replay_over(rt, &recording, &mut &link, &mut &link)?)
         }
         Address::Unix { path } => {
-            let dial = UnixDial {
-                net: rt,
-                path,
-                limit,
-            };
-            let link = connected(rt, asked, dial)?;
+            let link = connected(rt, asked, UnixDial::new(rt, path, limit))?;
             Ok(replay_over(rt, &recording, &mut &link, &mut &link)?)
         }
     }

@@ -93,12 +93,8 @@ fn tcp_ends<R: Net<Listener = TcpListener, Stream = TcpStream>>(
     net: &R,
 ) -> anyhow::Result<(TcpStream, TcpStream)> {
     let listener = TcpListener::bind(net, (HOST, ANY_PORT))?;
-    let mut dial = TcpDial {
-        net,
-        port: listener.local_addr()?.port(),
-        host: HOST,
-        limit: Duration::from_secs(LIMIT_SECONDS),
-    };
+    let port = listener.local_addr()?.port();
+    let mut dial = TcpDial::new(net, port, HOST, Duration::from_secs(LIMIT_SECONDS));
     let client = dial.dial()?;
     let (server, _) = listener.accept()?;
     Ok((client, server))
@@ -126,11 +122,7 @@ impl<'w, R: Net + Files> Dial for UnixLinks<'w, R> {
 /// Both ends of a connection to a Unix socket, the one that was dialled first. The socket's file is removed again.
 fn unix_ends<R: Net + Files>(rt: &R, path: &str) -> anyhow::Result<(UnixStream, UnixStream)> {
     let listener = UnixListener::bind(rt, path)?;
-    let mut dial = UnixDial {
-        net: rt,
-        path,
-        limit: Duration::from_secs(LIMIT_SECONDS),
-    };
+    let mut dial = UnixDial::new(rt, path, Duration::from_secs(LIMIT_SECONDS));
     let dialled = dial.dial();
     fs::remove_file(rt, path)?;
     let client = dialled?;
