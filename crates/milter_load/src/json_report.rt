@@ -6,33 +6,22 @@ use crate::timed::Timed;
 use crate::totals::Totals;
 use milter_load_stats::Latencies;
 use milter_text::{TextFault, TextWriter};
-use std::alloc::Global;
 use std::io::Write;
 
-/// Writes the report of a load as one JSON object, in a line. All outcomes, causes and latencies are there.
-pub fn write_json_report<W: Write>(
-    alloc: Global,
-    writer: &mut W,
+/// Puts the report of a load as one JSON object, in a line.
+pub(crate) fn put_object<W: Write>(
+    output: &mut TextWriter<'_, W>,
     totals: &Totals,
 ) -> Result<(), TextFault> {
-    let mut buffer = Vec::new(alloc);
-    let mut output = TextWriter::new(writer, &mut buffer);
     output.put(b"{\"seconds\":")?;
-    put_seconds(&mut output, totals.elapsed())?;
-    put_sum(
-        &mut output,
-        b"messages",
-        totals.messages(),
-        totals.elapsed(),
-    )?;
-    put_sum(&mut output, b"sent", totals.sent, totals.elapsed())?;
-    put_sum(&mut output, b"received", totals.received, totals.elapsed())?;
-    put_connections(&mut output, totals)?;
-    put_settled(&mut output, totals)?;
-    put_defaults(&mut output, totals)?;
-    put_latencies(&mut output, totals)?;
-    output.put(b"}\n")?;
-    output.flush()
+    put_seconds(output, totals.elapsed())?;
+    put_sum(output, b"messages", totals.messages(), totals.elapsed())?;
+    put_sum(output, b"sent", totals.sent, totals.elapsed())?;
+    put_sum(output, b"received", totals.received, totals.elapsed())?;
+    put_connections(output, totals)?;
+    put_outcomes(output, totals)?;
+    put_latencies(output, totals)?;
+    output.put(b"}\n")
 }
 
 /// Puts how many there were and how many a second, as two members after others.
@@ -79,33 +68,20 @@ fn put_connections<W: Write>(
     put_member(output, b"},", b"waiting", totals.waiting)
 }
 
-/// Puts what a filter made of the messages.
-fn put_settled<W: Write>(output: &mut TextWriter<'_, W>, totals: &Totals) -> Result<(), TextFault> {
-    output.put(b",\"settled\":{")?;
-    for (number, settled) in Settled::ALL.iter().enumerate() {
-        put_member(
-            output,
-            separator(number),
-            settled.name(),
-            totals.settled(*settled),
-        )?;
-    }
-    output.put(b"}")
-}
-
-/// Puts why messages were settled by default.
-fn put_defaults<W: Write>(
+/// Puts what a filter made of the messages, and why messages were settled by default.
+fn put_outcomes<W: Write>(
     output: &mut TextWriter<'_, W>,
     totals: &Totals,
 ) -> Result<(), TextFault> {
-    output.put(b",\"default\":{")?;
+    output.put(b",\"settled\":{")?;
+    for (number, settled) in Settled::ALL.iter().enumerate() {
+        let count = totals.settled(*settled);
+        put_member(output, separator(number), settled.name(), count)?;
+    }
+    output.put(b"},\"default\":{")?;
     for (number, cause) in Cause::ALL.iter().enumerate() {
-        put_member(
-            output,
-            separator(number),
-            cause.name(),
-            totals.defaults(*cause),
-        )?;
+        let count = totals.defaults(*cause);
+        put_member(output, separator(number), cause.name(), count)?;
     }
     output.put(b"}")
 }

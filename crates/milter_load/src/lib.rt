@@ -19,9 +19,8 @@ mod totals;
 
 pub use advance::Advance;
 pub use conversation::{Conversation, Moment};
-pub use json_report::write_json_report;
 pub use outcome::{Cause, Settled};
-pub use report::{write_progress, write_report};
+pub use report::{ReportForm, write_progress, write_report};
 pub use schedule::Schedule;
 pub use timed::Timed;
 pub use totals::Totals;

@@ -1,6 +1,7 @@
-//! The report of a load, as lines.
+//! The report of a load, and its lines.
 
 use crate::figures::{Figures, put_a_second, put_number, put_seconds};
+use crate::json_report::put_object;
 use crate::outcome::{Cause, Settled};
 use crate::schedule::SECOND;
 use crate::timed::Timed;
@@ -10,21 +11,37 @@ use milter_text::{TextFault, TextWriter};
 use std::alloc::Global;
 use std::io::Write;
 
-/// Writes the report of a load as lines of words and numbers. Outcomes, causes and latencies of which there is none are
-/// left out.
+/// How a report is written.
+#[derive(Clone, Copy, Debug, PartialEq, Eq)]
+pub enum ReportForm {
+    /// As lines of words and numbers. Outcomes, causes and latencies of which there is none are left out.
+    Lines,
+    /// As one JSON object, in a line. All outcomes, causes and latencies are there.
+    Json,
+}
+
+/// Writes the report of a load in this form.
 pub fn write_report<W: Write>(
     alloc: Global,
     writer: &mut W,
     totals: &Totals,
+    form: ReportForm,
 ) -> Result<(), TextFault> {
     let mut buffer = Vec::new(alloc);
     let mut output = TextWriter::new(writer, &mut buffer);
-    put_sums(&mut output, totals)?;
-    put_connections(&mut output, totals)?;
-    put_settled(&mut output, totals)?;
-    put_defaults(&mut output, totals)?;
-    put_latencies(&mut output, totals)?;
+    match form {
+        ReportForm::Lines => put_lines(&mut output, totals)?,
+        ReportForm::Json => put_object(&mut output, totals)?,
+    }
     output.flush()
+}
+
+/// Puts the report as lines.
+fn put_lines<W: Write>(output: &mut TextWriter<'_, W>, totals: &Totals) -> Result<(), TextFault> {
+    put_sums(output, totals)?;
+    put_connections(output, totals)?;
+    put_outcomes(output, totals)?;
+    put_latencies(output, totals)
 }
 
 /// Writes how far a load is at this time, over the line that is there.
@@ -98,33 +115,35 @@ fn put_count<W: Write>(
     output.put(b"\n")
 }
 
-/// Puts what a filter made of the messages.
-fn put_settled<W: Write>(output: &mut TextWriter<'_, W>, totals: &Totals) -> Result<(), TextFault> {
+/// Puts what a filter made of the messages, and why messages were settled by default.
+fn put_outcomes<W: Write>(
+    output: &mut TextWriter<'_, W>,
+    totals: &Totals,
+) -> Result<(), TextFault> {
     for settled in Settled::ALL {
         let count = totals.settled(settled);
-        if count > 0 {
-            output.put(b"settled ")?;
-            output.put(settled.name())?;
-            put_count(output, b" ", count)?;
-        }
+        put_some(output, b"settled ", settled.name(), count)?;
+    }
+    for cause in Cause::ALL {
+        let count = totals.defaults(cause);
+        put_some(output, b"settled default ", cause.name(), count)?;
     }
     Ok(())
 }
 
-/// Puts why messages were settled by default.
-fn put_defaults<W: Write>(
+/// Puts a line of words, a name and a number, unless this is 0.
+fn put_some<W: Write>(
     output: &mut TextWriter<'_, W>,
-    totals: &Totals,
+    words: &[u8],
+    name: &[u8],
+    count: u64,
 ) -> Result<(), TextFault> {
-    for cause in Cause::ALL {
-        let count = totals.defaults(cause);
-        if count > 0 {
-            output.put(b"settled default ")?;
-            output.put(cause.name())?;
-            put_count(output, b" ", count)?;
-        }
+    if count == 0 {
+        return Ok(());
     }
-    Ok(())
+    output.put(words)?;
+    output.put(name)?;
+    put_count(output, b" ", count)
 }
 
 /// Puts how long replies took.

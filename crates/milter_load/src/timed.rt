@@ -1,5 +1,6 @@
 //! What is timed.
 
+use milter_protocol::rank_of;
 use milter_wire::Stage;
 
 /// How many kinds of latencies there are.
@@ -45,23 +46,8 @@ impl Timed {
     pub(crate) fn number(self) -> usize {
         match self {
             Timed::Negotiation => 0,
-            Timed::Command(stage) => number_of(stage),
+            Timed::Command(stage) => usize::from(rank_of(stage)),
             Timed::Message => 10,
         }
-    }
-}
-
-/// The number of the latencies of a stage.
-fn number_of(stage: Stage) -> usize {
-    match stage {
-        Stage::Connect => 1,
-        Stage::Helo => 2,
-        Stage::Mail => 3,
-        Stage::Rcpt => 4,
-        Stage::DataCmd => 5,
-        Stage::Header => 6,
-        Stage::Eoh => 7,
-        Stage::Body => 8,
-        Stage::Eob => 9,
     }
 }

@@ -4,7 +4,7 @@ use crate::session_file::session_at;
 use milter_cli_faults::Failure;
 use milter_cli_io::{ToolError, output_error};
 use milter_cli_request::{Address, LoadRequest, Target as Filter};
-use milter_load::{Totals, write_json_report, write_report};
+use milter_load::{ReportForm, Totals, write_report};
 use milter_load_run::{LoadError, Settings, Target, run_load};
 use milter_mta::{Config, OnLoss};
 use std::io::{self, ErrorKind, Write};
@@ -100,12 +100,12 @@ fn print_totals<R: Print + AllocGlobal>(
     totals: &Totals,
 ) -> Result<(), ToolError> {
     let writer = &mut io::writer(rt);
-    let written = if asked.json {
-        write_json_report(rt.alloc(), writer, totals)
+    let form = if asked.json {
+        ReportForm::Json
     } else {
-        write_report(rt.alloc(), writer, totals)
+        ReportForm::Lines
     };
-    match written {
+    match write_report(rt.alloc(), writer, totals, form) {
         Ok(()) if totals.by_filter() > 0 => Ok(()),
         Ok(()) => Err(ToolError::Findings),
         Err(fault) => Err(output_error(fault)),
