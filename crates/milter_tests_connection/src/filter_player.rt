@@ -1,7 +1,7 @@
 //! A script of a filter's end, and the connection on which it is played.
 
 use crate::answers::text_of;
-use crate::script::{Player, obey_lines};
+use crate::script::{Line, Player, obey_lines};
 use crate::texts::{bits_in, one_of, str_of};
 use anyhow::bail;
 use milter_filter_core::{
@@ -114,20 +114,15 @@ impl FilterPlayer {
         Ok(())
     }
 
-    /// Prints what this word asks for of the connection.
-    fn print<R: Print + AllocGlobal>(
-        &mut self,
-        rt: &R,
-        word: &str,
-        texts: &[Text],
-    ) -> anyhow::Result<()> {
-        match word {
+    /// Prints what this line asks for of the connection.
+    fn print<R: Print + AllocGlobal>(&mut self, rt: &R, line: Line<'_>) -> anyhow::Result<()> {
+        match line.word {
             "next" => print_next(rt, self.connection.next_step())?,
             "unread" => println!(rt; "{}", self.connection.unread())?,
             "shown" => print_shown(rt, self.connection.seen())?,
-            "macro" => print_macro(rt, self.connection.seen(), one_of(texts)?)?,
+            "macro" => print_macro(rt, self.connection.seen(), one_of(line.texts)?)?,
             "release" => self.connection.release(),
-            "restart" => self.restart(texts)?,
+            "restart" => self.restart(line.texts)?,
             _ => bail!("unknown word"),
         }
         Ok(())
@@ -144,19 +139,14 @@ impl Player for FilterPlayer {
         self.connection.sent(count);
     }
 
-    fn obey<R: Print + AllocGlobal>(
-        &mut self,
-        rt: &R,
-        word: &str,
-        texts: &[Text],
-    ) -> anyhow::Result<()> {
-        match word {
-            "feed" => self.feed(rt, &hex::decode(rt.alloc(), one_of(texts)?)?),
-            "feed_bytes" => self.feed_bytes(rt, &hex::decode(rt.alloc(), one_of(texts)?)?),
-            "edit" => self.add_edit(rt.alloc(), &hex::decode(rt.alloc(), one_of(texts)?)?),
-            "answer" => self.answer(rt, &verdict_in(rt.alloc(), texts)?),
+    fn obey<R: Print + AllocGlobal>(&mut self, rt: &R, line: Line<'_>) -> anyhow::Result<()> {
+        match line.word {
+            "feed" => self.feed(rt, &hex::decode(rt.alloc(), one_of(line.texts)?)?),
+            "feed_bytes" => self.feed_bytes(rt, &hex::decode(rt.alloc(), one_of(line.texts)?)?),
+            "edit" => self.add_edit(rt.alloc(), &hex::decode(rt.alloc(), one_of(line.texts)?)?),
+            "answer" => self.answer(rt, &verdict_in(rt.alloc(), line.texts)?),
             "progress" => self.progress(rt),
-            _ => self.print(rt, word, texts),
+            _ => self.print(rt, line),
         }
     }
 }

@@ -3,7 +3,7 @@
 use crate::answers::{check_memory, phase_words, print_answer, print_fed, want_word};
 use crate::calls::answer_to;
 use crate::edits::{print_edited, print_edits};
-use crate::script::{Player, obey_lines};
+use crate::script::{Line, Player, obey_lines};
 use crate::texts::{offer_in, one_of, pair_in};
 use milter_mta_connection::{FilterEvent, MtaConnection};
 use milter_text::LineCursor;
@@ -54,25 +54,19 @@ impl MtaPlayer {
     }
 
     /// Makes a call with the macros that were given for it, and prints what is answered.
-    fn call<R: Print + AllocGlobal>(
-        &mut self,
-        rt: &R,
-        name: &str,
-        texts: &[Text],
-    ) -> anyhow::Result<()> {
-        let answer = answer_to(&mut self.connection, name, texts, &self.macros)?;
+    fn call<R: Print + AllocGlobal>(&mut self, rt: &R, line: Line<'_>) -> anyhow::Result<()> {
+        let answer = answer_to(&mut self.connection, line, &self.macros)?;
         self.macros.clear();
         print_answer(rt, answer)
     }
 
-    /// Prints what is asked for of the connection, or makes the call of this name.
+    /// Prints what is asked for of the connection, or makes the call that the line is.
     fn print_or_call<R: Print + AllocGlobal>(
         &mut self,
         rt: &R,
-        name: &str,
-        texts: &[Text],
+        line: Line<'_>,
     ) -> anyhow::Result<()> {
-        match name {
+        match line.word {
             "want" => println!(rt; "{}", want_word(self.connection.want()))?,
             "phase" => println!(rt; "{}", phase_words(self.connection.phase()))?,
             "under_way" => println!(rt;
@@ -85,8 +79,8 @@ impl MtaPlayer {
             )?,
             "edits" => print_edits(rt, self.connection.edits())?,
             "take_edits" => print_edits(rt, self.connection.take_edits().as_slice())?,
-            "edited" => print_edited(rt, &self.connection, texts)?,
-            _ => self.call(rt, name, texts)?,
+            "edited" => print_edited(rt, &self.connection, line.texts)?,
+            _ => self.call(rt, line)?,
         }
         Ok(())
     }
@@ -108,21 +102,16 @@ impl Player for MtaPlayer {
         self.connection.sent(count);
     }
 
-    fn obey<R: Print + AllocGlobal>(
-        &mut self,
-        rt: &R,
-        word: &str,
-        texts: &[Text],
-    ) -> anyhow::Result<()> {
-        match word {
-            "macro" => self.add_macro(rt, texts),
+    fn obey<R: Print + AllocGlobal>(&mut self, rt: &R, line: Line<'_>) -> anyhow::Result<()> {
+        match line.word {
+            "macro" => self.add_macro(rt, line.texts),
             "lost" => {
                 self.connection.lost();
                 Ok(())
             }
-            "feed" => self.feed_digits(rt, one_of(texts)?),
-            "feed_bytes" => self.feed_digits_bytewise(rt, one_of(texts)?),
-            _ => self.print_or_call(rt, word, texts),
+            "feed" => self.feed_digits(rt, one_of(line.texts)?),
+            "feed_bytes" => self.feed_digits_bytewise(rt, one_of(line.texts)?),
+            _ => self.print_or_call(rt, line),
         }
     }
 }

@@ -6,6 +6,15 @@ use anyhow::bail;
 use milter_text::LineCursor;
 use milter_wire::Text;
 
+/// What a line asks for.
+#[derive(Clone, Copy)]
+pub struct Line<'a> {
+    /// Its first word.
+    pub word: &'a str,
+    /// The texts after it.
+    pub texts: &'a [Text],
+}
+
 /// One end of a connection, on which a script is played.
 pub trait Player: Drop {
     /// The bytes that wait to be sent.
@@ -14,13 +23,8 @@ pub trait Player: Drop {
     /// Notes that so many of the bytes that are pending were sent, or all of them where they are fewer.
     fn sent(&mut self, count: usize);
 
-    /// Does what this word asks for with these texts, and prints what comes of it.
-    fn obey<R: Print + AllocGlobal>(
-        &mut self,
-        rt: &R,
-        word: &str,
-        texts: &[Text],
-    ) -> anyhow::Result<()>;
+    /// Does what the line asks for, and prints what comes of it.
+    fn obey<R: Print + AllocGlobal>(&mut self, rt: &R, line: Line<'_>) -> anyhow::Result<()>;
 }
 
 /// Prints the packets that are pending, and notes that they were sent.
@@ -46,7 +50,7 @@ fn obey_line<P: Player, R: Print + AllocGlobal>(
             player.sent(number_in(texts)?);
             Ok(())
         }
-        word => player.obey(rt, word, texts),
+        word => player.obey(rt, Line { word, texts }),
     }
 }
 
