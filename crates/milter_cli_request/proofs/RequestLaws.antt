@@ -1,12 +1,13 @@
 -- The request of a command line.
-use Rattle.std.proofs.Common.{◌≡◌, ◌<◌, ◌≤◌, ◌-◌, ◌^◌, ◌⊎◌, ℕ, Bor, Bool, cond, true, false, not, ◌||◌, List, [], ◌∷◌, Option, None, Some, IfSome, IsSome, is_some, subst, inl, inr, refl, sym, ap, ◌∙◌, codes, slice_index, length, arith, true≢false, option_map}
+use Rattle.std.proofs.Common.{◌≡◌, ◌<◌, ◌≤◌, ◌-◌, ◌^◌, ◌⊎◌, ℕ, Bor, Bool, cond, true, false, not, ◌||◌, List, [], ◌∷◌, Option, None, Some, IfSome, IsSome, is_some, subst, inl, inr, refl, sym, ap, ◌∙◌, codes, length, arith, true≢false, option_map}
 use Rattle.std.proofs.lemmas.Option.{none-some}
 use Rattle.std.proofs.lemmas.Slice.Eq.{bytes_eq-Decides}
+use Rattle.std.proofs.lemmas.Bool.Decides.{not_from_Decides}
 use Rattle.std.specs.Prelude.{find, slice_get}
 use Rattle.std.specs.Option.{option_and_then, option_map_or, unwrap_or}
 use Rattle.std.specs.Str.{bytes_eq}
 use Rattle.clap.specs.Facts.{explicit_source}
-use Rattle.clap.specs.Words.{Row, Shape, Text, built, fault_of, all_of, first_of, first_value, matched_of, raw_values, rows_of, subcommand_of, subcommand_rows_of}
+use Rattle.clap.specs.Words.{App, Row, Shape, Text, built, fault_of, all_of, first_of, first_value, matched_of, raw_values, rows_of, subcommand_of, subcommand_rows_of}
 use Rattle.clap.specs.Walk.{answers_to, finished, nothing_held, rows_after, settled, texts, walk, walk_from}
 use Rattle.clap.specs.Simple.{argument_words, built_leaf, entered, help_shape, inherited, label_of, marked_built, names_of, rows_at, with_leaf_noted}
 use Rattle.clap.specs.Takes.{is_given}
@@ -54,7 +55,7 @@ number_known least most f id o n low is h = holds_of (λ t. IsNumber least most 
 pub flag_given : (f : Found) (id : Text) (o : Option (Bor Text)) (flag : Bool) → text_of o ≡ first_value f id → IsFlag (text_of o) flag → IsFlag (first_of id (rows_of f)) flag
 flag_given f id o flag is h = holds_of (λ t. IsFlag t flag) f id o is h
 
-no_value : (f : Found) (id : Text) → None ≡ first_value f id → first_of id (rows_of f) ≡ None
+pub no_value : (f : Found) (id : Text) → None ≡ first_value f id → first_of id (rows_of f) ≡ None
 no_value f id none = sym (none ∙ first_value-rows f id)
 
 -- the values that are given
@@ -74,204 +75,49 @@ no_values f id none = go (find (λ r. bytes_eq r.id id) (rows_of f)) (sym (none 
     go None e = refl
     go (Some r) e = absurd (none-some _ (sym e))
 
-head : (a b : Text) → a ≡ b → slice_index a 0 ≡ slice_index b 0
-head a b e = ap (λ t. slice_index t 0) e
-
-letter : (i : ℕ) (a b : Text) → a ≡ b → slice_index a i ≡ slice_index b i
-letter i a b e = ap (λ t. slice_index t i) e
+-- texts that differ aren't the same
+differ : {X : Type 0} {a b : Text} → bytes_eq a b ≡ false → a ≡ b → X
+differ {a = a} {b = b} other same = absurd (not_from_Decides _ (bytes_eq-Decides a b) other same)
 
 pub no_session : (f : Found) → None ≡ first_value f (codes "file") → IsUnasked (codes "session", rows_of f)
-no_session f none = (
-  (λ e. (let other : 115 ≡ 116 = head (codes "session") (codes "trace") e in absurd (omega (arith, other)))),
-  (λ e. (let other : 115 ≡ 97 = head (codes "session") (codes "answer") e in absurd (omega (arith, other)))),
-  (λ e. no_value f (codes "file") none),
-  (λ e. (let other : 115 ≡ 114 = head (codes "session") (codes "rules") e in absurd (omega (arith, other)))),
-  (λ e. (let other : 115 ≡ 102 = head (codes "session") (codes "filter") e in absurd (omega (arith, other)))),
-  (λ e. (let other : 115 ≡ 114 = letter 2 (codes "session") (codes "serve") e in absurd (omega (arith, other)))),
-  (λ e. (let other : 115 ≡ 109 = head (codes "session") (codes "mta") e in absurd (omega (arith, other)))),
-  (λ e. (let other : 115 ≡ 112 = head (codes "session") (codes "play") e in absurd (omega (arith, other)))),
-  (λ e. (let other : 115 ≡ 114 = head (codes "session") (codes "replay") e in absurd (omega (arith, other)))),
-  (λ e. (let other : 115 ≡ 108 = head (codes "session") (codes "load") e in absurd (omega (arith, other)))),
-  (λ e. (let other : 115 ≡ 112 = head (codes "session") (codes "probe") e in absurd (omega (arith, other)))),
-  λ e. (let other : 115 ≡ 114 = head (codes "session") (codes "record") e in absurd (omega (arith, other))),
-)
+no_session f none =
+    (differ refl, differ refl, (λ e. no_value f (codes "file") none), differ refl, differ refl, differ refl, differ refl, differ refl, differ refl, differ refl, differ refl, differ refl)
 
 pub no_rules : (f : Found) → None ≡ first_value f (codes "file") → IsUnasked (codes "rules", rows_of f)
-no_rules f none = (
-  (λ e. (let other : 114 ≡ 116 = head (codes "rules") (codes "trace") e in absurd (omega (arith, other)))),
-  (λ e. (let other : 114 ≡ 97 = head (codes "rules") (codes "answer") e in absurd (omega (arith, other)))),
-  (λ e. (let other : 114 ≡ 115 = head (codes "rules") (codes "session") e in absurd (omega (arith, other)))),
-  (λ e. no_value f (codes "file") none),
-  (λ e. (let other : 114 ≡ 102 = head (codes "rules") (codes "filter") e in absurd (omega (arith, other)))),
-  (λ e. (let other : 114 ≡ 115 = head (codes "rules") (codes "serve") e in absurd (omega (arith, other)))),
-  (λ e. (let other : 114 ≡ 109 = head (codes "rules") (codes "mta") e in absurd (omega (arith, other)))),
-  (λ e. (let other : 114 ≡ 112 = head (codes "rules") (codes "play") e in absurd (omega (arith, other)))),
-  (λ e. (let other : 117 ≡ 101 = letter 1 (codes "rules") (codes "replay") e in absurd (omega (arith, other)))),
-  (λ e. (let other : 114 ≡ 108 = head (codes "rules") (codes "load") e in absurd (omega (arith, other)))),
-  (λ e. (let other : 114 ≡ 112 = head (codes "rules") (codes "probe") e in absurd (omega (arith, other)))),
-  λ e. (let other : 117 ≡ 101 = letter 1 (codes "rules") (codes "record") e in absurd (omega (arith, other))),
-)
+no_rules f none =
+    (differ refl, differ refl, differ refl, (λ e. no_value f (codes "file") none), differ refl, differ refl, differ refl, differ refl, differ refl, differ refl, differ refl, differ refl)
 
 pub no_filter : (f : Found) → None ≡ first_value f (codes "address") → IsUnasked (codes "filter", rows_of f)
-no_filter f none = (
-  (λ e. (let other : 102 ≡ 116 = head (codes "filter") (codes "trace") e in absurd (omega (arith, other)))),
-  (λ e. (let other : 102 ≡ 97 = head (codes "filter") (codes "answer") e in absurd (omega (arith, other)))),
-  (λ e. (let other : 102 ≡ 115 = head (codes "filter") (codes "session") e in absurd (omega (arith, other)))),
-  (λ e. (let other : 102 ≡ 114 = head (codes "filter") (codes "rules") e in absurd (omega (arith, other)))),
-  (λ e. no_value f (codes "address") none),
-  (λ e. (let other : 102 ≡ 115 = head (codes "filter") (codes "serve") e in absurd (omega (arith, other)))),
-  (λ e. (let other : 102 ≡ 109 = head (codes "filter") (codes "mta") e in absurd (omega (arith, other)))),
-  (λ e. (let other : 102 ≡ 112 = head (codes "filter") (codes "play") e in absurd (omega (arith, other)))),
-  (λ e. (let other : 102 ≡ 114 = head (codes "filter") (codes "replay") e in absurd (omega (arith, other)))),
-  (λ e. (let other : 102 ≡ 108 = head (codes "filter") (codes "load") e in absurd (omega (arith, other)))),
-  (λ e. (let other : 102 ≡ 112 = head (codes "filter") (codes "probe") e in absurd (omega (arith, other)))),
-  λ e. (let other : 102 ≡ 114 = head (codes "filter") (codes "record") e in absurd (omega (arith, other))),
-)
+no_filter f none =
+    (differ refl, differ refl, differ refl, differ refl, (λ e. no_value f (codes "address") none), differ refl, differ refl, differ refl, differ refl, differ refl, differ refl, differ refl)
 
 pub no_serve : (f : Found) → None ≡ option_map raw_values (matched_of f (codes "address")) → IsUnasked (codes "serve", rows_of f)
-no_serve f none = (
-  (λ e. (let other : 115 ≡ 116 = head (codes "serve") (codes "trace") e in absurd (omega (arith, other)))),
-  (λ e. (let other : 115 ≡ 97 = head (codes "serve") (codes "answer") e in absurd (omega (arith, other)))),
-  (λ e. (let other : 114 ≡ 115 = letter 2 (codes "serve") (codes "session") e in absurd (omega (arith, other)))),
-  (λ e. (let other : 115 ≡ 114 = head (codes "serve") (codes "rules") e in absurd (omega (arith, other)))),
-  (λ e. (let other : 115 ≡ 102 = head (codes "serve") (codes "filter") e in absurd (omega (arith, other)))),
-  (λ e. no_values f (codes "address") none),
-  (λ e. (let other : 115 ≡ 109 = head (codes "serve") (codes "mta") e in absurd (omega (arith, other)))),
-  (λ e. (let other : 115 ≡ 112 = head (codes "serve") (codes "play") e in absurd (omega (arith, other)))),
-  (λ e. (let other : 115 ≡ 114 = head (codes "serve") (codes "replay") e in absurd (omega (arith, other)))),
-  (λ e. (let other : 115 ≡ 108 = head (codes "serve") (codes "load") e in absurd (omega (arith, other)))),
-  (λ e. (let other : 115 ≡ 112 = head (codes "serve") (codes "probe") e in absurd (omega (arith, other)))),
-  λ e. (let other : 115 ≡ 114 = head (codes "serve") (codes "record") e in absurd (omega (arith, other))),
-)
+no_serve f none =
+    (differ refl, differ refl, differ refl, differ refl, differ refl, (λ e. no_values f (codes "address") none), differ refl, differ refl, differ refl, differ refl, differ refl, differ refl)
 
-no_mta : (values : List Row) → (first_of (codes "address") values ≡ None) ⊎ (first_of (codes "session") values ≡ None) → IsUnasked (codes "mta", values)
-no_mta values none = (
-  (λ e. (let other : 109 ≡ 116 = head (codes "mta") (codes "trace") e in absurd (omega (arith, other)))),
-  (λ e. (let other : 109 ≡ 97 = head (codes "mta") (codes "answer") e in absurd (omega (arith, other)))),
-  (λ e. (let other : 109 ≡ 115 = head (codes "mta") (codes "session") e in absurd (omega (arith, other)))),
-  (λ e. (let other : 109 ≡ 114 = head (codes "mta") (codes "rules") e in absurd (omega (arith, other)))),
-  (λ e. (let other : 109 ≡ 102 = head (codes "mta") (codes "filter") e in absurd (omega (arith, other)))),
-  (λ e. (let other : 109 ≡ 115 = head (codes "mta") (codes "serve") e in absurd (omega (arith, other)))),
-  (λ e. none),
-  (λ e. (let other : 109 ≡ 112 = head (codes "mta") (codes "play") e in absurd (omega (arith, other)))),
-  (λ e. (let other : 109 ≡ 114 = head (codes "mta") (codes "replay") e in absurd (omega (arith, other)))),
-  (λ e. (let other : 109 ≡ 108 = head (codes "mta") (codes "load") e in absurd (omega (arith, other)))),
-  (λ e. (let other : 109 ≡ 112 = head (codes "mta") (codes "probe") e in absurd (omega (arith, other)))),
-  λ e. (let other : 109 ≡ 114 = head (codes "mta") (codes "record") e in absurd (omega (arith, other))),
-)
-
-pub no_mta_address : (f : Found) → None ≡ first_value f (codes "address") → IsUnasked (codes "mta", rows_of f)
-no_mta_address f none = no_mta (rows_of f) (inl (no_value f (codes "address") none))
-
-pub no_mta_session : (f : Found) → None ≡ first_value f (codes "session") → IsUnasked (codes "mta", rows_of f)
-no_mta_session f none = no_mta (rows_of f) (inr (no_value f (codes "session") none))
+pub no_mta : (values : List Row) → (first_of (codes "address") values ≡ None) ⊎ (first_of (codes "session") values ≡ None) → IsUnasked (codes "mta", values)
+no_mta values none =
+    (differ refl, differ refl, differ refl, differ refl, differ refl, differ refl, (λ e. none), differ refl, differ refl, differ refl, differ refl, differ refl)
 
 pub no_play : (f : Found) → None ≡ first_value f (codes "session") → IsUnasked (codes "play", rows_of f)
-no_play f none = (
-  (λ e. (let other : 112 ≡ 116 = head (codes "play") (codes "trace") e in absurd (omega (arith, other)))),
-  (λ e. (let other : 112 ≡ 97 = head (codes "play") (codes "answer") e in absurd (omega (arith, other)))),
-  (λ e. (let other : 112 ≡ 115 = head (codes "play") (codes "session") e in absurd (omega (arith, other)))),
-  (λ e. (let other : 112 ≡ 114 = head (codes "play") (codes "rules") e in absurd (omega (arith, other)))),
-  (λ e. (let other : 112 ≡ 102 = head (codes "play") (codes "filter") e in absurd (omega (arith, other)))),
-  (λ e. (let other : 112 ≡ 115 = head (codes "play") (codes "serve") e in absurd (omega (arith, other)))),
-  (λ e. (let other : 112 ≡ 109 = head (codes "play") (codes "mta") e in absurd (omega (arith, other)))),
-  (λ e. no_value f (codes "session") none),
-  (λ e. (let other : 112 ≡ 114 = head (codes "play") (codes "replay") e in absurd (omega (arith, other)))),
-  (λ e. (let other : 112 ≡ 108 = head (codes "play") (codes "load") e in absurd (omega (arith, other)))),
-  (λ e. (let other : 108 ≡ 114 = letter 1 (codes "play") (codes "probe") e in absurd (omega (arith, other)))),
-  λ e. (let other : 112 ≡ 114 = head (codes "play") (codes "record") e in absurd (omega (arith, other))),
-)
+no_play f none =
+    (differ refl, differ refl, differ refl, differ refl, differ refl, differ refl, differ refl, (λ e. no_value f (codes "session") none), differ refl, differ refl, differ refl, differ refl)
 
-no_replay : (values : List Row) → (first_of (codes "address") values ≡ None) ⊎ (first_of (codes "trace") values ≡ None) → IsUnasked (codes "replay", values)
-no_replay values none = (
-  (λ e. (let other : 114 ≡ 116 = head (codes "replay") (codes "trace") e in absurd (omega (arith, other)))),
-  (λ e. (let other : 114 ≡ 97 = head (codes "replay") (codes "answer") e in absurd (omega (arith, other)))),
-  (λ e. (let other : 114 ≡ 115 = head (codes "replay") (codes "session") e in absurd (omega (arith, other)))),
-  (λ e. (let other : 101 ≡ 117 = letter 1 (codes "replay") (codes "rules") e in absurd (omega (arith, other)))),
-  (λ e. (let other : 114 ≡ 102 = head (codes "replay") (codes "filter") e in absurd (omega (arith, other)))),
-  (λ e. (let other : 114 ≡ 115 = head (codes "replay") (codes "serve") e in absurd (omega (arith, other)))),
-  (λ e. (let other : 114 ≡ 109 = head (codes "replay") (codes "mta") e in absurd (omega (arith, other)))),
-  (λ e. (let other : 114 ≡ 112 = head (codes "replay") (codes "play") e in absurd (omega (arith, other)))),
-  (λ e. none),
-  (λ e. (let other : 114 ≡ 108 = head (codes "replay") (codes "load") e in absurd (omega (arith, other)))),
-  (λ e. (let other : 114 ≡ 112 = head (codes "replay") (codes "probe") e in absurd (omega (arith, other)))),
-  λ e. (let other : 112 ≡ 99 = letter 2 (codes "replay") (codes "record") e in absurd (omega (arith, other))),
-)
+pub no_replay : (values : List Row) → (first_of (codes "address") values ≡ None) ⊎ (first_of (codes "trace") values ≡ None) → IsUnasked (codes "replay", values)
+no_replay values none =
+    (differ refl, differ refl, differ refl, differ refl, differ refl, differ refl, differ refl, differ refl, (λ e. none), differ refl, differ refl, differ refl)
 
-pub no_replay_address : (f : Found) → None ≡ first_value f (codes "address") → IsUnasked (codes "replay", rows_of f)
-no_replay_address f none = no_replay (rows_of f) (inl (no_value f (codes "address") none))
+pub no_load : (values : List Row) → (first_of (codes "address") values ≡ None) ⊎ (first_of (codes "session") values ≡ None) → IsUnasked (codes "load", values)
+no_load values none =
+    (differ refl, differ refl, differ refl, differ refl, differ refl, differ refl, differ refl, differ refl, differ refl, (λ e. none), differ refl, differ refl)
 
-pub no_replay_trace : (f : Found) → None ≡ first_value f (codes "trace") → IsUnasked (codes "replay", rows_of f)
-no_replay_trace f none = no_replay (rows_of f) (inr (no_value f (codes "trace") none))
+pub no_probe : (values : List Row) → (first_of (codes "address") values ≡ None) ⊎ (first_of (codes "session") values ≡ None) → IsUnasked (codes "probe", values)
+no_probe values none =
+    (differ refl, differ refl, differ refl, differ refl, differ refl, differ refl, differ refl, differ refl, differ refl, differ refl, (λ e. none), differ refl)
 
-no_load : (values : List Row) → (first_of (codes "address") values ≡ None) ⊎ (first_of (codes "session") values ≡ None) → IsUnasked (codes "load", values)
-no_load values none = (
-  (λ e. (let other : 108 ≡ 116 = head (codes "load") (codes "trace") e in absurd (omega (arith, other)))),
-  (λ e. (let other : 108 ≡ 97 = head (codes "load") (codes "answer") e in absurd (omega (arith, other)))),
-  (λ e. (let other : 108 ≡ 115 = head (codes "load") (codes "session") e in absurd (omega (arith, other)))),
-  (λ e. (let other : 108 ≡ 114 = head (codes "load") (codes "rules") e in absurd (omega (arith, other)))),
-  (λ e. (let other : 108 ≡ 102 = head (codes "load") (codes "filter") e in absurd (omega (arith, other)))),
-  (λ e. (let other : 108 ≡ 115 = head (codes "load") (codes "serve") e in absurd (omega (arith, other)))),
-  (λ e. (let other : 108 ≡ 109 = head (codes "load") (codes "mta") e in absurd (omega (arith, other)))),
-  (λ e. (let other : 108 ≡ 112 = head (codes "load") (codes "play") e in absurd (omega (arith, other)))),
-  (λ e. (let other : 108 ≡ 114 = head (codes "load") (codes "replay") e in absurd (omega (arith, other)))),
-  (λ e. none),
-  (λ e. (let other : 108 ≡ 112 = head (codes "load") (codes "probe") e in absurd (omega (arith, other)))),
-  λ e. (let other : 108 ≡ 114 = head (codes "load") (codes "record") e in absurd (omega (arith, other))),
-)
-
-pub no_load_address : (f : Found) → None ≡ first_value f (codes "address") → IsUnasked (codes "load", rows_of f)
-no_load_address f none = no_load (rows_of f) (inl (no_value f (codes "address") none))
-
-pub no_load_session : (f : Found) → None ≡ first_value f (codes "session") → IsUnasked (codes "load", rows_of f)
-no_load_session f none = no_load (rows_of f) (inr (no_value f (codes "session") none))
-
-no_probe : (values : List Row) → (first_of (codes "address") values ≡ None) ⊎ (first_of (codes "session") values ≡ None) → IsUnasked (codes "probe", values)
-no_probe values none = (
-  (λ e. (let other : 112 ≡ 116 = head (codes "probe") (codes "trace") e in absurd (omega (arith, other)))),
-  (λ e. (let other : 112 ≡ 97 = head (codes "probe") (codes "answer") e in absurd (omega (arith, other)))),
-  (λ e. (let other : 112 ≡ 115 = head (codes "probe") (codes "session") e in absurd (omega (arith, other)))),
-  (λ e. (let other : 112 ≡ 114 = head (codes "probe") (codes "rules") e in absurd (omega (arith, other)))),
-  (λ e. (let other : 112 ≡ 102 = head (codes "probe") (codes "filter") e in absurd (omega (arith, other)))),
-  (λ e. (let other : 112 ≡ 115 = head (codes "probe") (codes "serve") e in absurd (omega (arith, other)))),
-  (λ e. (let other : 112 ≡ 109 = head (codes "probe") (codes "mta") e in absurd (omega (arith, other)))),
-  (λ e. (let other : 114 ≡ 108 = letter 1 (codes "probe") (codes "play") e in absurd (omega (arith, other)))),
-  (λ e. (let other : 112 ≡ 114 = head (codes "probe") (codes "replay") e in absurd (omega (arith, other)))),
-  (λ e. (let other : 112 ≡ 108 = head (codes "probe") (codes "load") e in absurd (omega (arith, other)))),
-  (λ e. none),
-  λ e. (let other : 112 ≡ 114 = head (codes "probe") (codes "record") e in absurd (omega (arith, other))),
-)
-
-pub no_probe_address : (f : Found) → None ≡ first_value f (codes "address") → IsUnasked (codes "probe", rows_of f)
-no_probe_address f none = no_probe (rows_of f) (inl (no_value f (codes "address") none))
-
-pub no_probe_session : (f : Found) → None ≡ first_value f (codes "session") → IsUnasked (codes "probe", rows_of f)
-no_probe_session f none = no_probe (rows_of f) (inr (no_value f (codes "session") none))
-
-no_record : (values : List Row) → (first_of (codes "listen") values ≡ None) ⊎ (first_of (codes "address") values ≡ None) ⊎ (first_of (codes "directory") values ≡ None) → IsUnasked (codes "record", values)
-no_record values none = (
-  (λ e. (let other : 114 ≡ 116 = head (codes "record") (codes "trace") e in absurd (omega (arith, other)))),
-  (λ e. (let other : 114 ≡ 97 = head (codes "record") (codes "answer") e in absurd (omega (arith, other)))),
-  (λ e. (let other : 114 ≡ 115 = head (codes "record") (codes "session") e in absurd (omega (arith, other)))),
-  (λ e. (let other : 101 ≡ 117 = letter 1 (codes "record") (codes "rules") e in absurd (omega (arith, other)))),
-  (λ e. (let other : 114 ≡ 102 = head (codes "record") (codes "filter") e in absurd (omega (arith, other)))),
-  (λ e. (let other : 114 ≡ 115 = head (codes "record") (codes "serve") e in absurd (omega (arith, other)))),
-  (λ e. (let other : 114 ≡ 109 = head (codes "record") (codes "mta") e in absurd (omega (arith, other)))),
-  (λ e. (let other : 114 ≡ 112 = head (codes "record") (codes "play") e in absurd (omega (arith, other)))),
-  (λ e. (let other : 99 ≡ 112 = letter 2 (codes "record") (codes "replay") e in absurd (omega (arith, other)))),
-  (λ e. (let other : 114 ≡ 108 = head (codes "record") (codes "load") e in absurd (omega (arith, other)))),
-  (λ e. (let other : 114 ≡ 112 = head (codes "record") (codes "probe") e in absurd (omega (arith, other)))),
-  λ e. none,
-)
-
-pub no_record_listen : (f : Found) → None ≡ first_value f (codes "listen") → IsUnasked (codes "record", rows_of f)
-no_record_listen f none = no_record (rows_of f) (inl (no_value f (codes "listen") none))
-
-pub no_record_address : (f : Found) → None ≡ first_value f (codes "address") → IsUnasked (codes "record", rows_of f)
-no_record_address f none = no_record (rows_of f) (inr (inl (no_value f (codes "address") none)))
-
-pub no_record_directory : (f : Found) → None ≡ first_value f (codes "directory") → IsUnasked (codes "record", rows_of f)
-no_record_directory f none = no_record (rows_of f) (inr (inr (no_value f (codes "directory") none)))
+pub no_record : (values : List Row) → (first_of (codes "listen") values ≡ None) ⊎ (first_of (codes "address") values ≡ None) ⊎ (first_of (codes "directory") values ≡ None) → IsUnasked (codes "record", values)
+no_record values none =
+    (differ refl, differ refl, differ refl, differ refl, differ refl, differ refl, differ refl, differ refl, differ refl, differ refl, differ refl, (λ e. none))
 
 first_given : (o : Option Row) → option_map_or (λ r. explicit_source r.source) o false ≡ true → IfSome o IsFilled → option_and_then (λ r. slice_get r.values 0) o ≡ None → ⊥
 first_given None given f none = true≢false (sym given)
@@ -298,29 +144,22 @@ required_here : (b : Bool) (k : ErrorKind) → cond (not b || false) (k ∷ []) 
 required_here true k e = refl
 required_here false k e = absurd (some_fault k [] e)
 
-first_here : (a b : Bool) (k : ErrorKind) → cond (not a || (not b || false)) (k ∷ []) [] ≡ [] → a ≡ true
-first_here true b k e = refl
-first_here false b k e = absurd (some_fault k [] e)
+both_here : (a b : Bool) (k : ErrorKind) → cond (not a || (not b || false)) (k ∷ []) [] ≡ [] → (a ≡ true) × (b ≡ true)
+both_here true true k e = (refl, refl)
+both_here true false k e = absurd (some_fault k [] e)
+both_here false b k e = absurd (some_fault k [] e)
 
-second_here : (a b : Bool) (k : ErrorKind) → cond (not a || (not b || false)) (k ∷ []) [] ≡ [] → b ≡ true
-second_here a true k e = refl
-second_here true false k e = absurd (some_fault k [] e)
-second_here false false k e = absurd (some_fault k [] e)
+three_here : (a b c : Bool) (k : ErrorKind) → cond (not a || (not b || (not c || false))) (k ∷ []) [] ≡ [] → (a ≡ true) × (b ≡ true) × (c ≡ true)
+three_here true true true k e = (refl, refl, refl)
+three_here true true false k e = absurd (some_fault k [] e)
+three_here true false c k e = absurd (some_fault k [] e)
+three_here false b c k e = absurd (some_fault k [] e)
 
-first_of_three : (a b c : Bool) (k : ErrorKind) → cond (not a || (not b || (not c || false))) (k ∷ []) [] ≡ [] → a ≡ true
-first_of_three true b c k e = refl
-first_of_three false b c k e = absurd (some_fault k [] e)
-
-second_of_three : (a b c : Bool) (k : ErrorKind) → cond (not a || (not b || (not c || false))) (k ∷ []) [] ≡ [] → b ≡ true
-second_of_three a true c k e = refl
-second_of_three true false c k e = absurd (some_fault k [] e)
-second_of_three false false c k e = absurd (some_fault k [] e)
-
-third_of_three : (a b c : Bool) (k : ErrorKind) → cond (not a || (not b || (not c || false))) (k ∷ []) [] ≡ [] → c ≡ true
-third_of_three a b true k e = refl
-third_of_three true true false k e = absurd (some_fault k [] e)
-third_of_three true false false k e = absurd (some_fault k [] e)
-third_of_three false b false k e = absurd (some_fault k [] e)
+-- one of two arguments that are required has no value
+both_there : (a b : Text) (s : Shape) (words : List Text) → Each Fills s.rules → ((rows : List Row) → check_fault s rows false ≡ [] → (is_given a rows ≡ true) × (is_given b rows ≡ true)) → level_fault s [] nothing_held words false [] ≡ []
+    → (first_of a (rows_after s.rules [] words) ≡ None) ⊎ (first_of b (rows_after s.rules [] words) ≡ None) → ⊥
+both_there a b s words fills required below (inl none) = is_there a s words fills (λ rows e. (required rows e).0) below none
+both_there a b s words fills required below (inr none) = is_there b s words fills (λ rows e. (required rows e).1) below none
 
 or_false : (b : Bool) → b || false ≡ true → b ≡ true
 or_false true e = refl
@@ -333,41 +172,45 @@ never_help name other named =
     true≢false (ap (λ x. bytes_eq x (codes "help")) is ∙ other)
 
 module _ (losses : BorrowedWords) where
+  -- the shape that a subcommand of the program has once it is built
+  abbrev leaf_of : App → Shape
+  leaf_of app = built_leaf (inherited (with_leaf_noted (marked_built (tool_app losses).top)) app.top)
+
   abbrev trace_shape : Shape
-  trace_shape = built_leaf (inherited (with_leaf_noted (marked_built (tool_app losses).top)) trace_app.top)
+  trace_shape = leaf_of trace_app
 
   abbrev session_shape : Shape
-  session_shape = built_leaf (inherited (with_leaf_noted (marked_built (tool_app losses).top)) session_app.top)
+  session_shape = leaf_of session_app
 
   abbrev rules_shape : Shape
-  rules_shape = built_leaf (inherited (with_leaf_noted (marked_built (tool_app losses).top)) rules_app.top)
+  rules_shape = leaf_of rules_app
 
   abbrev filter_shape : Shape
-  filter_shape = built_leaf (inherited (with_leaf_noted (marked_built (tool_app losses).top)) filter_app.top)
+  filter_shape = leaf_of filter_app
 
   abbrev serve_shape : Shape
-  serve_shape = built_leaf (inherited (with_leaf_noted (marked_built (tool_app losses).top)) serve_app.top)
+  serve_shape = leaf_of serve_app
 
   abbrev answer_shape : Shape
-  answer_shape = built_leaf (inherited (with_leaf_noted (marked_built (tool_app losses).top)) answer_app.top)
+  answer_shape = leaf_of answer_app
 
   abbrev mta_shape : Shape
-  mta_shape = built_leaf (inherited (with_leaf_noted (marked_built (tool_app losses).top)) (mta_app losses).top)
+  mta_shape = leaf_of (mta_app losses)
 
   abbrev play_shape : Shape
-  play_shape = built_leaf (inherited (with_leaf_noted (marked_built (tool_app losses).top)) (play_app losses).top)
+  play_shape = leaf_of (play_app losses)
 
   abbrev replay_shape : Shape
-  replay_shape = built_leaf (inherited (with_leaf_noted (marked_built (tool_app losses).top)) replay_app.top)
+  replay_shape = leaf_of replay_app
 
   abbrev load_shape : Shape
-  load_shape = built_leaf (inherited (with_leaf_noted (marked_built (tool_app losses).top)) load_app.top)
+  load_shape = leaf_of load_app
 
   abbrev probe_shape : Shape
-  probe_shape = built_leaf (inherited (with_leaf_noted (marked_built (tool_app losses).top)) probe_app.top)
+  probe_shape = leaf_of probe_app
 
   abbrev record_shape : Shape
-  record_shape = built_leaf (inherited (with_leaf_noted (marked_built (tool_app losses).top)) record_app.top)
+  record_shape = leaf_of record_app
 
   mta_fills : Each Fills mta_shape.rules
   mta_fills = (inr (inl refl), (inr (inl refl), (inr (inl refl), (inr (inl refl), (inr (inl refl), (inr (inl refl), (inr (inl refl), (inr (inl refl), (inr (inr refl), (inr (inl refl), (inr (inl refl), (inr (inr refl), (inl refl, tt)))))))))))))
@@ -407,32 +250,12 @@ module _ (losses : BorrowedWords) where
   abbrev entered_by : Option Shape → List Text → Option (Text × List Row)
   entered_by o words = option_map (λ s. rows_at s words) o
 
-  mta_asks : (words : List Text) → level_fault mta_shape [] nothing_held words false [] ≡ []
-      → (first_of (codes "address") (rows_after mta_shape.rules [] words) ≡ None) ⊎ (first_of (codes "session") (rows_after mta_shape.rules [] words) ≡ None) → ⊥
-  mta_asks words below (inl none) = is_there (codes "address") mta_shape words mta_fills (λ rows e. first_here _ _ _ e) below none
-  mta_asks words below (inr none) = is_there (codes "session") mta_shape words mta_fills (λ rows e. second_here _ _ _ e) below none
-
-  replay_asks : (words : List Text) → level_fault replay_shape [] nothing_held words false [] ≡ []
-      → (first_of (codes "address") (rows_after replay_shape.rules [] words) ≡ None) ⊎ (first_of (codes "trace") (rows_after replay_shape.rules [] words) ≡ None) → ⊥
-  replay_asks words below (inl none) = is_there (codes "address") replay_shape words replay_fills (λ rows e. first_here _ _ _ e) below none
-  replay_asks words below (inr none) = is_there (codes "trace") replay_shape words replay_fills (λ rows e. second_here _ _ _ e) below none
-
-  load_asks : (words : List Text) → level_fault load_shape [] nothing_held words false [] ≡ []
-      → (first_of (codes "address") (rows_after load_shape.rules [] words) ≡ None) ⊎ (first_of (codes "session") (rows_after load_shape.rules [] words) ≡ None) → ⊥
-  load_asks words below (inl none) = is_there (codes "address") load_shape words load_fills (λ rows e. first_here _ _ _ e) below none
-  load_asks words below (inr none) = is_there (codes "session") load_shape words load_fills (λ rows e. second_here _ _ _ e) below none
-
-  probe_asks : (words : List Text) → level_fault probe_shape [] nothing_held words false [] ≡ []
-      → (first_of (codes "address") (rows_after probe_shape.rules [] words) ≡ None) ⊎ (first_of (codes "session") (rows_after probe_shape.rules [] words) ≡ None) → ⊥
-  probe_asks words below (inl none) = is_there (codes "address") probe_shape words probe_fills (λ rows e. first_here _ _ _ e) below none
-  probe_asks words below (inr none) = is_there (codes "session") probe_shape words probe_fills (λ rows e. second_here _ _ _ e) below none
-
   record_asks : (words : List Text) → level_fault record_shape [] nothing_held words false [] ≡ []
       → (first_of (codes "listen") (rows_after record_shape.rules [] words) ≡ None) ⊎ (first_of (codes "address") (rows_after record_shape.rules [] words) ≡ None)
       ⊎ (first_of (codes "directory") (rows_after record_shape.rules [] words) ≡ None) → ⊥
-  record_asks words below (inl none) = is_there (codes "listen") record_shape words record_fills (λ rows e. first_of_three _ _ _ _ e) below none
-  record_asks words below (inr (inl none)) = is_there (codes "address") record_shape words record_fills (λ rows e. second_of_three _ _ _ _ e) below none
-  record_asks words below (inr (inr none)) = is_there (codes "directory") record_shape words record_fills (λ rows e. third_of_three _ _ _ _ e) below none
+  record_asks words below (inl none) = is_there (codes "listen") record_shape words record_fills (λ rows e. (three_here _ _ _ _ e).0) below none
+  record_asks words below (inr (inl none)) = is_there (codes "address") record_shape words record_fills (λ rows e. (three_here _ _ _ _ e).1) below none
+  record_asks words below (inr (inr none)) = is_there (codes "directory") record_shape words record_fills (λ rows e. (three_here _ _ _ _ e).2) below none
 
   -- a subcommand that is entered without a fault asks for something
   picked_asks : (words : List Text) (rows : List Row) (trace session rules answer filter serve mta play replay load probe recording help : Bool) → (help ≡ true → ⊥) → asked_below (pick (shapes trace session rules answer filter serve mta play replay load probe recording help)) words ≡ []
@@ -447,12 +270,16 @@ module _ (losses : BorrowedWords) where
       is_there (codes "address") filter_shape words (inr (inl refl), (inr (inl refl), (inr (inl refl), (inr (inr refl), (inr (inr refl), (inr (inr refl), (inr (inr refl), (inl refl, tt)))))))) (λ rows e. required_here _ _ e) below (unasked.4 refl)
   picked_asks words rows false false false false false true mta play replay load probe recording help none below check unasked =
       is_there (codes "address") serve_shape words serve_fills (λ rows e. required_here _ _ e) below (unasked.5 refl)
-  picked_asks words rows false false false false false false true play replay load probe recording help none below check unasked = mta_asks words below (unasked.6 refl)
+  picked_asks words rows false false false false false false true play replay load probe recording help none below check unasked =
+      both_there (codes "address") (codes "session") mta_shape words mta_fills (λ rows e. both_here _ _ _ e) below (unasked.6 refl)
   picked_asks words rows false false false false false false false true replay load probe recording help none below check unasked =
       is_there (codes "session") play_shape words play_fills (λ rows e. required_here _ _ e) below (unasked.7 refl)
-  picked_asks words rows false false false false false false false false true load probe recording help none below check unasked = replay_asks words below (unasked.8 refl)
-  picked_asks words rows false false false false false false false false false true probe recording help none below check unasked = load_asks words below (unasked.9 refl)
-  picked_asks words rows false false false false false false false false false false true recording help none below check unasked = probe_asks words below (unasked.10 refl)
+  picked_asks words rows false false false false false false false false true load probe recording help none below check unasked =
+      both_there (codes "address") (codes "trace") replay_shape words replay_fills (λ rows e. both_here _ _ _ e) below (unasked.8 refl)
+  picked_asks words rows false false false false false false false false false true probe recording help none below check unasked =
+      both_there (codes "address") (codes "session") load_shape words load_fills (λ rows e. both_here _ _ _ e) below (unasked.9 refl)
+  picked_asks words rows false false false false false false false false false false true recording help none below check unasked =
+      both_there (codes "address") (codes "session") probe_shape words probe_fills (λ rows e. both_here _ _ _ e) below (unasked.10 refl)
   picked_asks words rows false false false false false false false false false false false true help none below check unasked = record_asks words below (unasked.11 refl)
   picked_asks words rows false false false false false false false false false false false false true none below check unasked = none refl
   picked_asks words rows false false false false false false false false false false false false false none below check unasked = some_fault _ _ check

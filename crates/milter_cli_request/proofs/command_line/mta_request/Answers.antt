@@ -1,16 +1,16 @@
-use Rattle.std.proofs.Common.{codes, refl, arith}
+use Rattle.std.proofs.Common.{codes, refl, arith, inl, inr}
 use Rattle.clap.specs.Words.{found_of}
 use Rattle.milter_cli_request.specs.CommandLine.{IsLoss}
 use Rattle.milter_cli_words.specs.declared.limits.TheConstants.{SENT_MAX, TIMEOUT_MAX, WAIT_MAX}
 use Rattle.milter_cli_request.specs.declared.command_line.TheConstants.{TIMEOUT_DEFAULT}
-use Rattle.milter_cli_request.proofs.RequestLaws.{any_values_given, flag_given, holds_of, no_mta_address, no_mta_session, number_given, number_known, text_given, value_given}
+use Rattle.milter_cli_request.proofs.RequestLaws.{any_values_given, flag_given, holds_of, no_mta, no_value, number_given, number_known, text_given, value_given}
 use Rattle.milter_cli_request.proofs.command_line.mta_request.Goals as goal
 
 pub returns-in_default : goal.returns-in_default
-returns-in_default c = no_mta_address (found_of c.args.given.now) c.in_default.ensures
+returns-in_default c = no_mta _ (inl (no_value (found_of c.args.given.now) (codes "address") c.in_default.ensures))
 
 pub returns-in_default-get_str : goal.returns-in_default-get_str
-returns-in_default-get_str c = no_mta_session (found_of c.args.given.now) c.in_default-get_str.ensures
+returns-in_default-get_str c = no_mta _ (inr (no_value (found_of c.args.given.now) (codes "session") c.in_default-get_str.ensures))
 
 pub returns : goal.returns
 returns c =

@@ -1,15 +1,15 @@
-use Rattle.std.proofs.Common.{codes, refl, arith}
+use Rattle.std.proofs.Common.{codes, refl, arith, inl, inr}
 use Rattle.clap.specs.Words.{found_of}
 use Rattle.milter_cli_words.specs.declared.limits.TheConstants.{SEED_MAX, TIMEOUT_MAX}
 use Rattle.milter_cli_request.specs.declared.command_line.TheConstants.{PROBE_TIMEOUT_DEFAULT, SEED_DEFAULT}
-use Rattle.milter_cli_request.proofs.RequestLaws.{no_probe_address, no_probe_session, number_given, text_given, value_given}
+use Rattle.milter_cli_request.proofs.RequestLaws.{no_probe, no_value, number_given, text_given, value_given}
 use Rattle.milter_cli_request.proofs.command_line.probe_request.Goals as goal
 
 pub returns-in_err-address : goal.returns-in_err-address
-returns-in_err-address c = rw c.from_residual.ensures (no_probe_address (found_of c.args.given.now) c.in_err-address.ensures)
+returns-in_err-address c = rw c.from_residual.ensures (no_probe _ (inl (no_value (found_of c.args.given.now) (codes "address") c.in_err-address.ensures)))
 
 pub returns-in_err-session : goal.returns-in_err-session
-returns-in_err-session c = rw c.from_residual-in_err-session.ensures (no_probe_session (found_of c.args.given.now) c.in_err-session.ensures)
+returns-in_err-session c = rw c.from_residual-in_err-session.ensures (no_probe _ (inr (no_value (found_of c.args.given.now) (codes "session") c.in_err-session.ensures)))
 
 pub returns : goal.returns
 returns c =

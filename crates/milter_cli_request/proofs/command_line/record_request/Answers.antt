@@ -1,17 +1,17 @@
-use Rattle.std.proofs.Common.{codes, refl, arith}
+use Rattle.std.proofs.Common.{codes, refl, arith, inl, inr}
 use Rattle.clap.specs.Words.{found_of}
 use Rattle.milter_cli_words.specs.declared.limits.TheConstants.{COUNT_MAX}
-use Rattle.milter_cli_request.proofs.RequestLaws.{no_record_address, no_record_directory, no_record_listen, number_given, value_given}
+use Rattle.milter_cli_request.proofs.RequestLaws.{no_record, no_value, number_given, value_given}
 use Rattle.milter_cli_request.proofs.command_line.record_request.Goals as goal
 
 pub returns-in_err-listen : goal.returns-in_err-listen
-returns-in_err-listen c = rw c.from_residual.ensures (no_record_listen (found_of c.args.given.now) c.in_err-listen.ensures)
+returns-in_err-listen c = rw c.from_residual.ensures (no_record _ (inl (no_value (found_of c.args.given.now) (codes "listen") c.in_err-listen.ensures)))
 
 pub returns-in_err-address : goal.returns-in_err-address
-returns-in_err-address c = rw c.from_residual-in_err-address.ensures (no_record_address (found_of c.args.given.now) c.in_err-address.ensures)
+returns-in_err-address c = rw c.from_residual-in_err-address.ensures (no_record _ (inr (inl (no_value (found_of c.args.given.now) (codes "address") c.in_err-address.ensures))))
 
 pub returns-in_err-directory : goal.returns-in_err-directory
-returns-in_err-directory c = rw c.from_residual-in_err-directory.ensures (no_record_directory (found_of c.args.given.now) c.in_err-directory.ensures)
+returns-in_err-directory c = rw c.from_residual-in_err-directory.ensures (no_record _ (inr (inr (no_value (found_of c.args.given.now) (codes "directory") c.in_err-directory.ensures))))
 
 pub returns : goal.returns
 returns c =
