@@ -123,6 +123,15 @@ fn push_exchanges(steps: &mut Vec<Step>, from: usize, to: usize) -> Result<(), N
     Ok(())
 }
 
+/// Appends the exchanges from the beginning of the message with this number, from 0, to the end of the conversation.
+fn push_from(
+    steps: &mut Vec<Step>,
+    exchanges: &[Exchange],
+    message: usize,
+) -> Result<(), NoMemory> {
+    push_exchanges(steps, message_start(exchanges, message), exchanges.len())
+}
+
 /// The conversation up to a byte.
 fn cut_at(alloc: Global, exchanges: &[Exchange], cut: Cut) -> Result<Script, NoMemory> {
     let mut steps = Vec::new(alloc);
@@ -169,11 +178,7 @@ fn aborted(alloc: Global, exchanges: &[Exchange], place: usize) -> Result<Script
     let mut steps = Vec::new(alloc);
     push_exchanges(&mut steps, 0, place.saturating_add(1))?;
     steps.push(Step::Insert(abort_packet(alloc)?))?;
-    push_exchanges(
-        &mut steps,
-        message_start(exchanges, message),
-        exchanges.len(),
-    )?;
+    push_from(&mut steps, exchanges, message)?;
     Ok(compared(steps))
 }
 
@@ -185,11 +190,7 @@ fn message_again(
 ) -> Result<Script, NoMemory> {
     let mut steps = Vec::new(alloc);
     push_exchanges(&mut steps, 0, message_end(exchanges, message))?;
-    push_exchanges(
-        &mut steps,
-        message_start(exchanges, message),
-        exchanges.len(),
-    )?;
+    push_from(&mut steps, exchanges, message)?;
     Ok(compared(steps))
 }
 
