@@ -39,8 +39,7 @@ fn say_plainly<'x>(notes: &mut Notes<'_>, text: &'x str, trouble: &'x str) -> Re
 
 /// Says how the address is written that a text means.
 fn say_meant(notes: &mut Notes<'_>, text: &str, meant: Meant<'_>) -> Result<(), NoMemory> {
-    let alloc = notes.alloc();
-    let mut address = Vec::new(alloc);
+    let mut address = Vec::new(notes.alloc());
     put_address(&mut address, meant)?;
     say_written(notes, text.as_bytes(), address.as_slice())
 }

@@ -16,8 +16,7 @@ const NUMBER_MAX: u64 = 4_294_967_295;
 
 /// Says why a file with these bytes has no events.
 pub(crate) fn say_events(notes: &mut Notes<'_>, bytes: &[u8]) -> Result<(), NoMemory> {
-    let alloc = notes.alloc();
-    let number = match read_events(alloc, bytes) {
+    let number = match read_events(notes.alloc(), bytes) {
         Ok(_) => return Ok(()),
         Err(EventFault::NoMemory) => return Err(NoMemory),
         Err(EventFault::TooMany(number)) => {
@@ -28,7 +27,7 @@ pub(crate) fn say_events(notes: &mut Notes<'_>, bytes: &[u8]) -> Result<(), NoMe
         Err(EventFault::UnknownLine(number)) => number,
     };
     notes.go_to(Some(number));
-    let line = line_at(alloc, bytes, number)?;
+    let line = line_at(notes.alloc(), bytes, number)?;
     match &line.content {
         Content::Words(words) => say_line(notes, words.as_slice()),
         // A line that isn't in words is one of no file.

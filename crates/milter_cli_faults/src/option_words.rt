@@ -20,16 +20,15 @@ pub(crate) fn say_bad_names(
     first_word: &str,
     names: &str,
 ) -> Result<(), NoMemory> {
-    let alloc = notes.alloc();
     if names.is_empty() {
         let text = b"no value is given; it is names joined by |, or none";
         return notes.say(&[Span::Plain(text)]);
     }
-    let mut line = Vec::new(alloc);
+    let mut line = Vec::new(notes.alloc());
     line.extend_from_slice(first_word.as_bytes())?;
     line.push(b' ')?;
     line.extend_from_slice(names.as_bytes())?;
-    let mut said = Notes::new(alloc, "");
+    let mut said = Notes::new(notes.alloc(), "");
     say_fault(&mut said, line.as_slice(), RuleFault::UnknownWord(1))?;
     notes.say(&[Span::Plain(after_place(said.text()))])
 }

@@ -19,11 +19,10 @@ pub(crate) fn say_rules<R: Files>(
     path: &str,
     bytes: &[u8],
 ) -> Result<(), NoMemory> {
-    let alloc = notes.alloc();
-    match read_rule_lines(alloc, bytes) {
+    match read_rule_lines(notes.alloc(), bytes) {
         Ok(rules) => {
             drop(rules);
-            if has_endless_list(files, alloc, path, bytes)? {
+            if has_endless_list(files, notes.alloc(), path, bytes)? {
                 return Ok(());
             }
             say_lists(files, notes, path, bytes)

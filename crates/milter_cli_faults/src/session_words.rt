@@ -13,8 +13,7 @@ use milter_wire::NoMemory;
 
 /// Says why a file with these bytes has no session.
 pub(crate) fn say_session(notes: &mut Notes<'_>, bytes: &[u8]) -> Result<(), NoMemory> {
-    let alloc = notes.alloc();
-    let fault = match read_session(alloc, bytes) {
+    let fault = match read_session(notes.alloc(), bytes) {
         Ok(session) => {
             drop(session);
             return Ok(());
@@ -25,7 +24,7 @@ pub(crate) fn say_session(notes: &mut Notes<'_>, bytes: &[u8]) -> Result<(), NoM
         return Err(NoMemory);
     };
     notes.go_to(Some(number));
-    let line = line_at(alloc, bytes, number)?;
+    let line = line_at(notes.alloc(), bytes, number)?;
     match &line.content {
         // A line that isn't in words is one of no file.
         Content::NoWords => say_fault(notes, bytes, RuleFault::UnknownWord(number)),

@@ -14,8 +14,7 @@ pub(crate) fn say_trace(notes: &mut Notes<'_>, fault: TraceFault) -> Result<(), 
 
 /// Says why a trace with these bytes can't be sent again.
 pub(crate) fn say_recording(notes: &mut Notes<'_>, bytes: &[u8]) -> Result<(), NoMemory> {
-    let alloc = notes.alloc();
-    let Err(fault) = read_trace(alloc, bytes) else {
+    let Err(fault) = read_trace(notes.alloc(), bytes) else {
         return Ok(());
     };
     let text = match fault {

@@ -69,12 +69,11 @@ fn say_list<R: Files>(
     path: &str,
     source: &ListSource,
 ) -> Result<(), NoMemory> {
-    let alloc = notes.alloc();
-    let Some(file) = list_path(alloc, path, source)? else {
+    let Some(file) = list_path(notes.alloc(), path, source)? else {
         return say_unread(notes, source, source.file.as_slice());
     };
     let shown = file.as_path().as_str().as_bytes();
-    match read_list_at(files, alloc, file.as_path())? {
+    match read_list_at(files, notes.alloc(), file.as_path())? {
         Some(bytes) => say_entries(notes, source, shown, bytes.as_slice()),
         None => say_unread(notes, source, shown),
     }
@@ -102,8 +101,7 @@ fn say_entries<'x>(
     shown: &'x [u8],
     bytes: &[u8],
 ) -> Result<(), NoMemory> {
-    let alloc = notes.alloc();
-    let (line, said) = match TextList::read(alloc, source.kind, bytes) {
+    let (line, said) = match TextList::read(notes.alloc(), source.kind, bytes) {
         Ok(_) => return Ok(()),
         Err(ListFault::BadEntry(line)) => (line, bad_entry(source.kind)),
         Err(ListFault::TooLarge(line)) => (line, TOO_LARGE),

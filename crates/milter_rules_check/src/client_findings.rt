@@ -54,12 +54,11 @@ fn say_no_address(
     form: FileForm,
     compared: Compared<'_>,
 ) -> Result<(), NoMemory> {
-    let alloc = notes.alloc();
     let condition = Span::Compared(compared);
     let outcome = Span::Plain(outcome_unfound(compared));
     let colon = Span::Plain(b": ");
     let text = Span::Quoted(compared.text);
-    match network_meant(alloc, compared.text)? {
+    match network_meant(notes.alloc(), compared.text)? {
         Some(network) => {
             let spans = [
                 condition,

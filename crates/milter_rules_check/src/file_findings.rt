@@ -9,7 +9,6 @@ use std::str;
 
 /// Says which stages no rule needs that a line `protocol` of the file has sent all the same.
 pub(crate) fn say_stages(notes: &mut Notes<'_>, rules: &Rules) -> Result<(), NoMemory> {
-    let alloc = notes.alloc();
     if !rules.is_protocol_stated() {
         return Ok(());
     }
@@ -20,7 +19,7 @@ pub(crate) fn say_stages(notes: &mut Notes<'_>, rules: &Rules) -> Result<(), NoM
     if needless == 0 {
         return Ok(());
     }
-    let names = names_of(alloc, needless)?;
+    let names = names_of(notes.alloc(), needless)?;
     let Ok(names) = str::from_utf8(names.as_slice()) else {
         return Ok(());
     };

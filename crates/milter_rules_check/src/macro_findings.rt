@@ -83,7 +83,6 @@ fn say_macro_name(
     condition: MacroCondition<'_>,
     name: &[u8],
 ) -> Result<bool, NoMemory> {
-    let alloc = notes.alloc();
     let bare = without(name, b'{', b'}');
     let is_braced = matches!(name, [b'{', .., b'}']);
     if bare.len() == 1 && name.len() > 1 {
@@ -92,7 +91,7 @@ fn say_macro_name(
         return Ok(true);
     }
     if bare.len() > 1 && !is_braced {
-        let mut due = Vec::new(alloc);
+        let mut due = Vec::new(notes.alloc());
         due.push(b'{')?;
         due.extend_from_slice(bare)?;
         due.push(b'}')?;
@@ -163,12 +162,11 @@ fn say_address_text(
     form: FileForm,
     compared: Compared<'_>,
 ) -> Result<(), NoMemory> {
-    let alloc = notes.alloc();
     let bare = without_brackets(compared.text);
     if bare.is_empty() {
         return Ok(());
     }
-    let lower = bare.to_ascii_lowercase(alloc)?;
+    let lower = bare.to_ascii_lowercase(notes.alloc())?;
     if bare.len() < compared.text.len() {
         return say_no_brackets(notes, compared, lower.as_slice());
     }

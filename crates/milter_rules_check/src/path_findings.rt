@@ -81,8 +81,7 @@ fn say_whole_text(
     file: CheckedFile<'_>,
     compared: Compared<'_>,
 ) -> Result<(), NoMemory> {
-    let alloc = notes.alloc();
-    let address = canonical_address(alloc, compared.text)?;
+    let address = canonical_address(notes.alloc(), compared.text)?;
     let address = address.as_slice();
     let form = form_of(compared.text, address);
     if form == Form::Other || is_compared_otherwise(file.rules, compared, address) {
@@ -152,7 +151,6 @@ fn say_in_brackets<'x>(
 
 /// Says that the text is the end of an address alone.
 fn say_end(notes: &mut Notes<'_>, form: FileForm, compared: Compared<'_>) -> Result<(), NoMemory> {
-    let alloc = notes.alloc();
     let middle = Span::Plain(b" compares the whole address; write ");
     match (form, part_field(compared.field, PathPart::Domain)) {
         (FileForm::Second, Some(field)) => {
@@ -162,7 +160,7 @@ fn say_end(notes: &mut Notes<'_>, form: FileForm, compared: Compared<'_>) -> Res
             notes.say(&spans)
         }
         _ => {
-            let part = end_of_path(alloc, compared.text)?;
+            let part = end_of_path(notes.alloc(), compared.text)?;
             let instead = Span::Compared(part_of(compared, part.as_slice()));
             notes.say(&[Span::Compared(compared), middle, instead])
         }

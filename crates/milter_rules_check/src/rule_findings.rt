@@ -26,10 +26,9 @@ pub(crate) fn say_findings(
     bytes: &[u8],
     rules: &Rules,
 ) -> Result<(), NoMemory> {
-    let alloc = notes.alloc();
-    let form = form_of_file(alloc, bytes)?;
+    let form = form_of_file(notes.alloc(), bytes)?;
     let file = CheckedFile { rules, form };
-    let lines = rule_lines(alloc, bytes)?;
+    let lines = rule_lines(notes.alloc(), bytes)?;
     // The stages by their ranks, of which none is 0.
     let mut stages = [Progress {
         count: 0,

@@ -21,11 +21,10 @@ pub(crate) fn say_wildcard(
     form: FileForm,
     compared: Compared<'_>,
 ) -> Result<bool, NoMemory> {
-    let alloc = notes.alloc();
     if !is_wildcard_meant(compared) {
         return Ok(false);
     }
-    if let Some(network) = network_of(alloc, compared)? {
+    if let Some(network) = network_of(notes.alloc(), compared)? {
         say_network(notes, form, compared, network.as_slice())?;
         return Ok(true);
     }
@@ -64,9 +63,8 @@ fn say_network<'x>(
 
 /// Says that the `*` stands for itself, and which part of a value is to be looked for instead, where there is one.
 fn say_part_meant(notes: &mut Notes<'_>, compared: Compared<'_>) -> Result<(), NoMemory> {
-    let alloc = notes.alloc();
     let condition = Span::Compared(compared);
-    match part_meant(alloc, compared)? {
+    match part_meant(notes.alloc(), compared)? {
         Some(part) => say_instead(notes, compared, part_of(compared, part.as_slice())),
         None => notes.say(&[condition, Span::Plain(FOR_ITSELF)]),
     }
@@ -89,7 +87,6 @@ fn say_instead<'x>(
 
 /// Says that the `*` stands for itself, and with which test it doesn't.
 fn say_test_meant(notes: &mut Notes<'_>, compared: Compared<'_>) -> Result<(), NoMemory> {
-    let alloc = notes.alloc();
     let negated = compared.negated != (compared.test == Test::Lacks);
     let compared_again = Compared {
         negated,
@@ -105,11 +102,15 @@ fn say_test_meant(notes: &mut Notes<'_>, compared: Compared<'_>) -> Result<(), N
     if is_path(compared.field)
         && let Some(field) = part_field(compared.field, PathPart::Address)
     {
-        let pattern = pattern_meant(alloc, compared.test, without_brackets(compared.text))?;
+        let pattern = pattern_meant(
+            notes.alloc(),
+            compared.test,
+            without_brackets(compared.text),
+        )?;
         let instead = on_part(compared_again, &field, Test::Like, pattern.as_slice());
         return say_instead(notes, compared, instead);
     }
-    let pattern = pattern_meant(alloc, compared.test, compared.text)?;
+    let pattern = pattern_meant(notes.alloc(), compared.test, compared.text)?;
     let instead = Compared {
         negated,
         field: compared.field,

@@ -212,8 +212,7 @@ fn say_unquoted_words(
     action: &Word,
     words: &[Word],
 ) -> Result<(), NoMemory> {
-    let alloc = notes.alloc();
-    let mut text = Vec::new(alloc);
+    let mut text = Vec::new(notes.alloc());
     for word in words {
         if !text.is_empty() {
             text.push(b' ')?;

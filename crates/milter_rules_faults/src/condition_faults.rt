@@ -233,8 +233,7 @@ fn say_no_joint<'x>(
     joint: &'x [u8],
     word: &'x Word,
 ) -> Result<(), NoMemory> {
-    let alloc = notes.alloc();
-    if is_near(alloc, kind, word)? {
+    if is_near(notes.alloc(), kind, word)? {
         return say_unknown(notes, kind, word);
     }
     let middle = Span::Plain(b" or do is due in place of ");

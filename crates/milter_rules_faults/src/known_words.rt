@@ -216,8 +216,7 @@ pub(crate) fn say_unknown_name<'x>(
     kind: &Kind<'x>,
     name: &'x [u8],
 ) -> Result<(), NoMemory> {
-    let alloc = notes.alloc();
-    let meant = name_meant(alloc, kind, name)?;
+    let meant = name_meant(notes.alloc(), kind, name)?;
     let called = Span::Plain(kind.called);
     let blank = Span::Plain(b" ");
     let quoted = Span::Quoted(name);

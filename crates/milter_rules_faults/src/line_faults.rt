@@ -74,7 +74,6 @@ fn say_line_fault(
     line: FaultyLine<'_>,
     fault: RuleFault,
 ) -> Result<(), NoMemory> {
-    let alloc = notes.alloc();
     let words = line.words;
     match fault {
         RuleFault::UnknownWord(_) => say_unknown_line(notes, line),
@@ -83,8 +82,8 @@ fn say_line_fault(
         RuleFault::BadAction(_) => say_bad_action(notes, line.head.form, after_do(words)),
         RuleFault::ActionNotHere(_) => say_action_not_here(notes, words, after_do(words)),
         RuleFault::TooLarge(number) => {
-            let text = if is_right_alone(alloc, line.head, line.bytes)? {
-                limit_of(words, rules_before(alloc, bytes, number)?)
+            let text = if is_right_alone(notes.alloc(), line.head, line.bytes)? {
+                limit_of(words, rules_before(notes.alloc(), bytes, number)?)
             } else {
                 b"a text is too large for a packet, which has room for 65,535 bytes"
             };
@@ -101,7 +100,6 @@ fn say_line_fault(
 
 /// Says what is wrong with a line that is no rule.
 fn say_unknown_line(notes: &mut Notes<'_>, line: FaultyLine<'_>) -> Result<(), NoMemory> {
-    let alloc = notes.alloc();
     match line.words {
         [first, ..] if first.is_keyword(b"rules") => {
             say_bad_form_line(notes, line.head.form, line.words)
@@ -110,7 +108,7 @@ fn say_unknown_line(notes: &mut Notes<'_>, line: FaultyLine<'_>) -> Result<(), N
             say_bad_list_line(notes, line.head, line.words)
         }
         words => {
-            let is_repeated = is_right_alone(alloc, line.head, line.bytes)?;
+            let is_repeated = is_right_alone(notes.alloc(), line.head, line.bytes)?;
             say_bad_option(notes, words, is_repeated)
         }
     }

@@ -62,16 +62,14 @@ fn say_bad_version(notes: &mut Notes<'_>, rest: &[Word]) -> Result<(), NoMemory>
 
 /// Says what is wrong with the words after `actions`.
 fn say_bad_actions(notes: &mut Notes<'_>, first: &Word, rest: &[Word]) -> Result<(), NoMemory> {
-    let alloc = notes.alloc();
-    let mut known = Vec::new(alloc);
+    let mut known = Vec::new(notes.alloc());
     Actions(ACTIONS_MAX).put_names(&mut known)?;
     say_bad_names(notes, first, rest, b"action", known.as_slice())
 }
 
 /// Says what is wrong with the words after `protocol`.
 fn say_bad_protocol(notes: &mut Notes<'_>, first: &Word, rest: &[Word]) -> Result<(), NoMemory> {
-    let alloc = notes.alloc();
-    let mut known = Vec::new(alloc);
+    let mut known = Vec::new(notes.alloc());
     Protocol(PROTOCOL_MAX).put_names(&mut known)?;
     say_bad_names(notes, first, rest, b"protocol bit", known.as_slice())
 }

@@ -89,8 +89,7 @@ fn say_unknown_list(
     head: FileHead<'_>,
     name: &[u8],
 ) -> Result<(), NoMemory> {
-    let alloc = notes.alloc();
-    let names = head.list_names(alloc)?;
+    let names = head.list_names(notes.alloc())?;
     let Ok(names) = str::from_utf8(names.as_slice()) else {
         return Ok(());
     };
@@ -100,7 +99,7 @@ fn say_unknown_list(
         others: &[],
     };
     let are_shown = !names.is_empty() && names.len() <= NAMES_SHOWN_MAX;
-    if are_shown || name_meant(alloc, &kind, name)?.is_some() {
+    if are_shown || name_meant(notes.alloc(), &kind, name)?.is_some() {
         return say_unknown_name(notes, &kind, name);
     }
     let begin = Span::Plain(b"list ");
