@@ -1,8 +1,10 @@
--- A command line with words after its own, and one word more.
-use Rattle.std.proofs.Common.{◌≡◌, ◌∙◌, ℕ, List, [], ◌∷◌, ◌++◌, append_assoc, ap, length, map, take, get_or, sym, ◌<◌, ◌+◌}
+-- A command line with words after its own, and one word more; and with three subcommands more.
+use Rattle.std.proofs.Common.{◌≡◌, ◌∙◌, ℕ, List, [], ◌∷◌, ◌++◌, IfOk, Result, Ok, Err, append_assoc, ap, length, map, take, get_or, sym, ◌<◌, ◌+◌}
+use Rattle.std.specs.declared.alloc.AllocError.{AllocError}
 use Rattle.std.proofs.lemmas.List.{map_more}
-use Rattle.clap.specs.Words.{App, Rule, Text, new_app, with_rule}
-use Rattle.milter_cli_words.specs.Words.{rule_of_word, with_rules}
+use Rattle.clap.specs.Words.{AddsSubcommand, App, Rule, app_of, shape_of, with_rule, with_subcommand}
+use Rattle.clap.specs.declared.builder.command.Command.{Command}
+use Rattle.milter_cli_words.specs.Words.{IsLocal, rule_of_word, with_rules}
 use Rattle.milter_cli_words.specs.declared.word.Word.{Word}
 
 pub with_rules-more : (a b c : App) (words : List Word) (i : ℕ) (word : Word) (r : Rule) → i < length words
@@ -14,10 +16,16 @@ with_rules-more a b c words i word r in_words before adds is =
     adds ∙ ap (λ (b : App). with_rule b r) before ∙ ap (λ (r : Rule). with_rule (with_rules a (map rule_of_word (take i words))) r) is
     ∙ ap (λ (rs : List Rule). record a { top = record a.top { rules = rs } }) (joined ∙ ap (λ (rs : List Rule). a.top.rules ++ rs) (sym more))
 
--- a command line with words, an option with some words, and the others
-pub with_rules-choice : (places command : App) (rule choice : Rule) (name : Text) (first rest : List Rule)
-    → places ≡ with_rules (new_app name) first → command ≡ with_rule places rule → rule ≡ choice
-    → with_rules command rest ≡ with_rules (with_rule (with_rules (new_app name) first) choice) rest
-with_rules-choice places command rule choice name first rest placed added is =
-    ap (λ (app : App). with_rules app rest)
-    (added ∙ ap (λ (app : App). with_rule app rule) placed ∙ ap (λ (r : Rule). with_rule (with_rules (new_app name) first) r) is)
+with_subcommand-more : (whole app : App) (old sub new : Command) → app_of old ≡ whole → app_of sub ≡ app → IsLocal sub → AddsSubcommand old sub new → app_of new ≡ with_subcommand whole app.top
+with_subcommand-more whole app old sub new before is local adds =
+    adds.shape local ∙ ap (λ (a : App). with_subcommand a (shape_of sub)) before ∙ ap (λ (a : App). with_subcommand whole a.top) is
+
+pub with_subcommands-more : (whole a b c : App) (none first one second two third : Command) (r : Result Command AllocError) → app_of none ≡ whole
+    → app_of first ≡ a → IsLocal first → AddsSubcommand none first one → app_of second ≡ b → IsLocal second → AddsSubcommand one second two
+    → app_of third ≡ c → IsLocal third → IfOk r (λ three. AddsSubcommand two third three)
+    → IfOk r (λ three. app_of three ≡ with_subcommand (with_subcommand (with_subcommand whole a.top) b.top) c.top)
+with_subcommands-more whole a b c none first one second two third (Ok three) before is local adds is_b local_b adds_b is_c local_c adds_c =
+    let after_one = with_subcommand-more whole a none first one before is local adds in
+    let after_two = with_subcommand-more _ b one second two after_one is_b local_b adds_b in
+    with_subcommand-more _ c two third three after_two is_c local_c adds_c
+with_subcommands-more whole a b c none first one second two third (Err refused) before is local adds is_b local_b adds_b is_c local_c adds_c = tt

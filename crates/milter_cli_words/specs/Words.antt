@@ -1,19 +1,25 @@
 -- The words of subcommands as `clap` takes them.
-use Rattle.std.specs.Prelude.{◌≡◌, ℕ, List, [], ◌++◌, ◌∷◌, codes, true, false, Some}
+use Rattle.std.specs.Prelude.{◌≡◌, ℕ, List, [], ◌++◌, ◌∷◌, codes, map, true, false, Some}
 use Rattle.std.specs.Borrow.{Bor}
-use Rattle.clap.specs.Words.{App, Rule, Text, new_rule}
+use Rattle.clap.specs.Words.{App, Rule, Text, new_app, new_rule}
 use Rattle.clap.specs.Walk.{texts}
 use Rattle.clap.specs.declared.builder.action.ArgAction.TheVariants.{Append, Set, SetTrue}
 use Rattle.clap.specs.declared.builder.command.Command.{Command}
 use Rattle.clap.specs.declared.builder.command.Command.TheViews.{out-Command}
 use Rattle.clap.specs.declared.builder.value_parser.ValueParser.TheVariants.{Names, Unsigned}
 use Rattle.milter_cli_words.specs.declared.word.Kind.{Kind}
-use Rattle.milter_cli_words.specs.declared.word.Kind.TheVariants.{Place, Places, AnyPlaces, Value, Values, Number, UpTo, Flag}
+use Rattle.milter_cli_words.specs.declared.word.Kind.TheVariants.{Place, Places, AnyPlaces, Value, Values, Number, UpTo}
+use Rattle.milter_cli_words.specs.declared.word.Kind.TheVariants.{Choice, Flag}
+use Rattle.milter_cli_words.specs.declared.word.Subcommand.{Subcommand}
 use Rattle.milter_cli_words.specs.declared.word.Word.{Word}
+
+-- a word with a value
+abbrev pub valued_rule : Text → Rule
+valued_rule name = record (new_rule name) { action = Some Set; value_names = 1 }
 
 -- a word that has to be there
 abbrev pub place_rule : Text → Rule
-place_rule name = record (new_rule name) { action = Some Set; value_names = 1; required = true }
+place_rule name = record (valued_rule name) { required = true }
 
 -- a word that has to be there, and may be there more than once
 abbrev pub places_rule : Text → Rule
@@ -21,11 +27,11 @@ places_rule name = record (place_rule name) { action = Some Append }
 
 -- a word that may be there any number of times
 abbrev pub any_places_rule : Text → Rule
-any_places_rule name = record (new_rule name) { action = Some Append; value_names = 1 }
+any_places_rule name = record (valued_rule name) { action = Some Append }
 
 -- an option with a value
 abbrev pub option_rule : Text → Rule
-option_rule name = record (new_rule name) { long = Some name; action = Some Set; value_names = 1 }
+option_rule name = record (valued_rule name) { long = Some name }
 
 -- an option with a value, which may be given more than once
 abbrev pub options_rule : Text → Rule
@@ -60,6 +66,7 @@ rule_of_kind Value name = option_rule name
 rule_of_kind Values name = options_rule name
 rule_of_kind (Number most) name = number_rule name most
 rule_of_kind (UpTo most) name = up_to_rule name most
+rule_of_kind (Choice words) name = choice_rule name words
 rule_of_kind Flag name = flag_rule name
 
 abbrev pub rule_of_word : Word → Rule
@@ -68,6 +75,10 @@ rule_of_word word = rule_of_kind word.kind word.name.now
 -- a command line with these words after its own
 abbrev pub with_rules : App → List Rule → App
 with_rules app rules = record app { top = record app.top { rules = app.top.rules ++ rules } }
+
+-- a subcommand with its words
+abbrev pub app_in : Subcommand → App
+app_in subcommand = with_rules (new_app subcommand.name.now) (map rule_of_word subcommand.words.now)
 
 -- the words of `--loss`
 abbrev pub AreLossWords : BorrowedWords → Type 0

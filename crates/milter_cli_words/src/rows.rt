@@ -314,7 +314,7 @@ pub(crate) const EXPLAIN: Word<'static> = Word {
     help: "Explains a fault in words, as on a terminal",
 };
 
-/// Its words are given where it is made.
+/// It is a choice where its words are given.
 pub(crate) const LOSS: Word<'static> = Word {
     kind: Kind::Value,
     name: "loss",
