@@ -9,15 +9,13 @@ use Rattle.clap.specs.Words.{HasKind, Row, Text, all_of, fault_of, first_of, sub
 use Rattle.clap.specs.Walk.{texts}
 use Rattle.clap.specs.declared.error.Error.{Error}
 use Rattle.clap.specs.declared.parser.matches.ArgMatches.{ArgMatches}
-use Rattle.milter_cli_words.specs.declared.limits.TheConstants.{AT_ONCE_MAX, BODIES_MAX, COUNT_MAX, IDLE_MAX, MODE_MAX}
-use Rattle.milter_cli_words.specs.declared.limits.TheConstants.{LOAD_SECONDS_MAX, MESSAGES_MAX, RATE_MAX, SEED_MAX, SENT_MAX}
-use Rattle.milter_cli_words.specs.declared.limits.TheConstants.{TIMEOUT_MAX, WAIT_MAX}
+use Rattle.milter_cli_words.specs.declared.limits.TheConstants.{AT_ONCE_DEFAULT, AT_ONCE_MAX, BODIES_MAX, COUNT_DEFAULT}
+use Rattle.milter_cli_words.specs.declared.limits.TheConstants.{COUNT_MAX, IDLE_DEFAULT, IDLE_MAX, LOAD_AT_ONCE_DEFAULT}
+use Rattle.milter_cli_words.specs.declared.limits.TheConstants.{LOAD_SECONDS_MAX, MESSAGES_MAX, MODE_DEFAULT, MODE_MAX}
+use Rattle.milter_cli_words.specs.declared.limits.TheConstants.{PROBE_TIMEOUT_DEFAULT, RATE_MAX, SEED_DEFAULT, SEED_MAX}
+use Rattle.milter_cli_words.specs.declared.limits.TheConstants.{SENT_MAX, TIMEOUT_DEFAULT, TIMEOUT_MAX, WAIT_MAX}
 use Rattle.milter_cli_words.specs.Subcommands.{tool_app}
 use Rattle.milter_cli_words.specs.Words.{AreLossWords, BorrowedWords}
-use Rattle.milter_cli_request.specs.declared.command_line.TheConstants.{AT_ONCE_DEFAULT, COUNT_DEFAULT, IDLE_DEFAULT}
-use Rattle.milter_cli_request.specs.declared.command_line.TheConstants.{LOAD_AT_ONCE_DEFAULT, MODE_DEFAULT}
-use Rattle.milter_cli_request.specs.declared.command_line.TheConstants.{PROBE_TIMEOUT_DEFAULT, SEED_DEFAULT}
-use Rattle.milter_cli_request.specs.declared.command_line.TheConstants.{TIMEOUT_DEFAULT}
 use Rattle.milter_cli_request.specs.declared.request.Request.{Request}
 use Rattle.milter_cli_request.specs.declared.request.Request.TheVariants.{Trace, Session, Rules, Answer, Filter}
 use Rattle.milter_cli_request.specs.declared.request.Request.TheVariants.{Serve, Mta, Play, Replay, Load, Probe, Record}

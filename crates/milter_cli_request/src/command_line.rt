@@ -5,9 +5,13 @@ ghost use Rattle.std.specs.List.{list_any};
 ghost use Rattle.std.specs.Str.{bytes_eq};
 ghost use Rattle.clap.specs.Words.{found_of, rows_of, subcommand_rows_of};
 ghost use Rattle.milter_cli_words.specs.Words.{AreLossWords};
-ghost use Rattle.milter_cli_words.specs.declared.limits.TheConstants.{AT_ONCE_MAX, BODIES_MAX, COUNT_MAX, IDLE_MAX};
-ghost use Rattle.milter_cli_words.specs.declared.limits.TheConstants.{LOAD_SECONDS_MAX, MESSAGES_MAX, MODE_MAX, RATE_MAX};
-ghost use Rattle.milter_cli_words.specs.declared.limits.TheConstants.{SEED_MAX, SENT_MAX, TIMEOUT_MAX, WAIT_MAX};
+ghost use Rattle.milter_cli_words.specs.declared.limits.TheConstants.{AT_ONCE_DEFAULT, AT_ONCE_MAX, BODIES_MAX};
+ghost use Rattle.milter_cli_words.specs.declared.limits.TheConstants.{COUNT_DEFAULT, COUNT_MAX, IDLE_DEFAULT, IDLE_MAX};
+ghost use Rattle.milter_cli_words.specs.declared.limits.TheConstants.{LOAD_AT_ONCE_DEFAULT, LOAD_SECONDS_MAX};
+ghost use Rattle.milter_cli_words.specs.declared.limits.TheConstants.{MESSAGES_MAX, MODE_DEFAULT, MODE_MAX};
+ghost use Rattle.milter_cli_words.specs.declared.limits.TheConstants.{PROBE_TIMEOUT_DEFAULT, RATE_MAX, SEED_DEFAULT};
+ghost use Rattle.milter_cli_words.specs.declared.limits.TheConstants.{SEED_MAX, SENT_MAX, TIMEOUT_DEFAULT, TIMEOUT_MAX};
+ghost use Rattle.milter_cli_words.specs.declared.limits.TheConstants.{WAIT_MAX};
 ghost use Rattle.milter_cli_request.specs.CommandLine.{IsLoss, IsNumber, IsNumberOr, IsRequestOf, IsRequestOfNamed};
 ghost use Rattle.milter_cli_request.specs.CommandLine.{MatchesAs, ParsesAs, text_of};
 
@@ -16,34 +20,13 @@ use crate::request::{
     RecordRequest, ReplayRequest, Request, ServeRequest, TraceRequest,
 };
 use clap::{ArgMatches, Error};
-use milter_cli_words::command;
+use milter_cli_words::{
+    AT_ONCE_DEFAULT, COUNT_DEFAULT, IDLE_DEFAULT, LOAD_AT_ONCE_DEFAULT, MODE_DEFAULT,
+    PROBE_TIMEOUT_DEFAULT, SEED_DEFAULT, TIMEOUT_DEFAULT, command,
+};
 use milter_mta_outcome::OnLoss;
 use std::alloc::{AllocError, Global};
 use std::convert::AsStr;
-
-/// How many connections are served where the command line has no number of them.
-const COUNT_DEFAULT: u32 = 1;
-
-/// How many seconds a read or a write may take where the command line has no number of them.
-const TIMEOUT_DEFAULT: u32 = 30;
-
-/// How many connections are open at once where the command line has no number of them.
-const AT_ONCE_DEFAULT: u32 = 200;
-
-/// After how many seconds an idle connection is closed where the command line has no number of them: as libmilter.
-const IDLE_DEFAULT: u32 = 7_210;
-
-/// The digits of a Unix socket's mode where the command line has none.
-const MODE_DEFAULT: u32 = 660;
-
-/// How many connections a load has at once where the command line has no number of them.
-const LOAD_AT_ONCE_DEFAULT: u32 = 1;
-
-/// The seed where the command line has none.
-const SEED_DEFAULT: u32 = 1;
-
-/// How many seconds a reply of a filter that is tried may take where the command line has no number of them.
-const PROBE_TIMEOUT_DEFAULT: u32 = 5;
 
 /// The numbers that the definitions name: how many connections are served, and how many seconds a read or a write may
 /// take, where the command line has no such number and at most; for how many seconds connecting is tried again at most;

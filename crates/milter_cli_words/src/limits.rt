@@ -1,4 +1,4 @@
-//! The greatest numbers of options.
+//! The greatest numbers of options, and those that are taken where none is given.
 
 /// The most connections that one run serves.
 pub const COUNT_MAX: u64 = 1_000_000;
@@ -35,3 +35,27 @@ pub const SENT_MAX: u64 = 4_294_967_295;
 
 /// The greatest digits of a mode.
 pub const MODE_MAX: u64 = 777;
+
+/// How many connections are served where the command line has no number of them.
+pub const COUNT_DEFAULT: u32 = 1;
+
+/// How many seconds a read or a write may take where the command line has no number of them.
+pub const TIMEOUT_DEFAULT: u32 = 30;
+
+/// How many connections are open at once where the command line has no number of them.
+pub const AT_ONCE_DEFAULT: u32 = 200;
+
+/// After how many seconds an idle connection is closed where the command line has no number of them: as libmilter.
+pub const IDLE_DEFAULT: u32 = 7_210;
+
+/// The digits of a Unix socket's mode where the command line has none.
+pub const MODE_DEFAULT: u32 = 660;
+
+/// How many connections a load has at once where the command line has no number of them.
+pub const LOAD_AT_ONCE_DEFAULT: u32 = 1;
+
+/// The seed where the command line has none.
+pub const SEED_DEFAULT: u32 = 1;
+
+/// How many seconds a reply of a filter that is tried may take where the command line has no number of them.
+pub const PROBE_TIMEOUT_DEFAULT: u32 = 5;

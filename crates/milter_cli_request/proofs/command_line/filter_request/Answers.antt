@@ -1,7 +1,7 @@
 use Rattle.std.proofs.Common.{codes, refl, arith}
 use Rattle.clap.specs.Words.{found_of}
 use Rattle.milter_cli_words.specs.declared.limits.TheConstants.{COUNT_MAX}
-use Rattle.milter_cli_request.specs.declared.command_line.TheConstants.{COUNT_DEFAULT}
+use Rattle.milter_cli_words.specs.declared.limits.TheConstants.{COUNT_DEFAULT}
 use Rattle.milter_cli_request.proofs.RequestLaws.{flag_given, no_filter, number_given, text_given, value_given}
 use Rattle.milter_cli_request.proofs.command_line.filter_request.Goals as goal
 

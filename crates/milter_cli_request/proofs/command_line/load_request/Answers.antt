@@ -1,7 +1,7 @@
 use Rattle.std.proofs.Common.{codes, refl, arith, inl, inr}
 use Rattle.clap.specs.Words.{found_of}
 use Rattle.milter_cli_words.specs.declared.limits.TheConstants.{AT_ONCE_MAX, LOAD_SECONDS_MAX, MESSAGES_MAX, RATE_MAX, TIMEOUT_MAX}
-use Rattle.milter_cli_request.specs.declared.command_line.TheConstants.{LOAD_AT_ONCE_DEFAULT, TIMEOUT_DEFAULT}
+use Rattle.milter_cli_words.specs.declared.limits.TheConstants.{LOAD_AT_ONCE_DEFAULT, TIMEOUT_DEFAULT}
 use Rattle.milter_cli_request.proofs.RequestLaws.{flag_given, no_load, no_value, number_given, value_given}
 use Rattle.milter_cli_request.proofs.command_line.load_request.Goals as goal
 

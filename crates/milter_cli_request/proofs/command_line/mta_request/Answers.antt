@@ -2,7 +2,7 @@ use Rattle.std.proofs.Common.{codes, refl, arith, inl, inr}
 use Rattle.clap.specs.Words.{found_of}
 use Rattle.milter_cli_request.specs.CommandLine.{IsLoss}
 use Rattle.milter_cli_words.specs.declared.limits.TheConstants.{SENT_MAX, TIMEOUT_MAX, WAIT_MAX}
-use Rattle.milter_cli_request.specs.declared.command_line.TheConstants.{TIMEOUT_DEFAULT}
+use Rattle.milter_cli_words.specs.declared.limits.TheConstants.{TIMEOUT_DEFAULT}
 use Rattle.milter_cli_request.proofs.RequestLaws.{any_values_given, flag_given, holds_of, no_mta, no_value, number_given, number_known, text_given, value_given}
 use Rattle.milter_cli_request.proofs.command_line.mta_request.Goals as goal
 

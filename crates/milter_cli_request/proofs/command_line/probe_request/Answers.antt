@@ -1,7 +1,7 @@
 use Rattle.std.proofs.Common.{codes, refl, arith, inl, inr}
 use Rattle.clap.specs.Words.{found_of}
 use Rattle.milter_cli_words.specs.declared.limits.TheConstants.{SEED_MAX, TIMEOUT_MAX}
-use Rattle.milter_cli_request.specs.declared.command_line.TheConstants.{PROBE_TIMEOUT_DEFAULT, SEED_DEFAULT}
+use Rattle.milter_cli_words.specs.declared.limits.TheConstants.{PROBE_TIMEOUT_DEFAULT, SEED_DEFAULT}
 use Rattle.milter_cli_request.proofs.RequestLaws.{no_probe, no_value, number_given, text_given, value_given}
 use Rattle.milter_cli_request.proofs.command_line.probe_request.Goals as goal
 

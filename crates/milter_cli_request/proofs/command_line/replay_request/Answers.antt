@@ -1,7 +1,7 @@
 use Rattle.std.proofs.Common.{codes, refl, arith, inl, inr}
 use Rattle.clap.specs.Words.{found_of}
 use Rattle.milter_cli_words.specs.declared.limits.TheConstants.{TIMEOUT_MAX, WAIT_MAX}
-use Rattle.milter_cli_request.specs.declared.command_line.TheConstants.{TIMEOUT_DEFAULT}
+use Rattle.milter_cli_words.specs.declared.limits.TheConstants.{TIMEOUT_DEFAULT}
 use Rattle.milter_cli_request.proofs.RequestLaws.{no_replay, no_value, number_given, value_given}
 use Rattle.milter_cli_request.proofs.command_line.replay_request.Goals as goal
 

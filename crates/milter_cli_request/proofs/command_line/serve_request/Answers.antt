@@ -1,7 +1,7 @@
 use Rattle.std.proofs.Common.{codes, refl, arith}
 use Rattle.clap.specs.Words.{found_of}
 use Rattle.milter_cli_words.specs.declared.limits.TheConstants.{AT_ONCE_MAX, IDLE_MAX, MODE_MAX}
-use Rattle.milter_cli_request.specs.declared.command_line.TheConstants.{AT_ONCE_DEFAULT, IDLE_DEFAULT, MODE_DEFAULT}
+use Rattle.milter_cli_words.specs.declared.limits.TheConstants.{AT_ONCE_DEFAULT, IDLE_DEFAULT, MODE_DEFAULT}
 use Rattle.milter_cli_request.proofs.RequestLaws.{flag_given, no_serve, number_given, text_given, values_given}
 use Rattle.milter_cli_request.proofs.command_line.serve_request.Goals as goal
 
