@@ -22,12 +22,12 @@ const VERSION: u32 = 6;
 /// How many actions there are, and all of them. Source: mfapi.h (SMFI_CURR_ACTS).
 const ACTIONS: usize = 9;
 
-const ALL_ACTIONS: u32 = 0x1ff;
+const ALL_ACTIONS: u32 = (1 << ACTIONS) - 1;
 
 /// How many protocol bits there are, and all of them. Source: mfdef.h (SMFI_CURR_PROT).
 const PROTOCOL_BITS: usize = 21;
 
-const ALL_PROTOCOL_BITS: u32 = 0x1f_ffff;
+const ALL_PROTOCOL_BITS: u32 = (1 << PROTOCOL_BITS) - 1;
 
 /// The number of the first offer of one action.
 const FIRST_ACTION: usize = 3;
