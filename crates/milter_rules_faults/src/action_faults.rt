@@ -22,45 +22,15 @@ struct Form {
     text: &'static [u8],
 }
 
-/// The form of an action that is one word.
-const ALONE: Form = Form {
-    has_number: false,
-    least: 0,
-    most: 0,
-    text: b"",
-};
-
-/// The form of an action with a text.
-const ONE_TEXT: Form = Form {
-    has_number: false,
-    least: 1,
-    most: 1,
-    text: b" TEXT",
-};
-
-/// The form of an action with a text, and perhaps another one.
-const ONE_OR_TWO_TEXTS: Form = Form {
-    has_number: false,
-    least: 1,
-    most: 2,
-    text: b" TEXT [TEXT]",
-};
-
-/// The form of an action with two texts.
-const TWO_TEXTS: Form = Form {
-    has_number: false,
-    least: 2,
-    most: 2,
-    text: b" TEXT TEXT",
-};
-
-/// The form of an action with a number and two texts.
-const NUMBER_AND_TWO_TEXTS: Form = Form {
-    has_number: true,
-    least: 2,
-    most: 2,
-    text: b" NUMBER TEXT TEXT",
-};
+/// So many texts, which are written so.
+fn texts(least: usize, most: usize, text: &'static [u8]) -> Form {
+    Form {
+        has_number: false,
+        least,
+        most,
+        text,
+    }
+}
 
 /// The form of the action of this word.
 fn form_of(action: &Word) -> Form {
@@ -68,15 +38,18 @@ fn form_of(action: &Word) -> Form {
         action,
         "code|del-header|add-rcpt|del-rcpt|replace-body|quarantine",
     ) {
-        ONE_TEXT
+        texts(1, 1, b" TEXT")
     } else if is_one_of(action, "add-rcpt-par|change-from") {
-        ONE_OR_TWO_TEXTS
+        texts(1, 2, b" TEXT [TEXT]")
     } else if is_one_of(action, "add-header|prefix-header") {
-        TWO_TEXTS
+        texts(2, 2, b" TEXT TEXT")
     } else if is_one_of(action, "insert-header|change-header") {
-        NUMBER_AND_TWO_TEXTS
+        Form {
+            has_number: true,
+            ..texts(2, 2, b" NUMBER TEXT TEXT")
+        }
     } else {
-        ALONE
+        texts(0, 0, b"")
     }
 }
 
