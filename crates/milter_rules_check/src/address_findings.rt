@@ -1,7 +1,7 @@
 //! What is said of texts that are compared with canonical addresses, or with their domains.
 
 use crate::advice::{on_part, part_field, without_brackets};
-use crate::compared::{say_unfound, say_unfound_instead};
+use crate::compared::say_unfound;
 use memchr::memrchr;
 use milter_filter_rules::{PathPart, Test};
 use milter_rules_faults::{Compared, Notes};
@@ -43,8 +43,7 @@ fn say_address_text(notes: &mut Notes<'_>, compared: Compared<'_>) -> Result<(),
     if bare.len() == text.len() {
         return Ok(());
     }
-    let instead = compared.with_text(bare);
-    say_unfound_instead(notes, compared, NO_BRACKETS, instead)
+    say_unfound(notes, compared, NO_BRACKETS, Some(compared.with_text(bare)))
 }
 
 /// Says what is to be said of a text that is compared with a domain.
@@ -57,8 +56,12 @@ fn say_domain_text(notes: &mut Notes<'_>, compared: Compared<'_>) -> Result<(), 
     if domain.len() == compared.text.len() {
         return Ok(());
     }
-    let instead = compared.with_text(domain);
-    say_unfound_instead(notes, compared, DOMAIN_ALONE, instead)
+    say_unfound(
+        notes,
+        compared,
+        DOMAIN_ALONE,
+        Some(compared.with_text(domain)),
+    )
 }
 
 /// Says that the text is never found, for this reason, and the condition on the domain that is to be written instead.
@@ -71,8 +74,8 @@ fn say_domain_instead<'x>(
     match part_field(compared.field, PathPart::Domain) {
         Some(field) => {
             let instead = on_part(compared, &field, Test::Is, domain);
-            say_unfound_instead(notes, compared, reason, instead)
+            say_unfound(notes, compared, reason, Some(instead))
         }
-        None => say_unfound(notes, compared, reason),
+        None => say_unfound(notes, compared, reason, None),
     }
 }

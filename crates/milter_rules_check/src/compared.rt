@@ -23,37 +23,31 @@ pub(crate) fn outcome_by(is_met: bool) -> &'static [u8] {
     }
 }
 
-/// Says that the text is never found, for this reason.
+/// Says that the text is never found, for this reason, and which condition is to be written instead, if one is.
 pub(crate) fn say_unfound<'x>(
     notes: &mut Notes<'_>,
     compared: Compared<'x>,
     reason: &'x [u8],
+    instead: Option<Compared<'x>>,
 ) -> Result<(), NoMemory> {
-    let spans = [
-        Span::Compared(compared),
-        Span::Plain(outcome_unfound(compared)),
-        Span::Plain(b": "),
-        Span::Plain(reason),
-    ];
-    notes.say(&spans)
-}
-
-/// Says that the text is never found, for this reason, and which condition is to be written instead.
-pub(crate) fn say_unfound_instead<'x>(
-    notes: &mut Notes<'_>,
-    compared: Compared<'x>,
-    reason: &'x [u8],
-    instead: Compared<'x>,
-) -> Result<(), NoMemory> {
-    let spans = [
-        Span::Compared(compared),
-        Span::Plain(outcome_unfound(compared)),
-        Span::Plain(b": "),
-        Span::Plain(reason),
-        Span::Plain(b"; write "),
-        Span::Compared(instead),
-    ];
-    notes.say(&spans)
+    let condition = Span::Compared(compared);
+    let outcome = Span::Plain(outcome_unfound(compared));
+    let colon = Span::Plain(b": ");
+    let reason = Span::Plain(reason);
+    match instead {
+        Some(instead) => {
+            let write = Span::Plain(b"; write ");
+            notes.say(&[
+                condition,
+                outcome,
+                colon,
+                reason,
+                write,
+                Span::Compared(instead),
+            ])
+        }
+        None => notes.say(&[condition, outcome, colon, reason]),
+    }
 }
 
 /// Says of an empty text that is compared with a whole value that it isn't found where there is no value.

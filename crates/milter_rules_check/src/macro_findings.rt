@@ -2,10 +2,13 @@
 
 use crate::advice::{MAIL_ADDR, RCPT_ADDR, without, without_brackets};
 use crate::checked_file::CheckedFile;
-use crate::compared::{outcome_by, outcome_unfound, say_unfound_instead};
+use crate::compared::{outcome_by, outcome_unfound, say_unfound};
 use milter_filter_rules::Condition;
 use milter_rules_faults::{Compared, FileForm, Notes, Span};
 use milter_wire::{MacroStage, NoMemory, SymList};
+
+/// Why an address isn't found by a text with a bracket.
+const NO_BRACKETS: &[u8] = b"this macro has an address without <>";
 
 /// A macro with an address as the mail server reads it.
 struct AddressMacro {
@@ -168,7 +171,8 @@ fn say_address_text(
     }
     let lower = bare.to_ascii_lowercase(notes.alloc())?;
     if bare.len() < compared.text.len() {
-        return say_no_brackets(notes, compared, lower.as_slice());
+        let instead = compared.with_text(lower.as_slice());
+        return say_unfound(notes, compared, NO_BRACKETS, Some(instead));
     }
     if compared.any_case || lower.as_slice() == bare {
         return Ok(());
@@ -178,17 +182,6 @@ fn say_address_text(
         FileForm::Second => b" needs any-case",
     };
     say_case(notes, compared, needs, lower.as_slice())
-}
-
-/// Says that the macro has no brackets, and the text that is to be written without them.
-fn say_no_brackets<'x>(
-    notes: &mut Notes<'_>,
-    compared: Compared<'x>,
-    text: &'x [u8],
-) -> Result<(), NoMemory> {
-    let reason = b"this macro has an address without <>";
-    let instead = compared.with_text(text);
-    say_unfound_instead(notes, compared, reason, instead)
 }
 
 /// Says that the condition needs this by the case of its letters, and the text that may be written instead.

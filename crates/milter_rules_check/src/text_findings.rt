@@ -72,7 +72,7 @@ fn say_header_text(notes: &mut Notes<'_>, compared: Compared<'_>) -> Result<(), 
         return Ok(());
     }
     let reason = b"between the lines of a header field mail servers send \\n alone";
-    say_unfound(notes, compared, reason)
+    say_unfound(notes, compared, reason, None)
 }
 
 /// Says of a text with a LF after another byte than CR that no body has it.
@@ -81,7 +81,7 @@ fn say_body_text(notes: &mut Notes<'_>, compared: Compared<'_>) -> Result<(), No
         return Ok(());
     }
     let reason = b"mail servers send \\r\\n at the end of each line of a body";
-    say_unfound(notes, compared, reason)
+    say_unfound(notes, compared, reason, None)
 }
 
 /// Whether there is a LF that comes after another byte than CR.
