@@ -1,10 +1,8 @@
-//! What the subcommands of `milter_tool` do: the answering to mail servers over any reader and writer and over sockets,
-//! the playing of sessions to filters over sockets and in memory, and the sending of traces to filters again. What is
-//! asked for is read by `milter_cli_request`, the files are read by `milter_cli_io`, and rules that change are those of
-//! `milter_cli_serve`.
+//! What the subcommands of `milter_tool` do: the answering to mail servers over sockets, the playing of sessions to
+//! filters over sockets and in memory, and the sending of traces to filters again. What is asked for is read by
+//! `milter_cli_request`, the files are read by `milter_cli_io`, and rules that change are those of `milter_cli_serve`.
 #![tactic(auto)]
 
-mod answer_command;
 mod by_events;
 mod expected_reports;
 mod filter_command;
@@ -16,7 +14,6 @@ mod replay_command;
 mod socket_dial;
 mod waiting_dial;
 
-pub use answer_command::answer_run;
 pub use by_events::{load_events, schedule_run};
 pub use expected_reports::{check_reports, load_reports};
 pub use filter_command::{Connections, filter_run};

@@ -2,10 +2,9 @@
 
 use crate::command_order::order_of;
 use crate::rule_file::rules_at;
-use milter_cli::answer_run;
 use milter_cli_io::{RuleUse, ToolError, ended_as};
 use milter_cli_request::AnswerRequest;
-use milter_filter::{CommandOrder, serve_in_order};
+use milter_filter::serve_in_order;
 use std::io;
 use std::rt::Files;
 
@@ -22,9 +21,7 @@ pub(crate) fn answer_mail_server<R: Input + Files + Print + AllocGlobal>(
     let rules = rules_at(rt, asked.rules, usage)?;
     let mut reader = rt.reader();
     let mut writer = io::writer(rt);
-    let served = match order_of(asked.lenient) {
-        CommandOrder::Strict => answer_run(rt.alloc(), &rules, &mut reader, &mut writer),
-        order => serve_in_order(rt.alloc(), &rules, order, &mut reader, &mut writer),
-    };
+    let order = order_of(asked.lenient);
+    let served = serve_in_order(rt.alloc(), &rules, order, &mut reader, &mut writer);
     ended_as(served).map_err(ToolError::Answer)
 }
