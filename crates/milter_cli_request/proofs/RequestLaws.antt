@@ -176,61 +176,25 @@ module _ (losses : BorrowedWords) where
   abbrev leaf_of : App → Shape
   leaf_of app = built_leaf (inherited (with_leaf_noted (marked_built (tool_app losses).top)) app.top)
 
-  abbrev trace_shape : Shape
-  trace_shape = leaf_of trace_app
-
-  abbrev session_shape : Shape
-  session_shape = leaf_of session_app
-
-  abbrev rules_shape : Shape
-  rules_shape = leaf_of rules_app
-
-  abbrev filter_shape : Shape
-  filter_shape = leaf_of filter_app
-
-  abbrev serve_shape : Shape
-  serve_shape = leaf_of serve_app
-
-  abbrev answer_shape : Shape
-  answer_shape = leaf_of answer_app
-
-  abbrev mta_shape : Shape
-  mta_shape = leaf_of (mta_app losses)
-
-  abbrev play_shape : Shape
-  play_shape = leaf_of (play_app losses)
-
-  abbrev replay_shape : Shape
-  replay_shape = leaf_of replay_app
-
-  abbrev load_shape : Shape
-  load_shape = leaf_of load_app
-
-  abbrev probe_shape : Shape
-  probe_shape = leaf_of probe_app
-
-  abbrev record_shape : Shape
-  record_shape = leaf_of record_app
-
-  mta_fills : Each Fills mta_shape.rules
+  mta_fills : Each Fills (leaf_of (mta_app losses)).rules
   mta_fills = (inr (inl refl), (inr (inl refl), (inr (inl refl), (inr (inl refl), (inr (inl refl), (inr (inl refl), (inr (inl refl), (inr (inl refl), (inr (inr refl), (inr (inl refl), (inr (inl refl), (inr (inr refl), (inl refl, tt)))))))))))))
 
-  serve_fills : Each Fills serve_shape.rules
+  serve_fills : Each Fills (leaf_of serve_app).rules
   serve_fills = (inr (inl refl), (inr (inl refl), (inr (inl refl), (inr (inl refl), (inr (inl refl), (inr (inr refl), (inr (inr refl), (inr (inr refl), (inr (inr refl), (inl refl, tt))))))))))
 
-  play_fills : Each Fills play_shape.rules
+  play_fills : Each Fills (leaf_of (play_app losses)).rules
   play_fills = (inr (inl refl), (inr (inl refl), (inr (inr refl), (inr (inr refl), (inr (inl refl), (inr (inl refl), (inr (inl refl), (inr (inl refl), (inr (inl refl), (inr (inr refl), (inl refl, tt)))))))))))
 
-  replay_fills : Each Fills replay_shape.rules
+  replay_fills : Each Fills (leaf_of replay_app).rules
   replay_fills = (inr (inl refl), (inr (inl refl), (inr (inl refl), (inr (inl refl), (inr (inr refl), (inl refl, tt))))))
 
-  load_fills : Each Fills load_shape.rules
+  load_fills : Each Fills (leaf_of load_app).rules
   load_fills = (inr (inl refl), (inr (inl refl), (inr (inl refl), (inr (inl refl), (inr (inl refl), (inr (inl refl), (inr (inl refl), (inr (inr refl), (inr (inr refl), (inl refl, tt))))))))))
 
-  probe_fills : Each Fills probe_shape.rules
+  probe_fills : Each Fills (leaf_of probe_app).rules
   probe_fills = (inr (inl refl), (inr (inl refl), (inr (inl refl), (inr (inl refl), (inr (inl refl), (inr (inr refl), (inl refl, tt)))))))
 
-  record_fills : Each Fills record_shape.rules
+  record_fills : Each Fills (leaf_of record_app).rules
   record_fills = (inr (inl refl), (inr (inl refl), (inr (inl refl), (inr (inl refl), (inr (inr refl), (inl refl, tt))))))
 
   -- the shape of the subcommand whose test is the first to hold
@@ -240,8 +204,8 @@ module _ (losses : BorrowedWords) where
 
   abbrev shapes : (trace session rules answer filter serve mta play replay load probe recording help : Bool) → List (Bool × Shape)
   shapes trace session rules answer filter serve mta play replay load probe recording help =
-      (trace, trace_shape) ∷ (session, session_shape) ∷ (rules, rules_shape) ∷ (answer, answer_shape) ∷ (filter, filter_shape) ∷ (serve, serve_shape)
-      ∷ (mta, mta_shape) ∷ (play, play_shape) ∷ (replay, replay_shape) ∷ (load, load_shape) ∷ (probe, probe_shape) ∷ (recording, record_shape)
+      (trace, leaf_of trace_app) ∷ (session, leaf_of session_app) ∷ (rules, leaf_of rules_app) ∷ (answer, leaf_of answer_app) ∷ (filter, leaf_of filter_app) ∷ (serve, leaf_of serve_app)
+      ∷ (mta, leaf_of (mta_app losses)) ∷ (play, leaf_of (play_app losses)) ∷ (replay, leaf_of replay_app) ∷ (load, leaf_of load_app) ∷ (probe, leaf_of probe_app) ∷ (recording, leaf_of record_app)
       ∷ (help, built_leaf help_shape) ∷ []
 
   abbrev asked_below : Option Shape → List Text → Kinds
@@ -250,36 +214,36 @@ module _ (losses : BorrowedWords) where
   abbrev entered_by : Option Shape → List Text → Option (Text × List Row)
   entered_by o words = option_map (λ s. rows_at s words) o
 
-  record_asks : (words : List Text) → level_fault record_shape [] nothing_held words false [] ≡ []
-      → (first_of (codes "listen") (rows_after record_shape.rules [] words) ≡ None) ⊎ (first_of (codes "address") (rows_after record_shape.rules [] words) ≡ None)
-      ⊎ (first_of (codes "directory") (rows_after record_shape.rules [] words) ≡ None) → ⊥
-  record_asks words below (inl none) = is_there (codes "listen") record_shape words record_fills (λ rows e. (three_here _ _ _ _ e).0) below none
-  record_asks words below (inr (inl none)) = is_there (codes "address") record_shape words record_fills (λ rows e. (three_here _ _ _ _ e).1) below none
-  record_asks words below (inr (inr none)) = is_there (codes "directory") record_shape words record_fills (λ rows e. (three_here _ _ _ _ e).2) below none
+  record_asks : (words : List Text) → level_fault (leaf_of record_app) [] nothing_held words false [] ≡ []
+      → (first_of (codes "listen") (rows_after (leaf_of record_app).rules [] words) ≡ None) ⊎ (first_of (codes "address") (rows_after (leaf_of record_app).rules [] words) ≡ None)
+      ⊎ (first_of (codes "directory") (rows_after (leaf_of record_app).rules [] words) ≡ None) → ⊥
+  record_asks words below (inl none) = is_there (codes "listen") (leaf_of record_app) words record_fills (λ rows e. (three_here _ _ _ _ e).0) below none
+  record_asks words below (inr (inl none)) = is_there (codes "address") (leaf_of record_app) words record_fills (λ rows e. (three_here _ _ _ _ e).1) below none
+  record_asks words below (inr (inr none)) = is_there (codes "directory") (leaf_of record_app) words record_fills (λ rows e. (three_here _ _ _ _ e).2) below none
 
   -- a subcommand that is entered without a fault asks for something
   picked_asks : (words : List Text) (rows : List Row) (trace session rules answer filter serve mta play replay load probe recording help : Bool) → (help ≡ true → ⊥) → asked_below (pick (shapes trace session rules answer filter serve mta play replay load probe recording help)) words ≡ []
       → check_fault (built (tool_app losses)).top rows (is_some (entered_by (pick (shapes trace session rules answer filter serve mta play replay load probe recording help)) words)) ≡ [] → IsRequestOf (entered_by (pick (shapes trace session rules answer filter serve mta play replay load probe recording help)) words) None → ⊥
   picked_asks words rows true session rules answer filter serve mta play replay load probe recording help none below check unasked = unasked.0 refl
   picked_asks words rows false true rules answer filter serve mta play replay load probe recording help none below check unasked =
-      is_there (codes "file") session_shape words (inr (inl refl), (inr (inr refl), (inl refl, tt))) (λ rows e. required_here _ _ e) below (unasked.2 refl)
+      is_there (codes "file") (leaf_of session_app) words (inr (inl refl), (inr (inr refl), (inl refl, tt))) (λ rows e. required_here _ _ e) below (unasked.2 refl)
   picked_asks words rows false false true answer filter serve mta play replay load probe recording help none below check unasked =
-      is_there (codes "file") rules_shape words (inr (inl refl), (inr (inr refl), (inr (inr refl), (inl refl, tt)))) (λ rows e. required_here _ _ e) below (unasked.3 refl)
+      is_there (codes "file") (leaf_of rules_app) words (inr (inl refl), (inr (inr refl), (inr (inr refl), (inl refl, tt)))) (λ rows e. required_here _ _ e) below (unasked.3 refl)
   picked_asks words rows false false false true filter serve mta play replay load probe recording help none below check unasked = unasked.1 refl
   picked_asks words rows false false false false true serve mta play replay load probe recording help none below check unasked =
-      is_there (codes "address") filter_shape words (inr (inl refl), (inr (inl refl), (inr (inl refl), (inr (inr refl), (inr (inr refl), (inr (inr refl), (inr (inr refl), (inl refl, tt)))))))) (λ rows e. required_here _ _ e) below (unasked.4 refl)
+      is_there (codes "address") (leaf_of filter_app) words (inr (inl refl), (inr (inl refl), (inr (inl refl), (inr (inr refl), (inr (inr refl), (inr (inr refl), (inr (inr refl), (inl refl, tt)))))))) (λ rows e. required_here _ _ e) below (unasked.4 refl)
   picked_asks words rows false false false false false true mta play replay load probe recording help none below check unasked =
-      is_there (codes "address") serve_shape words serve_fills (λ rows e. required_here _ _ e) below (unasked.5 refl)
+      is_there (codes "address") (leaf_of serve_app) words serve_fills (λ rows e. required_here _ _ e) below (unasked.5 refl)
   picked_asks words rows false false false false false false true play replay load probe recording help none below check unasked =
-      both_there (codes "address") (codes "session") mta_shape words mta_fills (λ rows e. both_here _ _ _ e) below (unasked.6 refl)
+      both_there (codes "address") (codes "session") (leaf_of (mta_app losses)) words mta_fills (λ rows e. both_here _ _ _ e) below (unasked.6 refl)
   picked_asks words rows false false false false false false false true replay load probe recording help none below check unasked =
-      is_there (codes "session") play_shape words play_fills (λ rows e. required_here _ _ e) below (unasked.7 refl)
+      is_there (codes "session") (leaf_of (play_app losses)) words play_fills (λ rows e. required_here _ _ e) below (unasked.7 refl)
   picked_asks words rows false false false false false false false false true load probe recording help none below check unasked =
-      both_there (codes "address") (codes "trace") replay_shape words replay_fills (λ rows e. both_here _ _ _ e) below (unasked.8 refl)
+      both_there (codes "address") (codes "trace") (leaf_of replay_app) words replay_fills (λ rows e. both_here _ _ _ e) below (unasked.8 refl)
   picked_asks words rows false false false false false false false false false true probe recording help none below check unasked =
-      both_there (codes "address") (codes "session") load_shape words load_fills (λ rows e. both_here _ _ _ e) below (unasked.9 refl)
+      both_there (codes "address") (codes "session") (leaf_of load_app) words load_fills (λ rows e. both_here _ _ _ e) below (unasked.9 refl)
   picked_asks words rows false false false false false false false false false false true recording help none below check unasked =
-      both_there (codes "address") (codes "session") probe_shape words probe_fills (λ rows e. both_here _ _ _ e) below (unasked.10 refl)
+      both_there (codes "address") (codes "session") (leaf_of probe_app) words probe_fills (λ rows e. both_here _ _ _ e) below (unasked.10 refl)
   picked_asks words rows false false false false false false false false false false false true help none below check unasked = record_asks words below (unasked.11 refl)
   picked_asks words rows false false false false false false false false false false false false true none below check unasked = none refl
   picked_asks words rows false false false false false false false false false false false false false none below check unasked = some_fault _ _ check
@@ -288,8 +252,8 @@ module _ (losses : BorrowedWords) where
       → check_fault (built (tool_app losses)).top rows (is_some (entered (built (tool_app losses)) stop)) ≡ [] → IsRequestOf (entered (built (tool_app losses)) stop) None → ⊥
   entered_asks None rows other below check unasked = some_fault _ _ check
   entered_asks (Some p) rows other below check unasked =
-      picked_asks p.1 rows (answers_to p.0 (label_of trace_shape)) (answers_to p.0 (label_of session_shape)) (answers_to p.0 (label_of rules_shape)) (answers_to p.0 (label_of answer_shape))
-      (answers_to p.0 (label_of filter_shape)) (answers_to p.0 (label_of serve_shape)) (answers_to p.0 (label_of mta_shape)) (answers_to p.0 (label_of play_shape)) (answers_to p.0 (label_of replay_shape)) (answers_to p.0 (label_of load_shape)) (answers_to p.0 (label_of probe_shape)) (answers_to p.0 (label_of record_shape)) (answers_to p.0 (label_of (built_leaf help_shape)))
+      picked_asks p.1 rows (answers_to p.0 (label_of (leaf_of trace_app))) (answers_to p.0 (label_of (leaf_of session_app))) (answers_to p.0 (label_of (leaf_of rules_app))) (answers_to p.0 (label_of (leaf_of answer_app)))
+      (answers_to p.0 (label_of (leaf_of filter_app))) (answers_to p.0 (label_of (leaf_of serve_app))) (answers_to p.0 (label_of (leaf_of (mta_app losses)))) (answers_to p.0 (label_of (leaf_of (play_app losses)))) (answers_to p.0 (label_of (leaf_of replay_app))) (answers_to p.0 (label_of (leaf_of load_app))) (answers_to p.0 (label_of (leaf_of probe_app))) (answers_to p.0 (label_of (leaf_of record_app))) (answers_to p.0 (label_of (built_leaf help_shape)))
       (never_help p.0 other) below check unasked
 
   -- words without a fault ask for something
