@@ -104,7 +104,7 @@ fn explain_trace(
             let name = shown_name(alloc, path.unwrap_or("standard input"))?;
             let mut notes = Notes::new(alloc, name.as_str());
             say_trace(&mut notes, fault)?;
-            text_of(alloc, &notes)
+            text_of(&notes)
         }
     }
 }
@@ -133,8 +133,8 @@ fn explain_answer(alloc: Global, error: AnswerError) -> Result<Vec<u8>, NoMemory
 }
 
 /// The lines that were said.
-fn text_of(alloc: Global, notes: &Notes<'_>) -> Result<Vec<u8>, NoMemory> {
-    Ok(Vec::from_slice(alloc, notes.text())?)
+fn text_of(notes: &Notes<'_>) -> Result<Vec<u8>, NoMemory> {
+    Ok(Vec::from_slice(notes.alloc(), notes.text())?)
 }
 
 /// One line about what has this name.
@@ -142,7 +142,7 @@ fn line(alloc: Global, name: &str, text: &str) -> Result<Vec<u8>, NoMemory> {
     let name = shown_name(alloc, name)?;
     let mut notes = Notes::new(alloc, name.as_str());
     notes.say(&[Span::Plain(text.as_bytes())])?;
-    text_of(alloc, &notes)
+    text_of(&notes)
 }
 
 /// The lines of a wrong use of the program that has a request.
@@ -168,7 +168,7 @@ fn explain_usage(
         // They say it themselves.
         UsageError::CommandLine(_) | UsageError::NotUtf8 => {}
     }
-    text_of(alloc, &notes)
+    text_of(&notes)
 }
 
 /// What of the command line a wrong use is about.
@@ -224,7 +224,7 @@ fn explain_socket<R: Files>(
         ToolError::Connect => say_unconnected(&mut notes, socket)?,
         _ => say_unbound(files, &mut notes, socket)?,
     }
-    text_of(alloc, &notes)
+    text_of(&notes)
 }
 
 /// The line of reports that aren't the expected ones, or of a filter that doesn't answer as it was recorded.
@@ -327,7 +327,7 @@ fn explain_number(
     let mut notes = Notes::new(alloc, name.as_str());
     notes.go_to(Some(number));
     notes.say(&[Span::Plain(meaning.as_bytes())])?;
-    text_of(alloc, &notes)
+    text_of(&notes)
 }
 
 /// The lines that say what is wrong with what the file at this path has; none where it can't be read again, or has
@@ -350,7 +350,7 @@ fn explain_bytes<R: Files>(
         InputFile::Reports | InputFile::Capture => {}
         InputFile::Trace => say_recording(&mut notes, bytes.as_slice())?,
     }
-    let mut said = text_of(alloc, &notes)?;
+    let mut said = text_of(&notes)?;
     if let InputFile::Rules = file {
         let lists = unread_lists(files, alloc, path, bytes.as_slice())?;
         said.extend_from_slice(lists.as_slice())?;
