@@ -95,28 +95,28 @@ pub no_serve : (f : Found) → None ≡ option_map raw_values (matched_of f (cod
 no_serve f none =
     (differ refl, differ refl, differ refl, differ refl, differ refl, (λ e. no_values f (codes "address") none), differ refl, differ refl, differ refl, differ refl, differ refl, differ refl)
 
-pub no_mta : (values : List Row) → (first_of (codes "address") values ≡ None) ⊎ (first_of (codes "session") values ≡ None) → IsUnasked (codes "mta", values)
-no_mta values none =
+pub no_mta : (f : Found) → (first_of (codes "address") (rows_of f) ≡ None) ⊎ (first_of (codes "session") (rows_of f) ≡ None) → IsUnasked (codes "mta", rows_of f)
+no_mta f none =
     (differ refl, differ refl, differ refl, differ refl, differ refl, differ refl, (λ e. none), differ refl, differ refl, differ refl, differ refl, differ refl)
 
 pub no_play : (f : Found) → None ≡ first_value f (codes "session") → IsUnasked (codes "play", rows_of f)
 no_play f none =
     (differ refl, differ refl, differ refl, differ refl, differ refl, differ refl, differ refl, (λ e. no_value f (codes "session") none), differ refl, differ refl, differ refl, differ refl)
 
-pub no_replay : (values : List Row) → (first_of (codes "address") values ≡ None) ⊎ (first_of (codes "trace") values ≡ None) → IsUnasked (codes "replay", values)
-no_replay values none =
+pub no_replay : (f : Found) → (first_of (codes "address") (rows_of f) ≡ None) ⊎ (first_of (codes "trace") (rows_of f) ≡ None) → IsUnasked (codes "replay", rows_of f)
+no_replay f none =
     (differ refl, differ refl, differ refl, differ refl, differ refl, differ refl, differ refl, differ refl, (λ e. none), differ refl, differ refl, differ refl)
 
-pub no_load : (values : List Row) → (first_of (codes "address") values ≡ None) ⊎ (first_of (codes "session") values ≡ None) → IsUnasked (codes "load", values)
-no_load values none =
+pub no_load : (f : Found) → (first_of (codes "address") (rows_of f) ≡ None) ⊎ (first_of (codes "session") (rows_of f) ≡ None) → IsUnasked (codes "load", rows_of f)
+no_load f none =
     (differ refl, differ refl, differ refl, differ refl, differ refl, differ refl, differ refl, differ refl, differ refl, (λ e. none), differ refl, differ refl)
 
-pub no_probe : (values : List Row) → (first_of (codes "address") values ≡ None) ⊎ (first_of (codes "session") values ≡ None) → IsUnasked (codes "probe", values)
-no_probe values none =
+pub no_probe : (f : Found) → (first_of (codes "address") (rows_of f) ≡ None) ⊎ (first_of (codes "session") (rows_of f) ≡ None) → IsUnasked (codes "probe", rows_of f)
+no_probe f none =
     (differ refl, differ refl, differ refl, differ refl, differ refl, differ refl, differ refl, differ refl, differ refl, differ refl, (λ e. none), differ refl)
 
-pub no_record : (values : List Row) → (first_of (codes "listen") values ≡ None) ⊎ (first_of (codes "address") values ≡ None) ⊎ (first_of (codes "directory") values ≡ None) → IsUnasked (codes "record", values)
-no_record values none =
+pub no_record : (f : Found) → (first_of (codes "listen") (rows_of f) ≡ None) ⊎ (first_of (codes "address") (rows_of f) ≡ None) ⊎ (first_of (codes "directory") (rows_of f) ≡ None) → IsUnasked (codes "record", rows_of f)
+no_record f none =
     (differ refl, differ refl, differ refl, differ refl, differ refl, differ refl, differ refl, differ refl, differ refl, differ refl, differ refl, (λ e. none))
 
 first_given : (o : Option Row) → option_map_or (λ r. explicit_source r.source) o false ≡ true → IfSome o IsFilled → option_and_then (λ r. slice_get r.values 0) o ≡ None → ⊥

@@ -6,10 +6,10 @@ use Rattle.milter_cli_request.proofs.RequestLaws.{flag_given, no_load, no_value,
 use Rattle.milter_cli_request.proofs.command_line.load_request.Goals as goal
 
 pub returns-in_err-address : goal.returns-in_err-address
-returns-in_err-address c = rw c.from_residual.ensures (no_load _ (inl (no_value (found_of c.args.given.now) (codes "address") c.in_err-address.ensures)))
+returns-in_err-address c = rw c.from_residual.ensures (no_load (found_of c.args.given.now) (inl (no_value (found_of c.args.given.now) (codes "address") c.in_err-address.ensures)))
 
 pub returns-in_err-session : goal.returns-in_err-session
-returns-in_err-session c = rw c.from_residual-in_err-session.ensures (no_load _ (inr (no_value (found_of c.args.given.now) (codes "session") c.in_err-session.ensures)))
+returns-in_err-session c = rw c.from_residual-in_err-session.ensures (no_load (found_of c.args.given.now) (inr (no_value (found_of c.args.given.now) (codes "session") c.in_err-session.ensures)))
 
 pub returns : goal.returns
 returns c =

@@ -7,10 +7,10 @@ use Rattle.milter_cli_request.proofs.RequestLaws.{any_values_given, flag_given, 
 use Rattle.milter_cli_request.proofs.command_line.mta_request.Goals as goal
 
 pub returns-in_default : goal.returns-in_default
-returns-in_default c = no_mta _ (inl (no_value (found_of c.args.given.now) (codes "address") c.in_default.ensures))
+returns-in_default c = no_mta (found_of c.args.given.now) (inl (no_value (found_of c.args.given.now) (codes "address") c.in_default.ensures))
 
 pub returns-in_default-get_str : goal.returns-in_default-get_str
-returns-in_default-get_str c = no_mta _ (inr (no_value (found_of c.args.given.now) (codes "session") c.in_default-get_str.ensures))
+returns-in_default-get_str c = no_mta (found_of c.args.given.now) (inr (no_value (found_of c.args.given.now) (codes "session") c.in_default-get_str.ensures))
 
 pub returns : goal.returns
 returns c =

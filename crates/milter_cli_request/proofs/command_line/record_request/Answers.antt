@@ -5,13 +5,13 @@ use Rattle.milter_cli_request.proofs.RequestLaws.{no_record, no_value, number_gi
 use Rattle.milter_cli_request.proofs.command_line.record_request.Goals as goal
 
 pub returns-in_err-listen : goal.returns-in_err-listen
-returns-in_err-listen c = rw c.from_residual.ensures (no_record _ (inl (no_value (found_of c.args.given.now) (codes "listen") c.in_err-listen.ensures)))
+returns-in_err-listen c = rw c.from_residual.ensures (no_record (found_of c.args.given.now) (inl (no_value (found_of c.args.given.now) (codes "listen") c.in_err-listen.ensures)))
 
 pub returns-in_err-address : goal.returns-in_err-address
-returns-in_err-address c = rw c.from_residual-in_err-address.ensures (no_record _ (inr (inl (no_value (found_of c.args.given.now) (codes "address") c.in_err-address.ensures))))
+returns-in_err-address c = rw c.from_residual-in_err-address.ensures (no_record (found_of c.args.given.now) (inr (inl (no_value (found_of c.args.given.now) (codes "address") c.in_err-address.ensures))))
 
 pub returns-in_err-directory : goal.returns-in_err-directory
-returns-in_err-directory c = rw c.from_residual-in_err-directory.ensures (no_record _ (inr (inr (no_value (found_of c.args.given.now) (codes "directory") c.in_err-directory.ensures))))
+returns-in_err-directory c = rw c.from_residual-in_err-directory.ensures (no_record (found_of c.args.given.now) (inr (inr (no_value (found_of c.args.given.now) (codes "directory") c.in_err-directory.ensures))))
 
 pub returns : goal.returns
 returns c =

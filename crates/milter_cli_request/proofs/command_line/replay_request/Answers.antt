@@ -6,10 +6,10 @@ use Rattle.milter_cli_request.proofs.RequestLaws.{no_replay, no_value, number_gi
 use Rattle.milter_cli_request.proofs.command_line.replay_request.Goals as goal
 
 pub returns-in_err-address : goal.returns-in_err-address
-returns-in_err-address c = rw c.from_residual.ensures (no_replay _ (inl (no_value (found_of c.args.given.now) (codes "address") c.in_err-address.ensures)))
+returns-in_err-address c = rw c.from_residual.ensures (no_replay (found_of c.args.given.now) (inl (no_value (found_of c.args.given.now) (codes "address") c.in_err-address.ensures)))
 
 pub returns-in_err-trace : goal.returns-in_err-trace
-returns-in_err-trace c = rw c.from_residual-in_err-trace.ensures (no_replay _ (inr (no_value (found_of c.args.given.now) (codes "trace") c.in_err-trace.ensures)))
+returns-in_err-trace c = rw c.from_residual-in_err-trace.ensures (no_replay (found_of c.args.given.now) (inr (no_value (found_of c.args.given.now) (codes "trace") c.in_err-trace.ensures)))
 
 pub returns : goal.returns
 returns c =
