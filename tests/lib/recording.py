@@ -1,11 +1,17 @@
 """Runs `milter_tool record` before filters, and reads the traces that it writes."""
 import os
+import signal
 import socket
 import subprocess
 import threading
 
 from lib import serving, sessions, tables
 from lib.checks import expect
+
+
+def heed_interrupts():
+    """Has a run end by SIGINT. What a shell runs in the background ignores it, and so would the runs of a test there."""
+    signal.signal(signal.SIGINT, signal.SIG_DFL)
 
 
 class Recorder:
@@ -15,7 +21,7 @@ class Recorder:
         self.at, self.address = serving.place_of(kind, folder)
         self.process = subprocess.Popen(
             [program, 'record', self.address, address, directory, *options], stdin=subprocess.DEVNULL,
-            stdout=subprocess.PIPE, stderr=subprocess.PIPE)
+            stdout=subprocess.PIPE, stderr=subprocess.PIPE, preexec_fn=heed_interrupts)
 
     def __enter__(self):
         return self
