@@ -105,7 +105,7 @@ count-insert_same xs i s =
     sum_by-insert (λ (x : ℕ). cond (x == s) 1 0) xs i s
     ∙ ap (λ (b : Bool). count_of s xs + cond b 1 0) (eq-eqb s s refl)
 
-count-insert_other : (xs : List ℕ) (i s c : ℕ) → c ≢ s → count_of c (insert xs i s) ≡ count_of c xs
+pub count-insert_other : (xs : List ℕ) (i s c : ℕ) → c ≢ s → count_of c (insert xs i s) ≡ count_of c xs
 count-insert_other xs i s c other =
     let none : ◌≡◌ {A = ℕ} (cond (s == c) 1 0) 0 =
     ap (λ (b : Bool). cond {A = ℕ} b 1 0) (ne_eqb s c (λ e. other (sym e))) in

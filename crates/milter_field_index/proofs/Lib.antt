@@ -4,6 +4,7 @@ pub mod Indexes
 pub mod Joins
 pub mod Measures
 pub mod Occurrences
+pub mod Ranks
 pub mod Results
 pub mod TwoLevels
-pub mod Zeros
+pub mod OneSymbol

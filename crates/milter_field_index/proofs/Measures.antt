@@ -1,10 +1,10 @@
 -- Lists of `Vec`s as lists of lists, and the lengths of blocks.
-use Rattle.std.proofs.Common.{◌≡◌, ℕ, ◌+◌, ◌-◌, ◌^◌, ◌<◌, ◌≤◌, List, [], ◌∷◌, ◌++◌, Vec, Global, length, map, take, drop, get_or, set, replicate, sym, ap, ◌∙◌, arith, append_assoc, length-append, length-take, length-drop}
+use Rattle.std.proofs.Common.{◌≡◌, ℕ, ◌+◌, ◌-◌, ◌^◌, ◌<◌, ◌≤◌, List, [], ◌∷◌, ◌++◌, Vec, Global, length, map, take, drop, get_or, set, replicate, sym, ap, subst, ◌∙◌, arith, append_assoc, length-append, length-take, length-drop}
 use Rattle.std.specs.List.{insert, remove, sum}
-use Rattle.std.proofs.lemmas.List.{length-set, length-map, get_or-map, get_or_default, map-set, set-get_or, map_push, replicate_more, length_push, take-append-drop}
+use Rattle.std.proofs.lemmas.List.{length-set, length-map, get_or-map, get_or_default, map-set, set-get_or, map_push, replicate_more, length_push, take-append-drop, take_all, take_more}
 use Rattle.std.proofs.lemmas.List.Edits.{length-insert, length-remove, get_or-insert_below}
-use Rattle.std.proofs.lemmas.List.Sums.{sum_by-set, get_or-le-sum_by}
-use Rattle.milter_field_index.specs.Blocks.{joined, lengths, at, halved, insert_in, remove_in, Measured}
+use Rattle.std.proofs.lemmas.List.Sums.{sum_by-set, get_or-le-sum_by, sum_by-append, sum_by-cons}
+use Rattle.milter_field_index.specs.Blocks.{joined, lengths, at, halved, insert_in, remove_in, IsPlace, Measured}
 use Rattle.milter_field_index.proofs.Joins.{total, map-halved, halved-set, joined-halved}
 
 abbrev pub contents : List (Vec ℕ Global) → List (List ℕ)
@@ -73,6 +73,23 @@ length-le_joined lens ys t m within =
 
 pub few-joined : (lens : List ℕ) (ys : List (List ℕ)) → Measured lens ys → length (joined ys) < 2 ^ 32
 few-joined lens ys m = omega (arith, m.few, ap sum m.each, total ys)
+
+-- the end of the last block comes after all
+pub last-place : (lens : List ℕ) (ys : List (List ℕ)) (t n : ℕ) → Measured lens ys → t + 1 ≡ length lens
+    → n ≡ get_or lens t n → IsPlace (lengths ys) t n (length (joined ys))
+last-place lens ys t n m last is =
+    let inside : t < length lens = omega (arith, last) in
+    let whole : take (t + 1) lens ≡ lens = take_all (t + 1) lens (omega (arith, last)) in
+    let more : sum lens ≡ sum (take t lens) + n =
+    ap sum (sym whole) ∙ ap sum (take_more lens t n inside ∙ ap (λ k. take t lens ++ k ∷ []) (sym is))
+    ∙ sum_by-append (λ x. x) (take t lens) (n ∷ []) ∙ ap (λ k. sum (take t lens) + k) (sum_one n) in
+    subst (λ (l : List ℕ). IsPlace l t n (length (joined ys))) m.each (record {
+      within = inside;
+      adds_up = omega (arith, more, ap sum m.each, total ys);
+    })
+  where
+    sum_one : (k : ℕ) → sum (k ∷ []) ≡ k
+    sum_one k = omega (arith, sum_by-cons (λ x. x) k [])
 
 measured-set : (lens : List ℕ) (ys : List (List ℕ)) (t n : ℕ) (new : List ℕ) → Measured lens ys → t < length ys
     → n ≡ length new → length (joined ys) + n < 2 ^ 32 + length (at ys t) → Measured (set lens t n) (set ys t new)

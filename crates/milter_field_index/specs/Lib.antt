@@ -1,4 +1,5 @@
 pub mod Blocks
 pub mod Occurrence
 pub mod Counted
+pub mod Symbols
 pub mod Fields

@@ -3,7 +3,7 @@
 ghost use Rattle.std.specs.Prelude.{◌≡◌, ◌+◌, ◌-◌, ◌<◌, ◌≤◌, ◌^◌, [], ◌∷◌, IfOk, IfSome, IsSome, ◌↔◌, OnErr, OnOk, drop, length, slice_index_or, take};
 ghost use Rattle.milter_field_index.specs.Blocks.{IsPlace, at, halved, insert_in, joined, lengths, remove_in};
 
-use crate::row::{Place, find, find_new, split_row, sum_of};
+use crate::row::{Place, find, find_new, split_row};
 use std::alloc::{AllocError, Global};
 use std::marker::Model;
 
@@ -42,13 +42,6 @@ impl Blocks {
         Ok(Blocks { blocks, lens })
     }
 
-    /// How many numbers there are.
-    pub(crate) fn len(&self) -> usize
-        ensures { result ≡ length (joined self.now) }
-    {
-        sum_of(self.lens.as_slice())
-    }
-
     /// The length of each block.
     pub(crate) fn lens(&self) -> &[u32]
         ensures lens { result.now ≡ lengths self.now }
@@ -85,6 +78,19 @@ impl Blocks {
         find_new(self.lens.as_slice(), index)
     }
 
+    /// The place after all numbers.
+    pub(crate) fn end(&self) -> Place
+        ensures found { IsPlace (lengths self.now) result.block result.offset (length (joined self.now)) }
+        ensures inside { result.offset ≡ length (at self.now result.block) }
+        ensures few { length (joined self.now) < 2 ^ 32 }
+    {
+        let block = self.lens.len() - 1;
+        Place {
+            block,
+            offset: self.lens[block] as usize,
+        }
+    }
+
     /// The place of a new number after so many others: its block is split if it is full.
     pub(crate) fn place_for(&mut self, alloc: Global, index: usize) -> Result<Place, AllocError>
         requires { index ≤ length (joined self.old) }
@@ -100,6 +106,20 @@ impl Blocks {
         let half = len / 2;
         self.split(alloc, place.block, half)?;
         Ok(self.find_new(index))
+    }
+
+    /// The place of a new number after all others: in a new block if the last one is full.
+    pub(crate) fn place_at_end(&mut self, alloc: Global) -> Result<Place, AllocError>
+        ensures same { joined self.new ≡ joined self.old }
+        ensures found { IfOk result (λ p. IsPlace (lengths self.new) p.block p.offset (length (joined self.old))) }
+        ensures inside { IfOk result (λ p. p.offset ≤ length (at self.new p.block)) }
+    {
+        let place = self.end();
+        if place.offset < SHORT_LEN as usize {
+            return Ok(place);
+        }
+        self.split(alloc, place.block, place.offset as u32)?;
+        Ok(self.end())
     }
 
     /// Inserts a number at a place. After an `Err` all is as before.

@@ -9,6 +9,7 @@ mod ranked;
 mod row;
 mod rows;
 mod sequence;
+mod symbols;
 
 pub use field_index::FieldIndex;
 pub use ranked::Ranked;

@@ -10,6 +10,7 @@ use crate::blocks::{Blocks, SHORT_LEN};
 use crate::occurrence::{count_before, nth_in};
 use crate::row::{Place, find, sum_of};
 use crate::rows::Rows;
+use crate::symbols::Symbols;
 use std::alloc::{AllocError, Global};
 use std::marker::Model;
 
@@ -21,23 +22,26 @@ const LONG_LEN: u32 = 2048;
 
 /// A sequence of symbols, which are small numbers. There are fewer than 2^32 of them. Each symbol up to the highest
 /// that was ever inserted has a row of its counts in the blocks, so an occurrence is found at the cost of the root of
-/// the length.
+/// the length. Where all symbols are the same, one more is the last: the sequence is then the same wherever it comes.
 #[derive(Debug, Drop)]
 pub struct Ranked {
     blocks: Blocks,
     rows: Rows,
+    symbols: Symbols,
+    /// How many symbols there are.
+    len: usize,
 }
 
 impl Model for Ranked {
     ghost use Rattle.std.specs.Prelude.{ℕ, List};
     ghost use Rattle.milter_field_index.specs.Blocks.{joined};
-    ghost use Rattle.milter_field_index.specs.Counted.{Counted};
+    ghost use Rattle.milter_field_index.specs.Symbols.{IsRanked};
 
     ghost Value = { List ℕ };
 
     ghost view = { λ r. joined r.blocks };
 
-    ghost invariant = { λ r. Counted r.rows r.blocks };
+    ghost invariant = { λ r. IsRanked r.symbols r.len r.rows r.blocks };
 }
 
 impl Ranked {
@@ -48,6 +52,8 @@ impl Ranked {
         Ok(Ranked {
             blocks: Blocks::new(alloc)?,
             rows: Rows::new(alloc),
+            symbols: Symbols::Absent,
+            len: 0,
         })
     }
 
@@ -56,12 +62,11 @@ impl Ranked {
         requires { index ≤ length self.now }
         ensures { result ≡ count_of symbol (take index self.now) }
     {
+        if self.symbols.are_all(symbol) {
+            return index;
+        }
         if symbol as usize >= self.rows.len() {
             return 0;
-        }
-        if self.rows.len() == 1 {
-            // All symbols are this one.
-            return index;
         }
         let place = self.blocks.find_new(index);
         let row = self.rows.row(symbol);
@@ -74,12 +79,11 @@ impl Ranked {
     pub fn select(&self, symbol: u32, number: usize) -> Option<usize>
         ensures { result ≡ nth (λ other. other == symbol) number self.now }
     {
+        if self.symbols.are_all(symbol) {
+            return (number < self.len).then_some(number);
+        }
         if symbol as usize >= self.rows.len() {
             return None;
-        }
-        if self.rows.len() == 1 {
-            // All symbols are this one.
-            return (number < self.blocks.len()).then_some(number);
         }
         let lens = self.blocks.lens();
         let place = find(self.rows.row(symbol), number)?;
@@ -94,10 +98,51 @@ impl Ranked {
         ensures ok { OnOk result (self.new ≡ insert self.old index symbol) }
         ensures err { OnErr result (self.new ≡ self.old) }
     {
-        let Ranked { blocks, rows } = self;
+        if self.symbols.are_all(symbol) {
+            return self.push(alloc, symbol);
+        }
+        self.insert_at(alloc, index, symbol)
+    }
+
+    /// Inserts a symbol after all others. After an `Err` all is as before.
+    fn push(&mut self, alloc: Global, symbol: u32) -> Result<(), AllocError>
+        requires { length self.old < 2 ^ 32 - 1 }
+        ensures ok { OnOk result (self.new ≡ insert self.old (length self.old) symbol) }
+        ensures err { OnErr result (self.new ≡ self.old) }
+    {
+        let Ranked {
+            blocks,
+            rows,
+            symbols,
+            len,
+        } = self;
+        rows.grow(alloc, symbol, blocks.lens().len())?;
+        let place = place_at_end(alloc, blocks, rows)?;
+        put(blocks, rows, place, symbol)?;
+        *symbols = symbols.with(symbol);
+        *len += 1;
+        Ok(())
+    }
+
+    /// Inserts a symbol after so many others. After an `Err` all is as before.
+    fn insert_at(&mut self, alloc: Global, index: usize, symbol: u32) -> Result<(), AllocError>
+        requires within { index ≤ length self.old }
+        requires few { length self.old < 2 ^ 32 - 1 }
+        ensures ok { OnOk result (self.new ≡ insert self.old index symbol) }
+        ensures err { OnErr result (self.new ≡ self.old) }
+    {
+        let Ranked {
+            blocks,
+            rows,
+            symbols,
+            len,
+        } = self;
         rows.grow(alloc, symbol, blocks.lens().len())?;
         let place = place_for(alloc, blocks, rows, index)?;
-        put(blocks, rows, place, symbol)
+        put(blocks, rows, place, symbol)?;
+        *symbols = symbols.with(symbol);
+        *len += 1;
+        Ok(())
     }
 
     /// Deletes the symbol at an index, and returns it; `None` past the end.
@@ -110,6 +155,7 @@ impl Ranked {
                 let symbol = self.blocks.remove(place);
                 let count = self.rows.row(symbol)[place.block];
                 self.rows.set(symbol, place.block, count - 1);
+                self.len -= 1;
                 Some(symbol)
             }
             None => None,
@@ -149,6 +195,23 @@ fn place_for(
     let half = len / 2;
     split(alloc, blocks, rows, place.block, half)?;
     Ok(blocks.find_new(index))
+}
+
+/// The place of a new symbol after all others: in a new block if the last one is full.
+fn place_at_end(alloc: Global, blocks: &mut Blocks, rows: &mut Rows) -> Result<Place, AllocError>
+    requires counted { Counted rows.old blocks.old }
+    ensures counted { Counted rows.new blocks.new }
+    ensures same { joined blocks.new ≡ joined blocks.old }
+    ensures rows { length rows.new ≡ length rows.old }
+    ensures found { IfOk result (λ p. IsPlace (lengths blocks.new) p.block p.offset (length (joined blocks.new))) }
+    ensures inside { IfOk result (λ p. p.offset ≤ length (at blocks.new p.block)) }
+{
+    let place = blocks.end();
+    if place.offset < SHORT_LEN as usize {
+        return Ok(place);
+    }
+    split(alloc, blocks, rows, place.block, place.offset as u32)?;
+    Ok(blocks.end())
 }
 
 /// Makes two blocks of one, of which the first keeps so many symbols. After an `Err` all is as before.

@@ -2,8 +2,10 @@
 
 ghost use Rattle.std.specs.Prelude.{◌≡◌, ◌+◌, ◌-◌, ◌<◌, ◌≤◌, ◌^◌, [], IfOk, OnErr, OnOk, if◌then◌else◌, is_some, length, slice_get};
 ghost use Rattle.std.specs.List.{insert, remove};
+ghost use Rattle.milter_field_index.specs.Blocks.{IsPlace, at, joined, lengths};
 
 use crate::blocks::Blocks;
+use crate::row::Place;
 use std::alloc::{AllocError, Global};
 use std::marker::Model;
 
@@ -62,7 +64,7 @@ impl Sequence {
         ensures ok { OnOk result (self.new ≡ insert self.old index number) }
         ensures err { OnErr result (self.new ≡ self.old) }
     {
-        let place = self.blocks.place_for(alloc, index)?;
+        let place = place_for(alloc, &mut self.blocks, self.len, index)?;
         self.blocks.insert(place, number)?;
         self.len += 1;
         Ok(())
@@ -92,4 +94,23 @@ impl Sequence {
         }
         Ok(numbers)
     }
+}
+
+/// The place of a new number after so many others, where there are `len` in all.
+fn place_for(
+    alloc: Global,
+    blocks: &mut Blocks,
+    len: usize,
+    index: usize,
+) -> Result<Place, AllocError>
+    requires len { len ≡ length (joined blocks.old) }
+    requires within { index ≤ len }
+    ensures same { joined blocks.new ≡ joined blocks.old }
+    ensures found { IfOk result (λ p. IsPlace (lengths blocks.new) p.block p.offset index) }
+    ensures inside { IfOk result (λ p. p.offset ≤ length (at blocks.new p.block)) }
+{
+    if index == len {
+        return blocks.place_at_end(alloc);
+    }
+    blocks.place_for(alloc, index)
 }

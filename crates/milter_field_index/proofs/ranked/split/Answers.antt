@@ -1,9 +1,9 @@
-use Rattle.std.proofs.Common.{◌≡◌, ◌++◌, ◌==◌, cond, ℕ, List, take, drop, length, sym, ap, subst, ◌∙◌, arith}
-use Rattle.std.proofs.lemmas.List.{length-drop, take-append-drop}
+use Rattle.std.proofs.Common.{◌≡◌, ◌++◌, ◌==◌, cond, ℕ, List, take, drop, sym, ap, subst, ◌∙◌}
+use Rattle.std.proofs.lemmas.List.{take-append-drop}
 use Rattle.std.proofs.lemmas.List.Sums.{sum_by-append}
 use Rattle.milter_field_index.specs.Blocks.{joined, at, count_of, halved}
 use Rattle.milter_field_index.specs.Counted.{Counted}
-use Rattle.milter_field_index.proofs.Joins.{block-le_joined, joined-halved}
+use Rattle.milter_field_index.proofs.Joins.{joined-halved}
 use Rattle.milter_field_index.proofs.Counts.{counted-split, row-at}
 use Rattle.milter_field_index.proofs.ranked.split.Goals as goal
 

@@ -1,11 +1,12 @@
-use Rattle.std.proofs.Common.{◌≡◌, ◌+◌, ◌<◌, ◌≤◌, ◌==◌, ℕ, List, length, take, sym, ap, ◌∙◌, arith, length-take}
+use Rattle.std.proofs.Common.{◌≡◌, ◌+◌, ◌<◌, ◌≤◌, ◌==◌, ℕ, List, length, take, sym, ap, subst, ◌∙◌, arith, length-take}
 use Rattle.std.specs.List.{sum}
 use Rattle.std.proofs.lemmas.List.Sums.{sum_by-take-le, count_by-le-length}
 use Rattle.milter_field_index.specs.Blocks.{joined, at, count_of, counts}
 use Rattle.milter_field_index.proofs.Joins.{block-le_joined, place_within}
 use Rattle.milter_field_index.proofs.Counts.{count-past, row-few}
 use Rattle.milter_field_index.proofs.Occurrences.{count-blocks}
-use Rattle.milter_field_index.proofs.Zeros.{HasZerosAlone, count-zeros}
+use Rattle.milter_field_index.specs.Symbols.{HasOnly}
+use Rattle.milter_field_index.proofs.OneSymbol.{count-only}
 use Rattle.milter_field_index.proofs.ranked.Ranked.rank.Goals as goal
 
 pub returns-then-symbol-len : goal.returns-then-symbol-len
@@ -14,18 +15,15 @@ returns-then-symbol-len c =
     let bs : List (List ℕ) = c.self.inside.blocks in
     let past : length rows ≤ c.args.symbol = omega (arith, c.if-symbol-len.true, c.len.ensures) in
     sym (ap (λ l. count_of c.args.symbol (take c.args.index l)) (sym c.self.view_is)
-    ∙ count-past rows bs c.args.symbol c.args.index c.self.invariant past)
+    ∙ count-past rows bs c.args.symbol c.args.index c.self.invariant.counted past)
 
-pub returns-then-len-eq1 : goal.returns-then-len-eq1
-returns-then-len-eq1 c =
-    let bs : List (List ℕ) = c.self.inside.blocks in
-    let symbol_is : c.args.symbol ≡ 0 =
-    omega (arith, c.if-symbol-len.false, c.len.ensures, c.if-len-eq1.true, c.len-2.ensures) in
-    let alone : HasZerosAlone (joined bs) =
-    λ s h. c.self.invariant.others s (omega (arith, h, c.if-len-eq1.true, c.len-2.ensures)) in
-    sym (count-zeros (joined bs) c.args.index alone (omega (arith, c.requires, ap length c.self.view_is)))
-    ∙ ap (λ s. count_of s (take c.args.index (joined bs))) (sym symbol_is)
-    ∙ ap (λ l. count_of c.args.symbol (take c.args.index l)) c.self.view_is
+pub returns-then-are_all : goal.returns-then-are_all
+returns-then-are_all c =
+    let xs : List ℕ = c.args.self.now in
+    let s : ℕ = c.args.symbol in
+    let only : HasOnly s xs = subst (HasOnly s) c.self.view_is
+    (c.self.invariant.known s (sym c.are_all.ensures ∙ c.if-are_all.true)) in
+    sym (count-only s xs c.args.index only c.requires)
 
 pub sum_of-requires : goal.sum_of-requires
 sum_of-requires c =
@@ -36,7 +34,7 @@ sum_of-requires c =
       arith,
       sum_by-take-le (λ x. x) c.row-row.result.now c.find_new-place.result.block,
       ap sum c.row-row.ensures,
-      row-few rows bs c.args.symbol c.self.invariant low,
+      row-few rows bs c.args.symbol c.self.invariant.counted low,
       c.find_new-place.ensures.few,
     )
 
@@ -61,7 +59,7 @@ returns c =
     let o : ℕ = c.find_new-place.result.offset in
     let low : s < length rows = omega (arith, c.if-symbol-len.false, c.len.ensures) in
     let first : c.sum_of.result ≡ sum (take t (counts s bs)) = c.sum_of.ensures
-    ∙ ap (λ l. sum (take t l)) (c.row-row.ensures ∙ c.self.invariant.each s low) in
+    ∙ ap (λ l. sum (take t l)) (c.row-row.ensures ∙ c.self.invariant.counted.each s low) in
     let second : c.count_before.result ≡ count_of s (take o (at bs t)) = c.count_before.ensures
     ∙ ap (λ l. count_of s (take o l)) c.block-block.ensures in
     let whole = count-blocks s bs t o c.args.index c.find_new-place.ensures.found c.find_new-place.ensures.inside in
@@ -77,7 +75,7 @@ overflow_add-result c =
     let o : ℕ = c.find_new-place.result.offset in
     let low : s < length rows = omega (arith, c.if-symbol-len.false, c.len.ensures) in
     let first : c.sum_of.result ≡ sum (take t (counts s bs)) = c.sum_of.ensures
-    ∙ ap (λ l. sum (take t l)) (c.row-row.ensures ∙ c.self.invariant.each s low) in
+    ∙ ap (λ l. sum (take t l)) (c.row-row.ensures ∙ c.self.invariant.counted.each s low) in
     let second : c.count_before.result ≡ count_of s (take o (at bs t)) = c.count_before.ensures
     ∙ ap (λ l. count_of s (take o l)) c.block-block.ensures in
     let whole = count-blocks s bs t o c.args.index c.find_new-place.ensures.found c.find_new-place.ensures.inside in

@@ -2,8 +2,9 @@ use Rattle.std.proofs.Common.{◌≡◌, ◌-◌, ◌<◌, ◌≤◌, ℕ, List,
 use Rattle.std.specs.List.{remove, slice_get}
 use Rattle.milter_field_index.specs.Blocks.{joined, lengths, at, count_of, IsPlace}
 use Rattle.milter_field_index.specs.Counted.{Counted}
-use Rattle.milter_field_index.proofs.Joins.{place_within, removed-in, read-in, past-blocks}
+use Rattle.milter_field_index.proofs.Joins.{place_within, place_below, removed-in, read-in, past-blocks}
 use Rattle.milter_field_index.proofs.Counts.{has_row, row-at, row-length, count-read, counted-remove}
+use Rattle.milter_field_index.proofs.Ranks.{ranked-removed}
 use Rattle.milter_field_index.proofs.ranked.Ranked.remove.Goals as goal
 
 -- the symbol that is removed has a row, with a count in the block
@@ -29,38 +30,38 @@ seen rows bs s t o k counted place inside is =
 
 pub row-requires : goal.row-requires
 row-requires c = (seen c.self.inside.rows c.self.inside.blocks c.remove-symbol.result c.in-Some.place.block
-    c.in-Some.place.offset c.args.index c.self.invariant c.in-Some.ensures.found c.in-Some.ensures.inside
+    c.in-Some.place.offset c.args.index c.self.invariant.counted c.in-Some.ensures.found c.in-Some.ensures.inside
     c.remove-symbol.ensures.value).low
 
 pub offset_bounds-row-place : goal.offset_bounds-row-place
 offset_bounds-row-place c =
     let s = seen c.self.inside.rows c.self.inside.blocks c.remove-symbol.result c.in-Some.place.block
-    c.in-Some.place.offset c.args.index c.self.invariant c.in-Some.ensures.found c.in-Some.ensures.inside
+    c.in-Some.place.offset c.args.index c.self.invariant.counted c.in-Some.ensures.found c.in-Some.ensures.inside
     c.remove-symbol.ensures.value in
     omega (arith, s.wide, ap length c.row.ensures, c.row.type_inv.1)
 
 pub bounds-row-place : goal.bounds-row-place
 bounds-row-place c =
     let s = seen c.self.inside.rows c.self.inside.blocks c.remove-symbol.result c.in-Some.place.block
-    c.in-Some.place.offset c.args.index c.self.invariant c.in-Some.ensures.found c.in-Some.ensures.inside
+    c.in-Some.place.offset c.args.index c.self.invariant.counted c.in-Some.ensures.found c.in-Some.ensures.inside
     c.remove-symbol.ensures.value in
     omega (arith, s.wide, ap length c.row.ensures)
 
 pub overflow_sub-count : goal.overflow_sub-count
 overflow_sub-count c =
     let s = seen c.self.inside.rows c.self.inside.blocks c.remove-symbol.result c.in-Some.place.block
-    c.in-Some.place.offset c.args.index c.self.invariant c.in-Some.ensures.found c.in-Some.ensures.inside
+    c.in-Some.place.offset c.args.index c.self.invariant.counted c.in-Some.ensures.found c.in-Some.ensures.inside
     c.remove-symbol.ensures.value in
     omega (arith, s.some, ap (λ l. get_or l c.in-Some.place.block 0) c.row.ensures)
 
 pub set-requires-clause-symbol : goal.set-requires-clause-symbol
 set-requires-clause-symbol c = (seen c.self.inside.rows c.self.inside.blocks c.remove-symbol.result
-    c.in-Some.place.block c.in-Some.place.offset c.args.index c.self.invariant c.in-Some.ensures.found
+    c.in-Some.place.block c.in-Some.place.offset c.args.index c.self.invariant.counted c.in-Some.ensures.found
     c.in-Some.ensures.inside c.remove-symbol.ensures.value).low
 
 pub set-requires-clause-block : goal.set-requires-clause-block
 set-requires-clause-block c = (seen c.self.inside.rows c.self.inside.blocks c.remove-symbol.result
-    c.in-Some.place.block c.in-Some.place.offset c.args.index c.self.invariant c.in-Some.ensures.found
+    c.in-Some.place.block c.in-Some.place.offset c.args.index c.self.invariant.counted c.in-Some.ensures.found
     c.in-Some.ensures.inside c.remove-symbol.ensures.value).wide
 
 pub invariant_of-self : goal.invariant_of-self
@@ -71,16 +72,21 @@ invariant_of-self c =
     let t : ℕ = c.in-Some.place.block in
     let o : ℕ = c.in-Some.place.offset in
     let there =
-    seen rows bs s t o c.args.index c.self.invariant c.in-Some.ensures.found c.in-Some.ensures.inside
+    seen rows bs s t o c.args.index c.self.invariant.counted c.in-Some.ensures.found c.in-Some.ensures.inside
     c.remove-symbol.ensures.value in
     let after =
-    counted-remove rows bs s t o c.self.invariant there.within there.low c.in-Some.ensures.inside
+    counted-remove rows bs s t o c.self.invariant.counted there.within there.low c.in-Some.ensures.inside
     c.remove-symbol.ensures.value in
     let new : c.set.new.self ≡ set rows s (set (at rows s) t (get_or (at rows s) t 0 - 1)) = c.set.ensures
     ∙ ap (λ l. set rows s (set (at rows s) t (get_or l t 0 - 1))) c.row.ensures in
-    subst (λ (r : List (List ℕ)). Counted r c.remove-symbol.new.self) (sym new)
+    let below = place_below bs t o c.args.index c.in-Some.ensures.found c.in-Some.ensures.inside in
+    ranked-removed c.self.inside.symbols c.self.inside.len c.set.new.self c.remove-symbol.new.self (joined bs)
+    c.args.index below c.self.invariant.known c.self.invariant.whole
+    (subst (λ (r : List (List ℕ)). Counted r c.remove-symbol.new.self) (sym new)
     (subst (λ (b : List (List ℕ)). Counted (set rows s (set (at rows s) t (get_or (at rows s) t 0 - 1))) b)
-    (sym c.remove-symbol.ensures.rest) after)
+    (sym c.remove-symbol.ensures.rest) after))
+    (ap joined c.remove-symbol.ensures.rest
+    ∙ removed-in bs t o c.args.index c.in-Some.ensures.found c.in-Some.ensures.inside)
 
 pub returns-in-Some-clause-value : goal.returns-in-Some-clause-value
 returns-in-Some-clause-value c =

@@ -9,7 +9,8 @@ use Rattle.milter_field_index.specs.Occurrence.{nth, shifted}
 use Rattle.milter_field_index.proofs.Joins.{total}
 use Rattle.milter_field_index.proofs.Counts.{row-sum, row-few, row-length, row-at}
 use Rattle.milter_field_index.proofs.Occurrences.{nth-blocks, nth-below, nth_past, shifted-some, shifted-none}
-use Rattle.milter_field_index.proofs.Zeros.{HasZerosAlone, nth-zeros}
+use Rattle.milter_field_index.specs.Symbols.{HasOnly}
+use Rattle.milter_field_index.proofs.OneSymbol.{nth-only}
 use Rattle.milter_field_index.proofs.ranked.Ranked.select.Goals as goal
 
 -- the occurrence in the whole by the one in its block
@@ -28,33 +29,26 @@ pub returns-then-symbol-len : goal.returns-then-symbol-len
 returns-then-symbol-len c =
     let bs : List (List ℕ) = c.self.inside.blocks in
     let past : length c.self.inside.rows ≤ c.args.symbol = omega (arith, c.if-symbol-len.true, c.len.ensures) in
-    let none = c.self.invariant.others c.args.symbol past in
+    let none = c.self.invariant.counted.others c.args.symbol past in
     sym (nth_past (λ (x : ℕ). x == c.args.symbol) (joined bs) c.args.number (omega (arith, none)))
     ∙ ap (λ l. nth (λ x. x == c.args.symbol) c.args.number l) c.self.view_is
 
-pub returns-then-len-eq1 : goal.returns-then-len-eq1
-returns-then-len-eq1 c =
-    let bs : List (List ℕ) = c.self.inside.blocks in
-    let symbol : ℕ = c.args.symbol in
+pub returns-then-are_all : goal.returns-then-are_all
+returns-then-are_all c =
+    let xs : List ℕ = c.args.self.now in
+    let s : ℕ = c.args.symbol in
     let number : ℕ = c.args.number in
-    let symbol_is : symbol ≡ 0 =
-    omega (arith, c.if-symbol-len.false, c.len.ensures, c.if-len-eq1.true, c.len-2.ensures) in
-    let alone : HasZerosAlone (joined bs) =
-    λ s h. c.self.invariant.others s (omega (arith, h, c.if-len-eq1.true, c.len-2.ensures)) in
-    let len = c.len-then-len-eq1.ensures in
-    let found : c.then_some.result ≡ nth (λ x. x == 0) number (joined bs) =
-    elim (cases_lt number c.len-then-len-eq1.result) [
+    let only : HasOnly s xs = subst (HasOnly s) c.self.view_is
+    (c.self.invariant.known s (sym c.are_all.ensures ∙ c.if-are_all.true)) in
+    let len : c.self.inside.len ≡ length xs = c.self.invariant.whole ∙ ap length c.self.view_is in
+    elim (cases_lt number c.self.inside.len) [
       | inl low ↦
-          c.then_some.ensures ∙ ap (λ (b : Bool). then_some b number) (lt-ltb number c.len-then-len-eq1.result low)
-          ∙ sym (nth-zeros (joined bs) number alone (omega (arith, low, len)))
+          c.then_some.ensures ∙ ap (λ (b : Bool). then_some b number) (lt-ltb number c.self.inside.len low)
+          ∙ sym (nth-only s xs number only (omega (arith, low, len)))
       | inr past ↦
-          c.then_some.ensures ∙ ap (λ (b : Bool). then_some b number) (le-ltb number c.len-then-len-eq1.result past)
-          ∙ sym (nth_past (λ x. x == 0) (joined bs) number
-          (omega (arith, past, len, count_by-le-length (λ (x : ℕ). x == 0) (joined bs))))
-    ] in
-    found
-    ∙ ap (λ s. nth (λ x. x == s) number (joined bs)) (sym symbol_is)
-    ∙ ap (λ l. nth (λ x. x == symbol) number l) c.self.view_is
+          c.then_some.ensures ∙ ap (λ (b : Bool). then_some b number) (le-ltb number c.self.inside.len past)
+          ∙ sym (nth_past (λ x. x == s) xs number (omega (arith, past, len, count_by-le-length (λ (x : ℕ). x == s) xs)))
+    ]
 
 pub find-requires : goal.find-requires
 find-requires c =
@@ -63,7 +57,7 @@ find-requires c =
       arith,
       ap sum c.row.ensures,
       row-few c.self.inside.rows c.self.inside.blocks c.args.symbol
-          c.self.invariant low,
+          c.self.invariant.counted low,
       c.lens-lens.ensures.few,
     )
 
@@ -72,7 +66,7 @@ returns-in_err-place c =
     let bs : List (List ℕ) = c.self.inside.blocks in
     let low : c.args.symbol < length c.self.inside.rows = omega (arith, c.if-symbol-len.false, c.len.ensures) in
     let past : sum c.row.result.now ≤ c.args.number = Prim.grind (arith, c.in_err-place.ensures.exact) in
-    let all = ap sum c.row.ensures ∙ row-sum c.self.inside.rows bs c.args.symbol c.self.invariant low in
+    let all = ap sum c.row.ensures ∙ row-sum c.self.inside.rows bs c.args.symbol c.self.invariant.counted low in
     c.from_residual.ensures
     ∙ sym (nth_past (λ (x : ℕ). x == c.args.symbol) (joined bs) c.args.number (omega (arith, past, all)))
     ∙ ap (λ l. nth (λ x. x == c.args.symbol) c.args.number l) c.self.view_is
@@ -85,7 +79,7 @@ returns-in_err-index c =
     let o : ℕ = c.in_ok-place.place.offset in
     let low : s < length c.self.inside.rows = omega (arith, c.if-symbol-len.false, c.len.ensures) in
     let whole =
-    by_block c.self.inside.rows bs c.row.result.now s c.args.number t o c.self.invariant low c.row.ensures
+    by_block c.self.inside.rows bs c.row.result.now s c.args.number t o c.self.invariant.counted low c.row.ensures
     c.in_ok-place.ensures.found c.in_ok-place.ensures.inside in
     let inner : None ≡ nth (λ x. x == s) o (at bs t) = c.in_err-index.ensures
     ∙ ap (λ l. nth (λ x. x == s) o l) c.block.ensures in
@@ -136,7 +130,7 @@ returns c =
     let index : ℕ = c.in_ok-index.index in
     let low : s < length c.self.inside.rows = omega (arith, c.if-symbol-len.false, c.len.ensures) in
     let whole =
-    by_block c.self.inside.rows bs c.row.result.now s c.args.number t o c.self.invariant low c.row.ensures
+    by_block c.self.inside.rows bs c.row.result.now s c.args.number t o c.self.invariant.counted low c.row.ensures
     c.in_ok-place.ensures.found c.in_ok-place.ensures.inside in
     let inner : Some index ≡ nth (λ x. x == s) o (at bs t) = c.in_ok-index.ensures
     ∙ ap (λ l. nth (λ x. x == s) o l) c.block.ensures in

@@ -1,4 +1,4 @@
-use Rattle.std.proofs.Common.{◌≡◌, ◌+◌, ℕ, List, length, ap, ◌∙◌, arith}
+use Rattle.std.proofs.Common.{ℕ, List, length, ap, ◌∙◌, arith}
 use Rattle.std.specs.List.{insert}
 use Rattle.std.proofs.lemmas.List.Edits.{length-insert}
 use Rattle.milter_field_index.specs.Blocks.{joined}
@@ -7,7 +7,7 @@ use Rattle.milter_field_index.proofs.sequence.Sequence.insert.Goals as goal
 
 pub returns-clause-ok : goal.returns-clause-ok
 returns-clause-ok c =
-    let bs : List (List ℕ) = c.place_for.new.self in
+    let bs : List (List ℕ) = c.place_for.new.blocks in
     let t : ℕ = c.in_ok-place.place.block in
     let o : ℕ = c.in_ok-place.place.offset in
     let whole =
@@ -17,7 +17,7 @@ returns-clause-ok c =
 
 pub invariant_of-self-2 : goal.invariant_of-self-2
 invariant_of-self-2 c =
-    let bs : List (List ℕ) = c.place_for.new.self in
+    let bs : List (List ℕ) = c.place_for.new.blocks in
     let t : ℕ = c.in_ok-place.place.block in
     let o : ℕ = c.in_ok-place.place.offset in
     let i : ℕ = c.args.index in

@@ -1,4 +1,4 @@
-use Rattle.std.proofs.Common.{◌≡◌, ◌+◌, ◌-◌, ◌≤◌, ℕ, List, Some, ap, sym, ◌∙◌, arith, length}
+use Rattle.std.proofs.Common.{◌≤◌, ℕ, List, Some, ap, sym, ◌∙◌, arith, length}
 use Rattle.std.specs.List.{remove, slice_get}
 use Rattle.std.proofs.lemmas.List.Edits.{length-remove}
 use Rattle.milter_field_index.specs.Blocks.{joined}
