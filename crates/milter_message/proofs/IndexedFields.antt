@@ -15,7 +15,7 @@ use Rattle.milter_field_index.proofs.Edits.{map-insert, map-remove, nth-map, nth
 use Rattle.milter_field_index.proofs.Occurrences.{nth-first, nth-other, nth-same}
 use Rattle.milter_wire_fields.specs.declared.header.Header.{Header}
 use Rattle.milter_message.specs.declared.source.Source.{Source}
-use Rattle.milter_message.specs.EditedFields.{HasSources, IsNumberedBy, NumberedField, changed, field_of, fields_of, header_at, headers_of, numbered_fields, shown}
+use Rattle.milter_message.specs.EditedFields.{HasSources, IsNumberedBy, NumberedField, changed, field_of, fields_of, header_at, headers_of, numbered_fields, shown, with_number}
 use Rattle.milter_message.specs.EditedMessage.{added_field, changed_field, insert_at, occurrence, positions_from, set_field}
 use Rattle.milter_message.specs.LeadingSpace.{changed_value, put_value}
 use Rattle.milter_message.specs.NameNumbers.{HasOwnNumber, number_of}
@@ -116,7 +116,7 @@ found_at numbers name number index fields own is by =
 
 -- ---- at the end, or after so many others
 
-pub insert_last : (xs : List Header) (n : ℕ) (x : Header) → n ≡ length xs → insert xs n x ≡ xs ++ x ∷ []
+pub insert_last : {X : Type 0} (xs : List X) (n : ℕ) (x : X) → n ≡ length xs → insert xs n x ≡ xs ++ x ∷ []
 insert_last xs n x is =
     ap (λ l. l ++ x ∷ drop n xs) (take_all n xs (omega (arith, is)))
     ∙ ap (λ l. xs ++ x ∷ l) (drop_all n xs (omega (arith, is)))
@@ -313,14 +313,32 @@ put_last numbers fields after position header last is =
     ∙ ap (numbered_fields numbers) (insert_last (headers_of fields) position header
     (last ∙ sym (length-map fields (λ (f : NumberedField). f.header))))
 
-pub added_last : (numbers : Numbers) (fields after : List NumberedField) (position : ℕ) (source : Source)
-    → position ≡ length fields → (length source.value.now == 0) ≡ false
-    → after ≡ numbered_fields numbers (insert (headers_of fields) position (shown source))
-    → after ≡ numbered_fields numbers (headers_of fields ++ added_field (changed source))
-added_last numbers fields after position source last some is =
-    put_last numbers fields after position (shown source) last is
-    ∙ ap (λ l. numbered_fields numbers (headers_of fields ++ l))
+pub added_last : (fields after : List NumberedField) (position name : ℕ) (source : Source) → position ≡ length fields
+    → (length source.value.now == 0) ≡ false
+    → after ≡ insert fields position (record { name = name; header = shown source })
+    → after ≡ fields ++ with_number name (added_field (changed source))
+added_last fields after position name source last some is =
+    is
+    ∙ insert_last fields position (record { name = name; header = shown source }) last
+    ∙ ap (λ (l : List Header). fields ++ with_number name l)
     (sym (some_added source.leading_space source.name.now source.value.now some))
+
+same_number : (numbers : Numbers) (number : ℕ) (name value : List ℕ) → number ≡ number_of numbers name
+    → with_number number (added_field (record { name = name; value = value }))
+    ≡ numbered_fields numbers (added_field (record { name = name; value = value }))
+same_number numbers number name [] is = refl
+same_number numbers number name (byte ∷ bytes) is =
+    ap (λ (n : ℕ). record { name = n; header = record { name = name; value = byte ∷ bytes } } ∷ []) is
+
+pub added_is_numbered : (numbers : Numbers) (fields : List NumberedField) (number : ℕ) (source : Source)
+    → IsNumberedBy numbers fields → number ≡ number_of numbers source.name.now
+    → fields ++ with_number number (added_field (changed source))
+    ≡ numbered_fields numbers (headers_of fields ++ added_field (changed source))
+added_is_numbered numbers fields number source by is =
+    ap (λ (l : List NumberedField). l ++ with_number number (added_field (changed source))) by
+    ∙ ap (λ (l : List NumberedField). numbered_fields numbers (headers_of fields) ++ l)
+    (same_number numbers number source.name.now (changed_value source.leading_space source.value.now) is)
+    ∙ sym (map-append (numbered numbers) (headers_of fields) (added_field (changed source)))
 
 pub put_within : (numbers : Numbers) (fields after : List NumberedField) (position index : ℕ) (header : Header)
     → position ≡ min (length fields) index

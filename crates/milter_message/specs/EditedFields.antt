@@ -70,3 +70,7 @@ numbered_fields numbers headers =
 
 abbrev pub IsNumberedBy : BTreeMap (Bor (List ℕ)) ℕ → List NumberedField → Type 0
 IsNumberedBy numbers fields = fields ≡ numbered_fields numbers (headers_of fields)
+
+-- header fields whose names have this number
+abbrev pub with_number : ℕ → List Header → List NumberedField
+with_number number headers = map (λ header. record { name = number; header = header }) headers

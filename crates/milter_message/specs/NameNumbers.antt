@@ -1,5 +1,5 @@
 -- Numbers for the names of header fields: two names have the same number where they differ by case alone.
-use Rattle.std.specs.Prelude.{◌≡◌, ℕ, ◌<◌, ◌≤◌, ◌==◌, ⊤, List, Option, None, Some, IsSome}
+use Rattle.std.specs.Prelude.{◌≡◌, ℕ, ◌<◌, ◌≤◌, ◌==◌, ⊤, List, [], ◌∷◌, Option, None, Some, IsSome, map}
 use Rattle.std.specs.Borrow.{Bor}
 use Rattle.std.specs.BTreeMap.{BTreeMap, get_by}
 use Rattle.std.specs.Cmp.Lexicographic.{slice_cmp}
@@ -26,6 +26,10 @@ number_or_zero (Some number) = number
 abbrev pub number_of : BTreeMap (Bor (List ℕ)) ℕ → List ℕ → ℕ
 number_of numbers name = number_or_zero (found numbers (str_to_ascii_lowercase name))
 
+-- the numbers of names in lower case, in their order
+abbrev pub numbers_of : BTreeMap (Bor (List ℕ)) ℕ → List (List ℕ) → List ℕ
+numbers_of numbers names = map (λ name. number_or_zero (found numbers name)) names
+
 -- each of the names has a number, and no two have the same one
 pub record HasNumbers (names : List (List ℕ)) (numbers : BTreeMap (Bor (List ℕ)) ℕ) : Type 0 where
   pub some : All (λ name. IsSome (found numbers name)) names
@@ -46,3 +50,27 @@ HasOwnNumber numbers name = (other : List ℕ) →
 abbrev pub IsNumbered : BTreeMap (Bor (List ℕ)) ℕ → Edit → Type 0
 IsNumbered numbers (ChangeHeader index header) = HasOwnNumber numbers header.name
 IsNumbered numbers other = ⊤
+
+-- this is the number of the name of the field that an edit changes
+abbrev pub IsNumberFor : BTreeMap (Bor (List ℕ)) ℕ → ℕ → Edit → Type 0
+IsNumberFor numbers number (ChangeHeader index header) = number ≡ number_of numbers header.name
+IsNumberFor numbers number other = ⊤
+
+-- the first number, and the others
+abbrev pub first_or_zero : List ℕ → ℕ
+first_or_zero [] = 0
+first_or_zero (number ∷ others) = number
+
+abbrev pub others : List ℕ → List ℕ
+others [] = []
+others (number ∷ numbers) = numbers
+
+-- the number for an edit: where it changes a field, the first of those left
+abbrev pub number_for : Edit → List ℕ → ℕ
+number_for (ChangeHeader index header) left = first_or_zero left
+number_for other left = 0
+
+-- the numbers left after an edit
+abbrev pub left_after : Edit → List ℕ → List ℕ
+left_after (ChangeHeader index header) left = others left
+left_after other left = left

@@ -2,14 +2,16 @@
 
 ghost use Rattle.std.specs.Prelude.{◌≡◌, ◌≤◌, ◌++◌, IfOk, length};
 ghost use Rattle.std.specs.List.{insert};
-ghost use Rattle.milter_message.specs.EditedFields.{IsNumberedBy, changed, headers_of, numbered_fields, set_numbered, shown};
+ghost use Rattle.milter_message.specs.EditedFields.{IsNumberedBy, changed, headers_of, numbered_fields, set_numbered, shown, with_number};
 ghost use Rattle.milter_message.specs.EditedMessage.{added_field, change, edit_headers, headers_after};
-ghost use Rattle.milter_message.specs.NameNumbers.{HasOwnNumber, IsNumbered};
+ghost use Rattle.milter_message.specs.NameNumbers.{HasOwnNumber, IsNumbered, IsNumberFor, number_of};
 
 use crate::edit::Edit;
 use crate::edited_fields::EditedFields;
 use crate::insertions::headers_after_insertions;
-use crate::name_numbers::{NameNumbers, changed_names, name_numbers, number_of};
+use crate::name_numbers::{
+    NameNumbers, NumberedNames, changed_names, name_numbers, number_of, take_number,
+};
 use crate::source::Source;
 use milter_wire::{Header, NoMemory};
 use std::alloc::Global;
@@ -28,10 +30,14 @@ pub(crate) fn headers_after_by_index(
     if names.is_empty() {
         return headers_after_insertions(alloc, headers, edits, leading_space);
     }
-    let numbers = name_numbers(alloc, names.as_slice())?;
+    let numbered = name_numbers(alloc, names.as_slice())?;
+    let NumberedNames { numbers, of_names } = numbered;
     let mut fields = fields_of(alloc, headers, &numbers)?;
+    let mut left = of_names.as_slice();
     for edit in edits {
-        fields = edit_field(alloc, fields, edit, leading_space, &numbers)?;
+        let (name, after) = take_number(edit, left);
+        fields = edit_field(alloc, fields, edit, name, leading_space, &numbers)?;
+        left = after;
     }
     fields.to_headers(alloc)
 }
@@ -52,16 +58,18 @@ fn fields_of<'a>(
     Ok(fields)
 }
 
-/// Changes the fields as the edit asks.
+/// Changes the fields as the edit asks. The name of the field that it changes has this number.
 fn edit_field<'a>(
     alloc: Global,
     fields: EditedFields<'a>,
     edit: &'a Edit,
+    name: u32,
     leading_space: bool,
     numbers: &NameNumbers<'_>,
 ) -> Result<EditedFields<'a>, NoMemory>
     requires fields { IsNumberedBy numbers.now fields }
     requires edit { IsNumbered numbers.now edit.now }
+    requires name { IsNumberFor numbers.now name edit.now }
     ensures { IfOk result (λ after. after
         ≡ numbered_fields numbers.now (edit_headers leading_space (headers_of fields.entry) edit.now)) }
 {
@@ -91,6 +99,7 @@ fn edit_field<'a>(
                 alloc,
                 fields,
                 *index,
+                name,
                 Source::new(header, leading_space),
                 numbers,
             )
@@ -116,27 +125,28 @@ fn insert_field<'a>(
     fields.insert(alloc, position, name, source)
 }
 
-/// Gives the occurrence of this name another value, or deletes it; or adds it, where there are fewer.
+/// Gives the occurrence of the name with this number another value, or deletes it; or adds it, where there are fewer.
 fn change_field<'a>(
     alloc: Global,
     fields: EditedFields<'a>,
     index: u32,
+    name: u32,
     source: Source<'a>,
     numbers: &NameNumbers<'_>,
 ) -> Result<EditedFields<'a>, NoMemory>
     requires fields { IsNumberedBy numbers.now fields }
-    requires name { HasOwnNumber numbers.now source.name.now }
+    requires own { HasOwnNumber numbers.now source.name.now }
+    requires name { name ≡ number_of numbers.now source.name.now }
     ensures { IfOk result (λ after. after
         ≡ numbered_fields numbers.now (change index (changed source.entry) (headers_of fields.entry))) }
 {
-    let name = number_of(alloc, numbers, source.name)?;
     let mut fields = fields;
     match fields.nth(name, (index as usize).saturating_sub(1)) {
         Some(position) => {
             set_field(&mut fields, position, source);
             Ok(fields)
         }
-        None => add_field(alloc, fields, source, numbers),
+        None => add_field(alloc, fields, name, source),
     }
 }
 
@@ -151,20 +161,18 @@ fn set_field<'a>(fields: &mut EditedFields<'a>, position: usize, source: Source<
     }
 }
 
-/// Adds a field as the last, unless its value is empty.
+/// Adds a field as the last, unless its value is empty. Its name has this number.
 fn add_field<'a>(
     alloc: Global,
     fields: EditedFields<'a>,
+    name: u32,
     source: Source<'a>,
-    numbers: &NameNumbers<'_>,
 ) -> Result<EditedFields<'a>, NoMemory>
-    requires fields { IsNumberedBy numbers.now fields }
-    ensures { IfOk result (λ after. after
-        ≡ numbered_fields numbers.now (headers_of fields.entry ++ added_field (changed source.entry))) }
+    ensures { IfOk result (λ after. after ≡ fields.entry ++ with_number name (added_field (changed source.entry))) }
 {
     if source.value.is_empty() {
         return Ok(fields);
     }
     let position = fields.len();
-    insert_field(alloc, fields, position, source, numbers)
+    fields.insert(alloc, position, name, source)
 }

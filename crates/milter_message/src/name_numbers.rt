@@ -1,9 +1,10 @@
 //! Numbers for the names of header fields, by which an index finds them.
 
-ghost use Rattle.std.specs.Prelude.{◌≡◌, ◌+◌, IfOk, is_some};
+ghost use Rattle.std.specs.Prelude.{◌≡◌, ◌+◌, ℕ, List, IfOk, Some, unwrap_or};
 ghost use Rattle.std.specs.List.{filter_map};
-ghost use Rattle.std.specs.Str.{str_to_ascii_lowercase};
-ghost use Rattle.milter_message.specs.NameNumbers.{HasNumbers, changed_name, found, number_of};
+ghost use Rattle.std.specs.Map.{update};
+ghost use Rattle.std.specs.Str.{bytes_eq, str_to_ascii_lowercase};
+ghost use Rattle.milter_message.specs.NameNumbers.{HasNumbers, changed_name, found, left_after, number_for, number_of, numbers_of};
 
 use crate::edit::Edit;
 use milter_wire::{NoMemory, Text};
@@ -12,6 +13,14 @@ use std::collections::BTreeMap;
 
 /// Names in lower case, each with a number of its own. 0 is the number of all other names.
 pub(crate) type NameNumbers<'a> = BTreeMap<&'a [u8], u32>;
+
+/// Numbers for names, and those of a list of names.
+#[derive(Debug, Drop)]
+pub(crate) struct NumberedNames<'a> {
+    pub(crate) numbers: NameNumbers<'a>,
+    /// The number of each name, in the order of the names.
+    pub(crate) of_names: Vec<u32>,
+}
 
 /// The names of the fields that these edits change or delete, in lower case.
 pub(crate) fn changed_names(alloc: Global, edits: &[Edit]) -> Result<Vec<Text>, NoMemory>
@@ -33,26 +42,41 @@ fn lower_case(alloc: Global, name: &[u8]) -> Result<Text, NoMemory>
     Ok(Text::new(name.to_ascii_lowercase(alloc)?))
 }
 
-/// Numbers for these names, which are in lower case: 1, 2, 3 .. in the order in which they first stand here.
-pub(crate) fn name_numbers(alloc: Global, names: &[Text]) -> Result<NameNumbers<'_>, NoMemory>
-    ensures { IfOk result (HasNumbers names.now) }
+/// Numbers for these names, which are in lower case: 1, 2, 3 .. in the order in which they first stand here. Each name
+/// is looked up once.
+pub(crate) fn name_numbers(alloc: Global, names: &[Text]) -> Result<NumberedNames<'_>, NoMemory>
+    ensures has { IfOk result (λ numbered. HasNumbers names.now numbered.numbers) }
+    ensures of_names { IfOk result (λ numbered. numbered.of_names.items ≡ numbers_of numbered.numbers names.now) }
 {
     let mut numbers = BTreeMap::new(alloc);
-    let mut number: u32 = 0;
+    let mut of_names = Vec::with_capacity(alloc, names.len())?;
+    let mut most: u32 = 0;
     for name in names {
-        if !has_number(&numbers, name) {
-            number = next(number)?;
-            numbers.insert(name.as_slice(), number)?;
-        }
+        let number = number_or_put(&mut numbers, name.as_slice(), next(most)?)?;
+        most = most.max(number);
+        of_names.push(number)?;
     }
-    Ok(numbers)
+    Ok(NumberedNames { numbers, of_names })
 }
 
-/// Whether a name in lower case has a number. Doesn't allocate.
-fn has_number(numbers: &NameNumbers<'_>, name: &Text) -> bool
-    ensures { result ≡ is_some (found numbers.now name.now) }
+/// The number of a name in lower case. One that has none gets this new one; one that has keeps its own, which is put
+/// back.
+fn number_or_put<'a>(
+    numbers: &mut NameNumbers<'a>,
+    name: &'a [u8],
+    new: u32,
+) -> Result<u32, NoMemory>
+    ensures number { IfOk result (λ number. number ≡ unwrap_or (found numbers.old name.now) new) }
+    ensures put { IfOk result (λ number. (text : List ℕ) →
+        found numbers.new text ≡ update bytes_eq (found numbers.old) name.now (Some number) text) }
 {
-    numbers.get(name.as_slice()).is_some()
+    match numbers.insert(name, new)? {
+        None => Ok(new),
+        Some(old) => {
+            numbers.insert(name, old)?;
+            Ok(old)
+        }
+    }
 }
 
 /// The number after this one.
@@ -78,4 +102,19 @@ pub(crate) fn number_of(
         Some(number) => *number,
         None => 0,
     })
+}
+
+/// The number of the name of the field that the edit changes, the first of those left, and those left after it. An edit
+/// that changes none takes no number, and has 0.
+pub(crate) fn take_number<'a>(edit: &Edit, left: &'a [u32]) -> (u32, &'a [u32])
+    ensures number { result.0 ≡ number_for edit.now left.now }
+    ensures left { result.1.now ≡ left_after edit.now left.now }
+{
+    match edit {
+        Edit::ChangeHeader { .. } => match left {
+            [number, rest @ ..] => (*number, rest),
+            [] => (0, left),
+        },
+        _ => (0, left),
+    }
 }
