@@ -5,9 +5,11 @@
 
 mod load;
 mod load_error;
+mod looks;
 mod open_connection;
 mod settings;
 mod slot;
+mod spin;
 
 pub use load::run_load;
 pub use load_error::LoadError;

@@ -1,10 +1,12 @@
 //! The loop that puts a load on a filter.
 
 use crate::load_error::LoadError;
+use crate::looks::LOOK;
 use crate::open_connection::{Next, OpenConnection, Work};
 use crate::settings::{SECOND, Settings};
-use crate::slot::{Need, Slot};
-use milter_load::{Cause, Conversation, Schedule, Totals, write_progress};
+use crate::slot::Slot;
+use crate::spin::Spin;
+use milter_load::{Cause, Conversation, Schedule, Totals};
 use milter_mail::Session;
 use milter_sockets::Target;
 use milter_wire::{Options, read_buffer};
@@ -18,8 +20,6 @@ use std::time::{Duration, Instant};
 
 /// The most events that are taken at once.
 const EVENTS_MAX: usize = 1_024;
-/// How many microseconds pass between two looks at all connections.
-const LOOK: u64 = 10_000;
 /// How many microseconds pass before a connection that was not made is tried again.
 const RETRY: u64 = 100_000;
 /// How many microseconds pass before a connection is tried again that the filter has no room for.
@@ -31,32 +31,33 @@ const MILLI: u64 = 1_000;
 
 /// A load that is put on a filter.
 #[derive(Drop)]
-struct Load<'r, 's, R: Net + Clock> {
-    rt: &'r R,
-    alloc: Global,
-    settings: Settings,
-    offer: Options,
-    target: Target<'s>,
+pub(crate) struct Load<'r, 's, R: Net + Clock> {
+    pub(crate) rt: &'r R,
+    pub(crate) alloc: Global,
+    pub(crate) settings: Settings,
+    pub(crate) offer: Options,
+    pub(crate) target: Target<'s>,
     // The number of the filter's address that is connected to.
-    address: usize,
-    poll: Poll,
-    begin: Instant,
-    slots: Vec<Slot>,
+    pub(crate) address: usize,
+    pub(crate) poll: Poll,
+    pub(crate) begin: Instant,
+    pub(crate) slots: Vec<Slot>,
     // The places whose connections await a message.
-    idle: Vec<usize>,
-    work: Work<'s>,
+    pub(crate) idle: Vec<usize>,
+    pub(crate) work: Work<'s>,
     // How many connections are made and open.
-    open: usize,
+    pub(crate) open: usize,
     // When the first connection was made.
-    first: u64,
+    pub(crate) first: u64,
     // When a connection was last open.
-    last_open: u64,
+    pub(crate) last_open: u64,
     // When the last message was begun, once that is known.
-    over: Option<u64>,
+    pub(crate) over: Option<u64>,
     // Why no connection was made, where none ever was.
-    refusal: Option<ErrorKind>,
-    next_look: u64,
-    next_second: u64,
+    pub(crate) refusal: Option<ErrorKind>,
+    pub(crate) next_look: u64,
+    pub(crate) next_second: u64,
+    pub(crate) spin: Spin,
 }
 
 /// Puts a load on a filter: plays a session on connections to it, at once as many as is asked for, until the time has
@@ -102,6 +103,7 @@ pub fn run_load<'s, R: Net + Clock, W: Write>(
         refusal: None,
         next_look: 0,
         next_second: SECOND,
+        spin: Spin::new(),
     };
     load.run(errors)?;
     if load.work.totals.made == 0 {
@@ -126,8 +128,8 @@ impl<'r, 's, R: Net + Clock> Load<'r, 's, R> {
     fn run<W: Write>(&mut self, errors: &mut W) -> Result<(), LoadError> {
         let mut events = Events::with_capacity(self.alloc, EVENTS_MAX)?;
         let mut buffer = read_buffer(self.alloc)?;
+        let mut now = self.now()?;
         for _ in 0..u64::MAX {
-            let now = self.now()?;
             self.look(now, errors)?;
             self.begin_due(now, buffer.as_mut_slice())?;
             if self.is_done(now) {
@@ -135,7 +137,7 @@ impl<'r, 's, R: Net + Clock> Load<'r, 's, R> {
             }
             let timeout = Some(self.time_to_wait(now));
             self.poll.poll(&mut events, timeout)?;
-            self.on_events(&events, buffer.as_mut_slice())?;
+            now = self.on_events(&events, buffer.as_mut_slice())?;
         }
         self.end()
     }
@@ -152,13 +154,17 @@ impl<'r, 's, R: Net + Clock> Load<'r, 's, R> {
     }
 
     /// How long a reply may take, in microseconds.
-    fn timeout(&self) -> u64 {
+    pub(crate) fn timeout(&self) -> u64 {
         u64::from(self.settings.timeout).saturating_mul(SECOND)
     }
 
-    /// How long to wait for sockets at this time.
-    fn time_to_wait(&self, now: u64) -> Duration {
-        let look = self.next_look.saturating_sub(now) / MILLI;
+    /// How long to wait for sockets at this time: until the next look, or less where a message is due before it; not at
+    /// all while the sockets are polled without a wait.
+    fn time_to_wait(&mut self, now: u64) -> Duration {
+        if self.spin.is_on(now) {
+            return Duration::from_millis(0);
+        }
+        let look = self.next_look.saturating_sub(now).div_ceil(MILLI);
         let due = match self.work.schedule.next_due() {
             Some(due) if !self.idle.is_empty() => due.saturating_sub(now),
             _ => u64::MAX,
@@ -185,25 +191,38 @@ impl<'r, 's, R: Net + Clock> Load<'r, 's, R> {
 
     // ---- what happens
 
-    /// Goes on with the connections whose sockets are ready.
-    fn on_events(&mut self, events: &Events, buffer: &mut [u8]) -> Result<(), LoadError> {
+    /// Goes on with the connections whose sockets are ready; the time at which it did so with the last one.
+    fn on_events(&mut self, events: &Events, buffer: &mut [u8]) -> Result<u64, LoadError> {
+        let mut now = self.now()?;
+        let mut is_first = true;
         for event in events.iter() {
-            let now = self.now()?;
-            let Token(place) = event.token();
-            match self.on_event(place, event, now) {
-                Some(kind) => self.close(place, kind, now)?,
-                None => self.run_turns(place, buffer, now)?,
+            if !is_first {
+                now = self.now()?;
             }
+            is_first = false;
+            self.on_ready(event, buffer, now)?;
         }
-        self.note_over()
+        if !events.is_empty() {
+            self.spin.on_event(now);
+        }
+        self.note_over(now);
+        Ok(now)
+    }
+
+    /// Goes on with a connection whose socket is ready.
+    fn on_ready(&mut self, event: &Event, buffer: &mut [u8], now: u64) -> Result<(), LoadError> {
+        let Token(place) = event.token();
+        match self.on_event(place, event, now) {
+            Some(kind) => self.close(place, kind, now),
+            None => self.run_turns(place, buffer, now),
+        }
     }
 
     /// Notes when the last message was begun, once it was.
-    fn note_over(&mut self) -> Result<(), LoadError> {
+    pub(crate) fn note_over(&mut self, now: u64) {
         if self.over.is_none() && self.work.schedule.is_over() {
-            self.over = Some(self.now()?);
+            self.over = Some(now);
         }
-        Ok(())
     }
 
     /// Notes what the system says of a socket; why no connection was made, if none was.
@@ -306,7 +325,8 @@ impl<'r, 's, R: Net + Clock> Load<'r, 's, R> {
             }
             self.run_turns(place, buffer, now)?;
         }
-        self.note_over()
+        self.note_over(now);
+        Ok(())
     }
 
     // ---- connections that are made and closed
@@ -314,11 +334,17 @@ impl<'r, 's, R: Net + Clock> Load<'r, 's, R> {
     /// Closes a connection that was quit, and makes the next one.
     fn reopen(&mut self, place: usize, now: u64) -> Result<(), LoadError> {
         self.vacate(place, now);
+        self.last_open = now;
         self.connect(place, now)
     }
 
     /// Closes a connection that was lost, or that was not made for this reason.
-    fn close(&mut self, place: usize, kind: ErrorKind, now: u64) -> Result<(), LoadError> {
+    pub(crate) fn close(
+        &mut self,
+        place: usize,
+        kind: ErrorKind,
+        now: u64,
+    ) -> Result<(), LoadError> {
         let Some(closed) = self.vacate(place, now.saturating_add(RETRY)) else {
             return Ok(());
         };
@@ -328,6 +354,7 @@ impl<'r, 's, R: Net + Clock> Load<'r, 's, R> {
         }
         self.work.totals.lost = self.work.totals.lost.saturating_add(1);
         if closed.conversation.is_negotiated() {
+            self.last_open = now;
             return self.connect(place, now);
         }
         Ok(())
@@ -363,7 +390,7 @@ impl<'r, 's, R: Net + Clock> Load<'r, 's, R> {
     }
 
     /// Begins to make a connection, unless no more messages are begun.
-    fn connect(&mut self, place: usize, now: u64) -> Result<(), LoadError> {
+    pub(crate) fn connect(&mut self, place: usize, now: u64) -> Result<(), LoadError> {
         if self.work.schedule.is_over() {
             return Ok(());
         }
@@ -391,92 +418,9 @@ impl<'r, 's, R: Net + Clock> Load<'r, 's, R> {
         if let Some(slot) = self.slots.get_mut(place) {
             slot.retry = now.saturating_add(if is_full { RETRY_FULL } else { RETRY });
         }
+        self.next_look = self.next_look.min(now.saturating_add(LOOK));
         if !is_full {
             self.on_failure(kind);
-        }
-    }
-
-    // ---- looks at all connections
-
-    /// Looks at all connections, where the time for it has come: at those that are late, and those that are to be made.
-    fn look<W: Write>(&mut self, now: u64, errors: &mut W) -> Result<(), LoadError> {
-        if now < self.next_look {
-            return Ok(());
-        }
-        self.next_look = now.saturating_add(LOOK);
-        if self.open > 0 {
-            self.last_open = now;
-        }
-        let places = if self.work.totals.made == 0 {
-            self.slots.len().min(1)
-        } else {
-            self.slots.len()
-        };
-        for place in 0..places {
-            self.look_at(place, now)?;
-        }
-        self.start(now);
-        self.stop(now);
-        self.report(now, errors);
-        self.note_over()
-    }
-
-    /// Gives up a connection that is late, or makes one.
-    fn look_at(&mut self, place: usize, now: u64) -> Result<(), LoadError> {
-        match self.need_of(place, now) {
-            Need::Nothing => Ok(()),
-            Need::Close => self.close(place, ErrorKind::TimedOut, now),
-            Need::Connect => self.connect(place, now),
-        }
-    }
-
-    /// What a place needs at a look. The connection of one that is late is lost.
-    fn need_of(&mut self, place: usize, now: u64) -> Need {
-        let timeout = self.timeout();
-        let Some(slot) = self.slots.get_mut(place) else {
-            return Need::Nothing;
-        };
-        let Some(open) = &mut slot.open else {
-            return if slot.retry <= now {
-                Need::Connect
-            } else {
-                Need::Nothing
-            };
-        };
-        if !open.is_late(timeout, now) {
-            return Need::Nothing;
-        }
-        open.lose(Cause::Timeout, &mut self.work, now);
-        Need::Close
-    }
-
-    /// Has the first message be due, once all connections await one, or a second after the first one was made.
-    fn start(&mut self, now: u64) {
-        let is_ready = self.idle.len() >= self.slots.len()
-            || (self.work.totals.made > 0 && now.saturating_sub(self.first) >= SECOND);
-        if is_ready && self.work.schedule.started().is_none() {
-            self.work.schedule.start(now);
-            self.work.totals.start = now;
-        }
-    }
-
-    /// Begins no more messages, where the time for them has passed.
-    fn stop(&mut self, now: u64) {
-        let Some(start) = self.work.schedule.started() else {
-            return;
-        };
-        let until = start.saturating_add(u64::from(self.settings.seconds).saturating_mul(SECOND));
-        if self.settings.seconds > 0 && now >= until && self.over.is_none() {
-            self.work.totals.waiting = self.work.schedule.waiting(until.saturating_sub(1));
-            self.work.schedule.stop();
-        }
-    }
-
-    /// Writes how far the load is, once a second, where that is asked for.
-    fn report<W: Write>(&mut self, now: u64, errors: &mut W) {
-        if self.settings.reports_progress && now >= self.next_second {
-            self.next_second = self.next_second.saturating_add(SECOND);
-            let _ = write_progress(self.alloc, errors, &self.work.totals, now);
         }
     }
 
