@@ -194,6 +194,20 @@ def play_all_lost(program, kind, folder, session):
         expect_counts(found, {}, {'reset': 4}, 4, 4)
 
 
+def play_no_offer(program, kind, folder, session, then):
+    """No offer is answered: the load ends, though each time a connection was open for a while."""
+    def act(_connection, _message, code):
+        if code == 'O':
+            time.sleep(0.3)
+        return then
+
+    with Peer(kind, folder, act) as peer:
+        found = loaded(program, peer.address, session, '--messages', '4', '--timeout', '1', status=1)
+        expect('messages', found['messages'], 0)
+        made, lost = (found['connections'][name] for name in ('made', 'lost'))
+        expect('made again', made > 1 and made - lost in (0, 1), True)
+
+
 def losses(program, kind):
     """Filters are lost."""
     with tempfile.TemporaryDirectory() as folder:
@@ -201,6 +215,8 @@ def losses(program, kind):
         for end in ('closes', 'reset', '30'), ('is silent', 'timeout', '1'), ('replies twice', 'fault', '30'):
             yield checked(end[0], play_end, program, kind, folder, session, end)
         yield checked('all are lost', play_all_lost, program, kind, folder, session)
+        for then in 'closes', 'is silent':
+            yield checked('no offer is answered: %s' % then, play_no_offer, program, kind, folder, session, then)
         yield checked('no filter', play_never, program, kind, folder, session)
 
 

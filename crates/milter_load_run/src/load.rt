@@ -28,6 +28,8 @@ const RETRY_FULL: u64 = 10_000;
 const CLOSE: u64 = 2_000;
 /// The microseconds of a millisecond.
 const MILLI: u64 = 1_000;
+/// How many microseconds after the first connection the load begins on those that the filter negotiated on.
+pub(crate) const FIRST: u64 = SECOND;
 
 /// A load that is put on a filter.
 #[derive(Drop)]
@@ -49,8 +51,8 @@ pub(crate) struct Load<'r, 's, R: Net + Clock> {
     pub(crate) open: usize,
     // When the first connection was made.
     pub(crate) first: u64,
-    // When a connection was last open.
-    pub(crate) last_open: u64,
+    // When a connection was last open that the filter had negotiated on; before there was one, when the first was made.
+    pub(crate) last_negotiated: u64,
     // When the last message was begun, once that is known.
     pub(crate) over: Option<u64>,
     // Why no connection was made, where none ever was.
@@ -64,8 +66,8 @@ pub(crate) struct Load<'r, 's, R: Net + Clock> {
 /// passed or all messages are settled. A connection that is lost is made again. The first of them is made before the
 /// others; they are what is begun with, up to a second later.
 ///
-/// The filter is lost where nothing comes of it for as long as a reply may take. The load also ends where no connection
-/// is open for so long. A session without messages is no load.
+/// The filter is lost where nothing comes of it for as long as a reply may take. The load also ends where for a second
+/// more no connection is open that the filter negotiated on. A session without messages is no load.
 pub fn run_load<'s, R: Net + Clock, W: Write>(
     rt: &R,
     alloc: Global,
@@ -98,7 +100,7 @@ pub fn run_load<'s, R: Net + Clock, W: Write>(
         work,
         open: 0,
         first: 0,
-        last_open: 0,
+        last_negotiated: 0,
         over: None,
         refusal: None,
         next_look: 0,
@@ -177,7 +179,8 @@ impl<'r, 's, R: Net + Clock> Load<'r, 's, R> {
 
     /// Whether the load has ended at this time.
     fn is_done(&self, now: u64) -> bool {
-        if self.refusal.is_some() || now.saturating_sub(self.last_open) > self.timeout() {
+        let without = now.saturating_sub(self.last_negotiated);
+        if self.refusal.is_some() || without > self.timeout().saturating_add(FIRST) {
             return true;
         }
         match self.over {
@@ -248,6 +251,7 @@ impl<'r, 's, R: Net + Clock> Load<'r, 's, R> {
     fn on_made(&mut self, now: u64) {
         if self.work.totals.made == 0 {
             self.first = now;
+            self.last_negotiated = now;
         }
         self.work.totals.made = self.work.totals.made.saturating_add(1);
         self.open = self.open.saturating_add(1);
@@ -334,7 +338,7 @@ impl<'r, 's, R: Net + Clock> Load<'r, 's, R> {
     /// Closes a connection that was quit, and makes the next one.
     fn reopen(&mut self, place: usize, now: u64) -> Result<(), LoadError> {
         self.vacate(place, now);
-        self.last_open = now;
+        self.last_negotiated = now;
         self.connect(place, now)
     }
 
@@ -354,7 +358,7 @@ impl<'r, 's, R: Net + Clock> Load<'r, 's, R> {
         }
         self.work.totals.lost = self.work.totals.lost.saturating_add(1);
         if closed.conversation.is_negotiated() {
-            self.last_open = now;
+            self.last_negotiated = now;
             return self.connect(place, now);
         }
         Ok(())

@@ -1,6 +1,6 @@
 //! Looks at all connections of a load, from time to time.
 
-use crate::load::Load;
+use crate::load::{FIRST, Load};
 use crate::load_error::LoadError;
 use crate::settings::SECOND;
 use crate::slot::Need;
@@ -22,8 +22,8 @@ impl<'r, 's, R: Net + Clock> Load<'r, 's, R> {
             return Ok(());
         }
         self.spin.allow();
-        if self.open > 0 {
-            self.last_open = now;
+        if self.is_negotiated() {
+            self.last_negotiated = now;
         }
         let places = if self.work.totals.made == 0 {
             self.slots.len().min(1)
@@ -52,6 +52,11 @@ impl<'r, 's, R: Net + Clock> Load<'r, 's, R> {
             Some(until) => steady.min(until),
             None => steady,
         }
+    }
+
+    /// Whether the filter negotiated on a connection that is open.
+    fn is_negotiated(&self) -> bool {
+        self.slots.iter().any(|slot| slot.is_negotiated())
     }
 
     /// Gives up a connection that is late, or makes one.
@@ -86,7 +91,7 @@ impl<'r, 's, R: Net + Clock> Load<'r, 's, R> {
     /// Has the first message be due, once all connections await one, or a second after the first one was made.
     fn start(&mut self, now: u64) {
         let is_ready = self.idle.len() >= self.slots.len()
-            || (self.work.totals.made > 0 && now.saturating_sub(self.first) >= SECOND);
+            || (self.work.totals.made > 0 && now.saturating_sub(self.first) >= FIRST);
         if is_ready && self.work.schedule.started().is_none() {
             self.work.schedule.start(now);
             self.work.totals.start = now;

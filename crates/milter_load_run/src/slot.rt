@@ -33,4 +33,12 @@ impl Slot {
             is_idle: false,
         }
     }
+
+    /// Whether the filter negotiated on its connection.
+    pub(crate) fn is_negotiated(&self) -> bool {
+        match &self.open {
+            Some(open) => open.conversation.is_negotiated(),
+            None => false,
+        }
+    }
 }
