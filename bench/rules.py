@@ -173,10 +173,12 @@ def main(program, folder, older=''):
         recipients = b''.join(packet(b'R<user%06d@example.com>\0' % number) for number in range(count))
         given['rcpt', count] = written(folder, 'recipients%d' % count, message(packet(b'N'), recipients))
     failed = not many_at_rcpt(program, folder, older)
-    all_conditions = conditions_on(FIELDS) + [(*name.split(), condition) for name, condition in OTHERS.items()]
+    others = [(*name.split(), condition) for name, condition in OTHERS.items()]
+    all_conditions = conditions_on(FIELDS) + others
+    at_rcpt = conditions_on([it for it in FIELDS if 'header' not in it and it != 'body'])
     lists = lists_in(folder)
     kinds = [
-        ('rcpt', 'rcpt', 'recipients', conditions_on([it for it in FIELDS if 'header' not in it and it != 'body'])),
+        ('rcpt', 'rcpt', 'recipients', at_rcpt + [it for it in others if it[0] == 'rcpts']),
         ('header', 'header', 'header fields', all_conditions), ('body', 'body', 'chunks of one byte', all_conditions),
         ('macros', 'header', 'header fields with macros before each', conditions_on(['macro "{x}"', 'macro "{y}"']))]
     for kind, stage, what, conditions in kinds:

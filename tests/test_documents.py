@@ -6,7 +6,8 @@ docs/ARCHITECTURE.md has each crate, and the functions of its paths are in the f
 docs/RULE_CHECK.md are printed by runs of cases/rules_check. Below docs/proofs each clause of PROOFS.md is in the crate
 under which it is listed, and DEFINITIONS.md is made of the definitions as they are, with each one that a public
 contract cites. README.md and PROOFS.md count the crates of the toolchain that are trusted, README.md and HEADLINE.md
-the lines of definitions under the headline, and no proof speaks of the code of another crate but by what it promises.
+the lines of definitions under the headline, docs/CONTRIBUTING.md what a change has proved again, and no proof speaks
+of the code of another crate but by what it promises.
 And no line of the code or of the definitions is too long, but imports, nor one of help, and no comment, document or
 module has a word that is no longer used.
 """
@@ -233,6 +234,25 @@ def counts():
         yield '%s: %s' % (document, text), text in ' '.join(text_of(document).split())
 
 
+def proved_again():
+    """Whether docs/CONTRIBUTING.md has how many crates a change has proved again, how many of these have a time in
+    tools/crate_seconds.txt, and their minutes."""
+    uses, table = used_by(), 'docs/CONTRIBUTING.md'
+    seconds = dict(line.split() for line in text_of('tools/crate_seconds.txt').splitlines())
+    rows = re.findall(r'(?m)^\| (`\w+`(?:, `\w+`)*) \| (.*) \|$', text_of(table).split('Crates proved again')[1])
+    yield '%s: no rows of crates that are proved again' % table, bool(rows)
+    for names, given in rows:
+        for crate in re.findall(r'`(\w+)`', names):
+            again = {crate}
+            for name in uses:  # a crate stands below those that use it
+                if again & set(uses[name]):
+                    again.add(name)
+            timed = [float(seconds[name]) for name in again if name in seconds]
+            known = 'all' if len(timed) == len(again) else '%d' % len(timed)
+            found = '%d | %s | %.0f' % (len(again), known, sum(timed) / 60)
+            yield '%s: `%s` | %s' % (table, crate, found), given == found
+
+
 def lemmas():
     """Whether each file of lemmas that another crate uses speaks of definitions alone."""
     for crate, file, is_of_definitions in read.shared_lemmas():
@@ -279,4 +299,4 @@ def play_of(check):
 if __name__ == '__main__':
     sys.exit(runner.run_all(play_of(check) for check in (
         blocks, pasted, paragraphs, paths, diagrams, calls, said, links, clauses, definitions, trusted, counts,
-        lemmas, lines, help_lines, vocabulary)))
+        proved_again, lemmas, lines, help_lines, vocabulary)))
