@@ -35,6 +35,7 @@ bench:
 	bash bench/edits.sh
 	bash bench/filter.sh
 	bash bench/serve.sh
+	bash bench/load.sh
 	bash bench/core.sh
 	bash bench/mta.sh
 	bash bench/texts.sh
