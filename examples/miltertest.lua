@@ -1,6 +1,6 @@
 -- Plays two messages on a filter that lets all mail go on, with the tester miltertest:
 --     miltertest -s examples/miltertest.lua -D address=inet:8891@127.0.0.1
--- It prints `2 messages` where each reply is Continue, no action is agreed on, and no edit is asked for; else what was
+-- It prints `2 messages` where each reply is Continue, no action is negotiated, and no edit is asked for; else what was
 -- wrong, with status 1.
 
 local function fail(what)
@@ -34,11 +34,11 @@ local function check_end(name)
 end
 
 if mt.negotiate(connection, nil, nil, nil) ~= nil then
-    fail("no options were agreed on")
+    fail("no options were negotiated")
 end
 for _, action in ipairs({SMFIF_ADDHDRS, SMFIF_CHGHDRS, SMFIF_CHGBODY, SMFIF_ADDRCPT, SMFIF_DELRCPT}) do
     if mt.test_action(connection, action) then
-        fail("an action was agreed on")
+        fail("an action was negotiated")
     end
 end
 

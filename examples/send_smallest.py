@@ -12,7 +12,7 @@ import sys
 
 CONTINUE = '0000000163'
 # Each packet to the filter, and its reply.
-TALK = [
+CONVERSATION = [
     ('0000000d4f00000006000000ff000ff7ff', '0000000d4f000000060000000000000000'),
     ('0000000c43682e6578616d706c650055', CONTINUE),
     ('00000006486d61696c00', CONTINUE),
@@ -48,10 +48,10 @@ def received(connection, count):
     return reply
 
 
-def wrong_reply(address, talk):
+def wrong_reply(address, conversation):
     """Sends these on one connection, and answers a reply that should not be, or None."""
     with connected(address) as connection:
-        for packet, expected in talk:
+        for packet, expected in conversation:
             connection.sendall(bytes.fromhex(packet))
             reply = received(connection, len(bytes.fromhex(expected)))
             if reply.hex() != expected:
@@ -63,9 +63,9 @@ def wrong_reply(address, talk):
 def main():
     if len(sys.argv) != 2:
         sys.exit(__doc__)
-    at_once = [tuple(''.join(parts) for parts in zip(*TALK))]
-    for talk in (TALK, at_once):
-        wrong = wrong_reply(sys.argv[1], talk)
+    at_once = [tuple(''.join(parts) for parts in zip(*CONVERSATION))]
+    for conversation in (CONVERSATION, at_once):
+        wrong = wrong_reply(sys.argv[1], conversation)
         if wrong is not None:
             sys.exit(wrong)
     print('2 connections, %d bytes each' % len(bytes.fromhex(at_once[0][1])))

@@ -1,5 +1,5 @@
 #!/usr/bin/env bash
-# Has `milter_tool` talk to real peers, over TCP and over Unix sockets. `filter`, `serve` and `answer`: to miltertest,
+# Connects `milter_tool` to real peers, over TCP and over Unix sockets. `filter`, `serve` and `answer`: to miltertest,
 # which plays the scripts of interop/, to `serve` several at once beside a connection that says nothing, and to a
 # Postfix of its own on the loopback, which takes mail and delivers it edited or refuses it. With `serve` a Postfix
 # has a chrooted smtpd, and a Postfix and a Sendmail have many clients at once, one of which is idle after its

@@ -292,8 +292,9 @@ def sanitized(library, folder):
     except subprocess.CalledProcessError:
         print('AddressSanitizer: not installed, and not used', flush=True)
         return
-    talk, paths = captures.halves(capture()), [os.path.join(folder, name) for name in ['commands', 'replies']]
-    for path, packets in zip(paths, [[it for it, _ in talk], [it for _, replies in talk for it in replies]]):
+    paths, conversation = [os.path.join(folder, name) for name in ['commands', 'replies']], captures.halves(capture())
+    commands, replies = [it for it, _ in conversation], [it for _, part in conversation for it in part]
+    for path, packets in zip(paths, [commands, replies]):
         with open(path, 'wb') as file:
             file.write(b''.join(packets))
     status, out, said = programs.ended([program, *paths, str(MUTATED_PACKETS), '1'])
@@ -469,8 +470,8 @@ def refused(program):
 def refused_packets(library):
     """Packets of a capture that are decoded and printed in C, with each allocation refused: what is refused is done
     again, but a trace has stopped. Under valgrind they make no error."""
-    program, talk = c_library.compiled(library, C_PACKETS, 'c_packets', WRAPPED), captures.halves(capture())
-    streams_of = [b''.join(it for it, _ in talk), b''.join(it for _, replies in talk for it in replies)]
+    program, conversation = c_library.compiled(library, C_PACKETS, 'c_packets', WRAPPED), captures.halves(capture())
+    streams_of = [b''.join(it for it, _ in conversation), b''.join(it for _, replies in conversation for it in replies)]
     for direction, stream in enumerate(streams_of):
         command = [program, str(direction)]
         _, wanted, _ = programs.ended([*command, '0'], stream)

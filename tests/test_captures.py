@@ -12,7 +12,7 @@ packets that are sent, when a reply is wanted, and the reports with the messages
 are played to their end. A mail server's end differs from those that were captured in this:
 
 - It offers no RCPT_REJ (0x800), which all of them offered, and nothing else is left out of their offers. Some filters
-  answered with it; it is taken out of their answers, since what isn't offered can't be agreed on.
+  answered with it; it is taken out of their answers, since what isn't offered can't be negotiated.
 - It has one list of macros for each stage, sends these before each command of the stage, and has no macros for header
   fields and the body. The list is that of the stage's first macros in the capture: Postfix and Sendmail have others for
   each recipient and each message, and miltertest sends those of the recipients once. Where the stage has no macros,
@@ -41,7 +41,7 @@ from lib import captures, programs, runner
 
 REPLIED = b'CHMRTLNBEU'
 NOT_REPLIED = b'DAKQ'
-AGREED = bytes.fromhex('0000000d4f000000060000000000000000')
+OPTIONS = bytes.fromhex('0000000d4f000000060000000000000000')
 CONTINUE = bytes.fromhex('0000000163')
 
 
@@ -49,20 +49,20 @@ def expected(command):
     """The reply to a command."""
     code = command[4]
     if code == ord('O'):
-        return AGREED
+        return OPTIONS
     assert code in REPLIED + NOT_REPLIED, command
     return CONTINUE if code in REPLIED else b''
 
 
 def fault_of_answers(path, build):
     """What is wrong of the replies to a capture's mail server, or None."""
-    talk = captures.halves(path)
-    wanted = [expected(command) for command, _ in talk]
-    end = programs.ended([programs.tool(build), 'answer'], b''.join(command for command, _ in talk))
+    conversation = captures.halves(path)
+    wanted = [expected(command) for command, _ in conversation]
+    end = programs.ended([programs.tool(build), 'answer'], b''.join(command for command, _ in conversation))
     wrong = programs.compared('answer', end, (0, b''.join(wanted), b''))
     if wrong is not None:
         return wrong
-    for (command, replies), reply in zip(talk, wanted):
+    for (command, replies), reply in zip(conversation, wanted):
         if replies[-1:] == [CONTINUE] and reply != CONTINUE:
             return f'the captured filter let {command.hex()} go on'
     return None
@@ -72,7 +72,7 @@ def script_of(conversation, feeds):
     """The script that plays a conversation, and what it prints; `feeds` has the commands that feed replies."""
     lines = conversation.session + ['%%', 'config %x %x tempfail' % conversation.offer, 'dialled']
     printed = []
-    for command, replies in conversation.talk:
+    for command, replies in conversation.exchanges:
         fed = feeds(replies) if replies else []
         lines += ['send', 'want'] + fed
         printed += [command.hex(), 'receive' if replies else 'done' if command[4:] == b'Q' else 'send']

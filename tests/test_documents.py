@@ -8,8 +8,8 @@ under which it is listed, and DEFINITIONS.md is made of the definitions as they 
 contract cites. README.md and PROOFS.md count the crates of the toolchain that are trusted, README.md and HEADLINE.md
 the lines of definitions under the headline, docs/CONTRIBUTING.md what a change has proved again, and no proof speaks
 of the code of another crate but by what it promises.
-And no line of the code or of the definitions is too long, but imports, nor one of help, and no comment, document or
-module has a word that is no longer used.
+And no line of the code or of the definitions is too long, but imports, nor one of help, and no comment, text, document,
+module, test or example has a word that is no longer used.
 """
 import functools
 import glob
@@ -42,6 +42,8 @@ HEADLINE = 'crates/milter_world/src/any_schedule.rt', 'run'
 ITS_WORDS = {'dialogues', 'resets', 'timeouts', 'causes'}
 ITS_PREMISES = {('milter_protocol', 'Lawful', 'IsLawful'), ('milter_mail', 'MailSession', 'IsSession')}
 PROOFS, DEFINITIONS, HEADLINES = ['docs/proofs/%s.md' % name for name in ('PROOFS', 'DEFINITIONS', 'HEADLINE')]
+# The endings of the tests, examples and tools that are read for words that are no longer used.
+SCRIPTS = {'.py', '.sh', '.lua', '.c', '.h', '.cpp', '.go', '.rs', '.txt', '.session', '.events', '.rules', '.lines'}
 DOCUMENTS = [
     'README.md', 'CHANGELOG.md', 'SECURITY.md', 'bench/README.md', 'cases/README.md', 'cases/tables/README.md',
     'tests/README.md']
@@ -268,8 +270,22 @@ def lines():
         yield '%s: too long: lines %s' % (os.path.relpath(path, TOP), long), not long
 
 
+def texts(code):
+    """The texts between quotes of code in Rattle, without its comments."""
+    return re.findall(r'"((?:[^"\\]|\\.)*)"', re.sub(r'(?m)//.*$', '', code), re.DOTALL)
+
+
+def scripts():
+    """The files of tests, examples, benches, tools and bindings that are text, and the header for C."""
+    for folder in 'tests', 'examples', 'bench', 'tools', 'bindings', 'include':
+        for path in glob.glob(os.path.join(TOP, folder, '**', '*.*'), recursive=True):
+            if os.path.splitext(path)[1] in SCRIPTS:
+                yield os.path.relpath(path, TOP)
+
+
 def vocabulary():
-    """Whether no comment, no document and no module has a word that docs/CONTRIBUTING.md says is no longer used."""
+    """Whether no comment, text, document, module, test or example has a word that docs/CONTRIBUTING.md says is no longer
+    used."""
     table = text_of('docs/CONTRIBUTING.md').split('| No longer | Now |')[1].split('\n\n')[0]
     cells = [line.split(' | ')[0].strip('| ') for line in table.splitlines() if line.startswith('| ')]
     words = [word for cell in cells for word in re.sub(r' \(.*\)', '', cell).split(', ')]
@@ -277,13 +293,17 @@ def vocabulary():
     for path in files_of('*'):
         comments = ' '.join(re.findall(r'(?m)^\s*(?:///?|//!|--) ?(.*)$', text_of(path)))
         names = re.sub('_|(?<=[a-z])(?=[A-Z])', ' ', os.path.splitext(os.path.basename(path))[0])
-        found = sorted({match.lower() for match in pattern.findall(comments + '. ' + names)})
+        quoted = texts(text_of(path)) if path.endswith('.rt') else []
+        found = sorted({match.lower() for match in pattern.findall('. '.join([comments, names, *quoted]))})
         yield '%s: %s' % (os.path.relpath(path, TOP), found), not found
     for path in DOCUMENTS:
         text = text_of(path)
         if path == 'docs/CONTRIBUTING.md':
             text = text.replace(table, '')
         found = sorted({match.lower() for match in pattern.findall(' '.join(text.split()))})
+        yield '%s: %s' % (path, found), not found
+    for path in scripts():
+        found = sorted({match.lower() for match in pattern.findall(re.sub(r'\.walk\(', '', text_of(path)))})
         yield '%s: %s' % (path, found), not found
     for path in files_of('*'):
         name = os.path.splitext(os.path.basename(path))[0]

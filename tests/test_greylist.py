@@ -19,10 +19,10 @@ import time
 
 from lib import checks, packets, programs, serving
 from lib.checks import checked, expect
-from lib.talks import CONTINUE, OFFER, QUIT, options, packet
+from lib.conversations import CONTINUE, OFFER, QUIT, options, packet
 
 # What it negotiates: connect, sender and recipient are sent, and only the recipient and the end are answered.
-AGREED = options(0, 0x02 | 0x200 | 0x20 | 0x40 | 0x10 | 0x100 | 0x1000 | 0x4000)
+OPTIONS = options(0, 0x02 | 0x200 | 0x20 | 0x40 | 0x10 | 0x100 | 0x1000 | 0x4000)
 TEMPFAIL = packet(b't')
 DELAY = 2
 
@@ -76,7 +76,7 @@ def opened(served, address=b'192.0.2.7', sender=b'<ada@example.org>', **client_w
     """A connection with a client and a sender."""
     with served.connected() as connection:
         connection.sendall(OFFER)
-        serving.expect_replies(connection, AGREED)
+        serving.expect_replies(connection, OPTIONS)
         connection.sendall(client(address, **client_words) + mail_from(sender))
         yield connection
         connection.sendall(QUIT)

@@ -17,7 +17,7 @@ import time
 
 from lib import checks, programs, serving
 from lib.checks import checked, expect
-from lib.talks import ABORT, CONTINUE, QUIT, opening, packet, quit_all, say
+from lib.conversations import ABORT, CONTINUE, QUIT, opening, packet, quit_all, say
 
 SENDER, RECIPIENT, DATA, END = packet(b'M', b'<a@x>'), packet(b'R', b'<b@y>'), packet(b'T'), packet(b'E')
 ACCEPT, REJECT, TEMPFAIL, PROGRESS = packet(b'a'), packet(b'r'), packet(b't'), packet(b'p')

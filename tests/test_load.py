@@ -16,7 +16,7 @@ import tempfile
 import threading
 import time
 
-from lib import checks, programs, serving, talks
+from lib import checks, conversations, programs, serving
 from lib.checks import checked, expect
 from lib.packets import code_of
 
@@ -108,7 +108,7 @@ class Peer:
                     return
                 code = code_of(packet)
                 message += code == 'M'
-                reply = talks.AGREED if code == 'O' else talks.CONTINUE if code in REPLIED else b''
+                reply = conversations.OPTIONS if code == 'O' else conversations.CONTINUE if code in REPLIED else b''
                 then = self.act(number, message, code) if reply else None
                 if then == 'closes':
                     return
@@ -157,13 +157,13 @@ def to_serve(program, kind):
     """Loads are put on `milter_tool serve`."""
     with tempfile.TemporaryDirectory() as folder:
         session = session_in(folder, OUTCOMES)
-        rules = talks.rules_file(folder, ''.join(rule + '\n' for rule in OUTCOMES.values() if rule))
+        rules = conversations.rules_file(folder, ''.join(rule + '\n' for rule in OUTCOMES.values() if rule))
         with serving.Service(program, kind, folder, rules) as served:
             served.connected().close()
             for at_once in 1, 3, 16:
                 yield checked('%d at once' % at_once, play_outcomes, program, served.address, session, at_once)
             yield checked('lines', play_lines, program, served.address, session)
-        rules = talks.rules_file(folder, 'at connect do reject\n')
+        rules = conversations.rules_file(folder, 'at connect do reject\n')
         with serving.Service(program, kind, folder, rules) as served:
             served.connected().close()
             yield checked('refused at connection', lambda: expect_counts(

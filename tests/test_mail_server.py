@@ -39,20 +39,20 @@ def options(version, actions, protocol, more=b''):
     return packet_of(b'O' + struct.pack('>III', version, actions, protocol) + more)
 
 
-AGREED = options(6, 0, 0)
+OPTIONS = options(6, 0, 0)
 CONTINUE = packet_of(b'c')
 # Each fault by its number, with the replies that a filter sends up to it, the last one at once with the one before
 # where that is early.
 FAULTS = [
     (1, 'a length of 0', [b'\0\0\0\0']), (1, 'a length that is too great', [b'\0\x01\0\x01']),
-    (1, 'an unknown code', [AGREED, packet_of(b'4')]), (1, 'a payload after continue', [AGREED, packet_of(b'cx')]),
+    (1, 'an unknown code', [OPTIONS, packet_of(b'4')]), (1, 'a payload after continue', [OPTIONS, packet_of(b'cx')]),
     (1, 'options that are too short', [packet_of(b'O\0\0\0\6')]), (2, 'version 7', [options(7, 0, 0)]),
     (2, 'version 1', [options(1, 0, 0)]), (3, 'an action that was not offered', [options(6, 0x200, 0)]),
     (4, 'a protocol bit that was not offered', [options(6, 0, 0x800)]), (5, 'a verdict on the offer', [CONTINUE]),
-    (5, 'options again', [AGREED, AGREED]), (5, 'an edit of the client', [options(6, 1, 0), packet_of(b'hX\0y\0')]),
-    (5, 'discard of the client', [AGREED, packet_of(b'd')]),
-    (6, 'an edit that was not negotiated', [AGREED] + [CONTINUE] * 10 + [packet_of(b'hX\0y\0')]),
-    (8, 'two replies', [AGREED, CONTINUE + CONTINUE])]
+    (5, 'options again', [OPTIONS, OPTIONS]), (5, 'an edit of the client', [options(6, 1, 0), packet_of(b'hX\0y\0')]),
+    (5, 'discard of the client', [OPTIONS, packet_of(b'd')]),
+    (6, 'an edit that was not negotiated', [OPTIONS] + [CONTINUE] * 10 + [packet_of(b'hX\0y\0')]),
+    (8, 'two replies', [OPTIONS, CONTINUE + CONTINUE])]
 
 
 class Stub:
@@ -223,19 +223,19 @@ def losses(program, kind, folder):
 
     every = len(reports.commands(reports.BODY)) + 1
     for count in range(every):
-        replies = [AGREED] + [CONTINUE] * (count - 1) if count else []
+        replies = [OPTIONS] + [CONTINUE] * (count - 1) if count else []
         for then in ['close', 'reset']:
             lost = defaults('reset', max(count - 1, 0))
             yield checked('%s after %d' % (then, count), run, [reply(replies, then)] * MESSAGES, lost, [])
     for count in [0, 1, 4]:
-        replies = [AGREED] + [CONTINUE] * (count - 1) if count else []
+        replies = [OPTIONS] + [CONTINUE] * (count - 1) if count else []
         lost = defaults('timeout', max(count - 1, 0))
         yield checked('silent after %d' % count, run, [reply(replies, 'silent')] * MESSAGES, lost, ['--timeout', SHORT])
     for on_loss in ON_LOSS:
         lost = defaults('reset', 2, on_loss)
-        yield checked('loss ' + on_loss, run, [reply([AGREED] + [CONTINUE] * 2, 'close')] * MESSAGES, lost,
+        yield checked('loss ' + on_loss, run, [reply([OPTIONS] + [CONTINUE] * 2, 'close')] * MESSAGES, lost,
                       ['--loss', on_loss])
-    whole = [AGREED] + [CONTINUE] * len(reports.commands(reports.BODY))
+    whole = [OPTIONS] + [CONTINUE] * len(reports.commands(reports.BODY))
     for by_bytes in [False, True]:
         again = defaults('reset', 0, count=1) + reports.expected(1).replace('message 1', 'message 2')
         yield checked('the second connection stays, %s' % ('by bytes' if by_bytes else 'by replies'), run,
@@ -245,7 +245,7 @@ def losses(program, kind, folder):
 def settled(program, kind, folder):
     """The report of a message is printed while the next one waits; and the verdict on a client that is refused on a later
     connection stands before the first message that it settles."""
-    whole = [AGREED] + [CONTINUE] * len(reports.commands(reports.BODY))
+    whole = [OPTIONS] + [CONTINUE] * len(reports.commands(reports.BODY))
 
     def waits():
         stub = Stub(kind, folder, [reply(whole, 'silent')])
@@ -259,7 +259,7 @@ def settled(program, kind, folder):
         expect('what is printed', (found, is_over), (due, False))
 
     def refused_later():
-        lost, refused = reply([AGREED] + [CONTINUE] * 2, 'close'), reply([AGREED, packet_of(b'r')], 'silent')
+        lost, refused = reply([OPTIONS] + [CONTINUE] * 2, 'close'), reply([OPTIONS, packet_of(b'r')], 'silent')
         stub = Stub(kind, folder, [lost, refused])
         expect_reports(program, stub.address, folder, defaults('reset', 2, count=1) + (
             'connection reject\nmessage 2 connection refused-at-connection\nacted connect 1 reject\n'))
@@ -312,7 +312,7 @@ def negotiations(program, kind, folder):
     # The first filter closes once it has the offer, so that this is sent.
     yield checked('no reply on the first connection', run, [reply([b''], 'close'), reply([added] + answers, 'silent')],
                   offered + again)
-    yield checked('the first of two connections', run, [reply([added], 'close'), reply([AGREED] + answers, 'silent')],
+    yield checked('the first of two connections', run, [reply([added], 'close'), reply([OPTIONS] + answers, 'silent')],
                   offered + replied + again)
 
 
@@ -326,7 +326,7 @@ def macros(program, kind, folder):
     def run():
         found = []
         answers = [CONTINUE] * len(reports.commands(reports.BODY))
-        stub = Stub(kind, folder, [reply([AGREED] + answers, 'silent', macros=found)])
+        stub = Stub(kind, folder, [reply([OPTIONS] + answers, 'silent', macros=found)])
         expect_reports(program, stub.address, folder, reports.expected(1), words, reports.session())
         stub.end()
         expect('the macros', found, expected)
@@ -358,7 +358,7 @@ def recorded(found):
                 for packet in whole_packets(stream[end:]):
                     end += len(packet)
                     if packet[4] not in UNANSWERED:
-                        connection.sendall(AGREED if packet[4:5] == b'O' else CONTINUE)
+                        connection.sendall(OPTIONS if packet[4:5] == b'O' else CONTINUE)
         except ConnectionError:
             # It was closed before the reply was read; nothing was sent after the command.
             pass

@@ -33,7 +33,7 @@ body "At one?\\r\\n"
 end
 '''
 CLIENT = 'client 4 "mail.example.org" 49152 "192.0.2.1"\nhelo "mail.example.org"\n'
-AGREED = packet_of(b'O' + struct.pack('>III', 6, 0, 0))
+OPTIONS = packet_of(b'O' + struct.pack('>III', 6, 0, 0))
 CONTINUE, REJECT = packet_of(b'c'), packet_of(b'r')
 ABORT, NEXT_CLIENT = packet_of(b'A'), packet_of(b'K')
 REPLIED = 'CHMRTLNBEU'
@@ -46,7 +46,7 @@ AWAY, LONG, SHORT = 0.3, '20', '1'
 def reply_to(packet):
     """The reply of a filter that lets all mail go on."""
     if code_of(packet) == 'O':
-        return AGREED
+        return OPTIONS
     return CONTINUE if code_of(packet) in REPLIED else b''
 
 

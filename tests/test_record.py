@@ -16,7 +16,7 @@ import sys
 import tempfile
 import threading
 
-from lib import checks, programs, recording, serving, talks
+from lib import checks, conversations, programs, recording, serving
 from lib.checks import checked, expect
 
 # More than all buffers between two ends have, by their kind, within how many seconds it comes, and the KiB of memory
@@ -78,7 +78,7 @@ def said(recorder, count):
 
 def several(program, kind, folder):
     """Connections that overlap, and a directory that has traces then."""
-    one, two, three = map(recording.talk_of, ('one', 'two', 'three'))
+    one, two, three = map(recording.conversation_of, ('one', 'two', 'three'))
     place, address = serving.place_of(kind, folder)
     directory = os.path.join(tempfile.mkdtemp(dir=folder), 'new', 'traces')
 
@@ -109,7 +109,7 @@ def several(program, kind, folder):
 
 def broken(program, kind, folder):
     """Connections that break, and others beside them."""
-    one, two = map(recording.talk_of, ('one', 'two'))
+    one, two = map(recording.conversation_of, ('one', 'two'))
     place, address = serving.place_of(kind, folder)
 
     def without_a_filter():
@@ -257,7 +257,7 @@ def sent_until_full(connection, sent):
 def played(program, kind, folder):
     """Sessions and loads that are played through a recorder to `milter_tool serve`."""
     session = os.path.join(programs.TOP, 'examples', 'two_messages.session')
-    rules = talks.rules_file(folder, 'at eob do add-header "X-Seen" "yes"\n')
+    rules = conversations.rules_file(folder, 'at eob do add-header "X-Seen" "yes"\n')
 
     def sent_again():
         directory = tempfile.mkdtemp(dir=folder)

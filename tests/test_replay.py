@@ -19,7 +19,7 @@ import sys
 import tempfile
 import threading
 
-from lib import captures, checks, packets, programs, serving, talks
+from lib import captures, checks, conversations, packets, programs, serving
 from lib.checks import checked, expect
 from lib.packets import packet_of, packets_of
 
@@ -30,7 +30,7 @@ ORDERS = 8
 # What an own filter gives that no capture has.
 TEMPFAIL = packet_of(b't'), '< t'
 CONTINUE = packet_of(b'c'), '< c'
-AGREED = packet_of(b'O' + struct.pack('>III', 6, 0, 0)), '< O version 6 actions 00000000 protocol 00000000'
+OPTIONS = packet_of(b'O' + struct.pack('>III', 6, 0, 0)), '< O version 6 actions 00000000 protocol 00000000'
 # The codes of the commands to which a filter without rules replies.
 REPLIED = b'CHMRTLNBEU'
 # How an own filter may end, with the cause that is printed, and the seconds that it may take.
@@ -269,7 +269,7 @@ def otherwise(program, kind, path):
 def reply_without_rules(command):
     """What a filter without rules replies to a command."""
     if command[4:5] == b'O':
-        return [AGREED]
+        return [OPTIONS]
     return [CONTINUE] if command[4:5] in REPLIED else []
 
 
@@ -299,7 +299,7 @@ REFUSED = packet_of(b'y550 5.1.1 Not here\0'), '< y "550 5.1.1 Not here"'
 # Two recipients of a message, each with macros of its own: the second one is refused by them.
 RECIPIENTS = [
     ((packet_of(b'O' + struct.pack('>III', 6, 0x1ff, 0x1fffff)), '> O version 6 actions 000001ff protocol 001fffff'),
-     [AGREED]),
+     [OPTIONS]),
     (macros(b'C', b'j', b'mx.example.net'), []),
     ((packet_of(b'Ch.example\x004\0\x19192.0.2.1\0'), '> C "h.example" 4 25 "192.0.2.1"'), [CONTINUE]),
     ((packet_of(b'Hh.example\0'), '> H "h.example"'), [CONTINUE]),
@@ -323,7 +323,7 @@ def to_rules(program, kind):
             ('local', trace_lines(exchanges), swapped)]
     with tempfile.TemporaryDirectory() as folder:
         for mailer, trace, came in runs:
-            options = talks.rules_file(
+            options = conversations.rules_file(
                 folder, 'at rcpt when macro "{rcpt_mailer}" is "%s" do code "550 5.1.1 Not here"\n' % mailer)
             yield checked(mailer, play_to_serve, program, kind, folder, trace, exchanges, came, options)
 

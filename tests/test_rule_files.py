@@ -17,7 +17,7 @@ import time
 from lib import checks, preloaded, programs, serving
 from lib.checks import checked, expect
 from lib.programs import written
-from lib.talks import ABORT, CONTINUE, QUIT, opening, packet, quit_all, run_to_end, say
+from lib.conversations import ABORT, CONTINUE, QUIT, opening, packet, quit_all, run_to_end, say
 
 # Files of the same size, and what is answered to a sender by each.
 REJECT, ACCEPT = 'at mail do reject\n', 'at mail do accept\n'

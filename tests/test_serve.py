@@ -19,8 +19,8 @@ import tempfile
 import test_sockets
 from lib import checks, packets, programs, serving
 from lib.checks import checked, expect
-from lib.talks import (
-    ABORT, AGREED, CONTINUE, GREETED_AGAIN, KEYS, LENIENTLY, OFFER, QUIT, STRICTLY, filled, message, opening, options,
+from lib.conversations import (
+    ABORT, CONTINUE, GREETED_AGAIN, KEYS, LENIENTLY, OFFER, OPTIONS, QUIT, STRICTLY, filled, message, opening, options,
     packet, quit_all, rules_file, rules_of_keys, run_to_end, say)
 
 # What is said of a line of a rule file with another action, and without a stage.
@@ -90,13 +90,13 @@ def replies_and_ending(program, words, given):
 
 def random_stream(chosen):
     """Packets in any order, most of which are whole."""
-    talk = [given for given, _ in opening(1) + message(1) + message(2)] + [
+    conversation = [given for given, _ in opening(1) + message(1) + message(2)] + [
         packet(b'M', b'<s3@x>'), packet(b'H', b'again'), packet(b'H', b'again'), ABORT, packet(b'K'),
         packet(b'U', b'X'), packet(b'D', b'Mi', b'9') + packet(b'M', b'<s4@x>'),
         packet(b'D', b'Hi', b'9') + packet(b'H', b'h')]
     order = opening(1) + message(chosen.randrange(KEYS))
     given = [sent for sent, _ in order[:chosen.randrange(1, len(order) + 1)]]
-    given += [chosen.choice(talk[1:]) for _ in range(chosen.randrange(8))]
+    given += [chosen.choice(conversation[1:]) for _ in range(chosen.randrange(8))]
     if chosen.random() < 0.1:
         given.append(chosen.choice([b'\0\0\0\0', b'\0\1\0\1', b'\0\0\0\1x', OFFER, packet(b'M')]))
     stream = b''.join(given)
@@ -127,11 +127,11 @@ def streams(program, kind, folder):
             yield checked('stream %d' % seed, run, served, random.Random(seed))
 
 
-def in_pieces(connections, talks, chosen):
-    """Plays these talks, piece by piece of a packet, in any order of the connections."""
-    rest = [list(talk) for talk in talks]
-    unsent = [b''] * len(talks)
-    while open_ones := [at for at, talk in enumerate(rest) if talk]:
+def in_pieces(connections, conversations, chosen):
+    """Plays these conversations, piece by piece of a packet, in any order of the connections."""
+    rest = [list(conversation) for conversation in conversations]
+    unsent = [b''] * len(conversations)
+    while open_ones := [at for at, conversation in enumerate(rest) if conversation]:
         at = chosen.choice(open_ones)
         unsent[at] = unsent[at] or rest[at][0][0]
         size = chosen.choice([1, 4, 5, 20, 1000])
@@ -141,9 +141,9 @@ def in_pieces(connections, talks, chosen):
             serving.expect_replies(connections[at], rest[at].pop(0)[1])
 
 
-def side_by_side(connections, talks):
-    """Plays these talks packet by packet: each sends its packet before one of them reads its reply."""
-    for parts in zip(*talks):
+def side_by_side(connections, conversations):
+    """Plays these conversations packet by packet: each sends its packet before one of them reads its reply."""
+    for parts in zip(*conversations):
         for connection, (given, _) in zip(connections, parts):
             connection.sendall(given)
         for connection, (_, reply) in zip(connections, parts):
@@ -155,10 +155,10 @@ def interleaved(program, kind, folder):
     words = rules_of_keys(folder)
 
     def run(count, how, *given):
-        talks = [opening(at) + message(at % KEYS) + message((at + 1) % KEYS) for at in range(count)]
+        conversations = [opening(at) + message(at % KEYS) + message((at + 1) % KEYS) for at in range(count)]
         with serving.Service(program, kind, folder, words) as served:
             connections = [served.connected() for _ in range(count)]
-            how(connections, talks, *given)
+            how(connections, conversations, *given)
             expect('lines', served.lines(), [])
             quit_all(connections)
             served.expect_all(b'quit')
@@ -187,10 +187,10 @@ def greeted_again(program, kind, folder):
                 serving.expect_closed(connection)
             served.expect_line(line)
 
-    def serves(rules, talk, ending=b'quit'):
+    def serves(rules, conversation, ending=b'quit'):
         with serving.Service(program, kind, folder, rules_file(folder, rules)) as served:
             with served.connected() as connection:
-                say(connection, talk + [(QUIT, b'')])
+                say(connection, conversation + [(QUIT, b'')])
                 serving.expect_closed(connection)
             served.expect_line(1, ending)
 
@@ -200,7 +200,7 @@ def greeted_again(program, kind, folder):
     yield checked('filter --lenient', filters, ['--lenient'], LENIENTLY, b'ended 0')
     yield checked('serve', serves, '', [(GREETED_AGAIN, LENIENTLY)])
     reject = packet(b'r')
-    begin = [(OFFER, AGREED), (packet(b'H', b'one'), CONTINUE)]
+    begin = [(OFFER, OPTIONS), (packet(b'H', b'one'), CONTINUE)]
     sender, recipient = packet(b'M', b'<a@x>'), packet(b'R', b'<b@y>')
     again = begin + [(sender, CONTINUE), (packet(b'H', b'two'), CONTINUE)]
     at_rcpt = 'at rcpt when rcpt is "<b@y>" do reject\n'
@@ -233,7 +233,7 @@ def greeted_again(program, kind, folder):
         (sender, CONTINUE), (recipient, CONTINUE), (sender, CONTINUE), (packet(b'R', b'<c@y>'), CONTINUE),
         (packet(b'E'), CONTINUE)])
     # A sender before any message: what came before it is shown to rules.
-    first = [(OFFER, AGREED), (packet(b'D', b'Hj', b'mx') + packet(b'H', b'one'), CONTINUE)]
+    first = [(OFFER, OPTIONS), (packet(b'D', b'Hj', b'mx') + packet(b'H', b'one'), CONTINUE)]
     yield checked('the first sender', serves, 'at mail when helo is "one" and macro "j" is "mx" do reject\n', first + [
         (packet(b'D', b'Mi', b'1') + sender, reject)])
     yield checked('macros of the first sender', serves, 'at mail when macro "i" is "1" do reject\n', first + [
@@ -378,7 +378,7 @@ def logged(program, kind, folder):
     words = rules_file(folder, LOGGED_RULES)
     refused = packet(b'y', b'550 5.1.1 "no"')
 
-    def talk(key, end):
+    def conversation(key, end):
         """A message of which a recipient is refused, and which ends so."""
         return opening(key) + [
             (packet(b'D', b'Mi', b'Q%d' % key) + packet(b'M', b'<s%d@x>' % key), CONTINUE),
@@ -396,7 +396,7 @@ def logged(program, kind, folder):
     def two_connections():
         with serving.Service(program, kind, folder, words + ['--log']) as served:
             with served.connected() as one, served.connected() as two:
-                side_by_side([one, two], [talk(1, b'd'), talk(2, b'a')])
+                side_by_side([one, two], [conversation(1, b'd'), conversation(2, b'a')])
                 no = b'stage="rcpt" line="3" verdict="code" text="550 5.1.1 \\"no\\""\n'
                 expect_logged(served, [named_line(1, b'id="Q1" ' + end) for end in (no, DISCARDED)],
                               [named_line(2, b'id="Q2" ' + end) for end in (no, b'stage="eob" line="5" verdict="accept"\n')])
@@ -441,7 +441,7 @@ def logged(program, kind, folder):
 
     def no_log():
         with serving.Service(program, kind, folder, words) as served, served.connected() as one:
-            say(one, talk(1, b'd'))
+            say(one, conversation(1, b'd'))
             expect('log', served.log_lines(), [])
 
     def edits():
@@ -468,7 +468,7 @@ def logged(program, kind, folder):
     def messages():
         # Each message has a line, also those that only go on; one that is ended before has that of its end alone.
         with serving.Service(program, kind, folder, words + ['--log', 'all']) as served, served.connected() as one:
-            say(one, talk(5, b'c') + talk(1, b'd')[len(opening(1)):])
+            say(one, conversation(5, b'c') + conversation(1, b'd')[len(opening(1)):])
             no = b'stage="rcpt" line="3" verdict="code" text="550 5.1.1 \\"no\\""\n'
             end = [b'id="Q5" ' + no, b'id="Q5" stage="eob" verdict="continue"\n', b'id="Q1" ' + no, b'id="Q1" ' + DISCARDED]
             expect_logged(served, [named_line(5, line, number=1) for line in end])
@@ -479,7 +479,7 @@ def logged(program, kind, folder):
         with serving.Service(program, kind, folder, words + ['--log']) as served, served.connected() as one:
             served.process.stderr.close()
             served.process.stderr = None
-            say(one, talk(1, b'd') + [(packet(b'M', b'<s2@x>'), CONTINUE), (packet(b'R', b'<b@y>'), refused)])
+            say(one, conversation(1, b'd') + [(packet(b'M', b'<s2@x>'), CONTINUE), (packet(b'R', b'<b@y>'), refused)])
             quit_all([one])
             served.expect_all(b'quit')
 

@@ -24,14 +24,14 @@ import time
 import test_sockets
 from lib import checks, programs, serving
 from lib.checks import checked, expect
-from lib.talks import (
-    ABORT, AGREED, CONTINUE, KEYS, OFFER, QUIT, filled, message, opening, packet, quit_all, rules_file, rules_of_keys,
+from lib.conversations import (
+    ABORT, CONTINUE, KEYS, OFFER, OPTIONS, QUIT, filled, message, opening, packet, quit_all, rules_file, rules_of_keys,
     run_to_end, say)
 
 # How many connections of one message each are made, after those that are made before the memory is looked at: over a
 # Unix socket to the program as the C compiler built it, and else.
 WARMED, MOST, MANY = 2000, 98000, 18000
-# How many talk at once, and how many files this process may have open for that.
+# How many connections are played at once, and how many files this process may have open for that.
 CROWD, FILES = 1000, 4096
 # The line that says how many were lost.
 LOST = {'stdout': rb'lost ([0-9]+)\n', 'stderr': rb'event="lost" lines="([0-9]+)"\n'}
@@ -45,13 +45,14 @@ def unread(program, kind, folder):
     """Peers that don't read while they send much: the memory is bounded, others are served, and all replies come."""
     text = b'550 5.1.1 ' + 450 * b'x'
     recipient = (packet(b'R', b'<b@y>', 100 * b'x'), packet(b'y', text))
-    talk = [(OFFER, AGREED)] + 2000 * ([(packet(b'M', b'<a@x>'), CONTINUE)] + 50 * [recipient] + [(ABORT, b'')])
-    given = b''.join(given for given, _ in talk)
+    message_of_50 = [(packet(b'M', b'<a@x>'), CONTINUE)] + 50 * [recipient] + [(ABORT, b'')]
+    conversation = [(OFFER, OPTIONS)] + 2000 * message_of_50
+    given = b''.join(given for given, _ in conversation)
 
     def run():
         words = rules_file(folder, 'at rcpt do code "%s"\n' % text.decode())
         with serving.Service(program, kind, folder, words) as served, served.connected() as other:
-            say(other, talk[:53])
+            say(other, conversation[:53])
             before = served.memory()
             connections = [served.connected() for _ in range(4)]
             sent = []
@@ -63,13 +64,13 @@ def unread(program, kind, folder):
             seconds = served.seconds()
             time.sleep(0.5)
             expect('it waits', served.seconds() - seconds < 0.2, True)
-            say(other, talk[1:53])
+            say(other, conversation[1:53])
             connections[0].settimeout(serving.SECONDS)
-            expected = expected_of(talk, sent[0])
+            expected = expected_of(conversation, sent[0])
             expect('replies', received(connections[0], len(expected)) == expected, True)
             for connection in connections:
                 connection.close()
-            say(other, talk[1:53])
+            say(other, conversation[1:53])
             expect('memory after that', served.memory() - before < 4096, True)
 
     yield checked('4 peers that do not read', run)
@@ -84,10 +85,10 @@ def received(connection, count):
     return b''.join(pieces)
 
 
-def expected_of(talk, sent):
-    """The replies to the packets of a talk that are whole within so many bytes."""
+def expected_of(conversation, sent):
+    """The replies to the packets of a conversation that are whole within so many bytes."""
     replies = []
-    for given, reply in talk:
+    for given, reply in conversation:
         sent -= len(given)
         if sent < 0:
             break
@@ -121,7 +122,7 @@ def times_of(connection, count):
 
 
 def flooded(program, kind, folder):
-    """A peer that sends without end beside one that talks: that one is served about as fast as without it."""
+    """A peer that sends without end beside one that waits for replies: this one is served about as fast as alone."""
 
     def run():
         with serving.Service(program, kind, folder, rules_of_keys(folder)) as served, served.connected() as other:
@@ -151,20 +152,20 @@ def crowd(program, kind, folder):
         with serving.Service(program, kind, folder, words, files=FILES) as served:
             connections = [served.connected() for _ in range(CROWD)]
             one, slow = connections[0], connections[1:]
-            talks = [b''.join(given for given, _ in opening(at) + message(at % KEYS)) for at in range(1, CROWD)]
+            conversations = [b''.join(given for given, _ in opening(at) + message(at % KEYS)) for at in range(1, CROWD)]
             replies = [b''.join(reply for _, reply in opening(at) + message(at % KEYS)) for at in range(1, CROWD)]
             said = [0] * len(slow)
             say(one, opening(0))
             times = []
             for turn in range(60):
                 for at in range(turn % 10, len(slow), 10):
-                    slow[at].sendall(talks[at][said[at]:said[at] + 1])
+                    slow[at].sendall(conversations[at][said[at]:said[at] + 1])
                     said[at] += 1
                 times += times_of(one, 1)
             expect('time of a message %r' % max(times), max(times) < 0.5, True)
             expect('lines', served.lines(), [])
-            for connection, talk, count in zip(slow, talks, said):
-                connection.sendall(talk[count:])
+            for connection, conversation, count in zip(slow, conversations, said):
+                connection.sendall(conversation[count:])
             for connection, reply in zip(slow, replies):
                 serving.expect_replies(connection, reply)
             quit_all(connections)
@@ -183,19 +184,19 @@ def queue(program, kind, folder):
     def run():
         with serving.Service(program, kind, folder, ['--at-once=2']) as served:
             first, second, third, fourth = [served.connected() for _ in range(4)]
-            say(first, [(OFFER, AGREED)])
-            say(second, [(OFFER, AGREED)])
+            say(first, [(OFFER, OPTIONS)])
+            say(second, [(OFFER, OPTIONS)])
             waits(third)
             waits(fourth)
             seconds = served.seconds()
             time.sleep(0.5)
             expect('it does not spin', served.seconds() - seconds < 0.2, True)
             quit_all([second])
-            serving.expect_replies(third, AGREED)
+            serving.expect_replies(third, OPTIONS)
             expect('the fourth waits', select.select([fourth], [], [], 0.2)[0], [])
             say(first, [(packet(b'H', b'h'), CONTINUE)])
             quit_all([first])
-            serving.expect_replies(fourth, AGREED)
+            serving.expect_replies(fourth, OPTIONS)
             quit_all([third, fourth])
             served.expect_all(b'quit')
 
@@ -208,9 +209,9 @@ def idle(program, kind, folder):
     def run():
         with serving.Service(program, kind, folder, ['--timeout=1']) as served:
             silent, idle_one, *busy = [served.connected() for _ in range(12)]
-            say(idle_one, [(OFFER, AGREED)])
+            say(idle_one, [(OFFER, OPTIONS)])
             for connection in busy:
-                say(connection, [(OFFER, AGREED), (packet(b'H', b'h'), CONTINUE)])
+                say(connection, [(OFFER, OPTIONS), (packet(b'H', b'h'), CONTINUE)])
             start, ends = time.monotonic(), {}
             while time.monotonic() < start + 4.2:
                 for connection in busy:
@@ -240,7 +241,7 @@ def released(program, kind, folder):
         with serving.Service(program, kind, folder, **started) as served:
             connections = [served.connected() for _ in range(count)]
             for connection in connections:
-                say(connection, [(OFFER, AGREED)])
+                say(connection, [(OFFER, OPTIONS)])
             time.sleep(2.5)
             before = served.reserved()
             for connection in connections:
@@ -269,7 +270,7 @@ def given_back(program, kind, folder):
         started = {'env': {**os.environ, 'MALLOC_MMAP_THRESHOLD_': '32768'}}
         with serving.Service(program, kind, folder, ['--at-once=%d' % count], **started) as served:
             with served.connected() as connection:
-                say(connection, [(OFFER, AGREED)])
+                say(connection, [(OFFER, OPTIONS)])
             time.sleep(2.5)
             before = served.memory()
             connections = [served.connected() for _ in range(count)]
@@ -294,7 +295,7 @@ def few_descriptors(program, kind, folder):
             connections = [served.connected() for _ in range(12)]
             for connection in connections:
                 connection.sendall(OFFER)
-            serving.expect_replies(connections[0], AGREED)
+            serving.expect_replies(connections[0], OPTIONS)
             time.sleep(0.3)
             taken = [at for at, it in enumerate(connections) if at == 0 or select.select([it], [], [], 0)[0]]
             expect('taken', taken == list(range(len(taken))) and 2 <= len(taken) < 10, True)
@@ -302,7 +303,7 @@ def few_descriptors(program, kind, folder):
             time.sleep(1)
             expect('it does not spin', served.seconds() - seconds < 0.1, True)
             for connection in connections[1:len(taken)]:
-                serving.expect_replies(connection, AGREED)
+                serving.expect_replies(connection, OPTIONS)
             for before, connection in zip(connections, connections[len(taken):]):
                 expect('it waits', select.select([connection], [], [], 0.05)[0], [])
                 say(connections[len(taken) - 1], [(ABORT, b'')])
@@ -310,7 +311,7 @@ def few_descriptors(program, kind, folder):
                 if before is connections[len(taken) - 1]:
                     break
                 quit_all([before])
-                serving.expect_replies(connection, AGREED)
+                serving.expect_replies(connection, OPTIONS)
             served.expect_goes_on()
             expect('log', served.log_lines(), [b'event="full" of="descriptors"\n'])
 
@@ -325,7 +326,7 @@ def few_descriptors(program, kind, folder):
             if allowed:
                 connections = [served.connected() for _ in range(min(allowed, 5))]
                 for connection in connections:
-                    say(connection, [(OFFER, AGREED)])
+                    say(connection, [(OFFER, OPTIONS)])
                 quit_all(connections)
 
     yield checked('few descriptors', run)
@@ -338,10 +339,10 @@ def many(program, kind, folder):
     """Many connections of one message each, after which the memory is what it was, and no descriptor is left."""
 
     def one(served, at):
-        talk = opening(at) + message(at % KEYS)
+        conversation = opening(at) + message(at % KEYS)
         with served.connected() as connection:
-            connection.sendall(b''.join(given for given, _ in talk) + QUIT)
-            expected = b''.join(reply for _, reply in talk)
+            connection.sendall(b''.join(given for given, _ in conversation) + QUIT)
+            expected = b''.join(reply for _, reply in conversation)
             expect('replies', serving.received(connection, len(expected) + 1), expected)
 
     count = MOST if kind == 'unix' and program == programs.tool('') else MANY
@@ -367,7 +368,7 @@ def stopped(program, kind, folder):
     def run():
         with serving.Service(program, kind, folder) as served:
             with served.connected() as connection:
-                say(connection, [(OFFER, AGREED)])
+                say(connection, [(OFFER, OPTIONS)])
                 for _ in range(3):
                     served.process.send_signal(signal.SIGSTOP)
                     serving.waited_for(lambda: state_of(served.process.pid) == 'T')
@@ -392,7 +393,7 @@ def restarted(program, kind, folder):
     def run():
         with serving.Service(program, kind, folder) as served:
             connections = [served.connected() for _ in range(3)]
-            say(connections[0], [(OFFER, AGREED)])
+            say(connections[0], [(OFFER, OPTIONS)])
             quit_all(connections[:1])
             served.process.kill()
             served.process.wait()
@@ -400,7 +401,7 @@ def restarted(program, kind, folder):
                 again = subprocess.Popen([program, 'serve', served.address], stdout=lines, stderr=subprocess.PIPE)
             try:
                 with serving.connected(served.at, lambda: again.poll() is not None) as connection:
-                    say(connection, [(OFFER, AGREED)])
+                    say(connection, [(OFFER, OPTIONS)])
             finally:
                 again.kill()
                 again.communicate()
@@ -412,7 +413,7 @@ def unwritten(program, kind, folder):
     """Lines that can't be written, on standard output or standard error, or that nobody reads, end nothing, and hold
     nothing: each connection is served. Lines that didn't go out are counted in the next one that does."""
     words = rules_file(folder, 'at mail do reject\n') + ['--log']
-    refused = [(OFFER, AGREED), (packet(b'M', b'<a@x>'), packet(b'r')), (QUIT, b'')]
+    refused = [(OFFER, OPTIONS), (packet(b'M', b'<a@x>'), packet(b'r')), (QUIT, b'')]
 
     def served_once(place, process):
         with serving.connected(place, lambda: process.poll() is not None) as connection:
@@ -518,7 +519,7 @@ def sockets(program, folder):
                                       preexec_fn=lambda: os.umask(umask))
         try:
             with serving.connected(path, lambda: served.poll() is not None) as connection:
-                say(connection, [(OFFER, AGREED)])
+                say(connection, [(OFFER, OPTIONS)])
             found = os.lstat(path).st_mode
             expect('mode', (stat.S_ISSOCK(found), stat.S_IMODE(found)), (True, mode))
         finally:
@@ -548,11 +549,11 @@ def sockets(program, folder):
     def in_use():
         with serving.Service(program, 'unix', folder) as served:
             with served.connected() as connection:
-                say(connection, [(OFFER, AGREED)])
+                say(connection, [(OFFER, OPTIONS)])
                 run_to_end(program, [served.address], (1, b'', b'cannot listen\n'))
                 say(connection, [(packet(b'H', b'h'), CONTINUE)])
             with served.connected() as connection:
-                say(connection, [(OFFER, AGREED)])
+                say(connection, [(OFFER, OPTIONS)])
 
     def file(path):
         with open(path, 'wb') as made:

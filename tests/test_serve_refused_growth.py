@@ -17,10 +17,10 @@ import tempfile
 
 from lib import checks, preloaded, programs, serving
 from lib.checks import expect
-from lib.talks import QUIT, message, opening, rules_of_keys
+from lib.conversations import QUIT, message, opening, rules_of_keys
 
 CONNECTIONS = 3
-# What is searched for at each header field and at each chunk of a body, for which memory is taken.
+# What is searched for at each header field and at each chunk of a body, for which memory is allocated.
 SEARCHES = '''\
 at header when header "Subject" is "of nothing" do reject
 at header when header "X-Spam" has "yes" and header "Subject" has "nothing" do reject
@@ -30,7 +30,7 @@ LOGGED = (rb'(connection="\d+" host="h\d+\.example" address="192\.0\.2\.1" id="\
           rb'stage="(rcpt|eob)"( line="[0-9]+")? verdict="code" text="[^"\n]*"\n)*')
 
 
-def talk_of(key):
+def conversation_of(key):
     """What a connection sends, and all replies to it."""
     parts = opening(key) + message(key) + message(key) + [(QUIT, b'')]
     return b''.join(given for given, _ in parts), b''.join(reply for _, reply in parts)
@@ -61,12 +61,12 @@ def is_over(served):
     return served.process.poll() is not None
 
 
-def expect_lines(served, talks, found):
+def expect_lines(served, conversations, found):
     """A run that goes on has a line for each connection: at most one was given up or has none, and the others have all
     replies."""
     lines = dict(served.lines())
-    endings = [lines.get(b'%d' % (at + 1)) for at in range(len(talks))]
-    whole = [b'quit' if found[at] == replies else b'failed 7' for at, (_, replies) in enumerate(talks)]
+    endings = [lines.get(b'%d' % (at + 1)) for at in range(len(conversations))]
+    whole = [b'quit' if found[at] == replies else b'failed 7' for at, (_, replies) in enumerate(conversations)]
     expect('endings', [one for one, two in zip(endings, whole) if one not in (two, b'failed 7', None)], [])
     expect('how many are lost', endings.count(None), served.lost())
     expect('how many are given up', endings.count(b'failed 7') + served.lost() <= 1, True)
@@ -74,17 +74,17 @@ def expect_lines(served, talks, found):
 
 def run(program, kind, folder, words, **started):
     """A run with three connections, which ends or goes on as the head of this file says."""
-    talks = [talk_of(key) for key in range(CONNECTIONS)]
+    conversations = [conversation_of(key) for key in range(CONNECTIONS)]
     with serving.Service(program, kind, folder, words, **started) as served:
-        found = [replies_to(served, given) for given, _ in talks]
-        for at, (_, replies) in enumerate(talks):
+        found = [replies_to(served, given) for given, _ in conversations]
+        for at, (_, replies) in enumerate(conversations):
             expect('replies of %d' % (at + 1), replies.startswith(found[at]), True)
         over = is_over(served)
         if over:
             served.process.wait(serving.SECONDS)
             expect('status', served.process.returncode, 1)
         else:
-            expect_lines(served, talks, found)
+            expect_lines(served, conversations, found)
             served.process.kill()
         errors = serving.faults_in(served.process.stderr.read())
         expected = LOGGED + b'out of memory\n' if over else LOGGED + b'(out of memory\n)?' + LOGGED

@@ -25,10 +25,10 @@ TABLES = ['answer_replies', 'answer_faults']
 RULE_TABLES = ['answer_rules', 'answer_lists']
 ENDINGS = [(rb'filter fault (\d+)\n', b'failed %s'), (rb'input truncated (\d+) bytes\n', b'ended %s')]
 OFFER = b'O {00}{00}{00}{06}{00}{00}{01}{ff}{00}{1f}{f7}{ff}'
-AGREED = b'O {00}{00}{00}{06}{00}{00}{00}{00}{00}{00}{00}{00}'
+OPTIONS = b'O {00}{00}{00}{06}{00}{00}{00}{00}{00}{00}{00}{00}'
 # The packets of a connection that ends by none of them, each with its reply, where it has one.
 CONVERSATION = [
-    (OFFER, AGREED), (b'D Cj{00}mx{00}', None), (b'C h.example{00}4{c0}{00}192.0.2.1{00}', b'c'),
+    (OFFER, OPTIONS), (b'D Cj{00}mx{00}', None), (b'C h.example{00}4{c0}{00}192.0.2.1{00}', b'c'),
     (b'H mail{00}', b'c'), (b'M a@x{00}SIZE=1{00}', b'c'), (b'R b@y{00}', b'c'), (b'T', b'c'),
     (b'L Subject{00} hi{00}', b'c'), (b'N', b'c'), (b'B {body*9}', b'c'), (b'E', b'c'), (b'M c@x{00}', b'c'),
     (b'A', None), (b'U XYZ{00}', b'c'), (b'K', None), (b'C {00}U', b'c'), (b'H again{00}', b'c')]
@@ -268,7 +268,7 @@ def unwritten(program, kind, folder):
     yield checked('standard output is full', run, '/dev/full')
 
 
-def talk(place, is_over, count, found):
+def converse(place, is_over, count, found):
     """So many connections with the conversation and its end; adds the replies to each that is made to the list."""
     given = b''.join(given for given, _ in packets()) + tables.packet_of(b'Q', None)
     for _ in range(count):
@@ -304,7 +304,7 @@ def refused(program, kind, folder):
     def run(number):
         place, address = serving.place_of(kind, folder)
         found, over = [], threading.Event()
-        client = threading.Thread(target=talk, args=(place, over.is_set, 2, found))
+        client = threading.Thread(target=converse, args=(place, over.is_set, 2, found))
         client.start()
         command = [program, 'filter', address, '--count=2']
         end, was_refused = preloaded.refused(command, b'', refuser, number)

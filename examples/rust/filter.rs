@@ -62,7 +62,7 @@ fn check(result: i32) -> Result<(), Error> {
     }
 }
 
-/// A filter's end of a connection. What it lends is borrowed from it, so that no call comes before the loan ends.
+/// A filter's end of a connection. What it gives out is borrowed from it, so no call comes before that borrow ends.
 struct Filter(Handle);
 
 impl Filter {

@@ -1,6 +1,6 @@
 #!/usr/bin/env python3
 """Plays several clients on one connection to a filter with the rules of clients.rules: a mail server sends K (QUIT_NC)
-between them, which miltertest can't. What the first client had is gone then, and what was agreed on stays.
+between them, which miltertest can't. What the first client had is gone then, and what was negotiated stays.
 
     python3 tests/interop/clients.py ADDRESS
 
@@ -28,7 +28,7 @@ def client(host):
 CONTINUE, REJECT, TEMPFAIL = packet(b'c'), packet(b'r'), packet(b't')
 SENDER, RECIPIENT = packet(b'M', b'<ada@example.org>\0'), packet(b'R', b'<bob@example.net>\0')
 # What is sent, and the reply to it.
-TALK = [
+CONVERSATION = [
     (packet(b'O', struct.pack('>III', 6, 0x1ff, 0x1fffff)), packet(b'O', struct.pack('>III', 6, 0, 0))),
     (packet(b'D', b'Cj\0first\0') + client(b'first.example.org'), CONTINUE),
     (packet(b'H', b'first.example.org\0'), TEMPFAIL),
@@ -57,7 +57,7 @@ def received(connection, count):
 def play(address, cut):
     """Plays a connection, each part in pieces of so many bytes."""
     with peers.connected(address) as connection:
-        for sent, expected in TALK:
+        for sent, expected in CONVERSATION:
             for at in range(0, len(sent), cut):
                 connection.sendall(sent[at:at + cut])
             reply = received(connection, len(expected))

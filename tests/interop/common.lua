@@ -20,12 +20,12 @@ function check(what, holds)
     end
 end
 
--- A connection on which options are agreed on: by default the mail server offers all that miltertest knows. miltertest
+-- A connection on which options are negotiated: by default the mail server offers all that miltertest knows. miltertest
 -- 2.11 takes the protocol bits before the actions, where its manual has the actions first.
 function opened(actions, protocol)
     local connection = mt.connect(address, 100, 0.05)
     check("not connected to " .. address, connection ~= nil)
-    check("no options were agreed on", mt.negotiate(connection, nil, protocol, actions) == nil)
+    check("no options were negotiated", mt.negotiate(connection, nil, protocol, actions) == nil)
     return connection
 end
 

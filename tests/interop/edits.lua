@@ -40,7 +40,7 @@ local function check_edits(c, offered, accepted)
     for number, kind in ipairs(KINDS) do
         local action, checks = kind[1], kind[2]
         local name = "actions " .. offered .. ", kind " .. number
-        check(name .. ": agreed on", mt.test_action(c, action) == has(offered, action))
+        check(name .. ": negotiated", mt.test_action(c, action) == has(offered, action))
         for place, edit in ipairs(checks) do
             local expected = has(offered, action) and not (accepted and edit[2] == "X-After")
             check(name .. ", edit " .. place, mt.eom_check(c, (table.unpack or unpack)(edit)) == expected)

@@ -6,7 +6,7 @@ local WANTED = {SMFIP_NOHELO, SMFIP_NOUNKNOWN, SMFIP_NODATA, SMFIP_NR_CONN, SMFI
 local NOT_WANTED = {SMFIP_NOCONNECT, SMFIP_NOMAIL, SMFIP_NORCPT, SMFIP_NOBODY, SMFIP_NOHDRS, SMFIP_NOEOH, SMFIP_NR_HELO,
     SMFIP_NR_MAIL, SMFIP_NR_RCPT, SMFIP_NR_DATA, SMFIP_NR_UNKN, SMFIP_NR_EOH}
 
--- Whether these bits, and no others, are agreed on.
+-- Whether these bits, and no others, are negotiated.
 local function check_agreed(c, expected)
     for _, bit in ipairs(NOT_WANTED) do
         check("bit " .. bit, not mt.test_option(c, bit))

@@ -17,7 +17,7 @@ import time
 from lib import c_library, programs, serving
 from lib.checks import expect
 from lib.packets import packet_of
-from lib.talks import CONTINUE, packet
+from lib.conversations import CONTINUE, packet
 
 REFUSAL = 'code "550 5.1.1 This address takes no mail"'
 SESSION = '''client 4 "client.example.org" 12345 "192.0.2.17"

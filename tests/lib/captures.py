@@ -28,16 +28,16 @@ def paths():
 
 def halves(path):
     """Each packet of the mail server in a capture, with the packets that the filter sent after it."""
-    talk = []
+    conversation = []
     with open(path, encoding='ascii') as file:
         for line in file:
             mark, digits = line.split()
             for packet in packets_of(bytes.fromhex(digits)):
                 if mark == '>':
-                    talk.append((packet, []))
+                    conversation.append((packet, []))
                 else:
-                    talk[-1][1].append(packet)
-    return talk
+                    conversation[-1][1].append(packet)
+    return conversation
 
 
 def quoted(text):
@@ -144,8 +144,8 @@ class Message:
 class Conversation:
     """What a mail server's end sends and reports of a captured connection, whose packets and replies these are."""
 
-    def __init__(self, talk):
-        options, (answer,) = talk[0]
+    def __init__(self, conversation):
+        options, (answer,) = conversation[0]
         version, actions, protocol = (number_of(options[5 + at:]) for at in (0, 4, 8))
         assert version == 6, options
         self.offer = actions & GREATEST[0], protocol & GREATEST[1]
@@ -153,16 +153,16 @@ class Conversation:
         self.answer = packet_of(answer[4:13] + agreed.to_bytes(4, 'big') + answer[17:])
         self.blank = b'' if agreed & LEADING_SPACE else b' '
         self.client, self.greeting, self.macros = None, b'', {}
-        self.talk = [(packet_of(b'O' + b''.join(n.to_bytes(4, 'big') for n in (6, *self.offer))), [self.answer])]
+        self.exchanges = [(packet_of(b'O' + b''.join(n.to_bytes(4, 'big') for n in (6, *self.offer))), [self.answer])]
         self.messages, self.acted = [], []
-        self.read(talk[1:])
+        self.read(conversation[1:])
         self.session = self.session_lines()
         self.reports = self.report_lines()
 
-    def read(self, talk):
+    def read(self, conversation):
         """Reads the packets after the options, in which the first macros of a stage come before its first command."""
         is_at_end = False
-        for command, replies in talk:
+        for command, replies in conversation:
             what = code_of(command)
             if what == 'D':
                 if len(command) > 6 and chr(command[5]) in STAGES:
@@ -172,12 +172,12 @@ class Conversation:
             else:
                 self.add_command(command, replies)
                 is_at_end = what == 'E'
-        self.talk = [part for command, replies in self.talk for part in self.with_macros(command, replies)]
+        self.exchanges = [part for command, replies in self.exchanges for part in self.with_macros(command, replies)]
 
     def add_command(self, command, replies):
         """Adds a command and its replies."""
         what = code_of(command)
-        self.talk.append((command, replies))
+        self.exchanges.append((command, replies))
         if what == 'C':
             self.client = command[5:]
         elif what == 'H':
@@ -209,7 +209,7 @@ class Conversation:
 
     def report_lines(self):
         """The lines of the reports, with the messages, which are edited here."""
-        ends = [replies for command, replies in self.talk if code_of(command) == 'E']
+        ends = [replies for command, replies in self.exchanges if code_of(command) == 'E']
         lines = []
         for message, replies in zip(self.messages, ends):
             for reply in replies[:-1]:
@@ -226,13 +226,13 @@ class Calls:
     these are: of each the lines of the script that make it, what it answers, the packets that it sends, and the replies
     to them."""
 
-    def __init__(self, talk):
-        options, (self.answer,) = talk[0]
+    def __init__(self, conversation):
+        options, (self.answer,) = conversation[0]
         self.offer = ' '.join('%x' % number_of(options[5 + at:]) for at in (0, 4, 8))
         self.blank = b'' if number_of(self.answer[13:]) & LEADING_SPACE else b' '
-        self.calls, self.is_in_message = [([], [], [options], talk[0][1])], False
+        self.calls, self.is_in_message = [([], [], [options], conversation[0][1])], False
         macros = {}
-        for command, replies in talk[1:]:
+        for command, replies in conversation[1:]:
             what = code_of(command)
             if what == 'D':
                 macros = {chr(command[5]): texts_of(command[6:])}
@@ -265,11 +265,11 @@ class Calls:
 def by_connections(path):
     """The packets of each connection of a capture, with their replies. Where one goes on as another after `K`, it ends,
     and both begin with the same options."""
-    talk, parts = halves(path), [[]]
-    for command, replies in talk:
+    conversation, parts = halves(path), [[]]
+    for command, replies in conversation:
         if code_of(command) == 'K':
             parts[-1].append((packet_of(b'Q'), []))
-            parts.append(talk[:1])
+            parts.append(conversation[:1])
         else:
             parts[-1].append((command, replies))
     return parts

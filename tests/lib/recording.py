@@ -81,7 +81,7 @@ class Answers:
             run.wait()
 
 
-def talk_of(name):
+def conversation_of(name):
     """The packets of a connection by the client of this name, each with its reply."""
     lines = sessions.OPENING + sessions.BEGINNING + sessions.ENDING + ['> Q']
     packets = {mark: [tables.packet_of(text[2:].replace('h.example', name).encode(), None)
@@ -89,14 +89,14 @@ def talk_of(name):
     return list(zip(packets['>'], packets['<'] + [b'']))
 
 
-def trace_of(talk):
+def trace_of(conversation):
     """The trace of a connection, each packet of which is a line."""
-    return ''.join('> %s\n' % given.hex() + ('< %s\n' % reply.hex() if reply else '') for given, reply in talk)
+    return ''.join('> %s\n' % given.hex() + ('< %s\n' % reply.hex() if reply else '') for given, reply in conversation)
 
 
-def say(connection, talk):
+def say(connection, conversation):
     """Sends these packets, each after the reply to the one before."""
-    for given, reply in talk:
+    for given, reply in conversation:
         connection.sendall(given)
         serving.expect_replies(connection, reply)
 
@@ -115,10 +115,11 @@ def bytes_of(trace, mark):
     return b''.join(bytes.fromhex(line[2:]) for line in trace.splitlines() if line[0] == mark)
 
 
-def expect_traces(program, directory, *talks):
+def expect_traces(program, directory, *conversations):
     """Compares the files of a directory with the traces of these connections, which the program reads."""
     found = traces_in(directory)
-    expect('the traces', found, {'%d.trace' % number: trace_of(talk) for number, talk in enumerate(talks, 1)})
+    expected = {'%d.trace' % number: trace_of(one) for number, one in enumerate(conversations, 1)}
+    expect('the traces', found, expected)
     for name in found:
         read = subprocess.run([program, 'trace', os.path.join(directory, name)], stdin=subprocess.DEVNULL,
                               capture_output=True, check=False)

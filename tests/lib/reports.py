@@ -85,7 +85,7 @@ def by_default(number, cause, lines=(), on_loss='tempfail'):
     return 'message %d default %s %s\n' % (number, cause, outcome) + ''.join(lines)
 
 
-def walk(verdict, at, unsent, unasked, body):
+def dialogue(verdict, at, unsent, unasked, body):
     """The lines of the verdicts that are acted on, where this one is given at a stage, and the stage that ended it."""
     lines, skips = [], False
     for stage, nth in commands(body):
@@ -102,7 +102,7 @@ def walk(verdict, at, unsent, unasked, body):
 
 def expected(count=1, verdict='continue', at='eob', unsent=None, unasked=None, body=BODY, text=None):
     """The reports of so many messages of which each gets this verdict at this stage."""
-    lines, ended = walk(verdict, at, unsent, unasked, body)
+    lines, ended = dialogue(verdict, at, unsent, unasked, body)
     client = ended in ('connect', 'helo')
     text = text or released(body=body)
     if verdict in ('continue', 'accept', 'skip') or at in (unsent, unasked):

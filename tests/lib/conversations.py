@@ -1,4 +1,4 @@
-"""What mail servers say to `milter_tool serve` in the tests, and the replies to it: packets, talks and rules."""
+"""What mail servers send to `milter_tool serve` in the tests, and its replies: packets, conversations and rules."""
 import os
 import select
 import struct
@@ -22,17 +22,17 @@ def options(actions, protocol):
 
 
 CONTINUE, QUIT, ABORT = packet(b'c'), packet(b'Q'), packet(b'A')
-OFFER, AGREED = options(0x1ff, 0x1fffff), options(0, 0)
+OFFER, OPTIONS = options(0x1ff, 0x1fffff), options(0, 0)
 # The bytes of an offer, a greeting, a sender and a greeting, and the replies to them.
 GREETED_AGAIN = bytes.fromhex(
     '0000000d4f00000006000001ff001fffff 00000006486d61696c00 000000054d61407800 00000006486d61696c00')
-STRICTLY, LENIENTLY = AGREED + 2 * CONTINUE, AGREED + 3 * CONTINUE
+STRICTLY, LENIENTLY = OPTIONS + 2 * CONTINUE, OPTIONS + 3 * CONTINUE
 
 
 def opening(key):
     """What a connection begins with, and the replies: the client and its greeting."""
     client = packets.packet_of(b'Ch%d.example\0004' % key + struct.pack('>H', 25) + b'192.0.2.1\0')
-    return [(OFFER, AGREED), (packet(b'D', b'Cj', b'mx') + client, CONTINUE), (packet(b'H', b'h%d' % key), CONTINUE)]
+    return [(OFFER, OPTIONS), (packet(b'D', b'Cj', b'mx') + client, CONTINUE), (packet(b'H', b'h%d' % key), CONTINUE)]
 
 
 def message(key):
@@ -63,9 +63,9 @@ def rules_file(folder, text):
     return ['--rules', rules.name]
 
 
-def say(connection, talk):
-    """Sends each part of a talk, and reads the reply to it before the next."""
-    for given, reply in talk:
+def say(connection, conversation):
+    """Sends each part of a conversation, and reads the reply to it before the next."""
+    for given, reply in conversation:
         connection.sendall(given)
         serving.expect_replies(connection, reply)
 
