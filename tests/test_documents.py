@@ -289,7 +289,8 @@ def vocabulary():
     table = text_of('docs/CONTRIBUTING.md').split('| No longer | Now |')[1].split('\n\n')[0]
     cells = [line.split(' | ')[0].strip('| ') for line in table.splitlines() if line.startswith('| ')]
     words = [word for cell in cells for word in re.sub(r' \(.*\)', '', cell).split(', ')]
-    pattern = re.compile(r'\b(%s)\b' % '|'.join(words), re.IGNORECASE)
+    # What follows a dot is a name of somebody else's.
+    pattern = re.compile(r'(?<!\.)\b(%s)\b' % '|'.join(words), re.IGNORECASE)
     for path in files_of('*'):
         comments = ' '.join(re.findall(r'(?m)^\s*(?:///?|//!|--) ?(.*)$', text_of(path)))
         names = re.sub('_|(?<=[a-z])(?=[A-Z])', ' ', os.path.splitext(os.path.basename(path))[0])
@@ -303,7 +304,7 @@ def vocabulary():
         found = sorted({match.lower() for match in pattern.findall(' '.join(text.split()))})
         yield '%s: %s' % (path, found), not found
     for path in scripts():
-        found = sorted({match.lower() for match in pattern.findall(re.sub(r'\.walk\(', '', text_of(path)))})
+        found = sorted({match.lower() for match in pattern.findall(text_of(path))})
         yield '%s: %s' % (path, found), not found
     for path in files_of('*'):
         name = os.path.splitext(os.path.basename(path))[0]
