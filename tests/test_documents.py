@@ -8,8 +8,8 @@ under which it is listed, and DEFINITIONS.md is made of the definitions as they 
 contract cites. README.md and PROOFS.md count the crates of the toolchain that are trusted, README.md and HEADLINE.md
 the lines of definitions under the headline, docs/CONTRIBUTING.md what a change has proved again, and no proof speaks
 of the code of another crate but by what it promises.
-And no line of the code or of the definitions is too long, but imports, nor one of help, and no comment, text, document,
-module, test or example has a word that is no longer used.
+And no line of the code or of the definitions is too long, but imports, nor one of help or of a document, and no comment,
+text, document, module, test or example has a word that is no longer used.
 """
 import functools
 import glob
@@ -270,6 +270,15 @@ def lines():
         yield '%s: too long: lines %s' % (os.path.relpath(path, TOP), long), not long
 
 
+def wrapped():
+    """Whether each line of a document is within the columns, but for titles, tables and code. What is made of the
+    definitions is left out."""
+    for path in DOCUMENTS:
+        prose = re.sub(r'(?ms)^```.*?^```', '', text_of(path)).splitlines()
+        long = [line[:40] for line in prose if len(line) > COLUMNS and not re.match(r'#|\||    ', line)]
+        yield '%s: too long: lines that begin %s' % (path, long), path == DEFINITIONS or not long
+
+
 def texts(code):
     """The texts between quotes of code in Rattle, without its comments."""
     return re.findall(r'"((?:[^"\\]|\\.)*)"', re.sub(r'(?m)//.*$', '', code), re.DOTALL)
@@ -320,4 +329,4 @@ def play_of(check):
 if __name__ == '__main__':
     sys.exit(runner.run_all(play_of(check) for check in (
         blocks, pasted, paragraphs, paths, diagrams, calls, said, links, clauses, definitions, trusted, counts,
-        proved_again, lemmas, lines, help_lines, vocabulary)))
+        proved_again, lemmas, lines, wrapped, help_lines, vocabulary)))
