@@ -110,10 +110,10 @@ pub(crate) fn say_unconnected(
 fn unconnected(kind: ErrorKind) -> &'static str {
     match kind {
         ErrorKind::ConnectionRefused => {
-            "connection refused: nobody listens there; start the filter, or wait longer with --wait"
+            "connection refused: nobody listens there; start the filter (mta and replay wait for one with --wait)"
         }
         ErrorKind::NotFound => {
-            "no such file: there is no socket of this path; start the filter, or wait longer with --wait"
+            "no such file: there is no socket of this path; start the filter (mta and replay wait for one with --wait)"
         }
         ErrorKind::PermissionDenied => {
             "permission denied: the user who runs the program has to be allowed to write to the socket"

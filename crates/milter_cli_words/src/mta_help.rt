@@ -39,7 +39,8 @@ the reports that --expect compares:
   > O version 6 actions 00000021 ADDHDRS|QUARANTINE protocol 00000000 none
   < O version 6 actions 00000001 ADDHDRS protocol 00000000 none
 
-Once every message is settled, this is printed:
+Of each message this is printed once it is settled, and with --wait, --expect or
+--show-negotiation once all of them are:
 
   connection VERDICT             the verdict that ended the client's connection
   message N BY OUTCOME           what settled message N, from 1, and how
