@@ -13,7 +13,8 @@
  *    again; it is never duplicated.
  * 2. Objects. A function that is given an empty handle, or one with an object of another kind, answers
  *    DEIRUSKA_WRONG_KIND and does nothing. An object is freed by deiruska_free, or where a function puts another one
- *    into its handle: one whose name ends in _new, deiruska_rules_read, deiruska_decoded_command or _reply.
+ *    into its handle: one whose name ends in _new, deiruska_filter_new_by, deiruska_rules_read,
+ *    deiruska_decoded_command or _reply.
  * 3. Bytes in. `at` points to `len` readable bytes, fewer than 2^63, which nobody writes during the call. It may be
  *    NULL where `len` is 0. What is kept of them is copied.
  * 4. Bytes out. A deiruska_bytes, deiruska_packet, deiruska_part or deiruska_edit is borrowed: its bytes are readable
