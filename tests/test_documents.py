@@ -8,8 +8,8 @@ under which it is listed, and DEFINITIONS.md is made of the definitions as they 
 contract cites. README.md and PROOFS.md count the crates of the toolchain that are trusted, README.md and HEADLINE.md
 the lines of definitions under the headline, docs/CONTRIBUTING.md what a change has proved again, and no proof speaks
 of the code of another crate but by what it promises.
-And no line of the code or of the definitions is too long, but imports, nor one of help or of a document, and no comment,
-text, document, module, test or example has a word that is no longer used.
+And no line of the code or of the definitions is too long, but imports, nor one of help or of a document, each mutant
+can be applied, and no comment, text, document, module, test or example has a word that is no longer used.
 """
 import functools
 import glob
@@ -108,7 +108,7 @@ def paths():
             crates = [name for name in named if os.path.isdir(os.path.join(TOP, 'crates', name))]
             first = first or crates[:1]
             for name in [name for name in names if '/' in name]:
-                is_of_crate = re.match(r'(src|specs|proofs|must-fail)/', name)
+                is_of_crate = re.match(r'(src|specs|proofs|must-fail|mutants)/', name)
                 places = [os.path.join('crates', crate, name) for crate in first + crates] if is_of_crate else [name]
                 is_there = any(os.path.exists(os.path.join(TOP, place)) for place in places)
                 yield 'docs/CONTRIBUTING.md: %s: %s' % (recipe.splitlines()[0], name), is_there
@@ -292,6 +292,24 @@ def scripts():
                 yield os.path.relpath(path, TOP)
 
 
+def mutants():
+    """Whether each mutant can be applied: each old text stands once in its file, as the pairs before left it."""
+    for path in sorted(glob.glob(os.path.join(TOP, 'crates', '*', '*', '*.edit'))):
+        crate, changed, file, old = os.path.dirname(os.path.dirname(path)), {}, '', ''
+        is_well = True
+        for line in text_of(path).splitlines():
+            kind, _, text = line.partition(': ')
+            if kind == 'file':
+                file = text
+                changed.setdefault(file, text_of(os.path.join(crate, file)))
+            elif kind == 'old':
+                old = text
+            elif kind.rstrip(':') == 'new':
+                is_well &= changed[file].count(old) == 1
+                changed[file] = changed[file].replace(old, text)
+        yield '%s: an old text does not stand once' % os.path.relpath(path, TOP), is_well and bool(changed)
+
+
 def vocabulary():
     """Whether no comment, text, document, module, test or example has a word that docs/CONTRIBUTING.md says is no longer
     used."""
@@ -329,4 +347,4 @@ def play_of(check):
 if __name__ == '__main__':
     sys.exit(runner.run_all(play_of(check) for check in (
         blocks, pasted, paragraphs, paths, diagrams, calls, said, links, clauses, definitions, trusted, counts,
-        proved_again, lemmas, lines, wrapped, help_lines, vocabulary)))
+        proved_again, lemmas, lines, wrapped, help_lines, mutants, vocabulary)))
