@@ -11,7 +11,7 @@ import cookbook
 import logins
 from lib import programs, recipes
 
-NETWORKS, LISTS, PATTERNS = 'Networks of clients', 'Big lists', 'Regular expressions'
+NETWORKS, LISTS, PATTERNS = 'Networks of clients', 'The same by tables of Postfix', 'Regular expressions'
 NO_MAIL, OUR_OWN, SPAM = recipes.NO_MAIL, recipes.OUR_OWN, recipes.SPAM
 ANY_SENDER, TO = '<ada@example.org>', '<brook@example.net>'
 # Clients of one's own network, and others.
