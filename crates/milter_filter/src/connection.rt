@@ -13,8 +13,7 @@ use crate::steps::run_turn;
 use crate::turn::Turn;
 use milter_byte_queue::ByteQueue;
 use milter_filter_core::{
-    Answer, AnswerFault, CommandOrder, FilterConnection, Needle, PathPart, Pattern, Policy, Seen,
-    Wants,
+    Answer, AnswerFault, CommandOrder, FilterConnection, Policy, Search, Seen, Wants,
 };
 use milter_wire::{NoMemory, Stage};
 use std::alloc::Global;
@@ -117,25 +116,11 @@ impl Connection {
         self.filter.seen()
     }
 
-    /// Searches the header fields that are shown, as [`Seen::search_headers`] does.
-    pub fn search_headers(&mut self, place: usize, name: &[u8], needle: &Needle<'_>)
+    /// Searches what is shown, as [`Seen::search`] does.
+    pub fn search(&mut self, place: usize, search: Search<'_>)
         ensures { self.new ≡ self.old }
     {
-        self.filter.search_headers(place, name, needle);
-    }
-
-    /// Searches the recipients that are shown, as [`Seen::search_recipients`] does.
-    pub fn search_recipients(&mut self, place: usize, part: PathPart, needle: &Needle<'_>)
-        ensures { self.new ≡ self.old }
-    {
-        self.filter.search_recipients(place, part, needle);
-    }
-
-    /// Searches the body that is shown, as [`Seen::search_body`] does.
-    pub fn search_body(&mut self, place: usize, pattern: &Pattern<'_>)
-        ensures { self.new ≡ self.old }
-    {
-        self.filter.search_body(place, pattern);
+        self.filter.search(place, search);
     }
 
     /// Answers the question that is open, as [`FilterConnection::answer`] does: the next turns write the packets, for

@@ -15,8 +15,8 @@ pub use connection::Connection;
 pub use milter_filter_core::{
     ACTIONS_MAX, Answer, AnswerFault, CommandOrder, Edits, FilterConnection, FilterCore,
     FilterFault, FilterState, Needle, NextStep, PROTOCOL_MAX, Pass, PathPart, Pattern, Policy,
-    Seen, Test, TextCase, VERSION_MAX, Wants, WantsFault, conversations_go_on, conversations_reply,
-    cores_go_on, cores_reply, policy_wants,
+    Search, Seen, Test, TextCase, VERSION_MAX, Wants, WantsFault, conversations_go_on,
+    conversations_reply, cores_go_on, cores_reply, policy_wants,
 };
 pub use milter_wire::read_buffer;
 pub use served::Served;

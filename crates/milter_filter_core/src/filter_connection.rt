@@ -14,7 +14,7 @@ ghost use Rattle.milter_filter_stream.specs.Streams.{received_in};
 
 use crate::policy_answer::answer_at_once;
 use milter_filter_answer::{AnswerFault, Wants, check_answer};
-use milter_filter_policy::{Needle, PathPart, Pattern, Policy, Seen};
+use milter_filter_policy::{Policy, Search, Seen};
 use milter_filter_stream::{FilterStream, NextStep};
 use milter_protocol::{Answer, CommandOrder, FilterFault, FilterState};
 use milter_wire::{NoMemory, Stage};
@@ -137,25 +137,11 @@ impl FilterConnection {
         self.stream.seen()
     }
 
-    /// Searches the header fields that are shown, as [`Seen::search_headers`] does.
-    pub fn search_headers(&mut self, place: usize, name: &[u8], needle: &Needle<'_>)
+    /// Searches what is shown, as [`Seen::search`] does.
+    pub fn search(&mut self, place: usize, search: Search<'_>)
         ensures { self.new ≡ self.old }
     {
-        self.stream.search_headers(place, name, needle);
-    }
-
-    /// Searches the recipients that are shown, as [`Seen::search_recipients`] does.
-    pub fn search_recipients(&mut self, place: usize, part: PathPart, needle: &Needle<'_>)
-        ensures { self.new ≡ self.old }
-    {
-        self.stream.search_recipients(place, part, needle);
-    }
-
-    /// Searches the body that is shown, as [`Seen::search_body`] does.
-    pub fn search_body(&mut self, place: usize, pattern: &Pattern<'_>)
-        ensures { self.new ≡ self.old }
-    {
-        self.stream.search_body(place, pattern);
+        self.stream.search(place, search);
     }
 
     /// Takes bytes from the start of a piece of what the mail server sends, and answers how many. While replies are

@@ -8,9 +8,11 @@ mod macro_search;
 mod macro_values;
 mod pass;
 mod policy;
+mod search;
 mod seen;
 
 pub use milter_filter_search::{Needle, PathPart, Pattern, Test, TextCase};
 pub use pass::Pass;
 pub use policy::Policy;
+pub use search::Search;
 pub use seen::Seen;

@@ -10,6 +10,7 @@ ghost use Rattle.milter_filter_search.specs.Needles.{matches, part_of};
 ghost use Rattle.milter_filter_search.specs.Texts.{finds, values_named};
 
 use crate::macro_list::MacroList;
+use crate::search::Search;
 use milter_filter_search::{Body, Headers, Needle, PathPart, Pattern, Recipients};
 use milter_wire::codes::{SMFIC_CONNECT, SMFIC_HELO};
 use milter_wire::{Client, CommandRef, Header, NoMemory, Path, Text};
@@ -108,9 +109,9 @@ impl Seen {
         self.body.as_slice()
     }
 
-    /// Whether the needle is found in this part of one of the recipients. What [`Seen::search_recipients`] found for
-    /// the same in this place isn't looked for again. Allocates as [`Needle::matches`] does, and canonical addresses;
-    /// `NoMemory` where memory is refused.
+    /// Whether the needle is found in this part of one of the recipients. What [`Seen::search`] found for the same in
+    /// this place isn't looked for again. Allocates as [`Needle::matches`] does, and canonical addresses; `NoMemory`
+    /// where memory is refused.
     pub fn finds_in_recipients(
         &self,
         alloc: Global,
@@ -125,8 +126,8 @@ impl Seen {
     }
 
     /// Whether the needle is found in the value of a header field of this name, in which ASCII case doesn't count. What
-    /// [`Seen::search_headers`] found for the same in this place isn't looked for again. Allocates as
-    /// [`Needle::matches`] does; `NoMemory` where memory is refused.
+    /// [`Seen::search`] found for the same in this place isn't looked for again. Allocates as [`Needle::matches`] does;
+    /// `NoMemory` where memory is refused.
     pub fn finds_in_headers(
         &self,
         alloc: Global,
@@ -140,44 +141,12 @@ impl Seen {
         self.headers.finds(alloc, place, name, needle)
     }
 
-    /// Whether the pattern is found in the body, as far as it has come. What [`Seen::search_body`] found for the same
-    /// in this place isn't looked for again. Doesn't allocate.
+    /// Whether the pattern is found in the body, as far as it has come. What [`Seen::search`] found for the same in
+    /// this place isn't looked for again. Doesn't allocate.
     pub fn finds_in_body(&self, place: usize, pattern: &Pattern<'_>) -> bool
         ensures { result ≡ finds pattern.now.case pattern.now.test pattern.now.text.now self.now.shown.body }
     {
         self.body.finds(place, pattern)
-    }
-
-    /// Searches the header fields for what [`Seen::finds_in_headers`] is going to be asked for in this place: those
-    /// alone that came since they were searched for the same in this place. Places are numbered from 0, and the first
-    /// search of each comes after that of the one before. It keeps copies of texts, and owns a list together with its
-    /// other owners. Where memory is refused nothing more is kept.
-    pub fn search_headers(&mut self, alloc: Global, place: usize, name: &[u8], needle: &Needle<'_>)
-        ensures { self.new ≡ self.old }
-    {
-        self.headers.search(alloc, place, name, needle);
-    }
-
-    /// Searches the recipients for what [`Seen::finds_in_recipients`] is going to be asked for in this place, as
-    /// [`Seen::search_headers`] does; places are those of recipients alone.
-    pub fn search_recipients(
-        &mut self,
-        alloc: Global,
-        place: usize,
-        part: PathPart,
-        needle: &Needle<'_>,
-    )
-        ensures { self.new ≡ self.old }
-    {
-        self.recipients.search(alloc, place, part, needle);
-    }
-
-    /// Searches the body for what [`Seen::finds_in_body`] is going to be asked for in this place, as
-    /// [`Seen::search_headers`] does.
-    pub fn search_body(&mut self, alloc: Global, place: usize, pattern: &Pattern<'_>)
-        ensures { self.new ≡ self.old }
-    {
-        self.body.search(alloc, place, pattern);
     }
 
     /// The value that was last given to a macro of this name. Doesn't allocate. Source: smfi_getsymval.
@@ -187,7 +156,7 @@ impl Seen {
         self.macros.value(name)
     }
 
-    /// The value that was last given to a macro of this name. What [`Seen::search_macro`] found for the same in this
+    /// The value that was last given to a macro of this name. What [`Seen::search`] found for the same in this
     /// place isn't looked for again. Doesn't allocate. Source: smfi_getsymval.
     pub fn macro_value_at(&self, place: usize, name: &[u8]) -> Option<&[u8]>
         ensures { option_map (λ value. value.now) result ≡ value_in self.now.shown.macros name.now }
@@ -195,14 +164,19 @@ impl Seen {
         self.macros.value_at(place, name)
     }
 
-    /// Looks for the value that [`Seen::macro_value_at`] is going to be asked for in this place: only among the macros
-    /// that came since the same was looked for in this place. Places are those of macros alone, and are numbered as
-    /// for [`Seen::search_headers`]. It keeps a copy of the name, and where the value is. Where memory is refused
-    /// nothing is kept.
-    pub fn search_macro(&mut self, alloc: Global, place: usize, name: &[u8])
+    /// Searches what is shown for what is going to be looked for in this place: only what came since the same was
+    /// searched for in this place. Recipients, header fields, the body and macros have places of their own, numbered
+    /// from 0; the first search in each comes after that in the one before. It keeps copies of names and texts, and
+    /// where a value is, and owns a list together with its other owners. Where memory is refused nothing more is kept.
+    pub fn search(&mut self, alloc: Global, place: usize, search: Search<'_>)
         ensures { self.new ≡ self.old }
     {
-        self.macros.search(alloc, place, name);
+        match search {
+            Search::Recipients(part, needle) => self.recipients.search(alloc, place, part, needle),
+            Search::Headers(name, needle) => self.headers.search(alloc, place, name, needle),
+            Search::Body(pattern) => self.body.search(alloc, place, pattern),
+            Search::Macro(name) => self.macros.search(alloc, place, name),
+        }
     }
 
     /// Whether values of header fields come with the blank that they begin with. Doesn't allocate. Source: mfdef.h

@@ -6,9 +6,7 @@ ghost use Rattle.milter_protocol.specs.Lawful.{AnswerFits};
 ghost use Rattle.milter_filter_answer.specs.declared.answer_fault.AnswerFault.TheVariants as refusals;
 ghost use Rattle.milter_filter_answer.specs.AnswerFaults.{Breaks};
 
-use milter_filter::{
-    Answer, AnswerFault, Connection, Needle, PathPart, Pattern, Policy, Seen, Wants,
-};
+use milter_filter::{Answer, AnswerFault, Connection, Policy, Search, Seen, Wants};
 use milter_wire::{NoMemory, Stage};
 use std::alloc::Global;
 use std::marker::Model;
@@ -52,25 +50,11 @@ impl AskedConnection {
         self.inner.seen()
     }
 
-    /// Searches the header fields that are shown, as [`Seen::search_headers`] does.
-    pub fn search_headers(&mut self, place: usize, name: &[u8], needle: &Needle<'_>)
+    /// Searches what is shown, as [`Seen::search`] does.
+    pub fn search(&mut self, place: usize, search: Search<'_>)
         ensures { self.new ≡ self.old }
     {
-        self.inner.search_headers(place, name, needle);
-    }
-
-    /// Searches the recipients that are shown, as [`Seen::search_recipients`] does.
-    pub fn search_recipients(&mut self, place: usize, part: PathPart, needle: &Needle<'_>)
-        ensures { self.new ≡ self.old }
-    {
-        self.inner.search_recipients(place, part, needle);
-    }
-
-    /// Searches the body that is shown, as [`Seen::search_body`] does.
-    pub fn search_body(&mut self, place: usize, pattern: &Pattern<'_>)
-        ensures { self.new ≡ self.old }
-    {
-        self.inner.search_body(place, pattern);
+        self.inner.search(place, search);
     }
 
     /// Answers the question, as [`Connection::answer`] does: by `NotAsked` where it is answered by now. An error

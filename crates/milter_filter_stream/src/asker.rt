@@ -24,7 +24,7 @@ ghost use Rattle.milter_protocol.specs.OrderStates.{order_state_fault};
 
 use crate::connection::{Connection, KEPT_MAX};
 use milter_filter_answer::{WantsRef, put_answer, put_continue, put_progress};
-use milter_filter_policy::{Needle, PathPart, Pattern, Policy, Seen};
+use milter_filter_policy::{Policy, Search, Seen};
 use milter_protocol::{Answer, CommandOrder, FilterFault, FilterState};
 use milter_wire::{
     CommandRef, HEAD_LEN, Negotiated, NoMemory, Options, Packet, Protocol, Reply, Stage, WireFault,
@@ -292,27 +292,11 @@ impl Asker {
         put_progress(&mut self.pending)
     }
 
-    /// Searches the header fields that are shown, as [`Seen::search_headers`] does.
-    pub(crate) fn search_headers(&mut self, place: usize, name: &[u8], needle: &Needle<'_>)
+    /// Searches what is shown, as [`Seen::search`] does.
+    pub(crate) fn search(&mut self, place: usize, search: Search<'_>)
         ensures { self.new ≡ self.old }
     {
-        self.connection
-            .search_headers(self.alloc, place, name, needle);
-    }
-
-    /// Searches the recipients that are shown, as [`Seen::search_recipients`] does.
-    pub(crate) fn search_recipients(&mut self, place: usize, part: PathPart, needle: &Needle<'_>)
-        ensures { self.new ≡ self.old }
-    {
-        self.connection
-            .search_recipients(self.alloc, place, part, needle);
-    }
-
-    /// Searches the body that is shown, as [`Seen::search_body`] does.
-    pub(crate) fn search_body(&mut self, place: usize, pattern: &Pattern<'_>)
-        ensures { self.new ≡ self.old }
-    {
-        self.connection.search_body(self.alloc, place, pattern);
+        self.connection.search(self.alloc, place, search);
     }
 }
 

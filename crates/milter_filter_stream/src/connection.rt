@@ -14,7 +14,7 @@ ghost use Rattle.milter_protocol.specs.OrderStates.{after_client, after_message,
 
 use crate::answer_effect::AnswerEffect;
 use crate::commands::{is_greeting_or_sender, is_of_connection, is_shown};
-use milter_filter_policy::{Needle, PathPart, Pattern, Policy, Seen};
+use milter_filter_policy::{Policy, Search, Seen};
 use milter_message::WEIGHT_MAX;
 use milter_protocol::{
     CommandOrder, FilterFault, FilterState, VERSION_MIN, is_final_at, may_follow, rank_of,
@@ -208,37 +208,11 @@ impl Connection {
         policy.prepare(alloc, stage, &mut self.seen);
     }
 
-    /// Searches the header fields that are shown, as [`Seen::search_headers`] does.
-    pub(crate) fn search_headers(
-        &mut self,
-        alloc: Global,
-        place: usize,
-        name: &[u8],
-        needle: &Needle<'_>,
-    )
+    /// Searches what is shown, as [`Seen::search`] does.
+    pub(crate) fn search(&mut self, alloc: Global, place: usize, search: Search<'_>)
         ensures { self.new ≡ self.old }
     {
-        self.seen.search_headers(alloc, place, name, needle);
-    }
-
-    /// Searches the recipients that are shown, as [`Seen::search_recipients`] does.
-    pub(crate) fn search_recipients(
-        &mut self,
-        alloc: Global,
-        place: usize,
-        part: PathPart,
-        needle: &Needle<'_>,
-    )
-        ensures { self.new ≡ self.old }
-    {
-        self.seen.search_recipients(alloc, place, part, needle);
-    }
-
-    /// Searches the body that is shown, as [`Seen::search_body`] does.
-    pub(crate) fn search_body(&mut self, alloc: Global, place: usize, pattern: &Pattern<'_>)
-        ensures { self.new ≡ self.old }
-    {
-        self.seen.search_body(alloc, place, pattern);
+        self.seen.search(alloc, place, search);
     }
 
     /// Keeps a command that is shown, or none of it; its packet has `len` bytes.

@@ -14,7 +14,7 @@ use crate::asker::Asker;
 use crate::next_step::NextStep;
 use crate::pieces::feed_piece;
 use milter_filter_answer::WantsRef;
-use milter_filter_policy::{Needle, PathPart, Pattern, Policy, Seen};
+use milter_filter_policy::{Policy, Search, Seen};
 use milter_protocol::{Answer, CommandOrder, FilterFault, FilterState};
 use milter_wire::{NoMemory, Splitter, Stage};
 use std::alloc::Global;
@@ -150,25 +150,11 @@ impl FilterStream {
         self.asker.seen()
     }
 
-    /// Searches the header fields that are shown, as [`Seen::search_headers`] does.
-    pub fn search_headers(&mut self, place: usize, name: &[u8], needle: &Needle<'_>)
+    /// Searches what is shown, as [`Seen::search`] does.
+    pub fn search(&mut self, place: usize, search: Search<'_>)
         ensures { self.new ≡ self.old }
     {
-        self.asker.search_headers(place, name, needle);
-    }
-
-    /// Searches the recipients that are shown, as [`Seen::search_recipients`] does.
-    pub fn search_recipients(&mut self, place: usize, part: PathPart, needle: &Needle<'_>)
-        ensures { self.new ≡ self.old }
-    {
-        self.asker.search_recipients(place, part, needle);
-    }
-
-    /// Searches the body that is shown, as [`Seen::search_body`] does.
-    pub fn search_body(&mut self, place: usize, pattern: &Pattern<'_>)
-        ensures { self.new ≡ self.old }
-    {
-        self.asker.search_body(place, pattern);
+        self.asker.search(place, search);
     }
 
     /// Has a policy search what is shown for what it is going to look for at the stage.

@@ -4,7 +4,7 @@ ghost use Rattle.std.specs.Prelude.{◌<◌, IfSome, length};
 
 use crate::compared::{finds_empty, is_met_unfound};
 use crate::sent_stages::bit_among;
-use milter_filter_rules::{Check, Condition, Field, Joint, Measure};
+use milter_filter_rules::{Check, Condition, Field, Joint};
 use milter_protocol::rank_of;
 use milter_rules_faults::{Notes, Span};
 use milter_wire::{NoMemory, Options, Protocol, Stage, Text};
@@ -55,30 +55,6 @@ impl Certainty {
             (Certainty::Never, Certainty::Never) => Certainty::Never,
             _ => Certainty::Open,
         }
-    }
-}
-
-/// The stage from which on a field is known; none of a macro.
-fn first_stage(field: &Field) -> Option<Stage> {
-    match field {
-        Field::Host | Field::Address => Some(Stage::Connect),
-        Field::Helo => Some(Stage::Helo),
-        Field::Sender(_) => Some(Stage::Mail),
-        Field::Rcpt(_) | Field::Recipients(_) => Some(Stage::Rcpt),
-        Field::Header(_) => Some(Stage::Header),
-        Field::Body => Some(Stage::Body),
-        Field::Macro(_) => None,
-    }
-}
-
-/// The stage from which on what the check looks at is known; none of a macro.
-fn first_stage_of(check: &Check) -> Option<Stage> {
-    match check {
-        Check::Text(check) => first_stage(&check.field),
-        Check::Within(_) => Some(Stage::Connect),
-        Check::Over(Measure::Size, _) => Some(Stage::Body),
-        Check::Over(Measure::Rcpts, _) => Some(Stage::Rcpt),
-        Check::In(field, _) => first_stage(field),
     }
 }
 
@@ -210,7 +186,7 @@ fn certainty_of(place: Place, condition: &Condition) -> Certainty {
 /// Why the field of the condition has no value at this place; none where it may have one. A body that wasn't seen is
 /// empty, and may so be found.
 fn absence_of(condition: &Condition, place: Place) -> Option<Absence> {
-    let first = first_stage_of(&condition.check)?;
+    let first = condition.check.stage()?;
     if finds_empty_body(&condition.check) {
         return None;
     }
