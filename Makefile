@@ -1,14 +1,14 @@
 # `make` proves and builds the program, `make lib` the library for C, `make check` proves what changed, `make test` is
-# the whole test command, `make mutants` tries all mutants, also those that this leaves out, `make bench` measures, `make
-# install PREFIX=/usr/local` puts the program in place, with its manual pages, units and documents, and the library with
-# its header, `make uninstall PREFIX=/usr/local` takes that away again, and `make dist` and `make deb` pack the program,
-# and the latter also the library, for machines without the toolchain. `make deb` takes Debian's packages debhelper and
-# dh-python. `make definitions` writes docs/proofs/DEFINITIONS.md again, after a change in crates/*/specs.
+# the whole test command, `make bench` measures, `make install PREFIX=/usr/local` puts the program in place, with its
+# manual pages, units and documents, and the library with its header, `make uninstall PREFIX=/usr/local` takes that away
+# again, and `make dist` and `make deb` pack the program, and the latter also the library, for machines without the
+# toolchain. `make deb` takes Debian's packages debhelper and dh-python. `make definitions` writes
+# docs/proofs/DEFINITIONS.md again, after a change in crates/*/specs.
 
 PREFIX ?= /usr/local
 PROGRAM := crates/milter_tool/out/milter_tool
 
-.PHONY: all lib check definitions test mutants bench install uninstall dist deb clean
+.PHONY: all lib check definitions test bench install uninstall dist deb clean
 
 all:
 	@python3 tools/prove.py --build milter_tool
@@ -27,9 +27,6 @@ definitions:
 
 test:
 	bash .ci/run
-
-mutants:
-	bash tools/mutants.sh
 
 bench:
 	bash bench/trace.sh

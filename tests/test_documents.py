@@ -108,7 +108,7 @@ def paths():
             crates = [name for name in named if os.path.isdir(os.path.join(TOP, 'crates', name))]
             first = first or crates[:1]
             for name in [name for name in names if '/' in name]:
-                is_of_crate = re.match(r'(src|specs|proofs|must-fail|mutants)/', name)
+                is_of_crate = re.match(r'(src|specs|proofs|must-fail)/', name)
                 places = [os.path.join('crates', crate, name) for crate in first + crates] if is_of_crate else [name]
                 is_there = any(os.path.exists(os.path.join(TOP, place)) for place in places)
                 yield 'docs/CONTRIBUTING.md: %s: %s' % (recipe.splitlines()[0], name), is_there
