@@ -1,23 +1,31 @@
-# `make` proves and builds the program, `make lib` the library for C, `make check` proves what changed, `make test` is
-# the whole test command, `make bench` measures, `make install PREFIX=/usr/local` puts the program in place, with its
-# manual pages, units and documents, and the library with its header, `make uninstall PREFIX=/usr/local` takes that away
-# again, and `make dist` and `make deb` pack the program, and the latter also the library, for machines without the
-# toolchain. `make deb` takes Debian's packages debhelper and dh-python. `make definitions` writes
-# docs/proofs/DEFINITIONS.md again, after a change in crates/*/specs.
+# `make` builds the program and the library for C from their source, in three minutes and without a proof; `make prove`
+# proves them, and puts what is proved in their place; `make check` proves what changed. `make test` runs each test on
+# what is built, `make gate` proves all from nothing and then tests that, and `make interop` tries other mail software.
+# `make install PREFIX=/usr/local` puts the program in place, with its manual pages, units and documents, and the library
+# with its header, `make uninstall PREFIX=/usr/local` takes that away again, and `make dist` and `make deb` pack both for
+# machines without the toolchain: the proved ones, or with UNPROVED=1 those that are built. `make deb` takes Debian's
+# packages debhelper and dh-python. `make bench` measures, and `make definitions` writes docs/proofs/DEFINITIONS.md again.
 
 PREFIX ?= /usr/local
-PROGRAM := crates/milter_tool/out/milter_tool
+BUILT := build/milter_tool build/libmilter_c.a
+LIBRARY := build/deiruska/lib/libdeiruska.a
 
-.PHONY: all lib check definitions test bench install uninstall dist deb clean
+.PHONY: all built prove check definitions test gate interop bench install uninstall dist deb clean
 
-all:
-	@python3 tools/prove.py --build milter_tool
-	@echo "the proved program is $(PROGRAM)"
+all: built
+	@$(MAKE) -s $(LIBRARY)
+	@echo "build/milter_tool is `build/milter_tool --version`; the library for C is in build/deiruska"
 
-lib:
-	@python3 tools/prove.py --build milter_c
-	bash tools/library.sh make crates/milter_c/out/libmilter_c.a crates/milter_c/out/deiruska "$(PREFIX)"
-	@echo "the proved library is crates/milter_c/out/deiruska/lib/libdeiruska.a, and libdeiruska.so beside it"
+built:
+	@python3 tools/build.py milter_tool milter_c
+
+$(LIBRARY): build/libmilter_c.a include/deiruska.h tools/library.sh
+	bash tools/library.sh make build/libmilter_c.a build/deiruska "$(PREFIX)"
+	@touch $@
+
+prove:
+	@python3 tools/prove.py --build milter_tool milter_c
+	@$(MAKE) -s all
 
 check:
 	@python3 tools/prove.py
@@ -26,9 +34,16 @@ definitions:
 	python3 tools/definitions.py
 
 test:
-	bash .ci/run
+	@python3 tools/build.py all
+	@python3 tests/run.py
 
-bench:
+gate:
+	@python3 tests/run.py --gate
+
+interop: all
+	bash tests/interop.sh
+
+bench: all
 	bash bench/trace.sh
 	bash bench/sessions.sh
 	bash bench/wire.sh
@@ -42,19 +57,16 @@ bench:
 	bash bench/world.sh
 	bash bench/rules.sh
 	bash bench/python.sh
-	python3 bench/hostile.py $(PROGRAM)
+	python3 bench/hostile.py build/milter_tool
 
-install: all lib
+install: all
 	bash tools/package.sh install "$(DESTDIR)" "$(PREFIX)"
 
 uninstall:
 	bash tools/package.sh uninstall "$(DESTDIR)" "$(PREFIX)"
 
-dist: all
-	bash tools/package.sh dist
-
-deb: all lib
-	bash tools/package.sh deb
+dist deb: $(if $(UNPROVED),all,prove)
+	bash tools/package.sh $@
 
 clean:
-	rm -rf crates/*/out dist
+	rm -rf build crates/*/out dist

@@ -20,7 +20,7 @@ LARGE_COMMANDS=176
 OPENING=3
 
 # instructions NAME WORD..: what callgrind counts of a run
-instructions() { counted "crates/$1/out/$1" "${@:2}"; }
+instructions() { counted "build/$1" "${@:2}"; }
 
 # pass PACKETS: what the mail server's end takes for the first packets of the session, and their replies
 pass() {

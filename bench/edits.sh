@@ -7,7 +7,7 @@
 . "$(dirname "${BASH_SOURCE[0]}")/lib.sh"
 printf 'client U ""\nhelo ""\nmessage\nsender ""\nrecipient ""\nend\n\0' >"$work/empty"
 built milter_tests_driver edits count <"$work/empty"
-python3 - "$work" crates/milter_tests_driver/out/milter_tests_driver <<'PYTHON'
+python3 - "$work" build/milter_tests_driver <<'PYTHON'
 import os, struct, subprocess, sys
 
 work, program = sys.argv[1:]

@@ -9,7 +9,7 @@
 # and libmilter. The instructions are callgrind's, without those of a run of one message or one connection; callgrind
 # counts a copy by `rep movsb` a byte at a time, so that this is turned off in the C library. It takes libmilter
 # (libmilter-dev), a C compiler, valgrind, Python and some minutes. The program is built first where it has to be;
-# another one may be given. libdeiruska is that of `make lib`, or another one in the folder LIBRARY.
+# another one may be given. libdeiruska is that of `make`, or another one in the folder LIBRARY.
 #
 #     [LIBRARY=FOLDER] bash bench/filter.sh [PROGRAM]
 . "$(dirname "${BASH_SOURCE[0]}")/lib.sh"

@@ -14,8 +14,8 @@ NEVER=1000000000
 COPIES=glibc.cpu.x86_rep_movsb_threshold=$NEVER
 CLEARINGS=glibc.cpu.x86_rep_stosb_threshold=$NEVER
 CALLGRIND=(valgrind --tool=callgrind --callgrind-out-file=/dev/null)
-# The library for C as `make lib` leaves it, or another one.
-LIBRARY=${LIBRARY:-crates/milter_c/out/deiruska}
+# The library for C as `make` leaves it, or another one.
+LIBRARY=${LIBRARY:-build/deiruska}
 
 # ---- what is measured
 
@@ -24,16 +24,12 @@ tool() {
     program=${1:-}
     if [ -z "$program" ]; then
         make -s all >/dev/null
-        program=crates/milter_tool/out/milter_tool
+        program=build/milter_tool
     fi
 }
 
-# built NAME WORD..: builds the program of this crate where it has to be; run so it reads its standard input
-built() {
-    local made=crates/$1/out/$1
-    [ -x "$made" ] && [ -z "$(find crates/*/src crates/*/specs -newer "$made" -print -quit)" ] && return
-    (cd "crates/$1" && rt run -- "${@:2}") >"$work/log" 2>&1 || { cat "$work/log"; exit 1; }
-}
+# built NAME: builds the program of this crate where it has to be
+built() { python3 tools/build.py "$1" || exit 1; }
 
 # libmilter: makes the filter on Sendmail's libmilter
 libmilter() { cc -O2 -o "$work/libmilter" bench/filter.c -lmilter -lpthread; }

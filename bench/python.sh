@@ -5,7 +5,7 @@
 # 1. For 1 and 50 connections that stay it prints how many messages a second a filter takes, the best of three runs: by
 # the clock and by the filter's own processor time. A message has sixteen commands, with ten header fields and 4 KiB of
 # body. It takes pymilter (python3-milter), a C compiler and a minute. Python is `python3`, or PYTHON, for which
-# pymilter is installed. libdeiruska is that of `make lib`, or another one in the folder LIBRARY.
+# pymilter is installed. libdeiruska is that of `make`, or another one in the folder LIBRARY.
 #
 #     [PYTHON=PROGRAM] [LIBRARY=FOLDER] bash bench/python.sh
 . "$(dirname "${BASH_SOURCE[0]}")/lib.sh"

@@ -18,7 +18,7 @@
 #
 #     git worktree add --detach /tmp/before 241ad378 && make -C /tmp/before
 #
-# and is /tmp/before/crates/milter_tool/out/milter_tool then.
+# and is /tmp/before/build/milter_tool then.
 #
 #     [OLD=PROGRAM] bash bench/rules.sh [PROGRAM]
 . "$(dirname "${BASH_SOURCE[0]}")/lib.sh"

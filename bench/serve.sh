@@ -15,7 +15,7 @@
 # rule with --all-stages, and the filter on libmilter of before, which are sent all of it and reply to each packet.
 #
 # It takes libmilter (libmilter-dev), a C compiler, Python, some minutes and 1 GiB of memory. The program is built first
-# where it has to be; another one may be given. libdeiruska is that of `make lib`, or another one in the folder LIBRARY.
+# where it has to be; another one may be given. libdeiruska is that of `make`, or another one in the folder LIBRARY.
 #
 #     [LIBRARY=FOLDER] bash bench/serve.sh [PROGRAM]
 . "$(dirname "${BASH_SOURCE[0]}")/lib.sh"

@@ -7,7 +7,7 @@
 # has to be.
 . "$(dirname "${BASH_SOURCE[0]}")/lib.sh"
 built milter_tests_driver packets split 1 </dev/null
-program=crates/milter_tests_driver/out/milter_tests_driver
+program=build/milter_tests_driver
 AGAIN=100
 
 # message BODY: the packets of a message whose body has so many bytes

@@ -16,7 +16,7 @@ ROUNDS_OF_100=150
 ROUNDS_OF_1=6000
 
 # instructions NAME WORD..: what callgrind counts of a run on the session
-instructions() { counted "crates/$1/out/$1" "${@:2}" <"$work/session"; }
+instructions() { counted "build/$1" "${@:2}" <"$work/session"; }
 
 # a_message COUNT READ NAME WORD..: the instructions of one of so many messages, without those of reading them
 a_message() { echo $((($(instructions "${@:3}") - $2) / $1)); }

@@ -48,7 +48,10 @@ extern "C" {
    number may change anything. */
 #define DEIRUSKA_VERSION 0x000100
 
-/* The DEIRUSKA_VERSION of the library that is linked. */
+/* Set in what deiruska_version answers where the library was built without its proof. */
+#define DEIRUSKA_UNPROVED 0x80000000u
+
+/* The DEIRUSKA_VERSION of the library that is linked, and DEIRUSKA_UNPROVED where that was built without its proof. */
 uint32_t deiruska_version(void);
 
 /* ---- answers of functions ---------------------------------------------------------------------------------------- */

@@ -50,6 +50,6 @@ fi
 program=${1:-}
 if [ -z "$program" ]; then
     make -s all >/dev/null || exit 1
-    program=crates/milter_tool/out/milter_tool
+    program=build/milter_tool
 fi
 exec python3 tests/interop/run.py "$program"

@@ -5,8 +5,8 @@
 # pass. Nothing is enabled or started by the installation; an upgrade restarts the service, and a removal stops it:
 # systemd doesn't run there, and what `systemctl` is asked for is written down in its place. It needs Debian's packages
 # debhelper, dh-python, lintian and debootstrap, a C compiler, root, and Debian's registry, of which MIRROR may name
-# another copy. It isn't part of the test command. What is packed is what `make all lib` built; ARCHIVE takes an archive
-# of the library in place of that of `make lib`. The last line is 'N passed, M failed'.
+# another copy. It isn't part of the test command. What is packed is what `make prove` built; ARCHIVE takes an archive
+# of the library in place of that one. The last line is 'N passed, M failed'.
 #
 #     sudo [ARCHIVE=FILE] [MIRROR=URL] bash tests/packages.sh
 set -u
@@ -27,4 +27,4 @@ if [ "$(id -u)" != 0 ]; then
 fi
 export MIRROR=${MIRROR:-http://deb.debian.org/debian}
 # What is mounted there is gone with the script.
-exec unshare --mount python3 tests/packages/run.py "${ARCHIVE:-crates/milter_c/out/libmilter_c.a}"
+exec unshare --mount python3 tests/packages/run.py "${ARCHIVE:-build/libmilter_c.a}"

@@ -567,5 +567,5 @@ if __name__ == '__main__':
         print('0 passed, 0 failed')
         sys.exit(0)
     with tempfile.TemporaryDirectory() as work:
-        its_archive = c_library.proved(*sys.argv[1:])
+        its_archive = c_library.built(*sys.argv[1:])
         sys.exit(checks.run_all(groups(c_library.made(its_archive, work), its_archive, work)))

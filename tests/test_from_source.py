@@ -1,24 +1,25 @@
 #!/usr/bin/env python3
-"""Runs ./milter_tool in a copy of the repository in which nothing is built. It runs the source of the program and says
-so; output, fault lines and status are those of the program. A server and a client of one ask for the proved program,
-and an output that was cut off never looks like the whole.
+"""Does what README.md says in a copy of the repository in which nothing is built: `./milter_tool trace` builds the small
+tracer alone; `make` builds the program and the library for C without a proof, and says so; `./milter_tool serve` with the
+rules of README.md then refuses the mail that it names; and ./milter_tool ends as the program does, on files, pipes and
+standard input, with its faults. Parts that an earlier build of these sources left are taken over.
 
 The last line is 'N passed, M failed'; the status is 1 where one failed.
 """
 import os
 import shutil
+import subprocess
 import sys
 import tempfile
+import time
 
-from lib import runner
-from lib.programs import BUILDS, TOP, compared, ended, need, tool
+from lib import first_rules, programs, serving
+from lib.programs import BUILDS, TOP, compared, ended, need, tool, written
+from lib.runner import report
 
-NEWS = b'milter_tool: this is the source, run with checks and not proved yet; '
-WANTED = b"milter_tool: %s takes the proved program, which isn't built yet: "
-CUT_OFF = b'milter_tool: the run was cut off, '
-# A packet of a header field whose value has 65,532 bytes, of which each is printed as four; 16 of them are more than
-# the 1 MiB that is kept of an output.
-HEADER = b'> 00010000' + b'4c5800%s00\n' % (b'01' * 65532)
+IGNORED = shutil.ignore_patterns('out', '.git', 'dist', 'build', '__pycache__')
+FIRST = b'milter_tool: this is built first, without a proof, in %s; `make prove` proves it\n'
+UNPROVED = b'milter_tool 0.1.0 (built without its proof)'
 
 
 def read(path):
@@ -27,67 +28,68 @@ def read(path):
         return file.read()
 
 
-def without_news(errors):
-    """What the program itself printed on standard error, where the first line is the news of the source; else None."""
-    lines = errors.splitlines(keepends=True)
-    return b''.join(lines[1:]) if lines and lines[0].startswith(NEWS) else None
+def traced(top):
+    """The tracer, which is built at its first call, and not at its second one."""
+    given = read('examples/conversation.trace')
+    expected = ended([tool(BUILDS[0]), 'trace'], given)
+    for said in (FIRST % b'half a minute', b''):
+        end = ended([os.path.join(top, 'milter_tool'), 'trace'], given)
+        yield compared('trace', end, (0, expected[1], said))
+    built = [it for it in os.listdir(os.path.join(top, 'build')) if not it.startswith(('lock', 'parts'))]
+    yield None if sorted(built) == ['example_trace', 'example_trace.key'] else 'trace builds %s' % built
 
 
-def as_the_program(top, words, given=b''):
-    """A play: the copy of the repository ends as the proved program does."""
-
-    def play():
-        status, output, errors = ended([os.path.join(top, 'milter_tool'), *words], given)
-        expected = ended([tool(BUILDS[0]), *words], given)
-        yield compared('from source: %s' % ' '.join(words), (status, output, without_news(errors)), expected)
-
-    return play
-
-
-def asks_for_the_proved_program(top, words):
-    """A play: nothing is run, status 1, and a line says what is wanted."""
-
-    def play():
-        status, output, errors = ended([os.path.join(top, 'milter_tool'), *words])
-        is_said = errors.startswith(WANTED % words[0].encode()) and errors.count(b'\n') == 1
-        is_well = (status, output) == (1, b'') and is_said
-        yield None if is_well else '%s: status %d, printed %r' % (words[0], status, output + errors)
-
-    return play
+def made(top):
+    """What `make` builds and says."""
+    begun = time.monotonic()
+    status, out, errors = ended(['make', '-C', top, '--no-print-directory'])
+    print('make: %d s' % (time.monotonic() - begun))
+    yield None if status == 0 and UNPROVED in out and b'nothing is proved' in errors else 'make: %s' % ((out, errors),)
+    for name in ('libdeiruska.a', 'libdeiruska.so', 'pkgconfig/deiruska.pc'):
+        path = os.path.join(top, 'build', 'deiruska', 'lib', name)
+        yield None if os.path.exists(path) else '%s is not there' % path
 
 
-def says_that_it_was_cut_off(top):
-    """A play: of an output of more than 1 MiB nothing is printed, but that it was cut off, with status 1."""
+def refuses(top):
+    """The first example of README.md: its rules are served, and a session that it has is played and refused."""
+    program = os.path.join(top, 'milter_tool')
+    rules, session, printed = (''.join(it + '\n' for it in lines) for lines in first_rules.of_readme())
+    expected = written(os.path.join(top, 'expected'), printed)
+    options = ['--rules', written(os.path.join(top, 'mail.rules'), rules)]
+    yield compared('rules --check', ended([program, 'rules', '--check', options[1]]), (0, b'', b''))
+    with serving.Service(program, 'inet', top, options, all_stages=False) as served:
+        serving.listening(served)
+        words = ['mta', served.address, '/dev/stdin', '--wait', '10', '--expect', expected]
+        yield compared('mta', ended([program, *words], session.encode()), (0, b'', b''))
 
-    def play():
-        status, output, errors = ended([os.path.join(top, 'milter_tool'), 'trace'], HEADER * 16)
-        is_well = (status, output) == (1, b'') and errors.splitlines()[-1].startswith(CUT_OFF)
-        yield None if is_well else 'cut off: status %d, printed %d bytes and %r' % (status, len(output), errors[-200:])
 
-    return play
-
-
-def plays(top):
-    """All that is run: traces, files by relative and absolute paths, faults, and a wrong use of the command line."""
-    yield as_the_program(top, ['trace'], read('examples/conversation.trace'))
-    yield as_the_program(top, ['trace'], read('examples/conversation.trace') + b'> zz\n')
-    yield as_the_program(top, ['play', 'examples/policy.session', '--rules=examples/mail.rules'])
-    yield as_the_program(top, ['session', os.path.join(TOP, 'examples', 'mail.rules')])
-    yield as_the_program(top, ['trace', 'examples/conversation.trace', 'examples/no.trace'])
-    yield as_the_program(top, ['trace', '--no'])
-    yield says_that_it_was_cut_off(top)
-    yield asks_for_the_proved_program(top, ['filter', 'inet:8891@127.0.0.1'])
-    yield asks_for_the_proved_program(top, ['serve', 'inet:8891@127.0.0.1'])
-    yield asks_for_the_proved_program(top, ['mta', 'inet:8891@127.0.0.1', 'examples/policy.session'])
+def as_the_program(top):
+    """./milter_tool beside the program that is built here: files by relative and absolute paths, standard input, a pipe,
+    faults, wrong uses, and an output of more than a MiB."""
+    trace = read('examples/conversation.trace')
+    large = b'> 00010000' + b'4c5800%s00\n' % (b'01' * 65532)
+    for words, given in [
+            (['trace'], trace), (['trace'], trace + b'> zz\n'), (['trace'], large * 16), (['trace', '--no'], b''),
+            (['trace', 'examples/conversation.trace', 'examples/no.trace'], b''),
+            (['play', 'examples/policy.session', '--rules=examples/mail.rules'], b''),
+            (['session', os.path.join(TOP, 'examples', 'mail.rules')], b''), (['session', '/dev/stdin'], b'client\n')]:
+        end = ended([os.path.join(top, 'milter_tool'), *words], given)
+        yield compared(' '.join(words), end, ended([tool(BUILDS[0]), *words], given))
+    with subprocess.Popen(['cat', 'examples/two_messages.session'], stdout=subprocess.PIPE, cwd=TOP) as pipe:
+        piped = subprocess.run([os.path.join(top, 'milter_tool'), 'session', '/dev/stdin'], stdin=pipe.stdout,
+                               stdout=subprocess.PIPE, stderr=subprocess.PIPE, check=False)
+    expected = ended([tool(BUILDS[0]), 'session', 'examples/two_messages.session'])
+    yield compared('a pipe', (piped.returncode, piped.stdout, piped.stderr), expected)
 
 
 def main():
     need('tool')
-    with tempfile.TemporaryDirectory() as top:
-        shutil.copy(os.path.join(TOP, 'milter_tool'), top)
-        shutil.copy(os.path.join(TOP, 'crates.txt'), top)
-        shutil.copytree(os.path.join(TOP, 'crates'), os.path.join(top, 'crates'), ignore=shutil.ignore_patterns('out'))
-        return runner.run_all(list(plays(top)))
+    with tempfile.TemporaryDirectory() as folder:
+        top, parts = os.path.join(folder, 'deiruska'), os.path.join(programs.BUILD, 'parts')
+        shutil.copytree(TOP, top, ignore=IGNORED, symlinks=True)
+        if os.path.isdir(parts):
+            shutil.copytree(parts, os.path.join(top, 'build', 'parts'))
+        return report([step(top) for step in (traced, made, refuses, as_the_program)])
 
 
 if __name__ == '__main__':

@@ -8,8 +8,7 @@ have the same file. Two tar files are the same, and `make uninstall` removes wha
 And the units of systemd/ say what they are, and are those that docs/DEPLOY.md shows; those that make a Unix socket give
 it a group and a mode, and the one of `serve` is exposed as little as systemd-analyze says, where that is installed.
 
-The library is built where tools/static_library.py didn't do that already, which takes minutes;
-`tests/test_packages.py ARCHIVE` takes an archive of it that is there. The packages for Debian are made where debhelper
+`tests/test_packages.py ARCHIVE` takes another archive of the library than that in build/. The packages for Debian are made where debhelper
 is installed; tests/packages.sh installs them. The last line is 'N passed, M failed'; the status is 1 where one failed.
 """
 import functools
@@ -25,7 +24,7 @@ import tempfile
 from lib import c_library, completions, packed, runner
 from lib.programs import BUILDS, TOP, ended, need, tool, written
 
-USE = '#include <deiruska.h>\nint main(void) { return deiruska_version() != DEIRUSKA_VERSION; }\n'
+USE = '#include <deiruska.h>\nint main(void) { return (deiruska_version() & ~DEIRUSKA_UNPROVED) != DEIRUSKA_VERSION; }\n'
 # The sections of manual pages, and the pages of the program and of the library.
 PAGES = ['man1/milter_tool.1', 'man5/milter_rules.5', 'man5/milter_session.5'], ['man3/deiruska.3']
 # The most that systemd-analyze says of the exposure of this unit, in tenths.
@@ -176,6 +175,19 @@ def archived():
         yield None if [bytes_of(it) for it in packed.packages_of(folder, 'dist')] == [first] else 'two tar files differ'
 
 
+def refused():
+    """Whether neither `make dist` nor `make deb` packs a program that was built without its proof, but where it is
+    asked to."""
+    with tempfile.TemporaryDirectory() as folder:
+        packed.copied(folder, None)
+        program = os.path.join(folder, 'build', 'milter_tool')
+        os.chmod(written(program, '#!/bin/sh\necho "milter_tool 0.1.0 (built without its proof)"\n'), 0o755)
+        for kind in ['dist', 'deb']:
+            end = ended(['bash', os.path.join(folder, 'tools', 'package.sh'), kind], env={**os.environ, 'UNPROVED': ''})
+            is_said = end[2] == b'make %s takes the proved program: run `make prove`, or set UNPROVED=1\n' % kind.encode()
+            yield None if end[:2] == (1, b'') and is_said else 'packed without a proof: %s' % (end,)
+
+
 def bytes_of(path):
     """The bytes of a file."""
     with open(path, 'rb') as file:
@@ -209,9 +221,9 @@ def packages(archive):
         yield from library(usr, '/usr', LIB, 'libdeiruska-dev', python, folder)
         same = read(root, 'etc/deiruska/mail.rules') == read(TOP, 'debian', 'mail.rules')
         yield None if same else 'the rules of the package differ'
-        shutil.rmtree(os.path.join(folder, 'crates'))
+        shutil.rmtree(os.path.join(folder, 'build'))
         end = ended(['make', '-C', folder, '-f', 'debian/rules', 'override_dh_auto_install'])
-        is_said = b"milter_tool is not there: run 'make all lib'" in end[2]
+        is_said = b"milter_tool is not there: run 'make prove'" in end[2]
         yield None if end[0] != 0 and is_said else 'packed without the program: %s' % (end,)
 
 
@@ -251,10 +263,10 @@ if __name__ == '__main__':
     lacking = c_library.missing()
     if lacking:
         print('not installed, and the library is not looked at: %s' % ', '.join(lacking))
-    its_archive = None if lacking else c_library.proved(*sys.argv[1:])
+    its_archive = None if lacking else c_library.built(*sys.argv[1:])
     if completions.missing():
         print('not installed, and not asked what they complete: %s' % ', '.join(completions.missing()))
-    plays = [functools.partial(placed, its_archive), archived, rules, units, hardened]
+    plays = [functools.partial(placed, its_archive), archived, refused, rules, units, hardened]
     lacking += packed.missing()
     if lacking:
         print('not installed, and the packages for Debian are not made: %s' % ', '.join(lacking))

@@ -1,18 +1,18 @@
 #!/usr/bin/env bash
-# Makes libdeiruska of the proved archive that the kit's compiler leaves, or puts it in place.
+# Makes libdeiruska of the archive that the toolchain's compiler leaves, or puts it in place.
 #
 #     [LIBDIR=lib] tools/library.sh make ARCHIVE FOLDER [PREFIX]
 #                                           FOLDER/lib and FOLDER/include, for use below PREFIX
 #     [LIBDIR=lib] tools/library.sh install DESTDIR PREFIX
 #                                           the same below DESTDIR/PREFIX, with its document, manual page and examples
 #
-# FOLDER is PREFIX where none is named. It takes the toolchain, a C compiler and binutils; what `make lib` has made is
+# FOLDER is PREFIX where none is named. It takes the toolchain, a C compiler and binutils; what `make` has made is
 # put in place without them. Of the library's symbols the functions of include/deiruska.h alone are visible: in the
 # shared object, and to who links the static library.
 set -eu
 cd "$(dirname "${BASH_SOURCE[0]}")/.."
-proved=crates/milter_c/out/libmilter_c.a
-made=crates/milter_c/out/deiruska
+built=build/libmilter_c.a
+made=build/deiruska
 libdir=${LIBDIR:-lib}
 number=$(sed -n 's/^#define DEIRUSKA_VERSION //p' include/deiruska.h)
 version=$((number >> 16)).$((number >> 8 & 255)).$((number & 255))
@@ -86,7 +86,7 @@ make)
     make_library "$2" "$3" "${4-$3}"
     ;;
 install)
-    if [ "$proved" -nt "$made/lib/libdeiruska.a" ]; then LIBDIR='' bash tools/library.sh make "$proved" "$made" "$3"; fi
+    if [ "$built" -nt "$made/lib/libdeiruska.a" ]; then LIBDIR='' bash tools/library.sh make "$built" "$made" "$3"; fi
     put_library "$made/lib" "$2$3" "$3"
     install -d "$2$3/share/man/man3"
     python3 tools/header_page.py | gzip -n9 >"$2$3/share/man/man3/deiruska.3.gz"

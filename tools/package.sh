@@ -1,5 +1,5 @@
 #!/usr/bin/env bash
-# Puts the proved program in place, or packs it: the program, its manual pages, what bash, zsh and fish complete of it,
+# Puts the program in place, or packs it: the program, its manual pages, what bash, zsh and fish complete of it,
 # the units for systemd, the documents and the examples.
 #
 #     tools/package.sh install DESTDIR PREFIX   in place, as DESTDIR/PREFIX/bin/milter_tool and so on, and where the
@@ -10,12 +10,12 @@
 #     tools/package.sh deb                      dist/deiruska_VERSION_amd64.deb, and the packages of the library for C
 #
 # The program is one file that needs the C library alone, and so does the shared library for C: the packages are for
-# machines without the toolchain. Those for Debian take debhelper and dh-python, and what `make all lib` built.
+# machines without the toolchain. Those for Debian take debhelper and dh-python. What is in build/ is taken; `dist` and
+# `deb` take what is proved alone, unless UNPROVED=1 is set.
 set -eu
 cd "$(dirname "${BASH_SOURCE[0]}")/.."
-program=crates/milter_tool/out/milter_tool
-archive=crates/milter_c/out/libmilter_c.a
-library=crates/milter_c/out/deiruska
+program=build/milter_tool
+library=build/deiruska
 # What the packages are made of, beside what is built.
 packed=(README.md CHANGELOG.md SECURITY.md bindings debian docs examples include systemd tools)
 
@@ -97,7 +97,21 @@ pack_deb() {
 # Puts the program and the library below the folder $1/$2, for use below the folder $2.
 stage() {
     put "$1$2" "$2/bin"
-    if [ -f "$archive" ] || [ -d "$library" ]; then bash tools/library.sh install "$1" "$2"; fi
+    if [ -d "$library" ]; then bash tools/library.sh install "$1" "$2"; fi
+}
+
+# Says which program is taken, and ends where it is to be a proved one and isn't.
+say_which() {
+    case $("$program" --version) in
+    *'without its proof'*)
+        if [ "$1" != install ] && [ "${UNPROVED-}" != 1 ]; then
+            echo "make $1 takes the proved program: run \`make prove\`, or set UNPROVED=1" >&2
+            exit 1
+        fi
+        echo "make $1 takes the program and the library that were built without their proof" >&2
+        ;;
+    *) echo "make $1 takes the proved program and library" >&2 ;;
+    esac
 }
 
 umask 022
@@ -108,6 +122,7 @@ stage)
     stage "$2" "$3"
     ;;
 install)
+    say_which install
     stage "$work" "$3"
     python3 tools/installed.py put "$work" "$2" "$3"
     ;;
@@ -115,10 +130,12 @@ uninstall)
     python3 tools/installed.py remove "$2" "$3"
     ;;
 dist)
+    say_which dist
     mkdir -p dist
     pack_tar "$work"
     ;;
 deb)
+    say_which deb
     mkdir -p dist
     pack_deb "$work"
     ;;

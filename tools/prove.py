@@ -6,9 +6,9 @@
 
 It proves the crates that are named and those below them, and all of crates.txt where none is named: each by `rt lib`,
 or by `rt check` where it is a program or a static library; with --test the tests of each crate too, and with --build it
-builds the programs and the static libraries. A crate that did not change since it was proved, nor any below it, is
-passed over, so a run that was interrupted is taken up again where it was. Each crate keeps its work in its out/. This
-is for work at hand: `rt ci` alone proves all of it from nothing.
+builds the programs and the static libraries that are named, in build/. A crate that did not change since it was proved,
+nor any below it, is passed over, so a run that was interrupted is taken up again where it was. Each crate keeps its
+work in its out/. This is for work at hand: `rt ci` alone proves all of it from nothing.
 
 Two `rt` wait for one another where they share a library, so each crate is proved in a folder of its own, in which the
 libraries below it are links, and its out/ is moved there and back. As many crates are proved at a time as there are
@@ -27,6 +27,8 @@ import subprocess
 import sys
 import tempfile
 import time
+
+import build
 
 TOP = os.path.dirname(os.path.dirname(os.path.realpath(__file__)))
 SOURCES = ("src", "specs", "proofs")
@@ -164,7 +166,7 @@ def prove(crate, mark, command):
     """Runs rt in a folder of its own, and marks the crate where it passes; what it printed where it does not."""
     key, begun = crate.key(), time.monotonic()
     with folder_of_its_own(crate) as work:
-        status, said = run(["rt", *command], work)
+        status, said = run([sys.executable, os.path.join(TOP, "tools", "rt.py"), *command], work)
     crate.time += time.monotonic() - begun
     if status != 0:
         return said
@@ -234,16 +236,14 @@ def work_until_interrupted(crates, wanted):
             return "interrupted; another run goes on from here"
 
 
-def note_build(program, crates, begun):
-    """Leaves in the program's out/ from which crates it was built, at the time at which the run began."""
-    noted = os.path.join(program.folder, "out", f"{program.name}.built")
-    with open(noted, "w", encoding="utf-8") as made:
-        made.writelines(f"{it}\n" for it in crates)
-    os.utime(noted, (begun, begun))
+def place(target, crate):
+    """Puts the proved program or static library in the place of what was built without a proof."""
+    os.makedirs(os.path.dirname(target.path), exist_ok=True)
+    made = os.path.join(crate.folder, "out", f"lib{crate.name}.a" if crate.is_static else crate.name)
+    target.place(shutil.copy2(made, f"{target.path}.new"), "proved")
 
 
 def main():
-    begun = time.time()
     wanted = {it for it in sys.argv[1:] if it.startswith("--")}
     names = [it for it in sys.argv[1:] if it not in wanted]
     if sys.argv[1:] == ["--workers"]:
@@ -254,13 +254,14 @@ def main():
         sys.exit(__doc__)
     named = [known[it] for it in names or known]
     crates = all_below(named)
+    builds = [it for it in named if "--build" in wanted and (it.is_program or it.is_static)]
+    targets = [build.Target(it.name, build.crates_listed(TOP), TOP) for it in builds]
     signal.signal(signal.SIGTERM, signal.default_int_handler)
     failed = work_until_interrupted(crates.values(), wanted)
     if failed:
         sys.exit(failed)
-    for crate in named:
-        if "--build" in wanted and crate.is_program:
-            note_build(crate, all_below([crate]), begun)
+    for target, crate in zip(targets, builds):
+        place(target, crate)
 
 
 if __name__ == "__main__":

@@ -4,13 +4,12 @@ import re
 import shutil
 import subprocess
 import sys
-import tempfile
 
 from lib import programs
 
 HEADER = os.path.join(programs.TOP, 'include', 'deiruska.h')
 BINDING = os.path.join(programs.TOP, 'bindings', 'python')
-ARCHIVE = os.path.join(programs.TOP, 'crates', 'milter_c', 'out', 'libmilter_c.a')
+ARCHIVE = os.path.join(programs.BUILD, 'libmilter_c.a')
 WARNINGS = ['-Wall', '-Wextra', '-Wpedantic', '-Wconversion', '-Wshadow', '-Werror']
 # The words of the header for those of the crates' edits.
 SPELLED = {'Rcpt': 'recipient', 'Par': 'parameters', 'Del': 'delete', 'From': 'sender'}
@@ -30,17 +29,11 @@ def run(command, **options):
     return subprocess.run(command, stdout=subprocess.PIPE, check=True, text=True, cwd=programs.TOP, **options).stdout
 
 
-def proved(given=None):
-    """The archive of the crate milter_c: the given one, or one that is proved and built over what `rt ci` left, by the
-    first test that needs it."""
+def built(given=None):
+    """The archive of the crate milter_c: the given one, or the one in build/."""
     if given is not None:
         return os.path.abspath(given)
-    with tempfile.TemporaryFile('w+') as said:
-        tool = os.path.join(programs.TOP, 'tools', 'static_library.py')
-        done = subprocess.run([sys.executable, tool, 'milter_c'], stdout=said, stderr=said, check=False)
-        said.seek(0)
-        if done.returncode != 0:
-            sys.exit('%s\nmilter_c is not built' % said.read()[-3000:])
+    programs.need_files([ARCHIVE])
     return ARCHIVE
 
 

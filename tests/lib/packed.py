@@ -9,8 +9,8 @@ from lib.programs import BUILDS, TOP, tool
 # What packages are made of, beside what is built.
 PACKED = [
     'README.md', 'CHANGELOG.md', 'SECURITY.md', 'bindings', 'debian', 'docs', 'examples', 'include', 'systemd', 'tools']
-# The library for C, as `make lib` leaves it.
-LIBRARY = os.path.join('crates', 'milter_c', 'out', 'deiruska')
+# The library for C, as `make` leaves it.
+LIBRARY = os.path.join('build', 'deiruska')
 
 
 def copied(folder, archive):
@@ -21,8 +21,8 @@ def copied(folder, archive):
         given, made = os.path.join(TOP, name), os.path.join(folder, name)
         (shutil.copytree if os.path.isdir(given) else shutil.copy)(given, made)
     program = tool(BUILDS[0])
-    os.makedirs(os.path.dirname(os.path.join(folder, os.path.relpath(program, TOP))))
-    shutil.copy(program, os.path.join(folder, os.path.relpath(program, TOP)))
+    os.makedirs(os.path.join(folder, 'build'))
+    shutil.copy(program, os.path.join(folder, 'build'))
     if archive is not None:
         c_library.made(archive, os.path.join(folder, LIBRARY))
     return folder
@@ -30,7 +30,7 @@ def copied(folder, archive):
 
 def packages_of(folder, kind, **settings):
     """Makes the packages of this kind in a copy, with settings of the environment, and answers their paths."""
-    command, environment = ['bash', os.path.join(folder, 'tools', 'package.sh'), kind], {**os.environ, **settings}
+    command, environment = ['bash', os.path.join(folder, 'tools', 'package.sh'), kind], {**os.environ, 'UNPROVED': '1', **settings}
     made = subprocess.run(command, stdout=subprocess.PIPE, check=True, text=True, env=environment)
     return [os.path.join(folder, line) for line in made.stdout.splitlines()]
 

@@ -1,6 +1,6 @@
-"""The programs that the tests run, as `rt ci` leaves them in crates/NAME/out: each as both compilers built it. Here are
-their names, the functions that write a file for one of them and run it, and those that compare how a run ended with
-what is expected.
+"""The programs that the tests run, as they lie in build/: without a proof as `make test` builds them, or proved, as both
+compilers built them for `rt ci`. Here are their names, the functions that write a file for one of them and run it, and
+those that compare how a run ended with what is expected.
 """
 import os
 import subprocess
@@ -8,8 +8,9 @@ import sys
 import tempfile
 
 TOP = os.path.dirname(os.path.dirname(os.path.dirname(os.path.abspath(__file__))))
+BUILD = os.path.join(TOP, 'build')
 # What the file name of a program ends in, by the compiler that built it.
-BUILDS = ['', '.by-rattle']
+BUILDS = [''] + ['.by-rattle'] * os.path.isfile(os.path.join(BUILD, 'milter_tool.by-rattle'))
 # What the tests call each program: its crate, and its first words.
 PROGRAMS = {
     'tool': ('milter_tool', []),
@@ -29,7 +30,7 @@ PROGRAMS = {
 
 def path_of(crate, ending):
     """The path of a program of a crate, whose file name ends so."""
-    return os.path.join(TOP, 'crates', crate, 'out', crate + ending)
+    return os.path.join(BUILD, crate + ending)
 
 
 # The tests of packets, which are a program of their own.
@@ -56,7 +57,7 @@ def need_files(paths):
     """Ends the test where one of these files is not there."""
     for path in paths:
         if not os.path.isfile(path):
-            sys.exit('%s is missing: run `rt ci`, which builds it' % os.path.relpath(path, TOP))
+            sys.exit('%s is missing: run `make test`, which builds it' % os.path.relpath(path, TOP))
 
 
 def written(path, text):

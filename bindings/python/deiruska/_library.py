@@ -11,6 +11,8 @@ from typing import Any, Dict, Iterable, List, Tuple, Union
 # The version that the functions below are those of, without the patch.
 VERSION = 0x0001
 SONAME = "libdeiruska.so.0"
+# Set in the number of the version of a library that was built without its proof.
+UNPROVED = 0x8000_0000
 
 Text = Union[bytes, bytearray, memoryview, str]
 
@@ -158,7 +160,7 @@ def library() -> Any:
     path = os.environ.get("DEIRUSKA_LIBRARY", SONAME)
     loaded = ctypes.CDLL(path)
     loaded.deiruska_version.restype, loaded.deiruska_version.argtypes = ctypes.c_uint32, []
-    found = loaded.deiruska_version()
+    found = loaded.deiruska_version() & ~UNPROVED
     if found >> 8 != VERSION:
         raise OSError("%s has version %d.%d, and not %d.%d" % (path, *_parts(found), *_parts(VERSION << 8)))
     loaded.deiruska_free.restype, loaded.deiruska_free.argtypes = None, [HANDLE]
@@ -179,9 +181,10 @@ def _parts(number: int) -> Tuple[int, int]:
 
 
 def version() -> str:
-    """The version of the library that is loaded."""
+    """The version of the library that is loaded, and whether it was built without its proof."""
     found = library().deiruska_version()
-    return "%d.%d.%d" % (*_parts(found), found & 0xff)
+    number = "%d.%d.%d" % (*_parts(found & ~UNPROVED), found & 0xff)
+    return number + " (built without its proof)" if found & UNPROVED else number
 
 
 def bytes_of(text: Text) -> bytes:
