@@ -14,8 +14,6 @@ BUILDS = ['', '.by-rattle']
 PROGRAMS = {
     'tool': ('milter_tool', []),
     'loop guard': ('example_loop_guard', []),
-    'smtp server': ('example_smtp_server', []),
-    'greylist': ('example_greylist', []),
     'host': ('milter_tests_host', []),
     'edits': ('milter_tests_driver', ['edits', 'text']),
     'edit lists': ('milter_tests_edits', ['lists']),
