@@ -115,9 +115,9 @@ class Store:
             yield self.database
             self.database.execute("COMMIT")
         except sqlite3.Error:
-            if self.database is not None:
-                self.database.close()
-                self.database = None
+            failed, self.database = self.database, None
+            if failed is not None:
+                failed.close()
             raise
 
     def waits_of(self, triples: List[Triple], now: int) -> List[int]:
