@@ -28,17 +28,23 @@ from lib.smtp_rows import ADDED, ADDS, BEGUN, DIALOGUES, EHLO, HELD, MAIL, ROWS
 
 
 def dialogues(program, _tool, folder):
-    """The dialogues, without a filter and with one that lets all go on, which is shown the mails."""
+    """The dialogues, without a filter, all with one server, and with a filter that lets all go on, which is shown the
+    mails."""
 
-    def run(given, expected, texts, words):
-        with Server(program, folder, words) as server:
-            says(server, b'EHLO client.example.org\r\n' + given, '220 %s %s' % (EHLO, expected))
-            server.expect_files(filed(text, RECIPIENTS[:1]) for text in texts)
+    def run(server, given, expected, texts):
+        server.remove_files()
+        says(server, b'EHLO client.example.org\r\n' + given, '220 %s %s' % (EHLO, expected))
+        server.expect_files(filed(text, RECIPIENTS[:1]) for text in texts)
 
-    for name, given, expected, texts in DIALOGUES:
-        yield checked(name, run, given, expected, texts, [])
-        packets = Packets(folder, goes_on)
-        yield checked(name + ', with a filter', run, given, expected, texts, packets.words)
+    def run_with_filter(*dialogue):
+        with Server(program, folder, Packets(folder, goes_on).words) as server:
+            run(server, *dialogue)
+
+    with Server(program, folder) as one_server:
+        for name, *dialogue in DIALOGUES:
+            yield checked(name, run, one_server, *dialogue)
+    for name, *dialogue in DIALOGUES:
+        yield checked(name + ', with a filter', run_with_filter, *dialogue)
 
 
 def greetings(program, _tool, folder):

@@ -16,7 +16,7 @@ from lib.packets import packet_of
 
 CONTINUE = packet_of(b'c')
 # Python takes some times so many seconds to start.
-PYTHON_STARTS = 0.02
+PYTHON_STARTS = 0.05
 # So many seconds are between two replies of a filter that reports progress.
 PAUSE = 0.6
 SENDER, RECIPIENTS = 'ada@example.org', ['brook@example.net', 'carol@example.net', 'dora@example.net']
@@ -61,6 +61,12 @@ class Server:
     def files(self, folder='new'):
         """The texts of the files of a folder of the Maildir."""
         return files_in(self.maildir, folder)
+
+    def remove_files(self):
+        """Removes the files of the Maildir."""
+        for folder in ['new', '.Quarantine/new', 'tmp']:
+            for name in os.listdir(os.path.join(self.maildir, folder)):
+                os.remove(os.path.join(self.maildir, folder, name))
 
     def expect_files(self, new, quarantine=()):
         """Compares the files of the Maildir."""
