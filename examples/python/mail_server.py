@@ -86,7 +86,8 @@ class Session:
 
     async def on_connect(self) -> bytes:
         """The client has connected."""
-        host, port = self.writer.get_extra_info("peername", ("", 0))[:2]
+        # There is no name of a client that has gone by now.
+        host, port = (self.writer.get_extra_info("peername") or ("", 0))[:2]
         address = Address(host.encode(), Family.INET6 if ":" in host else Family.INET, port)
         macros = {"j": self.host, "{daemon_name}": b"mail_server.py"}
         await self.ask_of_client(lambda it: it.connect("[%s]" % host, address, macros))
