@@ -4,7 +4,7 @@
 # Postfix of its own on the loopback, which takes mail and delivers it edited or refuses it. With `serve` a Postfix
 # has a chrooted smtpd, and a Postfix and a Sendmail have many clients at once, one of which is idle after its
 # greeting, and random sequences of SMTP commands with greetings within a transaction, of which each reply has to be
-# what the rules say. A Postfix has the filter example_greylist. What a Postfix sent to a filter, of a message with
+# what the rules say. A Postfix has the greylist of examples/. What a Postfix sent to a filter, of a message with
 # two recipients, is sent again by `replay`. A Postfix is played the sessions of the recipes of docs/COOKBOOK.md, and
 # what that says of Postfix, with its lines for main.cf, master.cf and tables; those of the kind `lmdb:` where the
 # package postfix-lmdb is there. The rule files of README.md and docs/DEPLOY.md have to refuse an address however it

@@ -561,11 +561,7 @@ def groups(library, archive, folder):
 
 if __name__ == '__main__':
     programs.need('tool')
-    lacking = c_library.missing()
-    if lacking:
-        print('not installed, and the library is not made: %s' % ', '.join(lacking))
-        print('0 passed, 0 failed')
-        sys.exit(0)
+    c_library.need()
     with tempfile.TemporaryDirectory() as work:
         its_archive = c_library.built(*sys.argv[1:])
         sys.exit(checks.run_all(groups(c_library.made(its_archive, work), its_archive, work)))

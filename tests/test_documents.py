@@ -26,8 +26,10 @@ from lib.programs import TOP
 EXAMPLES = {
     'README.md': ['example_loop_guard'],
     'docs/LIBRARY.md': ['example_mail'],
-    'docs/FILTERS.md': ['example_loop_guard', 'example_greylist', 'milter_filter_service'],
-    'docs/MAIL_SERVERS.md': ['example_smtp_server', 'milter_tests_pair']}
+    'docs/FILTERS.md': ['example_loop_guard', 'milter_tests_host', 'milter_filter_service'],
+    'docs/MAIL_SERVERS.md': ['milter_tests_pair']}
+# The documents with code in Python, and the file whose it is.
+IN_PYTHON = {'docs/MAIL_SERVERS.md': 'examples/python/asked_filters.py'}
 # The files that tests/test_c_library.py plays, of which the blocks of README.md in other languages are parts.
 PLAYED = {'c': 'docs/C.md', 'python': 'bindings/python/deiruska/__init__.py'}
 # Words of rules in rows of docs/RULE_CHECK.md, in whose place others may stand.
@@ -80,7 +82,10 @@ def blocks():
 
 
 def pasted():
-    """Whether each block of README.md in another language is in the file of which it is a part."""
+    """Whether each block in another language is in the file of which it is a part."""
+    for document, path in IN_PYTHON.items():
+        for block in re.findall(r'```python\n(.*?)```', text_of(document), re.DOTALL):
+            yield '%s: %s' % (document, block.strip().splitlines()[0]), block in text_of(path)
     for language, path in PLAYED.items():
         text = text_of(path)
         for block in re.findall(r'```%s\n(.*?)```' % language, text_of('README.md'), re.DOTALL):

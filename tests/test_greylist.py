@@ -1,8 +1,9 @@
 #!/usr/bin/env python3
-"""Speaks milter to `example_greylist`, as both compilers built it, over TCP and over Unix sockets: a first try is
-deferred, a later one passes, also after a restart; networks, senders and recipients count as they are to; what the allow
-list has passes; connections at once; and a database that is locked, damaged, in no folder, or on a full file system, in
-which no mail passes that wasn't known. What is run is what `rt ci` built; nothing is proved here.
+"""Speaks milter to examples/python/greylist.py over TCP and over Unix sockets: a first try is deferred, a later one
+passes, also after a restart; networks, senders and recipients count as they are to; what the allow list has passes;
+connections at once; and a database that is locked, damaged, in no folder, or on a full file system, in which no mail
+passes that wasn't known. The library for C is proved and built where it isn't there, or it is made of the archive that
+is the argument.
 
 Counted are the runs.
 """
@@ -17,12 +18,13 @@ import sys
 import tempfile
 import time
 
-from lib import checks, packets, programs, serving
+from lib import c_library, c_plays, checks, packets, programs, serving
 from lib.checks import checked, expect
 from lib.conversations import CONTINUE, OFFER, QUIT, options, packet
 
-# What it negotiates: connect, sender and recipient are sent, and only the recipient and the end are answered.
-OPTIONS = options(0, 0x02 | 0x200 | 0x20 | 0x40 | 0x10 | 0x100 | 0x1000 | 0x4000)
+# What it negotiates: connect, sender and recipient are sent, and only the recipient and the end are answered. A stage
+# that isn't sent may have the bit by which it isn't answered too, as HELO has.
+OPTIONS = options(0, 0x02 | 0x2000 | 0x200 | 0x20 | 0x40 | 0x10 | 0x100 | 0x1000 | 0x4000)
 TEMPFAIL = packet(b't')
 DELAY = 2
 
@@ -38,7 +40,7 @@ class Greylist:
     def __init__(self, program, kind, folder, database, *words, delay=DELAY, limit=None):
         self.at, address = serving.place_of(kind, folder)
         self.process = subprocess.Popen(
-            [program, '--listen', address, '--database', database, '--delay', str(delay), *words],
+            [*program, '--listen', address, '--database', database, '--delay', str(delay), *words],
             bufsize=0, stdin=subprocess.DEVNULL, stdout=subprocess.PIPE, stderr=subprocess.PIPE, preexec_fn=limit)
 
     def __enter__(self):
@@ -203,17 +205,16 @@ def words_refused(program, kind, folder, database):
     """Wrong words."""
     for words in [[], ['--listen', 'nowhere', '--database', database], ['--listen', 'unix:/x'],
                   ['--listen', 'unix:/x', '--database', database, '--delay', '0']]:
-        status, out, err = programs.ended([program, *words], timeout=serving.SECONDS)
+        status, out, err = programs.ended([*program, *words], timeout=serving.SECONDS)
         expect('status', (status, out, bool(err)), (2, b'', True))
 
 
-def groups(folder):
+def groups(library, folder):
     """The groups of checks, each with the program and the kind of sockets that it is run with."""
-    for build in programs.BUILDS:
-        program = programs.command_of('greylist', build)[0]
-        for kind in serving.KINDS:
-            name = '%s at %s' % (os.path.basename(program), kind)
-            yield name, runs, (program, kind, tempfile.mkdtemp(dir=folder))
+    os.environ.update(c_plays.of_binding(library))
+    program = [sys.executable, os.path.join(c_plays.PYTHON, 'greylist.py')]
+    for kind in serving.KINDS:
+        yield kind, runs, (program, kind, tempfile.mkdtemp(dir=folder))
 
 
 def runs(program, kind, folder):
@@ -224,6 +225,7 @@ def runs(program, kind, folder):
 
 
 if __name__ == '__main__':
-    programs.need('greylist')
+    c_library.need()
     with tempfile.TemporaryDirectory() as work:
-        sys.exit(checks.run_all(groups(work)))
+        made = c_library.made(c_library.proved(*sys.argv[1:]), work)
+        sys.exit(checks.run_all(groups(made, work)))

@@ -1,10 +1,10 @@
 #!/usr/bin/env python3
-"""Sends mail to example_smtp_server, as both compilers built it, by smtplib and by lines that are written at once: with
-no filter; to `milter_tool serve` with rules that refuse, edit, hold and throw away; to two of these, of which the
-second is shown the edits of the first; to filters that are lost, that are silent, that report progress, and that aren't
-there; with commands in a wrong order, too long or too many; with a Maildir that can't be written; and with each
-allocation refused in turn. What is compared is each reply, and each file of the Maildir, byte for byte. What is run is
-what `rt ci` built; nothing is proved here.
+"""Sends mail to examples/python/mail_server.py, by smtplib and by lines that are written at once: with no filter; to
+`milter_tool serve` with rules that refuse, edit, hold and throw away; to two of these, of which the second is shown the
+edits of the first; to filters that are lost, that are silent, that report progress, and that aren't there; with
+commands in a wrong order, too long or too many; with a Maildir that can't be written; and where each call of the
+library in turn answers that memory is refused. What is compared is each reply, and each file of the Maildir, byte for
+byte. The library for C is proved and built where it isn't there, or it is made of the archive that is the argument.
 
 Where the machine has them, mail is also sent by swaks, signed by OpenDKIM, and shown to a filter on libmilter.
 
@@ -17,9 +17,8 @@ import signal
 import socket
 import sys
 import tempfile
-import threading
 
-from lib import checks, preloaded, programs, serving, smtp_peers
+from lib import c_library, c_plays, checks, in_process, programs, serving, smtp_peers
 from lib.checks import checked, expect
 from lib.packets import packet_of
 from lib.smtp import (
@@ -27,18 +26,25 @@ from lib.smtp import (
     data, expect_taken, filed, files_in, filtering, goes_on, made_maildir, options, says, send, sent)
 from lib.smtp_rows import ADDED, ADDS, BEGUN, DIALOGUES, EHLO, HELD, MAIL, ROWS
 
+
 def dialogues(program, _tool, folder):
-    """The dialogues, without a filter and with one that lets all go on, which is shown the mails."""
+    """The dialogues, without a filter, all with one server, and with a filter that lets all go on, which is shown the
+    mails."""
 
-    def run(given, expected, texts, words):
-        with Server(program, folder, words) as server:
-            says(server, b'EHLO client.example.org\r\n' + given, '220 %s %s' % (EHLO, expected))
-            server.expect_files(filed(text, RECIPIENTS[:1]) for text in texts)
+    def run(server, given, expected, texts):
+        server.remove_files()
+        says(server, b'EHLO client.example.org\r\n' + given, '220 %s %s' % (EHLO, expected))
+        server.expect_files(filed(text, RECIPIENTS[:1]) for text in texts)
 
-    for name, given, expected, texts in DIALOGUES:
-        yield checked(name, run, given, expected, texts, [])
-        packets = Packets(folder, goes_on)
-        yield checked(name + ', with a filter', run, given, expected, texts, packets.words)
+    def run_with_filter(*dialogue):
+        with Server(program, folder, Packets(folder, goes_on).words) as server:
+            run(server, *dialogue)
+
+    with Server(program, folder) as one_server:
+        for name, *dialogue in DIALOGUES:
+            yield checked(name, run, one_server, *dialogue)
+    for name, *dialogue in DIALOGUES:
+        yield checked(name + ', with a filter', run_with_filter, *dialogue)
 
 
 def greetings(program, _tool, folder):
@@ -295,25 +301,24 @@ def maildirs(program, tool, folder):
 def full(program, folder):
     """A file that can't be written to its end: the limit of a file's size is lower."""
     limited = os.path.join(tempfile.mkdtemp(dir=folder), 'limited')
-    programs.written(limited, '#!/bin/bash\ntrap "" XFSZ\nulimit -f 1\nexec "%s" "$@"\n' % program)
-    os.chmod(limited, 0o755)
-    with Server(limited, folder) as server:
+    programs.written(limited, '#!/bin/bash\ntrap "" XFSZ\nulimit -f 1\nexec "$@"\n')
+    with Server(['bash', limited, *program], folder) as server:
         expect('the end', sent(server, TEXT + b'x' * 500 + b'\r\n')[1][0], 250)
         expect('the end', sent(server, TEXT + (b'x' * 990 + b'\r\n') * 10)[1], NOT_STORED)
         expect('files', (len(server.files()), server.files('tmp')), (1, []))
 
 
-def refused(program, tool, folder):
-    """Runs with an allocation refused, the first one, then the second one, until a run makes fewer allocations: a mail
-    is stored whole, with the edits, where the reply says that it is queued, and else not at all."""
-    refuser = preloaded.compiled('refuse.c', folder)
-
+def refused(_program, tool, folder):
+    """Sessions in which a call of the library answers that memory is refused, the first one, then the second one, until
+    a session makes fewer calls: a mail is stored whole, with the edits, where the reply says that it is queued, and
+    else not at all."""
     def run(words, text, number):
         maildir = made_maildir(folder)
-        command, given = [program, '--maildir', maildir, *words], b'EHLO a\r\n' + MAIL + b'QUIT\r\n'
-        (status, out, _), was_refused = preloaded.refused(command, given, refuser, number)
+        out, was_refused = in_process.session(
+            [*words, '--maildir', maildir], b'EHLO client.example.org\r\n' + MAIL + b'QUIT\r\n', number)
         new = [filed(text, RECIPIENTS[:1])] if b'queued as' in out else []
-        expect('the run', (status in (0, 1, 2), files_in(maildir), files_in(maildir, 'tmp')), (True, new, []))
+        expect('the session', (files_in(maildir), files_in(maildir, 'tmp')), (new, []))
+        expect('no refusal', was_refused or b'queued as' in out, True)
         return was_refused
 
     yield from checks.with_each_refused(lambda number: run([], TEXT, number))
@@ -325,7 +330,7 @@ def usage(program, _tool, folder):
     """Command lines."""
 
     def run(words, status, said):
-        end = programs.ended([program, *words], timeout=serving.SECONDS)
+        end = programs.ended([*program, *words], timeout=serving.SECONDS)
         expect('the end', (end[0], said in end[1], said in end[2]), (status, status == 0, status == 2))
 
     yield checked('help', run, ['--help'], 0, b'--maildir')
@@ -347,7 +352,7 @@ def documented(program, tool, folder):
 
     def run():
         with filtering(tool, folder, first, second) as (_, words), Server(program, folder, words) as server:
-            with socket.create_connection(server.place, serving.SECONDS) as connection:
+            with socket.create_connection(server.at, serving.SECONDS) as connection:
                 replies = connection.makefile('r', encoding='utf-8', newline='\r\n')
                 for line in dialogue.splitlines():
                     if line.startswith('C:'):
@@ -369,16 +374,18 @@ def others(program, tool, folder):
         yield checked('libmilter', smtp_peers.by_libmilter, program, tool, folder)
 
 
-def groups(folder):
+def groups(library, folder):
     """Groups of checks: of each its name, its function, and what that is called with."""
-    for build in programs.BUILDS:
-        program = programs.command_of('smtp server', build)[0]
-        for group in [dialogues, greetings, rules, refusals, in_turn, unknown, losses, verdict_and_end, maildirs,
-                      refused, usage, documented, others]:
-            yield os.path.basename(program), group, (program, build, tempfile.mkdtemp(dir=folder))
+    os.environ.update(c_plays.of_binding(library, c_plays.PYTHON))
+    program = [sys.executable, os.path.join(c_plays.PYTHON, 'mail_server.py')]
+    for group in [dialogues, greetings, rules, refusals, in_turn, unknown, losses, verdict_and_end, maildirs, refused,
+                  usage, documented, others]:
+        yield group.__name__, group, (program, programs.BUILDS[0], tempfile.mkdtemp(dir=folder))
 
 
 if __name__ == '__main__':
-    programs.need('tool', 'smtp server')
+    programs.need('tool')
+    c_library.need()
     with tempfile.TemporaryDirectory() as work:
-        sys.exit(checks.run_all(groups(work)))
+        made = c_library.made(c_library.proved(*sys.argv[1:]), work)
+        sys.exit(checks.run_all(groups(made, work)))

@@ -1,8 +1,8 @@
-"""`example_greylist` behind a Postfix of its own, for tests/interop.sh: a first try of mail is deferred and a later one
-is delivered, also by another process of smtpd and after the filter was started again; and while its database is locked,
-damaged or can't grow, no mail passes that wasn't known.
+"""examples/python/greylist.py behind a Postfix of its own, for tests/interop.sh: a first try of mail is deferred and a
+later one is delivered, also by another process of smtpd and after the filter was started again; and while its database
+is locked, damaged or can't grow, no mail passes that wasn't known.
 
-Both ports of Postfix have the one filter.
+Both ports of Postfix have the one filter. Its library is made as in library.py.
 """
 import concurrent.futures
 import contextlib
@@ -11,13 +11,15 @@ import resource
 import signal
 import sqlite3
 import subprocess
+import sys
 import tempfile
 import time
+from unittest import mock
 
 import mail_server
 import peers
 import postfix
-from lib import programs
+from lib import c_library, c_plays
 from mail_server import FROM, MESSAGE
 
 DELAY, AT_ONCE = 3, 8
@@ -30,8 +32,8 @@ class Greylist:
     """A run of the program at this address, over this database; where it may not grow a file, under that limit."""
 
     def __init__(self, address, database, limit=None):
-        command = programs.command_of('greylist', '') + [
-            '--listen', address, '--database', database, '--delay', str(DELAY)]
+        command = [sys.executable, os.path.join(c_plays.PYTHON, 'greylist.py'), '--listen', address, '--database',
+                   database, '--delay', str(DELAY)]
         self.address = address
         self.process = subprocess.Popen(command, stdout=subprocess.DEVNULL, stderr=subprocess.DEVNULL, preexec_fn=limit)
 
@@ -114,12 +116,13 @@ def play_faults(checks, server, address, database):
 
 
 def play(checks):
-    """Starts a Postfix, and plays all of it."""
-    programs.need_files(programs.command_of('greylist', '')[:1])
-    with tempfile.TemporaryDirectory() as work:
+    """Builds the library, starts a Postfix, and plays all of it."""
+    with tempfile.TemporaryDirectory() as library, tempfile.TemporaryDirectory() as work:
+        c_library.made(c_library.proved(os.environ.get('ARCHIVE')), library)
         os.chmod(work, 0o755)
         address = 'inet:%d@127.0.0.1' % peers.free_port()
         database = os.path.join(work, 'greylist.sqlite')
-        with postfix.Postfix(work, address, address) as server:
+        in_python = mock.patch.dict(os.environ, c_plays.of_binding(library))
+        with in_python, postfix.Postfix(work, address, address) as server:
             play_tries(checks, server, address, database)
             play_faults(checks, server, address, database)

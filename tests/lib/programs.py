@@ -15,8 +15,6 @@ BUILDS = [''] + ['.by-rattle'] * os.path.isfile(os.path.join(BUILD, 'milter_tool
 PROGRAMS = {
     'tool': ('milter_tool', []),
     'loop guard': ('example_loop_guard', []),
-    'smtp server': ('example_smtp_server', []),
-    'greylist': ('example_greylist', []),
     'host': ('milter_tests_host', []),
     'edits': ('milter_tests_driver', ['edits', 'text']),
     'edit lists': ('milter_tests_edits', ['lists']),

@@ -224,13 +224,13 @@ def listens(place):
         return any(line.split()[1:4:2] == [number, '0A'] for line in sockets)
 
 
-def listening(served):
-    """Waits until a run of the program listens."""
+def listening(served, pause=0.001):
+    """Waits until a run of the program listens, which is looked at again after so many seconds."""
     until = time.monotonic() + SECONDS
     while not listens(served.at):
         if served.process.poll() is not None or time.monotonic() > until:
             raise checks.Wrong('no listener')
-        time.sleep(0.001)
+        time.sleep(pause)
 
 
 def received(connection, count):

@@ -1,6 +1,7 @@
-"""Runs example_smtp_server behind a listener, with a Maildir and filters, and sends mail to it."""
+"""Runs examples/python/mail_server.py with a Maildir and filters, and sends mail to it."""
 import contextlib
 import os
+import signal
 import smtplib
 import socket
 import struct
@@ -14,6 +15,8 @@ from lib.checks import expect
 from lib.packets import packet_of
 
 CONTINUE = packet_of(b'c')
+# Python takes some times so many seconds to start.
+PYTHON_STARTS = 0.05
 # So many seconds are between two replies of a filter that reports progress.
 PAUSE = 0.6
 SENDER, RECIPIENTS = 'ada@example.org', ['brook@example.net', 'carol@example.net', 'dora@example.net']
@@ -23,59 +26,47 @@ REFUSES_ONE = 'at rcpt when rcpt is "<carol@example.net>" do code "550 5.1.1 Mov
 # What a lost filter's default says to the client.
 REJECTED, MOVED = (550, b'5.7.1 Command rejected'), (550, b'5.1.1 Moved')
 DEFAULTS = {'accept': None, 'tempfail': (451, b'4.3.2 Please try again later'), 'reject': REJECTED}
-CLIENT = {'TCPREMOTEIP': '192.0.2.7', 'TCPREMOTEPORT': '2525', 'TCPREMOTEHOST': 'client.example.org',
-          'TCPLOCALHOST': 'mx.example.org'}
 NOT_STORED = (451, b"4.3.0 The message can't be stored")
 OK_MAIL, OK_RCPT = (250, b'2.1.0 Sender ok'), (250, b'2.1.5 Recipient ok')
 
 
 class Server:
-    """A listener on TCP that runs the program for each connection, as a super-server does, and its Maildir."""
+    """A run of the program, and its Maildir."""
 
     def __init__(self, program, folder, words=(), maildir=None):
         self.maildir = maildir or made_maildir(folder)
-        self.words = [program, '--maildir', self.maildir, *words]
-        self.errors = tempfile.TemporaryFile(dir=folder)
-        self.listener = socket.create_server(('127.0.0.1', 0))
-        self.place = self.listener.getsockname()
-        self.started = []
-        self.thread = threading.Thread(target=self.serve, daemon=True)
-        self.thread.start()
-
-    def serve(self):
-        """Takes the connections."""
-        with contextlib.suppress(OSError):
-            while True:
-                connection, _ = self.listener.accept()
-                with connection:
-                    self.started.append(subprocess.Popen(
-                        self.words, stdin=connection, stdout=connection, stderr=self.errors,
-                        env={**os.environ, **CLIENT}))
+        self.at, _ = serving.place_of('inet', folder)
+        self.said = tempfile.TemporaryFile(dir=folder)
+        place = ['--host', self.at[0], '--port', str(self.at[1]), '--name', 'mx.example.org']
+        self.process = subprocess.Popen(
+            [*program, '--maildir', self.maildir, *place, *words], stdin=subprocess.DEVNULL, stdout=self.said,
+            stderr=self.said)
 
     def __enter__(self):
+        serving.listening(self, PYTHON_STARTS)
         return self
 
     def __exit__(self, kind, *_):
-        self.listener.shutdown(socket.SHUT_RDWR)
-        self.thread.join()
-        self.listener.close()
-        for process in self.started:
-            if kind:
-                process.kill()
-            process.wait(serving.SECONDS)
-        self.errors.seek(0)
-        errors, statuses = self.errors.read(), [process.returncode for process in self.started]
-        self.errors.close()
-        if not kind:
-            expect('the end', (statuses, errors), ([0] * len(statuses), b''))
+        self.process.send_signal(signal.SIGKILL if kind else signal.SIGTERM)
+        self.process.wait(serving.SECONDS)
+        with self.said:
+            self.said.seek(0)
+            if not kind:
+                expect('the end', (self.process.returncode, self.said.read()), (0, b''))
 
     def client(self):
         """A client of smtplib that has connected."""
-        return smtplib.SMTP(*self.place, local_hostname='client.example.org', timeout=serving.SECONDS)
+        return smtplib.SMTP(*self.at, local_hostname='client.example.org', timeout=serving.SECONDS)
 
     def files(self, folder='new'):
         """The texts of the files of a folder of the Maildir."""
         return files_in(self.maildir, folder)
+
+    def remove_files(self):
+        """Removes the files of the Maildir."""
+        for folder in ['new', '.Quarantine/new', 'tmp']:
+            for name in os.listdir(os.path.join(self.maildir, folder)):
+                os.remove(os.path.join(self.maildir, folder, name))
 
     def expect_files(self, new, quarantine=()):
         """Compares the files of the Maildir."""
@@ -197,7 +188,7 @@ def expect_taken(reply):
 
 def says(server, given, expected):
     """Writes all lines at once, and compares the replies, of each line the first word, up to the connection's end."""
-    with socket.create_connection(server.place, serving.SECONDS) as connection:
+    with socket.create_connection(server.at, serving.SECONDS) as connection:
         connection.sendall(given)
         connection.shutdown(socket.SHUT_WR)
         replies = b''.join(iter(lambda: connection.recv(1 << 16), b''))

@@ -1,4 +1,4 @@
-"""Other programs that send mail to example_smtp_server, or are its filters, where the machine has them."""
+"""Other programs that send mail to examples/python/mail_server.py, or are its filters, where the machine has them."""
 import base64
 import hashlib
 import os
@@ -27,7 +27,7 @@ def by_swaks(program, _tool, folder):
     """A mail by swaks."""
     with Server(program, folder) as server:
         done = subprocess.run(
-            ['swaks', '--server', '%s:%d' % server.place, '--from', SENDER, '--to', ','.join(RECIPIENTS), '--helo', 'a',
+            ['swaks', '--server', '%s:%d' % server.at, '--from', SENDER, '--to', ','.join(RECIPIENTS), '--helo', 'a',
              '--data', '-', '--silent', '3'], input=TEXT, capture_output=True, timeout=serving.SECONDS, check=False)
         expect('swaks', (done.returncode, done.stderr), (0, b''))
         expect('files', [text.startswith(filed()) for text in server.files()], [True])
@@ -37,7 +37,7 @@ def by_opendkim(program, _tool, folder):
     """A mail that OpenDKIM signs: its field stands first, and its hash is that of the body."""
     place = tempfile.mkdtemp(dir=folder)
     subprocess.run(['openssl', 'genrsa', '-out', os.path.join(place, 'key'), '2048'], check=True, capture_output=True)
-    programs.written(os.path.join(place, 'hosts'), '192.0.2.7\n')
+    programs.written(os.path.join(place, 'hosts'), '127.0.0.0/8\n')
     programs.written(os.path.join(place, 'conf'), SIGNING.format(folder=place))
     address = os.path.join(place, 'socket')
     with subprocess.Popen(['opendkim', '-f', '-x', os.path.join(place, 'conf')]) as signer:

@@ -1,4 +1,4 @@
-"""What is said to example_smtp_server, and rules of its filters, with what becomes of the mail."""
+"""What is said to examples/python/mail_server.py, and rules of its filters, with what becomes of the mail."""
 from lib.smtp import DEFAULTS, MOVED, RECIPIENTS, REFUSES_ONE, REJECTED, TEXT, filed
 
 TOO_MANY = 101
@@ -62,7 +62,7 @@ ADDS = 'at eob do add-header "X-Added" "yes"\n'
 ADDED = TEXT.replace(b'\r\n\r\n', b'\r\nX-Added: yes\r\n\r\n')
 HELD = 'at eob do quarantine "looked at by a person"\n'
 KNOWS_ALL = '''at rcpt when macro "{rcpt_addr}" is "dora@example.net" and macro "j" is "mx.example.org" and macro \
-"{mail_addr}" is "ada@example.org" and host is "client.example.org" and address is "192.0.2.7" and helo is \
+"{mail_addr}" is "ada@example.org" and host is "[127.0.0.1]" and address is "127.0.0.1" and helo is \
 "client.example.org" do code "550 5.1.1 Moved"
 '''
 # Rules, the replies to the recipients that aren't 250 and to the text, and the files of the Maildir and of quarantine.
