@@ -1,7 +1,6 @@
 #!/usr/bin/env python3
-"""Builds the library for C over what `rt ci` built, and looks at it from outside of Rattle. The crate milter_c is
-proved once more for that, which takes minutes, unless tools/static_library.py did it already;
-`tests/test_c_library.py ARCHIVE` takes an archive that is there.
+"""Makes the library for C of its archive in build/, and looks at it from outside of Rattle. `tests/test_c_library.py
+ARCHIVE` takes another archive.
 
 The header compiles as C99, C11 and C++17 without a warning. Its functions are those that the archive, the static and
 the shared library have for others, and those of the Python binding with their types; its numbers are those of the

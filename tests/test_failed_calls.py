@@ -2,8 +2,7 @@
 """Runs the programs, as both compilers built them, with reads and writes of a few bytes and with each failing in turn:
 the rows of the tables cases/tables/*_failed_calls.table, and the printing of help and of the version; and the rows of
 trace_streams.table and trace_lines.table with a byte a read. Where a mail server is answered, the input is also cut
-after each of its bytes, and read in any two pieces. lib/fail_call.c has the calls fail. What is run is what `rt ci`
-built; nothing is proved here.
+after each of its bytes, and read in any two pieces. lib/fail_call.c has the calls fail.
 
 A run in which a read fails has printed what the lines print that had ended, or the replies to the packets that were
 whole; in which a write fails what the writes before took. Both end with status 1 and their fault alone on standard

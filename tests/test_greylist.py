@@ -227,5 +227,5 @@ def runs(program, kind, folder):
 if __name__ == '__main__':
     c_library.need()
     with tempfile.TemporaryDirectory() as work:
-        made = c_library.made(c_library.proved(*sys.argv[1:]), work)
+        made = c_library.made(c_library.built(*sys.argv[1:]), work)
         sys.exit(checks.run_all(groups(made, work)))

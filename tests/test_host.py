@@ -2,7 +2,7 @@
 """Plays a mail server and the look-up server of `milter_tests_host`, as both compilers built it, over TCP and over Unix
 sockets: answers that come later, in any order and in pieces; the default where none comes in time, and progress
 meanwhile; answers that come too late, that can't be, or come twice; mail servers that hang up, are reset or idle while
-a question is open; and a look-up server that is gone. What is run is what `rt ci` built; nothing is proved here.
+a question is open; and a look-up server that is gone.
 
 Counted are the runs.
 """

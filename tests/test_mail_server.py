@@ -4,8 +4,7 @@
 memory too, and with each of its allocations refused in turn; and to filters of this file's own that close, reset or
 keep silent after each of their replies, or that send what is no reply. Besides, reports that are printed while later
 messages wait, what is printed of a negotiation, the macros of a command line, connections that are closed after so many
-bytes, addresses where nothing listens, and a standard output that is full. What is run is what `rt ci` built; nothing
-is proved here.
+bytes, addresses where nothing listens, and a standard output that is full.
 
 Counted are the runs.
 """

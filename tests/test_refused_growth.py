@@ -3,7 +3,7 @@
 then the second one, and so on, until a run makes fewer allocations than that. The programs are run as both compilers
 built them: milter_tool on each case that has `args`, and all on the rows of the tables
 cases/tables/*_refused_memory.table, edits_values.table and filter_faults.table. The tests are those below
-`tests::packets`. What is run is what `rt ci` built; nothing is proved here. lib/refuse.c says what counts as an
+`tests::packets`. lib/refuse.c says what counts as an
 allocation.
 
 A test passes, or ends with the result `NoMemory`. A run of a program ends as it does with ample memory, or as one

@@ -2,7 +2,7 @@
 """Changes the rule file of `milter_tool serve` in the ways in which files change, as both compilers built it: with the
 same time and size, by a rename, by a link, in two parts, and while it can't be read, for want of permission, of a
 descriptor or of memory. Each connection goes by the rules that the file has when it comes, as far as they can be read
-then. So does it by the lists of the file, which are changed in the same ways. What is run is what `rt ci` built; nothing is proved here.
+then. So does it by the lists of the file, which are changed in the same ways.
 
 Counted are the runs.
 """

@@ -2,7 +2,7 @@
 """Serves many mail servers at once by `milter_tool serve`, as both compilers built it, over TCP and over Unix sockets:
 the rows of tables of `milter_tool answer`; streams of random packets, beside `answer --lenient`; connections that are
 interleaved, each of which gets its own replies; greetings and senders within a message; and far ends that go, are half
-closed or reset. What is run is what `rt ci` built; nothing is proved here.
+closed or reset.
 
 The rows of a table that end by a greeting or a sender within a message are left out: `serve` takes them.
 

@@ -1,7 +1,7 @@
 #!/usr/bin/env python3
 """Serves mail servers by `milter_tool serve`, as both compilers built it, with one allocation refused: the first one,
 then the second one, and so on, until a run makes fewer allocations than that. Three connections come one after another,
-by rules and with a log. What is run is what `rt ci` built; lib/refuse.c says what counts as an allocation.
+by rules and with a log. lib/refuse.c says what counts as an allocation.
 
 A run ends before it listens or later, with `out of memory` alone on standard error but for lines of the log, and status
 1; or it goes on, and gives up at most one connection, with the line `failed 7`, or has one line `out of memory` on

@@ -387,5 +387,5 @@ if __name__ == '__main__':
     programs.need('tool')
     c_library.need()
     with tempfile.TemporaryDirectory() as work:
-        made = c_library.made(c_library.proved(*sys.argv[1:]), work)
+        made = c_library.made(c_library.built(*sys.argv[1:]), work)
         sys.exit(checks.run_all(groups(made, work)))

@@ -2,8 +2,7 @@
 """Serves mail servers by `milter_tool filter`, as both compilers built it, over TCP and over Unix sockets: the rows of
 tables of `milter_tool answer`, as connections; connections whose far end goes before, within and after each packet of a
 conversation; each allocation refused in turn; hosts, numbers of connections, addresses that are none, sockets that
-can't be bound, connections that can't be taken, and lines that can't be written. What is run is what `rt ci` built;
-nothing is proved here.
+can't be bound, connections that can't be taken, and lines that can't be written.
 
 The line of each connection is read before the next one is made. What a row expects on standard error is the same
 ending as a line of `filter`: a fault, or bytes of a packet that is not whole.
