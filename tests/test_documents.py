@@ -27,7 +27,7 @@ EXAMPLES = {
     'README.md': ['example_loop_guard'],
     'docs/LIBRARY.md': ['example_mail'],
     'docs/FILTERS.md': ['example_loop_guard', 'example_greylist', 'milter_filter_service'],
-    'docs/MAIL_SERVERS.md': ['example_smtp_server', 'milter_tests_pair']}
+    'docs/MAIL_SERVERS.md': ['example_smtp_server', 'milter_tests_driver']}
 # The files that tests/test_c_library.py plays, of which the blocks of README.md in other languages are parts.
 PLAYED = {'c': 'docs/C.md', 'python': 'bindings/python/deiruska/__init__.py'}
 # Words of rules in rows of docs/RULE_CHECK.md, in whose place others may stand.

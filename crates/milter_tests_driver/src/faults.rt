@@ -5,7 +5,8 @@
 //! then, and the same of a second call, with the whole stream; or that there is no fault. Where memory is refused to
 //! both calls, the program is out of memory.
 
-use anyhow::{Context, bail};
+use crate::texts::number_in;
+use anyhow::bail;
 use milter_filter::{FilterCore, FilterFault, Pass};
 
 /// Gives a filter's end the stream in pieces of this size, and answers the fault that it comes to.
@@ -27,7 +28,7 @@ fn fault_in(
 }
 
 /// What came of a stream, and how many bytes were unread then.
-#[derive(Clone, Copy, Debug)]
+#[derive(Clone, Copy)]
 struct Fed {
     answer: Result<(), FilterFault>,
     unread: usize,
@@ -51,7 +52,7 @@ fn feed_twice(core: FilterCore<'_, Pass>, stream: &[u8], size: usize) -> (Fed, F
 }
 
 /// Prints what came of a stream, and how many bytes were unread then.
-fn print_fault<R: Print>(rt: &R, fed: Fed) -> anyhow::Result<()> {
+fn print_fault(rt: &HostRuntime, fed: Fed) -> anyhow::Result<()> {
     let unread = fed.unread;
     match fed.answer {
         Ok(()) => println!(rt; "no fault, {unread} unread")?,
@@ -61,15 +62,11 @@ fn print_fault<R: Print>(rt: &R, fed: Fed) -> anyhow::Result<()> {
 }
 
 /// Gives the input to a filter's end, and prints its fault twice.
-pub fn print_faults<R: Print + AllocGlobal>(
-    rt: &R,
-    words: &[String],
-    input: &[u8],
-) -> anyhow::Result<()> {
+pub fn print_faults(rt: &HostRuntime, words: &[String], input: &[u8]) -> anyhow::Result<()> {
     let [size] = words else {
         bail!("usage: milter_tests_driver faults SIZE");
     };
-    let size = size.parse::<usize>().ok().context("SIZE is no number")?;
+    let size = number_in(size)?;
     let Ok(core) = FilterCore::new(rt.alloc(), &Pass) else {
         bail!("out of memory");
     };

@@ -1,17 +1,16 @@
-//! `milter_tests_host`: a filter that has recipients and the ends of messages looked up by another program, for
-//! `tests/test_host.py`, which plays that program.
+//! A filter that has recipients and the ends of messages looked up by another program, for `tests/test_host.py`, which
+//! plays that program.
 //!
-//! It listens at an address, and connects to the Unix socket of the look-up server before. All else goes on. The lines
-//! that pass over that socket are in `look_up_host`.
-#![tactic(auto)]
+//! The words are `ADDRESS LOOK_UP_PATH ANSWER_SECONDS PROGRESS_SECONDS TIMEOUT_SECONDS`. It listens at the address, and
+//! connects to the Unix socket of the look-up server before. All else goes on. The lines that pass over that socket are
+//! in `look_up_host`.
 
 mod look_up_host;
 
-use crate::look_up_host::LookUpHost;
 use anyhow::bail;
+use look_up_host::LookUpHost;
 use milter_cli_request::Address;
 use milter_filter_service::{Limits, Listener, Service};
-use std::env;
 
 /// The mode of a Unix socket.
 const MODE: u32 = 0o600;
@@ -28,7 +27,7 @@ fn listen(rt: &HostRuntime, text: &str) -> anyhow::Result<Listener> {
 }
 
 /// Serves mail servers until it is ended from outside.
-fn serve(
+fn serve_at(
     rt: &HostRuntime,
     host: &mut LookUpHost,
     limits: Limits,
@@ -41,12 +40,10 @@ fn serve(
     Ok(())
 }
 
-fn main(rt: HostRuntime) -> anyhow::Result<()> {
-    let words: Vec<String> = env::args(&rt)?.collect(rt.alloc())?;
-    let [_, address, look_up, answer, progress, timeout] = words.as_slice() else {
-        bail!(
-            "usage: milter_tests_host ADDRESS LOOK_UP_PATH ANSWER_SECONDS PROGRESS_SECONDS TIMEOUT_SECONDS"
-        );
+/// Serves mail servers as these words have it.
+pub fn serve(rt: &HostRuntime, words: &[String]) -> anyhow::Result<()> {
+    let [address, look_up, answer, progress, timeout] = words else {
+        bail!("usage: milter_tests_driver host ADDRESS LOOK_UP_PATH SECONDS SECONDS SECONDS");
     };
     let limits = Limits {
         at_once: AT_ONCE,
@@ -54,7 +51,7 @@ fn main(rt: HostRuntime) -> anyhow::Result<()> {
         answer: answer.parse()?,
         progress: progress.parse()?,
     };
-    let mut host = LookUpHost::connect(&rt, look_up.as_str())?;
-    let listener = listen(&rt, address.as_str())?;
-    serve(&rt, &mut host, limits, listener)
+    let mut host = LookUpHost::connect(rt, look_up.as_str())?;
+    let listener = listen(rt, address.as_str())?;
+    serve_at(rt, &mut host, limits, listener)
 }

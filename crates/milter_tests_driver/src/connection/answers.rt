@@ -1,15 +1,11 @@
 //! What is printed of calls, of pieces, and of a connection.
 
+use crate::printed::print_line;
+use crate::texts::text_of;
 use anyhow::bail;
 use milter_mta_connection::{CallFault, CallOutcome, Fed, FilterEvent, MtaConnection, Phase, Want};
 use milter_mta_outcome::Loss;
-use milter_wire::{HEAD_LEN, Packet, Verdict};
-use std::str::from_utf8;
-
-/// The text that these bytes are.
-pub fn text_of(bytes: &[u8]) -> &str {
-    from_utf8(bytes).unwrap_or("no text")
-}
+use milter_wire::Verdict;
 
 /// The words for what came of a call.
 fn outcome_words(outcome: CallOutcome) -> &'static str {
@@ -21,43 +17,18 @@ fn outcome_words(outcome: CallOutcome) -> &'static str {
 }
 
 /// Prints what a call answers.
-pub fn print_answer<R: Print>(
-    rt: &R,
+pub fn print_answer(
+    rt: &HostRuntime,
     answer: Result<CallOutcome, CallFault>,
 ) -> anyhow::Result<()> {
     match answer {
-        Ok(outcome) => println!(rt; "{}", outcome_words(outcome))?,
-        Err(fault) => println!(rt; "{fault}")?,
+        Ok(outcome) => print_line(rt, outcome_words(outcome)),
+        Err(fault) => Ok(println!(rt; "{fault}")?),
     }
-    Ok(())
-}
-
-/// Prints bytes as a line of hexadecimal digits.
-pub fn print_hex<R: Print + AllocGlobal>(rt: &R, bytes: &[u8]) -> anyhow::Result<()> {
-    let digits = hex::encode(rt.alloc(), bytes)?;
-    println!(rt; "{digits}")?;
-    Ok(())
-}
-
-/// Prints the packets of a stream, and what is left after them, each as a line.
-pub fn print_packets<R: Print + AllocGlobal>(rt: &R, stream: &[u8]) -> anyhow::Result<()> {
-    let mut rest = stream;
-    for _ in 0..stream.len() {
-        let Some(packet) = Packet::first_of(rest) else {
-            break;
-        };
-        let len = packet.payload.len() + HEAD_LEN;
-        print_hex(rt, &rest[..len])?;
-        rest = &rest[len..];
-    }
-    if !rest.is_empty() {
-        print_hex(rt, rest)?;
-    }
-    Ok(())
 }
 
 /// Prints a verdict.
-fn print_verdict<R: Print>(rt: &R, verdict: &Verdict) -> anyhow::Result<()> {
+fn print_verdict(rt: &HostRuntime, verdict: &Verdict) -> anyhow::Result<()> {
     print!(rt; "verdict {}", text_of(verdict.name()))?;
     if let Verdict::Code(text) = verdict {
         print!(rt; " {}", text_of(text.as_slice()))?;
@@ -66,7 +37,7 @@ fn print_verdict<R: Print>(rt: &R, verdict: &Verdict) -> anyhow::Result<()> {
 }
 
 /// Prints what was negotiated.
-fn print_negotiated<R: Print>(rt: &R, connection: &MtaConnection) -> anyhow::Result<()> {
+fn print_negotiated(rt: &HostRuntime, connection: &MtaConnection) -> anyhow::Result<()> {
     let Some(negotiated) = connection.negotiated() else {
         bail!("nothing was negotiated");
     };
@@ -78,7 +49,7 @@ fn print_negotiated<R: Print>(rt: &R, connection: &MtaConnection) -> anyhow::Res
 }
 
 /// Prints what came of a piece.
-pub fn print_fed<R: Print>(rt: &R, connection: &MtaConnection, fed: &Fed) -> anyhow::Result<()> {
+pub fn print_fed(rt: &HostRuntime, connection: &MtaConnection, fed: &Fed) -> anyhow::Result<()> {
     match &fed.event {
         FilterEvent::Nothing => print!(rt; "nothing")?,
         FilterEvent::InProgress => print!(rt; "in progress")?,
