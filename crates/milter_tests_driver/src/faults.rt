@@ -5,8 +5,7 @@
 //! then, and the same of a second call, with the whole stream; or that there is no fault. Where memory is refused to
 //! both calls, the program is out of memory.
 
-use crate::texts::number_in;
-use anyhow::bail;
+use anyhow::{Context, bail};
 use milter_filter::{FilterCore, FilterFault, Pass};
 
 /// Gives a filter's end the stream in pieces of this size, and answers the fault that it comes to.
@@ -55,10 +54,9 @@ fn feed_twice(core: FilterCore<'_, Pass>, stream: &[u8], size: usize) -> (Fed, F
 fn print_fault(rt: &HostRuntime, fed: Fed) -> anyhow::Result<()> {
     let unread = fed.unread;
     match fed.answer {
-        Ok(()) => println!(rt; "no fault, {unread} unread")?,
-        Err(fault) => println!(rt; "fault {}, {unread} unread", fault.number())?,
+        Ok(()) => Ok(println!(rt; "no fault, {unread} unread")?),
+        Err(fault) => Ok(println!(rt; "fault {}, {unread} unread", fault.number())?),
     }
-    Ok(())
 }
 
 /// Gives the input to a filter's end, and prints its fault twice.
@@ -66,7 +64,7 @@ pub fn print_faults(rt: &HostRuntime, words: &[String], input: &[u8]) -> anyhow:
     let [size] = words else {
         bail!("usage: milter_tests_driver faults SIZE");
     };
-    let size = number_in(size)?;
+    let size = size.parse::<usize>().ok().context("SIZE is no number")?;
     let Ok(core) = FilterCore::new(rt.alloc(), &Pass) else {
         bail!("out of memory");
     };

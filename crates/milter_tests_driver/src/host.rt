@@ -26,18 +26,24 @@ fn listen(rt: &HostRuntime, text: &str) -> anyhow::Result<Listener> {
     }
 }
 
-/// Serves mail servers until it is ended from outside.
+/// The one listener at the address that a text names.
+fn listeners_at(rt: &HostRuntime, text: &str) -> anyhow::Result<Vec<Listener>> {
+    let listener = listen(rt, text)?;
+    let mut listeners = Vec::new(rt.alloc());
+    listeners.push(listener)?;
+    Ok(listeners)
+}
+
+/// Serves mail servers at an address until it is ended from outside.
 fn serve_at(
     rt: &HostRuntime,
     host: &mut LookUpHost,
     limits: Limits,
-    listener: Listener,
+    address: &str,
 ) -> anyhow::Result<()> {
-    let mut listeners = Vec::new(rt.alloc());
-    listeners.push(listener)?;
+    let listeners = listeners_at(rt, address)?;
     let mut service = Service::new(rt, rt.alloc(), limits, listeners)?;
-    service.run(host)?;
-    Ok(())
+    Ok(service.run(host)?)
 }
 
 /// Serves mail servers as these words have it.
@@ -52,6 +58,5 @@ pub fn serve(rt: &HostRuntime, words: &[String]) -> anyhow::Result<()> {
         progress: progress.parse()?,
     };
     let mut host = LookUpHost::connect(rt, look_up.as_str())?;
-    let listener = listen(rt, address.as_str())?;
-    serve_at(rt, &mut host, limits, listener)
+    serve_at(rt, &mut host, limits, address.as_str())
 }

@@ -1,7 +1,7 @@
 //! A session, played over links that fail to a filter that lets all mail go on. The input is a session file, a line
-//! `%%`, and lines for what the links are and for each thing that fails, in words as the lines of session files are. What
-//! is offered has no action and no protocol bit, so that each command is sent and answered, and a message whose filter
-//! is lost is refused for now.
+//! `%%`, and lines for what the links are and for each thing that fails, in words as the lines of session files are.
+//! What is offered has no action and no protocol bit, so that each command is sent and answered, and a message whose
+//! filter is lost is refused for now.
 //!
 //! - `tcp`, `unix`: each link is a connection over TCP or over a Unix socket, of which this process holds both ends;
 //!   else links are in memory.
@@ -70,14 +70,20 @@ fn print_session(
     Ok(())
 }
 
+/// The mail server's end of a session file, with a connection where the script has one before the first dial.
+fn core_in(alloc: Global, script: &Script, file: &[u8]) -> anyhow::Result<MtaCore> {
+    let mut core = mta_core(alloc, config_without_bits()?, file)?;
+    if script.is_dialled {
+        core.dialled();
+    }
+    Ok(core)
+}
+
 /// Plays a session file over links of the script, and prints what comes of it.
 fn print_file(rt: &HostRuntime, script: &Script, file: &[u8]) -> anyhow::Result<()> {
     let process_id = process::id(rt.process());
     let path = format!(in rt.alloc(); "/tmp/milter_tests_driver.{process_id}")?;
-    let mut core = mta_core(rt.alloc(), config_without_bits()?, file)?;
-    if script.is_dialled {
-        core.dialled();
-    }
+    let core = core_in(rt.alloc(), script, file)?;
     print_session(rt, &Network::new(script), &path, core)
 }
 

@@ -1,6 +1,6 @@
-//! `milter_tests_driver`: exercises the libraries on standard input, for what no command of `milter_tool` plays: rows of
-//! tables, tests, and what `bench/` measures. The first word is a subcommand. The module of its name has the words after
-//! it, the form of the input, and what is printed.
+//! `milter_tests_driver`: exercises the libraries on standard input, for what no command of `milter_tool` plays: rows
+//! of tables, tests, and what `bench/` measures. The first word is a subcommand. The module of its name has the words
+//! after it, the form of the input, and what is printed.
 //!
 //! - `edits`: the edits of streams of packets are applied to messages, for the tables `edits_*.table`,
 //!   `tests/test_edits.py` and `bench/edits.sh`.
@@ -10,7 +10,8 @@
 //! - `mta`: a mail server's end is played by the commands of a script, for the tables `mta_*.table`,
 //!   `tests/test_captures.py` and `bench/core.sh`.
 //! - `connection`: a mail server's end that is called stage by stage, or a filter's end whose caller answers, is played
-//!   by the lines of a script, for the tables `connection_*.table` and `questions_*.table` and `tests/test_captures.py`.
+//!   by the lines of a script, for the tables `connection_*.table` and `questions_*.table`, and
+//!   `tests/test_captures.py`.
 //! - `links`: a session is played over links that fail by a script, for the tables `links_*.table` and
 //!   `tests/test_links.py`.
 //! - `pair`, `stages`, `world`: a session is played to a filter in memory by a loop over both ends, stage by stage, or

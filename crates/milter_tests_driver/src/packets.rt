@@ -7,7 +7,7 @@
 ghost use Rattle.std.specs.Prelude.{◌≤◌, length};
 
 use crate::printed::print_number;
-use crate::texts::{number_in, value_in};
+use crate::texts::value_in;
 use anyhow::{Context, bail};
 use milter_wire::{Command, CommandRef, PAYLOAD_MAX, Packet, Splitter};
 use std::alloc::Global;
@@ -93,7 +93,7 @@ fn work_again(
     work: Work,
     splitter: &mut Splitter,
     stream: &[u8],
-    count: usize,
+    count: u64,
 ) -> anyhow::Result<u64> {
     let mut out = Vec::new(alloc);
     let mut total: u64 = 0;
@@ -112,8 +112,10 @@ pub fn print_total(rt: &HostRuntime, words: &[String], input: &[u8]) -> anyhow::
     let [work, count] = words else {
         bail!("usage: milter_tests_driver packets split|borrowed|owned|encode|copy COUNT");
     };
-    let work = value_in(&WORKS, work).context("no work")?;
-    let count = number_in(count)?;
+    let Some(work) = value_in(&WORKS, work) else {
+        bail!("{work} is no work");
+    };
+    let count = count.parse::<u64>().ok().context("COUNT is no number")?;
     let mut splitter = Splitter::new(rt.alloc());
     let total = work_again(rt.alloc(), work, &mut splitter, input, count)?;
     drop(splitter);

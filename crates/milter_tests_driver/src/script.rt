@@ -63,21 +63,23 @@ pub fn line_of(texts: &[Text]) -> anyhow::Result<Line<'_>> {
 
 /// Prints the packets that are pending, and notes that they were sent.
 pub fn send<P: Player>(rt: &HostRuntime, player: &mut P) -> anyhow::Result<()> {
-    print_packets(rt, player.pending())?;
+    let printed = print_packets(rt, player.pending());
     player.sent(usize::MAX);
-    Ok(())
+    printed
 }
 
 /// Does what a line asks for, and prints what comes of it.
 fn obey_line<P: Player>(rt: &HostRuntime, player: &mut P, line: Line<'_>) -> anyhow::Result<()> {
     match line.word {
         "pending" => print_hex(rt, player.pending()),
-        "sent" => {
-            player.sent(number_of(line.texts)?);
-            Ok(())
-        }
+        "sent" => Ok(player.sent(number_of(line.texts)?)),
         _ => player.obey(rt, line),
     }
+}
+
+/// Does what the line of these texts asks for.
+fn obey_texts<P: Player>(rt: &HostRuntime, player: &mut P, texts: &[Text]) -> anyhow::Result<()> {
+    obey_line(rt, player, line_of(texts)?)
 }
 
 /// Does what each line asks for.
@@ -88,7 +90,7 @@ pub fn obey_lines<P: Player>(
 ) -> anyhow::Result<()> {
     for _ in 0..u64::MAX {
         match next_texts(rt.alloc(), lines)? {
-            Some(texts) => obey_line(rt, player, line_of(&texts)?)?,
+            Some(texts) => obey_texts(rt, player, &texts)?,
             None => break,
         }
     }

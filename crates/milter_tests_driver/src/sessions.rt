@@ -2,8 +2,8 @@
 //! is offered has no action and no protocol bit, so that each command is sent and answered.
 //!
 //! - `pair read`, `stages read`, `world read`: the number of its messages is printed.
-//! - `pair play`: it is played over one connection by a loop over both ends, and the number of messages that are settled
-//!   is printed.
+//! - `pair play`: it is played over one connection by a loop over both ends, and the number of messages that are
+//!   settled is printed.
 //! - `stages play`: its client and each of its messages are shown on one connection stage by stage, and the number of
 //!   messages is printed.
 //! - `world play`: it is played over one connection on which everything arrives, and the number of messages that are

@@ -29,11 +29,11 @@ pub fn print_answer(
 
 /// Prints a verdict.
 fn print_verdict(rt: &HostRuntime, verdict: &Verdict) -> anyhow::Result<()> {
-    print!(rt; "verdict {}", text_of(verdict.name()))?;
-    if let Verdict::Code(text) = verdict {
-        print!(rt; " {}", text_of(text.as_slice()))?;
+    let name = text_of(verdict.name());
+    match verdict {
+        Verdict::Code(text) => Ok(print!(rt; "verdict {name} {}", text_of(text.as_slice()))?),
+        _ => Ok(print!(rt; "verdict {name}")?),
     }
-    Ok(())
 }
 
 /// Prints what was negotiated.
@@ -44,23 +44,30 @@ fn print_negotiated(rt: &HostRuntime, connection: &MtaConnection) -> anyhow::Res
     let version = negotiated.options.version;
     let actions = negotiated.options.actions.0;
     let protocol = negotiated.options.protocol.0;
-    print!(rt; "negotiated {version:x} {actions:x} {protocol:x}")?;
-    Ok(())
+    Ok(print!(rt; "negotiated {version:x} {actions:x} {protocol:x}")?)
+}
+
+/// Prints an event.
+fn print_event(
+    rt: &HostRuntime,
+    connection: &MtaConnection,
+    event: &FilterEvent,
+) -> anyhow::Result<()> {
+    match event {
+        FilterEvent::Nothing => Ok(print!(rt; "nothing")?),
+        FilterEvent::InProgress => Ok(print!(rt; "in progress")?),
+        FilterEvent::Negotiated => print_negotiated(rt, connection),
+        FilterEvent::Verdict(verdict) => print_verdict(rt, verdict),
+    }
 }
 
 /// Prints what came of a piece.
 pub fn print_fed(rt: &HostRuntime, connection: &MtaConnection, fed: &Fed) -> anyhow::Result<()> {
-    match &fed.event {
-        FilterEvent::Nothing => print!(rt; "nothing")?,
-        FilterEvent::InProgress => print!(rt; "in progress")?,
-        FilterEvent::Negotiated => print_negotiated(rt, connection)?,
-        FilterEvent::Verdict(verdict) => print_verdict(rt, verdict)?,
-    }
+    print_event(rt, connection, &fed.event)?;
     match fed.loss {
-        Some(loss) => println!(rt; " loss {loss}")?,
-        None => println!(rt; "")?,
+        Some(loss) => Ok(println!(rt; " loss {loss}")?),
+        None => print_line(rt, ""),
     }
-    Ok(())
 }
 
 /// Ends the program where memory was refused for a piece. The connection has to be closed then.

@@ -62,12 +62,11 @@ const ORDERS: [(&str, CommandOrder); 2] = [
 /// Feeds a piece, and prints how many bytes are taken where that isn't all, or why the connection is given up.
 fn feed(rt: &HostRuntime, connection: &mut FilterConnection, piece: &[u8]) -> anyhow::Result<()> {
     match connection.feed(piece) {
-        Ok(count) if count == piece.len() => {}
-        Ok(count) => println!(rt; "taken {count} of {}", piece.len())?,
+        Ok(count) if count == piece.len() => Ok(()),
+        Ok(count) => Ok(println!(rt; "taken {count} of {}", piece.len())?),
         Err(FilterFault::NoMemory) => bail!("out of memory"),
-        Err(fault) => println!(rt; "{fault}")?,
+        Err(fault) => Ok(println!(rt; "{fault}")?),
     }
-    Ok(())
 }
 
 /// Feeds each byte of a piece, as long as bytes are taken.
@@ -84,10 +83,10 @@ fn feed_bytes(
 
 /// Prints why an answer isn't taken.
 fn print_answered(rt: &HostRuntime, answered: Result<(), AnswerFault>) -> anyhow::Result<()> {
-    if let Err(fault) = answered {
-        println!(rt; "{fault}")?;
+    match answered {
+        Ok(()) => Ok(()),
+        Err(fault) => Ok(println!(rt; "{fault}")?),
     }
-    Ok(())
 }
 
 /// Reports progress, once more where memory is refused for that, and prints why that isn't done.
@@ -172,14 +171,13 @@ impl FilterPlayer {
     fn print(&mut self, rt: &HostRuntime, command: Command, texts: &[Text]) -> anyhow::Result<()> {
         let connection = &mut self.connection;
         match command {
-            Command::Next => print_next(rt, connection.next_step())?,
-            Command::Unread => print_number(rt, connection.unread() as u64)?,
-            Command::Shown => print_shown(rt, connection.seen())?,
-            Command::Macro => print_macro(rt, connection.seen(), one_of(texts)?)?,
-            Command::Release => connection.release(),
-            _ => connection.restart(order_of(texts)?),
+            Command::Next => print_next(rt, connection.next_step()),
+            Command::Unread => print_number(rt, connection.unread() as u64),
+            Command::Shown => print_shown(rt, connection.seen()),
+            Command::Macro => print_macro(rt, connection.seen(), texts),
+            Command::Release => Ok(connection.release()),
+            _ => Ok(connection.restart(order_of(texts)?)),
         }
-        Ok(())
     }
 }
 
@@ -223,8 +221,8 @@ fn print_shown(rt: &HostRuntime, seen: &Seen) -> anyhow::Result<()> {
 }
 
 /// Prints the value of a macro.
-fn print_macro(rt: &HostRuntime, seen: &Seen, name: &[u8]) -> anyhow::Result<()> {
-    match seen.macro_value(name) {
+fn print_macro(rt: &HostRuntime, seen: &Seen, texts: &[Text]) -> anyhow::Result<()> {
+    match seen.macro_value(one_of(texts)?) {
         Some(value) => print_line(rt, text_of(value)),
         None => print_line(rt, "no value"),
     }

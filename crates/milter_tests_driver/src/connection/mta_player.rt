@@ -96,10 +96,7 @@ impl MtaPlayer {
         match command {
             Command::Macro => Ok(self.macros.push(pair_in(rt.alloc(), texts)?)?),
             Command::Send => send(rt, self),
-            Command::Lost => {
-                self.connection.lost();
-                Ok(())
-            }
+            Command::Lost => Ok(self.connection.lost()),
             Command::Feed => feed(rt, &mut self.connection, &piece_in(rt.alloc(), texts)?),
             Command::FeedBytes => feed_bytes(
                 rt,

@@ -4,12 +4,11 @@ use crate::mta::exchanges::{converse, feed_bytes, feed_times, pass, send_some};
 use crate::mta::report_lines::print_reports;
 use crate::printed::{print_hex, print_line, print_number};
 use crate::script::{Line, Player};
-use crate::texts::{number_in, number_of, one_of, piece_in, str_of, value_in};
+use crate::texts::{number_in, one_of, piece_in, str_of, value_in};
 use anyhow::{Context, bail};
 use milter_mta::{MtaCore, Want};
 use milter_mta_outcome::Loss;
 use milter_wire::Text;
-use std::alloc::Global;
 use std::str::from_utf8;
 
 /// What a line asks for.
@@ -71,47 +70,62 @@ fn loss_in(texts: &[Text]) -> anyhow::Result<Loss> {
 /// Prints what came of feeding.
 fn print_fed(rt: &HostRuntime, fed: Result<(), Loss>) -> anyhow::Result<()> {
     match fed {
-        Ok(()) => println!(rt; "ok")?,
-        Err(loss) => println!(rt; "{loss}")?,
+        Ok(()) => print_line(rt, "ok"),
+        Err(loss) => Ok(println!(rt; "{loss}")?),
     }
-    Ok(())
 }
 
 /// Makes the next packet, prints it, and notes that it was sent.
 fn send(rt: &HostRuntime, core: &mut MtaCore) -> anyhow::Result<()> {
     core.advance()?;
-    print_hex(rt, core.pending())?;
+    let printed = print_hex(rt, core.pending());
     send_some(core, usize::MAX);
-    Ok(())
+    printed
 }
 
-/// Feeds a piece, whole or byte by byte.
-fn fed(
-    alloc: Global,
-    core: &mut MtaCore,
-    texts: &[Text],
-    bytewise: bool,
-) -> anyhow::Result<Result<(), Loss>> {
-    let piece = piece_in(alloc, texts)?;
-    if bytewise {
-        Ok(feed_bytes(core, &piece))
-    } else {
-        Ok(core.feed(&piece))
-    }
+/// Feeds a piece, and prints what comes of it.
+fn feed_whole(rt: &HostRuntime, core: &mut MtaCore, texts: &[Text]) -> anyhow::Result<()> {
+    let piece = piece_in(rt.alloc(), texts)?;
+    print_fed(rt, core.feed(&piece))
 }
 
-/// Feeds a piece so many times as the texts have it.
-fn fed_times(
-    alloc: Global,
-    core: &mut MtaCore,
-    texts: &[Text],
-) -> anyhow::Result<Result<(), Loss>> {
+/// Feeds a piece byte by byte, and prints what comes of it.
+fn feed_bytewise(rt: &HostRuntime, core: &mut MtaCore, texts: &[Text]) -> anyhow::Result<()> {
+    let piece = piece_in(rt.alloc(), texts)?;
+    print_fed(rt, feed_bytes(core, &piece))
+}
+
+/// Feeds a piece so many times as the texts have it, and prints what comes of it.
+fn feed_again(rt: &HostRuntime, core: &mut MtaCore, texts: &[Text]) -> anyhow::Result<()> {
     let [count, digits @ ..] = texts else {
         bail!("feed_times NUMBER HEX");
     };
     let count = number_in(str_of(count)?)?;
-    let piece = piece_in(alloc, digits)?;
-    Ok(feed_times(core, count, &piece))
+    let piece = piece_in(rt.alloc(), digits)?;
+    print_fed(rt, feed_times(core, count, &piece))
+}
+
+/// Does what a line asks for.
+fn obey_command(
+    rt: &HostRuntime,
+    core: &mut MtaCore,
+    command: Command,
+    texts: &[Text],
+) -> anyhow::Result<()> {
+    match command {
+        Command::Dialled => Ok(core.dialled()),
+        Command::Advance => Ok(core.advance()?),
+        Command::Send => send(rt, core),
+        Command::Pass => pass(core, texts),
+        Command::Feed => feed_whole(rt, core, texts),
+        Command::FeedBytes => feed_bytewise(rt, core, texts),
+        Command::FeedTimes => feed_again(rt, core, texts),
+        Command::Converse => converse(rt.alloc(), core, texts),
+        Command::Lost => Ok(core.lost(loss_in(texts)?)),
+        Command::Want => print_line(rt, word_of(core.want())),
+        Command::Settled => print_number(rt, core.settled() as u64),
+        Command::Reports => print_reports(rt, core.reports(), !texts.is_empty()),
+    }
 }
 
 impl Player for MtaCore {
@@ -124,21 +138,7 @@ impl Player for MtaCore {
     }
 
     fn obey(&mut self, rt: &HostRuntime, line: Line<'_>) -> anyhow::Result<()> {
-        let texts = line.texts;
-        match value_in(&COMMANDS, line.word).context("unknown command")? {
-            Command::Dialled => self.dialled(),
-            Command::Advance => self.advance()?,
-            Command::Send => send(rt, self)?,
-            Command::Pass => pass(self, number_of(texts)?)?,
-            Command::Feed => print_fed(rt, fed(rt.alloc(), self, texts, false)?)?,
-            Command::FeedBytes => print_fed(rt, fed(rt.alloc(), self, texts, true)?)?,
-            Command::FeedTimes => print_fed(rt, fed_times(rt.alloc(), self, texts)?)?,
-            Command::Converse => converse(rt.alloc(), self, texts)?,
-            Command::Lost => self.lost(loss_in(texts)?),
-            Command::Want => print_line(rt, word_of(self.want()))?,
-            Command::Settled => print_number(rt, self.settled() as u64)?,
-            Command::Reports => print_reports(rt, self.reports(), !texts.is_empty())?,
-        }
-        Ok(())
+        let command = value_in(&COMMANDS, line.word).context("unknown command")?;
+        obey_command(rt, self, command, line.texts)
     }
 }

@@ -1,6 +1,6 @@
 //! What is sent to a filter, and what comes of its replies.
 
-use crate::texts::str_of;
+use crate::texts::{number_of, str_of};
 use anyhow::Context;
 use milter_mta::{MtaCore, Want};
 use milter_mta_outcome::Loss;
@@ -40,9 +40,9 @@ fn pass_one(core: &mut MtaCore) -> anyhow::Result<()> {
     Ok(())
 }
 
-/// Sends so many packets, and answers those that have a reply by the plain one.
-pub fn pass(core: &mut MtaCore, count: usize) -> anyhow::Result<()> {
-    for _ in 0..count {
+/// Sends as many packets as the texts have it, and answers those that have a reply by the plain one.
+pub fn pass(core: &mut MtaCore, texts: &[Text]) -> anyhow::Result<()> {
+    for _ in 0..number_of(texts)? {
         pass_one(core)?;
     }
     Ok(())

@@ -1,6 +1,6 @@
 //! The lines that are printed of reports.
 
-use crate::printed::print_message;
+use crate::printed::{print_line, print_message};
 use crate::texts::text_of;
 use milter_mta_outcome::{Acted, By, Outcome, Report};
 
@@ -13,29 +13,36 @@ fn print_acted(rt: &HostRuntime, separator: &str, acted: &Acted) -> anyhow::Resu
     Ok(())
 }
 
+/// The words for what became of a message, and what follows them.
+fn words_of(outcome: &Outcome) -> (&'static str, &str) {
+    match outcome {
+        Outcome::Released(_) => ("released to ", ""),
+        Outcome::Discarded => ("discarded", ""),
+        Outcome::Refused(refusal) => ("refused ", text_of(refusal.text())),
+        Outcome::NoRecipients => ("no recipients", ""),
+        Outcome::RefusedAtConnection => ("refused at connection", ""),
+    }
+}
+
 /// Prints what became of a message.
 fn print_outcome(rt: &HostRuntime, outcome: &Outcome) -> anyhow::Result<()> {
+    let (words, more) = words_of(outcome);
     match outcome {
         Outcome::Released(held) => {
             let recipients = held.message.recipients().len();
-            print!(rt; "released to {recipients}")?;
+            Ok(print!(rt; "; {words}{recipients}; ")?)
         }
-        Outcome::Discarded => print!(rt; "discarded")?,
-        Outcome::Refused(refusal) => print!(rt; "refused {}", text_of(refusal.text()))?,
-        Outcome::NoRecipients => print!(rt; "no recipients")?,
-        Outcome::RefusedAtConnection => print!(rt; "refused at connection")?,
+        _ => Ok(print!(rt; "; {words}{more}; ")?),
     }
-    Ok(())
 }
 
 /// Prints what settled a message, and ends the line.
 fn print_by(rt: &HostRuntime, settled_by: By) -> anyhow::Result<()> {
     match settled_by {
-        By::Filter => println!(rt; "filter")?,
-        By::Connection => println!(rt; "connection")?,
-        By::Default(loss) => println!(rt; "default {loss}")?,
+        By::Filter => print_line(rt, "filter"),
+        By::Connection => print_line(rt, "connection"),
+        By::Default(loss) => Ok(println!(rt; "default {loss}")?),
     }
-    Ok(())
 }
 
 /// Prints the line of a report.
@@ -45,9 +52,7 @@ fn print_report(rt: &HostRuntime, report: &Report) -> anyhow::Result<()> {
         print_acted(rt, separator, acted)?;
         separator = ", ";
     }
-    print!(rt; "; ")?;
     print_outcome(rt, &report.outcome)?;
-    print!(rt; "; ")?;
     print_by(rt, report.settled_by)
 }
 
