@@ -143,7 +143,9 @@ impl FilterPlayer {
 
     /// Adds an edit of the next answer: the one that this packet asks for.
     fn add_edit(&mut self, alloc: Global, packet: &[u8]) -> anyhow::Result<()> {
-        let packet = Packet::first_of(packet).context("an edit is to be a packet")?;
+        let Some(packet) = Packet::first_of(packet) else {
+            bail!("an edit is to be a packet");
+        };
         Ok(self.edits.push(edit_of(alloc, packet)?)?)
     }
 
