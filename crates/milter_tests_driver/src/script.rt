@@ -1,6 +1,6 @@
 //! The lines of a script, whoever obeys them.
 
-use crate::printed::{print_hex, print_packets};
+use crate::printed::print_hex;
 use crate::texts::{number_of, str_of};
 use anyhow::{Context, bail};
 use milter_text::{LineCursor, Word};
@@ -23,6 +23,9 @@ pub trait Player {
 
     /// Notes that so many of the bytes that are pending were sent, or all of them where they are fewer.
     fn sent(&mut self, count: usize);
+
+    /// Prints the packets that wait to be sent, and notes that they were.
+    fn send(&mut self, rt: &HostRuntime) -> anyhow::Result<()>;
 
     /// Does what the line asks for, and prints what comes of it.
     fn obey(&mut self, rt: &HostRuntime, line: Line<'_>) -> anyhow::Result<()>;
@@ -61,17 +64,11 @@ pub fn line_of(texts: &[Text]) -> anyhow::Result<Line<'_>> {
     })
 }
 
-/// Prints the packets that are pending, and notes that they were sent.
-pub fn send<P: Player>(rt: &HostRuntime, player: &mut P) -> anyhow::Result<()> {
-    let printed = print_packets(rt, player.pending());
-    player.sent(usize::MAX);
-    printed
-}
-
 /// Does what a line asks for, and prints what comes of it.
 fn obey_line<P: Player>(rt: &HostRuntime, player: &mut P, line: Line<'_>) -> anyhow::Result<()> {
     match line.word {
         "pending" => print_hex(rt, player.pending()),
+        "send" => player.send(rt),
         "sent" => Ok(player.sent(number_of(line.texts)?)),
         _ => player.obey(rt, line),
     }

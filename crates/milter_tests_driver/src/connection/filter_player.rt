@@ -1,8 +1,8 @@
 //! A script of a filter's end, and the connection on which it is played.
 
 use crate::edits::edit_of;
-use crate::printed::{print_line, print_number};
-use crate::script::{Line, Player, obey_lines, send};
+use crate::printed::{print_line, print_number, print_packets};
+use crate::script::{Line, Player, obey_lines};
 use crate::texts::{bits_in, one_of, options_in, piece_in, str_of, text_of, value_in, verdict_in};
 use anyhow::{Context, bail};
 use milter_filter_core::{
@@ -23,7 +23,6 @@ struct FilterPlayer {
 /// What a line asks for.
 #[derive(Clone, Copy)]
 enum Command {
-    Send,
     Feed,
     FeedBytes,
     Edit,
@@ -38,8 +37,7 @@ enum Command {
 }
 
 /// The first words of lines.
-const COMMANDS: [(&str, Command); 12] = [
-    ("send", Command::Send),
+const COMMANDS: [(&str, Command); 11] = [
     ("feed", Command::Feed),
     ("feed_bytes", Command::FeedBytes),
     ("edit", Command::Edit),
@@ -157,7 +155,6 @@ impl FilterPlayer {
         texts: &[Text],
     ) -> anyhow::Result<()> {
         match command {
-            Command::Send => send(rt, self),
             Command::Feed => feed(rt, &mut self.connection, &piece_in(rt.alloc(), texts)?),
             Command::FeedBytes => {
                 feed_bytes(rt, &mut self.connection, &piece_in(rt.alloc(), texts)?)
@@ -191,6 +188,13 @@ impl Player for FilterPlayer {
     fn sent(&mut self, count: usize) {
         let count = self.connection.pending().len().min(count);
         self.connection.sent(count);
+    }
+
+    fn send(&mut self, rt: &HostRuntime) -> anyhow::Result<()> {
+        let printed = print_packets(rt, self.connection.pending());
+        let count = self.connection.pending().len();
+        self.connection.sent(count);
+        printed
     }
 
     fn obey(&mut self, rt: &HostRuntime, line: Line<'_>) -> anyhow::Result<()> {

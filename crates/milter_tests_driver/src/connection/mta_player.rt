@@ -3,8 +3,8 @@
 use crate::connection::answers::{check_memory, phase_words, print_answer, print_fed, want_word};
 use crate::connection::calls::answer_to;
 use crate::connection::edits::{print_edited, print_edits};
-use crate::printed::print_line;
-use crate::script::{Line, Player, obey_lines, send};
+use crate::printed::{print_line, print_packets};
+use crate::script::{Line, Player, obey_lines};
 use crate::texts::{options_in, pair_in, piece_in, str_of, value_in};
 use anyhow::bail;
 use milter_mta_connection::{FilterEvent, MtaConnection};
@@ -22,7 +22,6 @@ struct MtaPlayer {
 #[derive(Clone, Copy)]
 enum Command {
     Macro,
-    Send,
     Lost,
     Feed,
     FeedBytes,
@@ -35,9 +34,8 @@ enum Command {
 }
 
 /// The first words of these lines.
-const COMMANDS: [(&str, Command); 11] = [
+const COMMANDS: [(&str, Command); 10] = [
     ("macro", Command::Macro),
-    ("send", Command::Send),
     ("lost", Command::Lost),
     ("feed", Command::Feed),
     ("feed_bytes", Command::FeedBytes),
@@ -95,7 +93,6 @@ impl MtaPlayer {
     ) -> anyhow::Result<()> {
         match command {
             Command::Macro => Ok(self.macros.push(pair_in(rt.alloc(), texts)?)?),
-            Command::Send => send(rt, self),
             Command::Lost => Ok(self.connection.lost()),
             Command::Feed => feed(rt, &mut self.connection, &piece_in(rt.alloc(), texts)?),
             Command::FeedBytes => feed_bytes(
@@ -130,6 +127,13 @@ impl Player for MtaPlayer {
     fn sent(&mut self, count: usize) {
         let count = self.connection.pending().len().min(count);
         self.connection.sent(count);
+    }
+
+    fn send(&mut self, rt: &HostRuntime) -> anyhow::Result<()> {
+        let printed = print_packets(rt, self.connection.pending());
+        let count = self.connection.pending().len();
+        self.connection.sent(count);
+        printed
     }
 
     fn obey(&mut self, rt: &HostRuntime, line: Line<'_>) -> anyhow::Result<()> {

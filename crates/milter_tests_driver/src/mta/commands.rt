@@ -16,7 +16,6 @@ use std::str::from_utf8;
 enum Command {
     Dialled,
     Advance,
-    Send,
     Pass,
     Feed,
     FeedBytes,
@@ -29,10 +28,9 @@ enum Command {
 }
 
 /// The first words of lines.
-const COMMANDS: [(&str, Command); 12] = [
+const COMMANDS: [(&str, Command); 11] = [
     ("dialled", Command::Dialled),
     ("advance", Command::Advance),
-    ("send", Command::Send),
     ("pass", Command::Pass),
     ("feed", Command::Feed),
     ("feed_bytes", Command::FeedBytes),
@@ -75,14 +73,6 @@ fn print_fed(rt: &HostRuntime, fed: Result<(), Loss>) -> anyhow::Result<()> {
     }
 }
 
-/// Makes the next packet, prints it, and notes that it was sent.
-fn send(rt: &HostRuntime, core: &mut MtaCore) -> anyhow::Result<()> {
-    core.advance()?;
-    let printed = print_hex(rt, core.pending());
-    send_some(core, usize::MAX);
-    printed
-}
-
 /// Feeds a piece, and prints what comes of it.
 fn feed_whole(rt: &HostRuntime, core: &mut MtaCore, texts: &[Text]) -> anyhow::Result<()> {
     let piece = piece_in(rt.alloc(), texts)?;
@@ -115,7 +105,6 @@ fn obey_command(
     match command {
         Command::Dialled => Ok(core.dialled()),
         Command::Advance => Ok(core.advance()?),
-        Command::Send => send(rt, core),
         Command::Pass => pass(core, texts),
         Command::Feed => feed_whole(rt, core, texts),
         Command::FeedBytes => feed_bytewise(rt, core, texts),
@@ -135,6 +124,14 @@ impl Player for MtaCore {
 
     fn sent(&mut self, count: usize) {
         send_some(self, count);
+    }
+
+    /// Makes the next packet, prints it, and notes that it was sent.
+    fn send(&mut self, rt: &HostRuntime) -> anyhow::Result<()> {
+        self.advance()?;
+        let printed = print_hex(rt, self.pending());
+        send_some(self, usize::MAX);
+        printed
     }
 
     fn obey(&mut self, rt: &HostRuntime, line: Line<'_>) -> anyhow::Result<()> {
