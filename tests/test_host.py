@@ -1,8 +1,8 @@
 #!/usr/bin/env python3
-"""Plays a mail server and the look-up server of `milter_tests_host`, as both compilers built it, over TCP and over Unix
-sockets: answers that come later, in any order and in pieces; the default where none comes in time, and progress
-meanwhile; answers that come too late, that can't be, or come twice; mail servers that hang up, are reset or idle while
-a question is open; and a look-up server that is gone.
+"""Plays a mail server and the look-up server of `milter_tests_driver host`, as both compilers built it, over TCP and
+over Unix sockets: answers that come later, in any order and in pieces; the default where none comes in time, and
+progress meanwhile; answers that come too late, that can't be, or come twice; mail servers that hang up, are reset or
+idle while a question is open; and a look-up server that is gone.
 
 Counted are the runs.
 """
@@ -42,7 +42,7 @@ class Host:
             listener.listen()
             listener.settimeout(serving.SECONDS)
             self.process = subprocess.Popen(
-                [program, address, path, str(answer), str(progress), str(timeout)],
+                program + [address, path, str(answer), str(progress), str(timeout)],
                 stdin=subprocess.DEVNULL, stdout=subprocess.DEVNULL, stderr=subprocess.DEVNULL)
             self.server = listener.accept()[0]
         self.server.settimeout(serving.SECONDS)
@@ -266,9 +266,9 @@ def alone(program, kind, folder):
 def groups(folder):
     """The groups of checks, each with the program and the kind of sockets that it is run with."""
     for build in programs.BUILDS:
-        program = programs.command_of('host', build)[0]
+        program = programs.command_of('host', build)
         for kind in serving.KINDS:
-            name = '%s at %s' % (os.path.basename(program), kind)
+            name = '%s at %s' % (os.path.basename(program[0]), kind)
             for run in [later, at_once, by_default, progress, hung_up, refused, idle, alone]:
                 yield '%s, %s' % (name, run.__name__), runs, (run, program, kind, folder)
 

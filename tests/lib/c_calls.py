@@ -1,5 +1,5 @@
-"""Plays the scripts of `milter_tests_connection` for a mail server's end (the tables `connection_*` and the captures)
-to that of the Python binding, and prints what that program prints. Where the binding doesn't have what it prints, as
+"""Plays the scripts of `milter_tests_driver connection` for a mail server's end (the tables `connection_*` and the
+captures) to that of the Python binding, and prints what that program prints. Where the binding doesn't have what it prints, as
 the phase of a connection or the words for a packet that can't be read, any text is taken.
 """
 import re

@@ -15,14 +15,14 @@ BUILDS = [''] + ['.by-rattle'] * os.path.isfile(os.path.join(BUILD, 'milter_tool
 PROGRAMS = {
     'tool': ('milter_tool', []),
     'loop guard': ('example_loop_guard', []),
-    'host': ('milter_tests_host', []),
+    'host': ('milter_tests_driver', ['host']),
     'edits': ('milter_tests_driver', ['edits', 'text']),
-    'edit lists': ('milter_tests_edits', ['lists']),
+    'edit lists': ('milter_tests_driver', ['edits', 'texts']),
     'filter faults': ('milter_tests_driver', ['faults']),
     'payloads': ('milter_tests_driver', ['packets']),
     'mail server': ('milter_tests_driver', ['mta']),
     'links': ('milter_tests_driver', ['links']),
-    'connection': ('milter_tests_connection', []),
+    'connection': ('milter_tests_driver', ['connection']),
 }
 
 

@@ -1,22 +1,24 @@
-//! Edits of a stream of packets, applied to a message. Standard input is a session file of one message, a NUL, and a
-//! stream of the reply packets that ask for the edits.
+//! Edits of a stream of packets, applied to a message. The input is a session file of one message, a NUL, and a stream
+//! of the reply packets that ask for the edits.
 //!
 //! The first word is what is printed: `text` the text of the message after them, and `count` how many header fields and
-//! recipients it then has. A second word says that leading spaces are negotiated.
+//! recipients it then has. For `texts` each line of the input is such an input in hexadecimal digits, and the texts are
+//! printed one after the other. A second word says that leading spaces are negotiated.
 
 ghost use Rattle.std.specs.Prelude.{◌≤◌, All, IfOk, length};
 ghost use Rattle.milter_wire.specs.Reply.{Fits};
 ghost use Rattle.milter_message.specs.EditReplies.{reply_of};
 
-use anyhow::bail;
-use milter_mail::{Edit, Held, Session, apply, edits_of_replies, write_message};
+use crate::input::text_in;
+use crate::printed::print_message;
+use anyhow::{Context, bail};
+use milter_mail::{Edit, Held, Session, apply, edits_of_replies};
 use milter_mail_file::read_session;
 use milter_wire::{PAYLOAD_MAX, Packet, Reply, Splitter};
 use std::alloc::Global;
-use std::io;
 
 /// The edit that a packet asks for.
-fn edit_of(alloc: Global, packet: Packet<'_>) -> anyhow::Result<Edit>
+pub fn edit_of(alloc: Global, packet: Packet<'_>) -> anyhow::Result<Edit>
     requires { length packet.payload.now ≤ PAYLOAD_MAX }
     ensures { IfOk result (λ edit. Fits (reply_of edit)) }
 {
@@ -72,36 +74,49 @@ fn parts_of(input: &[u8]) -> Option<(&[u8], &[u8])> {
 
 /// The same for a session file and the stream after it.
 fn held_in(alloc: Global, input: &[u8], leading_space: bool) -> anyhow::Result<Held> {
-    let Some((file, stream)) = parts_of(input) else {
-        bail!("a NUL is to follow the session file");
-    };
+    let (file, stream) = parts_of(input).context("a NUL is to follow the session file")?;
     let session = read_session(alloc, file)?;
     held_after(alloc, &session, stream, leading_space)
 }
 
-/// Prints the text of the message, or how much it has.
-fn print_held<R: Print + AllocGlobal>(rt: &R, held: &Held, printed: &str) -> anyhow::Result<()> {
-    if printed == "text" {
-        write_message(rt.alloc(), &mut io::writer(rt), held)?;
-    } else {
-        let headers = held.message.headers().len();
-        let recipients = held.message.recipients().len();
-        println!(rt; "{headers} header fields, {recipients} recipients")?;
+/// Prints the text of the message after its edits.
+fn print_text(rt: &HostRuntime, input: &[u8], leading_space: bool) -> anyhow::Result<()> {
+    let held = held_in(rt.alloc(), input, leading_space)?;
+    print_message(rt, &held)
+}
+
+/// The same of the input that these hexadecimal digits are.
+fn print_text_in(rt: &HostRuntime, digits: &str, leading_space: bool) -> anyhow::Result<()> {
+    let input = hex::decode(rt.alloc(), digits)?;
+    print_text(rt, &input, leading_space)
+}
+
+/// The same of each line.
+fn print_texts(rt: &HostRuntime, lines: &str, leading_space: bool) -> anyhow::Result<()> {
+    for line in lines.lines() {
+        print_text_in(rt, line, leading_space)?;
     }
     Ok(())
 }
 
-/// Prints the message of the input after its edits, as the words ask for.
-pub fn print_edited<R: Print + AllocGlobal>(
-    rt: &R,
-    words: &[String],
-    input: &[u8],
-) -> anyhow::Result<()> {
-    let (printed, leading_space) = match words {
-        [printed] => (printed, false),
-        [printed, _] => (printed, true),
-        _ => bail!("usage: milter_tests_driver edits text|count [leading_space]"),
-    };
+/// Prints how much the message after its edits has.
+fn print_count(rt: &HostRuntime, input: &[u8], leading_space: bool) -> anyhow::Result<()> {
     let held = held_in(rt.alloc(), input, leading_space)?;
-    print_held(rt, &held, printed)
+    let headers = held.message.headers().len();
+    let recipients = held.message.recipients().len();
+    println!(rt; "{headers} header fields, {recipients} recipients")?;
+    Ok(())
+}
+
+/// Prints what the words ask for of the input's messages after their edits.
+pub fn print_edited(rt: &HostRuntime, words: &[String], input: &[u8]) -> anyhow::Result<()> {
+    let [printed, more @ ..] = words else {
+        bail!("usage: milter_tests_driver edits text|count|texts [leading_space]");
+    };
+    let leading_space = !more.is_empty();
+    match printed.as_str() {
+        "text" => print_text(rt, input, leading_space),
+        "texts" => print_texts(rt, text_in(input)?, leading_space),
+        _ => print_count(rt, input, leading_space),
+    }
 }

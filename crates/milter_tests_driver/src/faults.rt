@@ -27,7 +27,7 @@ fn fault_in(
 }
 
 /// What came of a stream, and how many bytes were unread then.
-#[derive(Clone, Copy, Debug)]
+#[derive(Clone, Copy)]
 struct Fed {
     answer: Result<(), FilterFault>,
     unread: usize,
@@ -51,21 +51,16 @@ fn feed_twice(core: FilterCore<'_, Pass>, stream: &[u8], size: usize) -> (Fed, F
 }
 
 /// Prints what came of a stream, and how many bytes were unread then.
-fn print_fault<R: Print>(rt: &R, fed: Fed) -> anyhow::Result<()> {
+fn print_fault(rt: &HostRuntime, fed: Fed) -> anyhow::Result<()> {
     let unread = fed.unread;
     match fed.answer {
-        Ok(()) => println!(rt; "no fault, {unread} unread")?,
-        Err(fault) => println!(rt; "fault {}, {unread} unread", fault.number())?,
+        Ok(()) => Ok(println!(rt; "no fault, {unread} unread")?),
+        Err(fault) => Ok(println!(rt; "fault {}, {unread} unread", fault.number())?),
     }
-    Ok(())
 }
 
 /// Gives the input to a filter's end, and prints its fault twice.
-pub fn print_faults<R: Print + AllocGlobal>(
-    rt: &R,
-    words: &[String],
-    input: &[u8],
-) -> anyhow::Result<()> {
+pub fn print_faults(rt: &HostRuntime, words: &[String], input: &[u8]) -> anyhow::Result<()> {
     let [size] = words else {
         bail!("usage: milter_tests_driver faults SIZE");
     };

@@ -8,10 +8,15 @@ use milter_wire::{Actions, Protocol};
 use std::alloc::Global;
 use std::str::from_utf8;
 
+/// The text that the input is.
+pub fn text_in(input: &[u8]) -> anyhow::Result<&str> {
+    from_utf8(input).ok().context("the input is no text")
+}
+
 /// The session file of an input, and the script after it: a line `%%` is between them.
 pub fn session_and_script(input: &[u8]) -> anyhow::Result<(&str, &str)> {
-    let text = from_utf8(input).ok().context("the input is no text")?;
-    text.split_once("%%\n")
+    text_in(input)?
+        .split_once("%%\n")
         .context("a line %% is to follow the session file")
 }
 
@@ -22,8 +27,8 @@ pub fn config_without_bits() -> anyhow::Result<Config> {
 }
 
 /// The mail server's end of a session file before its first connection.
-pub fn mta_core(alloc: Global, config: Config, session_file: &str) -> anyhow::Result<MtaCore> {
-    let session = read_session(alloc, session_file.as_bytes())?;
+pub fn mta_core(alloc: Global, config: Config, session_file: &[u8]) -> anyhow::Result<MtaCore> {
+    let session = read_session(alloc, session_file)?;
     match MtaCore::new(alloc, config, session) {
         Ok(core) => Ok(core),
         Err(_) => bail!("out of memory"),

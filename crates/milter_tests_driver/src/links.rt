@@ -1,6 +1,7 @@
 //! A session, played over links that fail to a filter that lets all mail go on. The input is a session file, a line
-//! `%%`, and lines for what the links are and for each thing that fails. What is offered has no action and no protocol
-//! bit, so that each command is sent and answered, and a message whose filter is lost is refused for now.
+//! `%%`, and lines for what the links are and for each thing that fails, in words as the lines of session files are.
+//! What is offered has no action and no protocol bit, so that each command is sent and answered, and a message whose
+//! filter is lost is refused for now.
 //!
 //! - `tcp`, `unix`: each link is a connection over TCP or over a Unix socket, of which this process holds both ends;
 //!   else links are in memory.
@@ -31,34 +32,7 @@ use milter_mta_reports::write_reports;
 use script::{Script, Way, script_in};
 use socket_links::{TcpLinks, UnixLinks};
 use std::alloc::Global;
-use std::io;
-use std::net::{Net, TcpListener, TcpStream};
-use std::rt::Files;
-
-/// Plays a session over links of the script. It answers the reports, and how often it was dialled. A link over a Unix
-/// socket has this path.
-fn play<'a, R: Net<Listener = TcpListener, Stream = TcpStream> + Files + AllocGlobal>(
-    rt: &'a R,
-    script: &'a Script,
-    path: &'a str,
-    core: MtaCore,
-) -> anyhow::Result<(Reports, u64)> {
-    let mut core = core;
-    if script.is_dialled {
-        core.dialled();
-    }
-    let network = Network::new(script);
-    let filters = FilterDial::new(rt.alloc(), &network, &Pass);
-    let reports = match script.way {
-        Way::Memory => play_over(rt.alloc(), core, &network, filters),
-        Way::Tcp => play_over(rt.alloc(), core, &network, TcpLinks { net: rt, filters }),
-        Way::Unix => play_over(rt.alloc(), core, &network, UnixLinks { rt, path, filters }),
-    };
-    if network.is_out_of_memory() {
-        bail!("out of memory");
-    }
-    Ok((reports, network.dials()))
-}
+use std::{io, process};
 
 /// Plays a session over the links of `dial`, which fail by the network's script.
 fn play_over<D: Dial + Drop>(
@@ -70,36 +44,53 @@ fn play_over<D: Dial + Drop>(
     converse(alloc, core, &mut FailingDial::new(network, dial))
 }
 
-/// Prints the reports of a session, and how often it was dialled.
-fn print_reports<R: Print + AllocGlobal>(
-    rt: &R,
-    reports: &Reports,
-    dials: u64,
+/// Plays a session over links of the network's script. A link over a Unix socket has this path.
+fn play(rt: &HostRuntime, network: &Network<'_>, path: &str, core: MtaCore) -> Reports {
+    let filters = FilterDial::new(rt.alloc(), network, &Pass);
+    match network.way() {
+        Way::Memory => play_over(rt.alloc(), core, network, filters),
+        Way::Tcp => play_over(rt.alloc(), core, network, TcpLinks { rt, filters }),
+        Way::Unix => play_over(rt.alloc(), core, network, UnixLinks { rt, path, filters }),
+    }
+}
+
+/// Prints what comes of a session over links of the network's script.
+fn print_session(
+    rt: &HostRuntime,
+    network: &Network<'_>,
+    path: &str,
+    core: MtaCore,
 ) -> anyhow::Result<()> {
-    write_reports(rt.alloc(), &mut io::writer(rt), reports)?;
-    println!(rt; "dials {dials}")?;
+    let reports = play(rt, network, path, core);
+    if network.is_out_of_memory() {
+        bail!("out of memory");
+    }
+    write_reports(rt.alloc(), &mut io::writer(rt), &reports)?;
+    println!(rt; "dials {}", network.dials())?;
     Ok(())
 }
 
-/// Plays a session file over links of the script, and prints what comes of it. A link over a Unix socket has this path.
-fn print_session<R: Net<Listener = TcpListener, Stream = TcpStream> + Files + Print + AllocGlobal>(
-    rt: &R,
-    script: &Script,
-    path: &str,
-    file: &str,
-) -> anyhow::Result<()> {
-    let core = mta_core(rt.alloc(), config_without_bits()?, file)?;
-    let (reports, dials) = play(rt, script, path, core)?;
-    print_reports(rt, &reports, dials)
+/// The mail server's end of a session file, with a connection where the script has one before the first dial.
+fn core_in(alloc: Global, script: &Script, file: &[u8]) -> anyhow::Result<MtaCore> {
+    let mut core = mta_core(alloc, config_without_bits()?, file)?;
+    if script.is_dialled {
+        core.dialled();
+    }
+    Ok(core)
+}
+
+/// Plays a session file over links of the script, and prints what comes of it.
+fn print_file(rt: &HostRuntime, script: &Script, file: &[u8]) -> anyhow::Result<()> {
+    let process_id = process::id(rt.process());
+    let path = format!(in rt.alloc(); "/tmp/milter_tests_driver.{process_id}")?;
+    let core = core_in(rt.alloc(), script, file)?;
+    print_session(rt, &Network::new(script), &path, core)
 }
 
 /// Plays the session of the input, and prints its reports and how often it was dialled. The path of a link over a Unix
 /// socket has the id of this process, so that programs that run at once have paths of their own.
-pub fn print_played<
-    R: Net<Listener = TcpListener, Stream = TcpStream> + Files + Print + AllocGlobal,
->(rt: &R, process_id: u32, input: &[u8]) -> anyhow::Result<()> {
+pub fn print_played(rt: &HostRuntime, input: &[u8]) -> anyhow::Result<()> {
     let (file, lines) = session_and_script(input)?;
-    let script = script_in(rt.alloc(), lines)?;
-    let path = format!(in rt.alloc(); "/tmp/milter_tests_driver.{process_id}")?;
-    print_session(rt, &script, &path, file)
+    let script = script_in(rt.alloc(), lines.as_bytes())?;
+    print_file(rt, &script, file.as_bytes())
 }

@@ -1,5 +1,5 @@
-//! A mail server's end, played by a script. The input is a session file, a line `%%`, and a command a line. HEX are
-//! hexadecimal digits, two a byte.
+//! A mail server's end, played by a script. The input is a session file, a line `%%`, and a command a line, in words as
+//! the lines of session files are. HEX are hexadecimal digits, two a byte.
 //!
 //! - `config ACTIONS PROTOCOL ON_LOSS`, the first: the bits that are offered, in hexadecimal digits, and `accept`,
 //!   `tempfail` or `reject`. `no config` is printed where these bits can't be offered, and nothing more is done.
@@ -15,68 +15,54 @@
 //!   refused for a packet, the filter is lost. Nothing is printed.
 //! - `want`, `pending`, `settled`: what is wanted, the bytes that wait to be sent as HEX, and how many messages are
 //!   settled, are printed.
-//! - `reports`, the last: a line is printed for each report. It has the verdicts that were acted on, what became of the
-//!   message, and what settled it. `reports messages`: after the line of a message that is released comes its text.
+//! - `reports`: a line is printed for each report. It has the verdicts that were acted on, what became of the message,
+//!   and what settled it. `reports messages`: after the line of a message that is released comes its text.
 
 mod commands;
-mod config_line;
 mod exchanges;
 mod report_lines;
 
 use crate::input::{mta_core, session_and_script};
-use anyhow::Context;
-use commands::obey;
-use config_line::config_in;
-use milter_mta::MtaCore;
-use report_lines::{Detail, print_reports};
+use crate::printed::print_line;
+use crate::script::{first_texts, obey_lines};
+use crate::texts::{bits_in, str_of, value_in};
+use anyhow::{Context, bail};
+use milter_mta::{Config, MtaCore};
+use milter_mta_outcome::OnLoss;
+use milter_text::LineCursor;
+use milter_wire::{Actions, Protocol, Text};
+use std::alloc::Global;
 
-/// Obeys commands, and answers how the last one asks for the reports, where it does.
-fn obey_all<R: Print + AllocGlobal>(
-    rt: &R,
-    core: &mut MtaCore,
-    commands: &str,
-) -> anyhow::Result<Option<Detail>> {
-    for line in commands.lines() {
-        match line {
-            "reports" => return Ok(Some(Detail::Outcomes)),
-            "reports messages" => return Ok(Some(Detail::Messages)),
-            _ => obey(rt, core, line)?,
-        }
-    }
-    Ok(None)
+/// What a lost filter leaves, by its word.
+const ON_LOSS: [(&str, OnLoss); 3] = [
+    ("accept", OnLoss::Accept),
+    ("tempfail", OnLoss::Tempfail),
+    ("reject", OnLoss::Reject),
+];
+
+/// The configuration of a line `config ACTIONS PROTOCOL ON_LOSS`; none where the bits can't be offered.
+fn config_of(texts: &[Text]) -> anyhow::Result<Option<Config>> {
+    let [_, actions, protocol, on_loss] = texts else {
+        bail!("config ACTIONS PROTOCOL ON_LOSS is to be the first line");
+    };
+    let on_loss = value_in(&ON_LOSS, str_of(on_loss)?).context("nothing that a loss leaves")?;
+    let actions = Actions(bits_in(actions)?);
+    Ok(Config::new(actions, Protocol(bits_in(protocol)?), on_loss))
 }
 
-/// Plays commands on the end of a mail server.
-fn play_on<R: Print + AllocGlobal>(rt: &R, core: MtaCore, commands: &str) -> anyhow::Result<()> {
-    let mut core = core;
-    // The calls of `drop` are proved in a tenth of the time that drops at the end of the scope take.
-    match obey_all(rt, &mut core, commands) {
-        Ok(Some(detail)) => print_reports(rt, &core.into_reports(), detail),
-        Ok(None) => {
-            drop(core);
-            Ok(())
-        }
-        Err(error) => {
-            drop(core);
-            Err(error)
-        }
-    }
-}
-
-/// Plays a script, whose session file is this one.
-fn play<R: Print + AllocGlobal>(rt: &R, file: &str, script: &str) -> anyhow::Result<()> {
-    let (first, commands) = script.split_once('\n').context("no command")?;
-    match config_in(first)? {
-        Some(config) => play_on(rt, mta_core(rt.alloc(), config, file)?, commands),
-        None => {
-            println!(rt; "no config")?;
-            Ok(())
-        }
-    }
+/// The configuration of the next line.
+fn config_in(alloc: Global, lines: &mut LineCursor<'_>) -> anyhow::Result<Option<Config>> {
+    let texts = first_texts(alloc, lines)?;
+    config_of(&texts)
 }
 
 /// Plays the script of the input, and prints what its commands ask for.
-pub fn print_played<R: Print + AllocGlobal>(rt: &R, input: &[u8]) -> anyhow::Result<()> {
+pub fn print_played(rt: &HostRuntime, input: &[u8]) -> anyhow::Result<()> {
     let (file, script) = session_and_script(input)?;
-    play(rt, file, script)
+    let mut lines = LineCursor::new(script.as_bytes());
+    let Some(config) = config_in(rt.alloc(), &mut lines)? else {
+        return print_line(rt, "no config");
+    };
+    let mut core: MtaCore = mta_core(rt.alloc(), config, file.as_bytes())?;
+    obey_lines(rt, &mut core, &mut lines)
 }

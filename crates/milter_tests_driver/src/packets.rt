@@ -6,75 +6,63 @@
 
 ghost use Rattle.std.specs.Prelude.{◌≤◌, length};
 
+use crate::printed::print_number;
+use crate::texts::value_in;
 use anyhow::{Context, bail};
 use milter_wire::{Command, CommandRef, PAYLOAD_MAX, Packet, Splitter};
 use std::alloc::Global;
 
-/// What is done with each packet.
-trait Work {
-    /// Does it with one packet.
-    fn read(&mut self, packet: Packet<'_>) -> anyhow::Result<()>
-        requires { length packet.payload.now ≤ PAYLOAD_MAX };
+/// What is done with the stream.
+#[derive(Clone, Copy)]
+enum Work {
+    Split,
+    Borrowed,
+    Owned,
+    Encode,
+    Copy,
 }
 
-/// Nothing.
-#[derive(Drop)]
-struct Split;
+/// What is done, by its word.
+const WORKS: [(&str, Work); 5] = [
+    ("split", Work::Split),
+    ("borrowed", Work::Borrowed),
+    ("owned", Work::Owned),
+    ("encode", Work::Encode),
+    ("copy", Work::Copy),
+];
 
-/// It is decoded as it is borrowed.
-#[derive(Drop)]
-struct Borrowed;
-
-/// It is decoded into a command of its own.
-#[derive(Drop)]
-struct Owned {
-    alloc: Global,
-}
-
-/// It is decoded as it is borrowed, and encoded again.
-#[derive(Drop)]
-struct Encode {
-    alloc: Global,
-    out: Vec<u8>,
-}
-
-impl Work for Split {
-    fn read(&mut self, packet: Packet<'_>) -> anyhow::Result<()> {
-        let _packet = packet;
-        Ok(())
+/// Decodes a packet as it is borrowed, and encodes it again.
+fn encode(alloc: Global, packet: Packet<'_>, out: &mut Vec<u8>) -> anyhow::Result<()>
+    requires { length packet.payload.now ≤ PAYLOAD_MAX }
+{
+    let command = CommandRef::decode(packet.code, packet.payload)?;
+    out.clear();
+    if command.fits() {
+        command.encode(alloc, out)?;
     }
+    Ok(())
 }
 
-impl Work for Borrowed {
-    fn read(&mut self, packet: Packet<'_>) -> anyhow::Result<()> {
-        let _command = CommandRef::decode(packet.code, packet.payload)?;
-        Ok(())
+/// Does the work with one packet.
+fn read(alloc: Global, work: Work, packet: Packet<'_>, out: &mut Vec<u8>) -> anyhow::Result<()>
+    requires { length packet.payload.now ≤ PAYLOAD_MAX }
+{
+    match work {
+        Work::Borrowed => drop(CommandRef::decode(packet.code, packet.payload)?),
+        Work::Owned => drop(Command::decode(alloc, packet.code, packet.payload)?),
+        Work::Encode => encode(alloc, packet, out)?,
+        Work::Split | Work::Copy => {}
     }
-}
-
-impl Work for Owned {
-    fn read(&mut self, packet: Packet<'_>) -> anyhow::Result<()> {
-        let _command = Command::decode(self.alloc, packet.code, packet.payload)?;
-        Ok(())
-    }
-}
-
-impl Work for Encode {
-    fn read(&mut self, packet: Packet<'_>) -> anyhow::Result<()> {
-        let command = CommandRef::decode(packet.code, packet.payload)?;
-        self.out.clear();
-        if command.fits() {
-            command.encode(self.alloc, &mut self.out)?;
-        }
-        Ok(())
-    }
+    Ok(())
 }
 
 /// Splits the stream and does the work with each packet. The answer is the number of their payload bytes.
-fn read_stream<W: Work>(
-    work: &mut W,
+fn read_stream(
+    alloc: Global,
+    work: Work,
     splitter: &mut Splitter,
     stream: &[u8],
+    out: &mut Vec<u8>,
 ) -> anyhow::Result<u64> {
     let mut total: u64 = 0;
     let mut rest = stream;
@@ -86,62 +74,50 @@ fn read_stream<W: Work>(
         rest = &rest[taken..];
         if let Some(packet) = splitter.next()? {
             total = total.saturating_add(packet.payload.len() as u64);
-            work.read(packet)?;
+            read(alloc, work, packet, out)?;
         }
     }
     Ok(total)
 }
 
-/// Splits the stream as often as it is asked for. The answer is the number of payload bytes.
-fn read_again<W: Work>(
+/// Copies the stream. The answer is the number of bytes.
+fn copy_stream(stream: &[u8], out: &mut Vec<u8>) -> anyhow::Result<u64> {
+    out.clear();
+    out.extend_from_slice(stream)?;
+    Ok(out.len() as u64)
+}
+
+/// Does the work with the stream as often as it is asked for. The answer is the number of bytes.
+fn work_again(
     alloc: Global,
-    work: &mut W,
+    work: Work,
+    splitter: &mut Splitter,
     stream: &[u8],
     count: u64,
 ) -> anyhow::Result<u64> {
-    let mut splitter = Splitter::new(alloc);
+    let mut out = Vec::new(alloc);
     let mut total: u64 = 0;
     for _ in 0..count {
-        let read = read_stream(work, &mut splitter, stream)?;
+        let read = match work {
+            Work::Copy => copy_stream(stream, &mut out)?,
+            _ => read_stream(alloc, work, splitter, stream, &mut out)?,
+        };
         total = total.saturating_add(read);
     }
     Ok(total)
 }
 
-/// Copies the stream as often as it is asked for. The answer is the number of bytes.
-fn copy_again(alloc: Global, stream: &[u8], count: u64) -> anyhow::Result<u64> {
-    let mut out = Vec::new(alloc);
-    let mut total: u64 = 0;
-    for _ in 0..count {
-        out.clear();
-        out.extend_from_slice(stream)?;
-        total = total.saturating_add(out.len() as u64);
-    }
-    Ok(total)
-}
-
 /// Does the work that the words ask for with the packets of the input, and prints how many bytes their payloads have.
-pub fn print_total<R: Print + AllocGlobal>(
-    rt: &R,
-    words: &[String],
-    input: &[u8],
-) -> anyhow::Result<()> {
-    let alloc = rt.alloc();
+pub fn print_total(rt: &HostRuntime, words: &[String], input: &[u8]) -> anyhow::Result<()> {
     let [work, count] = words else {
         bail!("usage: milter_tests_driver packets split|borrowed|owned|encode|copy COUNT");
     };
-    let count = count.parse::<u64>().ok().context("COUNT is no number")?;
-    let total = match work.as_str() {
-        "split" => read_again(alloc, &mut Split, input, count)?,
-        "borrowed" => read_again(alloc, &mut Borrowed, input, count)?,
-        "owned" => read_again(alloc, &mut Owned { alloc }, input, count)?,
-        "encode" => {
-            let out = Vec::new(alloc);
-            read_again(alloc, &mut Encode { alloc, out }, input, count)?
-        }
-        "copy" => copy_again(alloc, input, count)?,
-        _ => bail!("{work} is no work"),
+    let Some(work) = value_in(&WORKS, work) else {
+        bail!("{work} is no work");
     };
-    println!(rt; "{total}")?;
-    Ok(())
+    let count = count.parse::<u64>().ok().context("COUNT is no number")?;
+    let mut splitter = Splitter::new(rt.alloc());
+    let total = work_again(rt.alloc(), work, &mut splitter, input, count)?;
+    drop(splitter);
+    print_number(rt, total)
 }

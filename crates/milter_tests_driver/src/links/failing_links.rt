@@ -1,20 +1,20 @@
 //! Links that fail by a script.
 
-use crate::links::script::{Failed, Failure, Script};
+use crate::links::script::{Failed, Failure, Script, Way};
 use milter_mta_client::{Dial, DialFault};
 use std::cell::Cell;
 use std::io;
 use std::io::{Read, Write};
 
 /// Counts a call, and answers its number.
-fn count(calls: &Cell<u64>) -> u64 {
+fn count(calls: &Cell<usize>) -> usize {
     let number = calls.get().saturating_add(1);
     calls.set(number);
     number
 }
 
 /// How the call of this number fails, where it does.
-fn failure_of(failed: &[Failed], number: u64) -> Option<Failure> {
+fn failure_of(failed: &[Failed], number: usize) -> Option<Failure> {
     for calls in failed {
         if calls.span.has(number) {
             return Some(calls.failure);
@@ -28,9 +28,9 @@ fn failure_of(failed: &[Failed], number: u64) -> Option<Failure> {
 #[derive(Drop)]
 pub struct Network<'s> {
     script: &'s Script,
-    dials: Cell<u64>,
-    reads: Cell<u64>,
-    writes: Cell<u64>,
+    dials: Cell<usize>,
+    reads: Cell<usize>,
+    writes: Cell<usize>,
     is_out_of_memory: Cell<bool>,
 }
 
@@ -46,8 +46,13 @@ impl<'s> Network<'s> {
         }
     }
 
+    /// Over what links go.
+    pub fn way(&self) -> Way {
+        self.script.way
+    }
+
     /// How often it was dialled.
-    pub fn dials(&self) -> u64 {
+    pub fn dials(&self) -> usize {
         self.dials.get()
     }
 
@@ -62,7 +67,7 @@ impl<'s> Network<'s> {
     }
 
     /// Whether the dial of this number fails.
-    fn fails(&self, number: u64) -> bool {
+    fn fails(&self, number: usize) -> bool {
         for span in &self.script.dials {
             if span.has(number) {
                 return true;

@@ -2,13 +2,17 @@
 
 ghost use Rattle.std.specs.Prelude.{◌≡◌, IfOk};
 
+use crate::script::{Line, line_of, next_texts};
+use crate::texts::{number_in, str_of, value_in};
 use anyhow::{Context, bail};
+use milter_text::LineCursor;
+use milter_wire::Text;
 use std::alloc::Global;
 use std::io;
 use std::io::ErrorKind;
 
 /// How a read or a write fails.
-#[derive(Clone, Copy, Debug, PartialEq, Eq)]
+#[derive(Clone, Copy)]
 pub enum Failure {
     /// With an error of this kind.
     Error(ErrorKind),
@@ -29,21 +33,21 @@ impl Failure {
 }
 
 /// Calls that come one after the other, counted from 1 over all links.
-#[derive(Clone, Copy, Debug)]
+#[derive(Clone, Copy)]
 pub struct Span {
-    first: u64,
-    count: u64,
+    first: usize,
+    count: usize,
 }
 
 impl Span {
     /// Whether the call of this number is one of them.
-    pub fn has(self, number: u64) -> bool {
+    pub fn has(self, number: usize) -> bool {
         self.first <= number && number - self.first < self.count
     }
 }
 
 /// Reads or writes that fail in one way.
-#[derive(Clone, Copy, Debug)]
+#[derive(Clone, Copy)]
 pub struct Failed {
     /// Which these are.
     pub span: Span,
@@ -52,7 +56,7 @@ pub struct Failed {
 }
 
 /// Over what links go.
-#[derive(Clone, Copy, Debug, PartialEq, Eq)]
+#[derive(Clone, Copy)]
 pub enum Way {
     /// From memory to memory.
     Memory,
@@ -63,7 +67,7 @@ pub enum Way {
 }
 
 /// What links are, and what fails of them.
-#[derive(Debug, Drop)]
+#[derive(Drop)]
 pub struct Script {
     /// Over what they go.
     pub way: Way,
@@ -83,69 +87,95 @@ pub struct Script {
     pub writes: Vec<Failed>,
 }
 
-/// A number.
-fn number_in(word: &str) -> anyhow::Result<u64> {
-    word.parse::<u64>().ok().context("no number")
+/// What a line is about.
+#[derive(Clone, Copy)]
+enum Subject {
+    Tcp,
+    Unix,
+    Dialled,
+    Closed,
+    Pieces,
+    Dial,
+    Read,
+    Write,
 }
 
-/// The most bytes of a call.
-fn piece_in(word: &str) -> anyhow::Result<usize> {
-    word.parse::<usize>().ok().context("no number of bytes")
+/// The first words of lines.
+const SUBJECTS: [(&str, Subject); 8] = [
+    ("tcp", Subject::Tcp),
+    ("unix", Subject::Unix),
+    ("dialled", Subject::Dialled),
+    ("closed", Subject::Closed),
+    ("pieces", Subject::Pieces),
+    ("dial", Subject::Dial),
+    ("read", Subject::Read),
+    ("write", Subject::Write),
+];
+
+/// How a call fails, by its word.
+const FAILURES: [(&str, Failure); 5] = [
+    ("timed-out", Failure::Error(ErrorKind::TimedOut)),
+    ("would-block", Failure::Error(ErrorKind::WouldBlock)),
+    ("reset", Failure::Error(ErrorKind::ConnectionReset)),
+    ("interrupted", Failure::Error(ErrorKind::Interrupted)),
+    ("nothing", Failure::Nothing),
+];
+
+/// The two numbers that some texts begin with.
+fn numbers_in(texts: &[Text]) -> anyhow::Result<(usize, usize)> {
+    let [first, second, ..] = texts else {
+        bail!("two numbers are to follow");
+    };
+    let first = number_in(str_of(first)?)?;
+    Ok((first, number_in(str_of(second)?)?))
 }
 
-/// How a call fails.
-fn failure_in(word: &str) -> anyhow::Result<Failure> {
-    match word {
-        "timed-out" => Ok(Failure::Error(ErrorKind::TimedOut)),
-        "would-block" => Ok(Failure::Error(ErrorKind::WouldBlock)),
-        "reset" => Ok(Failure::Error(ErrorKind::ConnectionReset)),
-        "interrupted" => Ok(Failure::Error(ErrorKind::Interrupted)),
-        "nothing" => Ok(Failure::Nothing),
-        _ => bail!("{word} is no way to fail"),
-    }
+/// The calls of the texts `FIRST COUNT`.
+fn span_in(texts: &[Text]) -> anyhow::Result<Span> {
+    let (first, count) = numbers_in(texts)?;
+    Ok(Span { first, count })
 }
 
-/// The calls of the words `FIRST COUNT`.
-fn span_in(words: &str) -> anyhow::Result<Span> {
-    let (first, count) = words.split_once(' ').context("FIRST COUNT")?;
-    Ok(Span {
-        first: number_in(first)?,
-        count: number_in(count)?,
-    })
-}
-
-/// The calls of the words `FIRST COUNT HOW`.
-fn failed_in(words: &str) -> anyhow::Result<Failed> {
-    let (span, failure) = words.rsplit_once(' ').context("FIRST COUNT HOW")?;
-    Ok(Failed {
-        span: span_in(span)?,
-        failure: failure_in(failure)?,
-    })
+/// The calls of the texts `FIRST COUNT HOW`.
+fn failed_in(texts: &[Text]) -> anyhow::Result<Failed> {
+    let span = span_in(texts)?;
+    let [_, _, how] = texts else {
+        bail!("FIRST COUNT HOW is to follow");
+    };
+    let failure = value_in(&FAILURES, str_of(how)?).context("no way to fail")?;
+    Ok(Failed { span, failure })
 }
 
 /// Notes what a line has.
-fn note(script: &mut Script, line: &str) -> anyhow::Result<()> {
-    let (word, more) = line.split_once(' ').unwrap_or((line, ""));
-    match word {
-        "tcp" => script.way = Way::Tcp,
-        "unix" => script.way = Way::Unix,
-        "dialled" => script.is_dialled = true,
-        "closed" => script.is_closed = true,
-        "pieces" => {
-            let (read_max, write_max) = more.split_once(' ').context("pieces READ WRITE")?;
-            script.read_max = piece_in(read_max)?;
-            script.write_max = piece_in(write_max)?;
+fn note(script: &mut Script, line: Line<'_>) -> anyhow::Result<()> {
+    let texts = line.texts;
+    match value_in(&SUBJECTS, line.word).context("unknown word")? {
+        Subject::Tcp => script.way = Way::Tcp,
+        Subject::Unix => script.way = Way::Unix,
+        Subject::Dialled => script.is_dialled = true,
+        Subject::Closed => script.is_closed = true,
+        Subject::Pieces => (script.read_max, script.write_max) = numbers_in(texts)?,
+        Subject::Dial => script.dials.push(span_in(texts)?)?,
+        Subject::Read => script.reads.push(failed_in(texts)?)?,
+        Subject::Write => script.writes.push(failed_in(texts)?)?,
+    }
+    Ok(())
+}
+
+/// Notes what each line has.
+fn note_all(alloc: Global, script: &mut Script, file: &[u8]) -> anyhow::Result<()> {
+    let mut lines = LineCursor::new(file);
+    for _ in 0..u64::MAX {
+        match next_texts(alloc, &mut lines)? {
+            Some(texts) => note(script, line_of(&texts)?)?,
+            None => break,
         }
-        "dial" => script.dials.push(span_in(more)?)?,
-        "read" => script.reads.push(failed_in(more)?)?,
-        "write" => script.writes.push(failed_in(more)?)?,
-        _ => bail!("{word} is no word of a script"),
     }
     Ok(())
 }
 
 /// The script of these lines.
-pub fn script_in(alloc: Global, lines: &str) -> anyhow::Result<Script> {
+pub fn script_in(alloc: Global, file: &[u8]) -> anyhow::Result<Script> {
     let mut script = Script {
         way: Way::Memory,
         is_dialled: false,
@@ -156,8 +186,6 @@ pub fn script_in(alloc: Global, lines: &str) -> anyhow::Result<Script> {
         reads: Vec::new(alloc),
         writes: Vec::new(alloc),
     };
-    for line in lines.lines() {
-        note(&mut script, line)?;
-    }
+    note_all(alloc, &mut script, file)?;
     Ok(script)
 }

@@ -1,12 +1,10 @@
 //! Links over sockets of which this process holds both ends.
 
 use crate::links::filter_ends::{FilterDial, FilterEnd};
-use milter_cli::{TcpDial, UnixDial};
 use milter_mta_client::{Dial, DialFault};
 use std::io::{Read, Write};
-use std::net::{Net, TcpListener, TcpStream};
+use std::net::{TcpListener, TcpStream};
 use std::os::unix::net::{UnixListener, UnixStream};
-use std::rt::Files;
 use std::time::Duration;
 use std::{fs, io};
 
@@ -57,7 +55,7 @@ impl<S: Read + Write> Write for SocketLink<'_, S> {
 
 /// A link over these ends of a connection, the mail server's first, to a new filter's end.
 fn link_over<'w, S: Drop>(
-    ends: anyhow::Result<(S, S)>,
+    ends: io::Result<(S, S)>,
     filters: &mut FilterDial<'w>,
 ) -> Result<SocketLink<'w, S>, DialFault> {
     let Ok((client, server)) = ends else {
@@ -73,45 +71,45 @@ fn link_over<'w, S: Drop>(
 
 /// Makes links over TCP.
 #[derive(Drop)]
-pub struct TcpLinks<'w, R> {
+pub struct TcpLinks<'w> {
     /// What makes sockets.
-    pub net: &'w R,
+    pub rt: &'w HostRuntime,
     /// What makes the filter's ends.
     pub filters: FilterDial<'w>,
 }
 
-impl<'w, R: Net<Listener = TcpListener, Stream = TcpStream>> Dial for TcpLinks<'w, R> {
+impl<'w> Dial for TcpLinks<'w> {
     type Link = SocketLink<'w, TcpStream>;
 
     fn dial(&mut self) -> Result<SocketLink<'w, TcpStream>, DialFault> {
-        link_over(tcp_ends(self.net), &mut self.filters)
+        link_over(tcp_ends(self.rt), &mut self.filters)
     }
 }
 
 /// Both ends of a connection to a port of this machine, the one that was dialled first.
-fn tcp_ends<R: Net<Listener = TcpListener, Stream = TcpStream>>(
-    net: &R,
-) -> anyhow::Result<(TcpStream, TcpStream)> {
-    let listener = TcpListener::bind(net, (HOST, ANY_PORT))?;
+fn tcp_ends(rt: &HostRuntime) -> io::Result<(TcpStream, TcpStream)> {
+    let listener = TcpListener::bind(rt, (HOST, ANY_PORT))?;
     let port = listener.local_addr()?.port();
-    let mut dial = TcpDial::new(net, port, HOST, Duration::from_secs(LIMIT_SECONDS));
-    let client = dial.dial()?;
+    let limit = Duration::from_secs(LIMIT_SECONDS);
+    let client = TcpStream::connect(rt, (HOST, port))?;
+    client.set_read_timeout(Some(limit))?;
+    client.set_write_timeout(Some(limit))?;
     let (server, _) = listener.accept()?;
     Ok((client, server))
 }
 
 /// Makes links over Unix sockets.
 #[derive(Drop)]
-pub struct UnixLinks<'w, R> {
+pub struct UnixLinks<'w> {
     /// What makes sockets and removes their files.
-    pub rt: &'w R,
+    pub rt: &'w HostRuntime,
     /// The path of the socket of each link, at which nothing is between dials.
     pub path: &'w str,
     /// What makes the filter's ends.
     pub filters: FilterDial<'w>,
 }
 
-impl<'w, R: Net + Files> Dial for UnixLinks<'w, R> {
+impl<'w> Dial for UnixLinks<'w> {
     type Link = SocketLink<'w, UnixStream>;
 
     fn dial(&mut self) -> Result<SocketLink<'w, UnixStream>, DialFault> {
@@ -120,12 +118,14 @@ impl<'w, R: Net + Files> Dial for UnixLinks<'w, R> {
 }
 
 /// Both ends of a connection to a Unix socket, the one that was dialled first. The socket's file is removed again.
-fn unix_ends<R: Net + Files>(rt: &R, path: &str) -> anyhow::Result<(UnixStream, UnixStream)> {
+fn unix_ends(rt: &HostRuntime, path: &str) -> io::Result<(UnixStream, UnixStream)> {
+    let limit = Duration::from_secs(LIMIT_SECONDS);
     let listener = UnixListener::bind(rt, path)?;
-    let mut dial = UnixDial::new(rt, path, Duration::from_secs(LIMIT_SECONDS));
-    let dialled = dial.dial();
+    let dialled = UnixStream::connect(rt, path);
     fs::remove_file(rt, path)?;
     let client = dialled?;
+    client.set_read_timeout(Some(limit))?;
+    client.set_write_timeout(Some(limit))?;
     let (server, _) = listener.accept()?;
     Ok((client, server))
 }

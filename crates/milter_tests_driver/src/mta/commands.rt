@@ -1,9 +1,53 @@
-//! The commands of a script between its first and its last.
+//! The commands of a script after its first.
 
 use crate::mta::exchanges::{converse, feed_bytes, feed_times, pass, send_some};
+use crate::mta::report_lines::print_reports;
+use crate::printed::{print_hex, print_line, print_number};
+use crate::script::{Line, Player};
+use crate::texts::{number_in, one_of, piece_in, str_of, value_in};
 use anyhow::{Context, bail};
 use milter_mta::{MtaCore, Want};
 use milter_mta_outcome::Loss;
+use milter_wire::Text;
+use std::str::from_utf8;
+
+/// What a line asks for.
+#[derive(Clone, Copy)]
+enum Command {
+    Dialled,
+    Advance,
+    Pass,
+    Feed,
+    FeedBytes,
+    FeedTimes,
+    Converse,
+    Lost,
+    Want,
+    Settled,
+    Reports,
+}
+
+/// The first words of lines.
+const COMMANDS: [(&str, Command); 11] = [
+    ("dialled", Command::Dialled),
+    ("advance", Command::Advance),
+    ("pass", Command::Pass),
+    ("feed", Command::Feed),
+    ("feed_bytes", Command::FeedBytes),
+    ("feed_times", Command::FeedTimes),
+    ("converse", Command::Converse),
+    ("lost", Command::Lost),
+    ("want", Command::Want),
+    ("settled", Command::Settled),
+    ("reports", Command::Reports),
+];
+
+/// How the filter is lost, by its word.
+const LOSSES: [(&str, Loss); 3] = [
+    ("reset", Loss::Reset),
+    ("timeout", Loss::Timeout),
+    ("memory", Loss::Memory),
+];
 
 /// The word for what is wanted.
 fn word_of(want: Want) -> &'static str {
@@ -16,73 +60,82 @@ fn word_of(want: Want) -> &'static str {
 }
 
 /// How the filter is lost.
-fn loss_in(word: &str) -> anyhow::Result<Loss> {
-    match word {
-        "reset" => Ok(Loss::Reset),
-        "timeout" => Ok(Loss::Timeout),
-        "memory" => Ok(Loss::Memory),
-        _ => bail!("{word} is none of reset, timeout and memory"),
-    }
-}
-
-/// A number of bytes or of packets.
-fn number_in(word: &str) -> anyhow::Result<usize> {
-    word.parse::<usize>().ok().context("no number")
-}
-
-/// Prints the bytes that wait to be sent.
-fn print_pending<R: Print + AllocGlobal>(rt: &R, core: &MtaCore) -> anyhow::Result<()> {
-    let digits = hex::encode(rt.alloc(), core.pending())?;
-    println!(rt; "{digits}")?;
-    Ok(())
+fn loss_in(texts: &[Text]) -> anyhow::Result<Loss> {
+    let word = from_utf8(one_of(texts)?).unwrap_or("");
+    value_in(&LOSSES, word).context("no loss")
 }
 
 /// Prints what came of feeding.
-fn print_fed<R: Print>(rt: &R, fed: Result<(), Loss>) -> anyhow::Result<()> {
+fn print_fed(rt: &HostRuntime, fed: Result<(), Loss>) -> anyhow::Result<()> {
     match fed {
-        Ok(()) => println!(rt; "ok")?,
-        Err(loss) => println!(rt; "{loss}")?,
+        Ok(()) => print_line(rt, "ok"),
+        Err(loss) => Ok(println!(rt; "{loss}")?),
     }
-    Ok(())
 }
 
-/// Feeds a piece so many times as the words have it, and prints what comes of it.
-fn obey_feed_times<R: Print + AllocGlobal>(
-    rt: &R,
+/// Feeds a piece, and prints what comes of it.
+fn feed_whole(rt: &HostRuntime, core: &mut MtaCore, texts: &[Text]) -> anyhow::Result<()> {
+    let piece = piece_in(rt.alloc(), texts)?;
+    print_fed(rt, core.feed(&piece))
+}
+
+/// Feeds a piece byte by byte, and prints what comes of it.
+fn feed_bytewise(rt: &HostRuntime, core: &mut MtaCore, texts: &[Text]) -> anyhow::Result<()> {
+    let piece = piece_in(rt.alloc(), texts)?;
+    print_fed(rt, feed_bytes(core, &piece))
+}
+
+/// Feeds a piece so many times as the texts have it, and prints what comes of it.
+fn feed_again(rt: &HostRuntime, core: &mut MtaCore, texts: &[Text]) -> anyhow::Result<()> {
+    let [count, digits @ ..] = texts else {
+        bail!("feed_times NUMBER HEX");
+    };
+    let count = number_in(str_of(count)?)?;
+    let piece = piece_in(rt.alloc(), digits)?;
+    print_fed(rt, feed_times(core, count, &piece))
+}
+
+/// Does what a line asks for.
+fn obey_command(
+    rt: &HostRuntime,
     core: &mut MtaCore,
-    words: &str,
+    command: Command,
+    texts: &[Text],
 ) -> anyhow::Result<()> {
-    let (count, digits) = words.split_once(' ').context("feed_times NUMBER HEX")?;
-    let piece = hex::decode(rt.alloc(), digits)?;
-    print_fed(rt, feed_times(core, number_in(count)?, &piece))
+    match command {
+        Command::Dialled => Ok(core.dialled()),
+        Command::Advance => Ok(core.advance()?),
+        Command::Pass => pass(core, texts),
+        Command::Feed => feed_whole(rt, core, texts),
+        Command::FeedBytes => feed_bytewise(rt, core, texts),
+        Command::FeedTimes => feed_again(rt, core, texts),
+        Command::Converse => converse(rt.alloc(), core, texts),
+        Command::Lost => Ok(core.lost(loss_in(texts)?)),
+        Command::Want => print_line(rt, word_of(core.want())),
+        Command::Settled => print_number(rt, core.settled() as u64),
+        Command::Reports => print_reports(rt, core.reports(), !texts.is_empty()),
+    }
 }
 
-/// Does what a line asks for, and prints what comes of it.
-pub fn obey<R: Print + AllocGlobal>(rt: &R, core: &mut MtaCore, line: &str) -> anyhow::Result<()> {
-    let (command, word) = line.split_once(' ').unwrap_or((line, ""));
-    match command {
-        "dialled" => core.dialled(),
-        "advance" => core.advance()?,
-        "sent" => send_some(core, number_in(word)?),
-        "send" => {
-            core.advance()?;
-            print_pending(rt, core)?;
-            send_some(core, usize::MAX);
-        }
-        "pass" => {
-            for _ in 0..number_in(word)? {
-                pass(core)?;
-            }
-        }
-        "feed" => print_fed(rt, core.feed(&hex::decode(rt.alloc(), word)?))?,
-        "feed_bytes" => print_fed(rt, feed_bytes(core, &hex::decode(rt.alloc(), word)?))?,
-        "feed_times" => obey_feed_times(rt, core, word)?,
-        "converse" => converse(rt.alloc(), core, word)?,
-        "lost" => core.lost(loss_in(word)?),
-        "want" => println!(rt; "{}", word_of(core.want()))?,
-        "pending" => print_pending(rt, core)?,
-        "settled" => println!(rt; "{}", core.settled())?,
-        _ => bail!("{command} is no command"),
+impl Player for MtaCore {
+    fn pending(&self) -> &[u8] {
+        self.pending()
     }
-    Ok(())
+
+    fn sent(&mut self, count: usize) {
+        send_some(self, count);
+    }
+
+    /// Makes the next packet, prints it, and notes that it was sent.
+    fn send(&mut self, rt: &HostRuntime) -> anyhow::Result<()> {
+        self.advance()?;
+        let printed = print_hex(rt, self.pending());
+        send_some(self, usize::MAX);
+        printed
+    }
+
+    fn obey(&mut self, rt: &HostRuntime, line: Line<'_>) -> anyhow::Result<()> {
+        let command = value_in(&COMMANDS, line.word).context("unknown command")?;
+        obey_command(rt, self, command, line.texts)
+    }
 }

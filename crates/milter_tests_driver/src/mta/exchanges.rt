@@ -1,8 +1,10 @@
 //! What is sent to a filter, and what comes of its replies.
 
+use crate::texts::{number_of, str_of};
 use anyhow::Context;
 use milter_mta::{MtaCore, Want};
 use milter_mta_outcome::Loss;
+use milter_wire::Text;
 use std::alloc::Global;
 
 /// The packet of options of version 6 without any bits.
@@ -28,12 +30,20 @@ fn plain_reply(packet: &[u8]) -> &'static [u8] {
 }
 
 /// Sends the next packet, and answers it, where it has a reply, by the plain one.
-pub fn pass(core: &mut MtaCore) -> anyhow::Result<()> {
+fn pass_one(core: &mut MtaCore) -> anyhow::Result<()> {
     core.advance()?;
     let reply = plain_reply(core.pending());
     send_some(core, usize::MAX);
     if core.want() == Want::Receive {
         core.feed(reply)?;
+    }
+    Ok(())
+}
+
+/// Sends as many packets as the texts have it, and answers those that have a reply by the plain one.
+pub fn pass(core: &mut MtaCore, texts: &[Text]) -> anyhow::Result<()> {
+    for _ in 0..number_of(texts)? {
+        pass_one(core)?;
     }
     Ok(())
 }
@@ -54,20 +64,28 @@ pub fn feed_times(core: &mut MtaCore, count: usize, piece: &[u8]) -> Result<(), 
     Ok(())
 }
 
-/// The reply to a packet: that of the first answer `START=REPLY` whose START it begins with, or else the plain one.
-fn reply_to(alloc: Global, packet: &[u8], answers: &str) -> anyhow::Result<Vec<u8>> {
-    let digits = hex::encode(alloc, packet)?;
-    for answer in answers.split(' ') {
-        let (start, reply) = answer.split_once('=').context("an answer is START=REPLY")?;
+/// The reply to a packet that the first answer `START=REPLY` has whose START it begins with.
+fn answer_in<'a>(digits: &str, answers: &'a [Text]) -> anyhow::Result<Option<&'a str>> {
+    for answer in answers {
+        let (start, reply) = str_of(answer)?.split_once('=').context("START=REPLY")?;
         if digits.starts_with(start) {
-            return Ok(hex::decode(alloc, reply)?);
+            return Ok(Some(reply));
         }
     }
-    Ok(plain_reply(packet).to_vec(alloc)?)
+    Ok(None)
+}
+
+/// The reply to a packet: that of the answers, or else the plain one.
+fn reply_to(alloc: Global, packet: &[u8], answers: &[Text]) -> anyhow::Result<Vec<u8>> {
+    let digits = hex::encode(alloc, packet)?;
+    match answer_in(&digits, answers)? {
+        Some(reply) => Ok(hex::decode(alloc, reply)?),
+        None => Ok(plain_reply(packet).to_vec(alloc)?),
+    }
 }
 
 /// Sends the next packet, and answers it where it has a reply. Where no memory is left for it, the filter is lost.
-fn exchange(alloc: Global, core: &mut MtaCore, answers: &str) -> anyhow::Result<()> {
+fn exchange(alloc: Global, core: &mut MtaCore, answers: &[Text]) -> anyhow::Result<()> {
     if core.advance().is_err() {
         core.lost(Loss::Memory);
         return Ok(());
@@ -81,7 +99,7 @@ fn exchange(alloc: Global, core: &mut MtaCore, answers: &str) -> anyhow::Result<
 }
 
 /// Plays until nothing is wanted, over as many connections as it takes.
-pub fn converse(alloc: Global, core: &mut MtaCore, answers: &str) -> anyhow::Result<()> {
+pub fn converse(alloc: Global, core: &mut MtaCore, answers: &[Text]) -> anyhow::Result<()> {
     for _ in 0..STEPS {
         match core.want() {
             Want::Dial => core.dialled(),

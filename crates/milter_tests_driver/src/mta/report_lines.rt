@@ -1,27 +1,11 @@
 //! The lines that are printed of reports.
 
-use milter_mail::write_message;
-use milter_mta::Reports;
+use crate::printed::{print_line, print_message};
+use crate::texts::text_of;
 use milter_mta_outcome::{Acted, By, Outcome, Report};
-use std::io;
-use std::str::from_utf8;
-
-/// What is printed of each report.
-#[derive(Clone, Copy, Debug, PartialEq, Eq)]
-pub enum Detail {
-    /// A line.
-    Outcomes,
-    /// The line, and the text of a message that is released.
-    Messages,
-}
-
-/// The text that these bytes are.
-fn text_of(bytes: &[u8]) -> &str {
-    from_utf8(bytes).unwrap_or("no text")
-}
 
 /// Prints a verdict that was acted on, after a separator.
-fn print_acted<R: Print>(rt: &R, separator: &str, acted: &Acted) -> anyhow::Result<()> {
+fn print_acted(rt: &HostRuntime, separator: &str, acted: &Acted) -> anyhow::Result<()> {
     let stage = text_of(acted.stage.name());
     let nth = acted.nth;
     let verdict = text_of(acted.verdict.name());
@@ -29,62 +13,60 @@ fn print_acted<R: Print>(rt: &R, separator: &str, acted: &Acted) -> anyhow::Resu
     Ok(())
 }
 
+/// The words for what became of a message, and what follows them.
+fn words_of(outcome: &Outcome) -> (&'static str, &str) {
+    match outcome {
+        Outcome::Released(_) => ("released to ", ""),
+        Outcome::Discarded => ("discarded", ""),
+        Outcome::Refused(refusal) => ("refused ", text_of(refusal.text())),
+        Outcome::NoRecipients => ("no recipients", ""),
+        Outcome::RefusedAtConnection => ("refused at connection", ""),
+    }
+}
+
 /// Prints what became of a message.
-fn print_outcome<R: Print>(rt: &R, outcome: &Outcome) -> anyhow::Result<()> {
+fn print_outcome(rt: &HostRuntime, outcome: &Outcome) -> anyhow::Result<()> {
+    let (words, more) = words_of(outcome);
     match outcome {
         Outcome::Released(held) => {
             let recipients = held.message.recipients().len();
-            print!(rt; "released to {recipients}")?;
+            Ok(print!(rt; "; {words}{recipients}; ")?)
         }
-        Outcome::Discarded => print!(rt; "discarded")?,
-        Outcome::Refused(refusal) => print!(rt; "refused {}", text_of(refusal.text()))?,
-        Outcome::NoRecipients => print!(rt; "no recipients")?,
-        Outcome::RefusedAtConnection => print!(rt; "refused at connection")?,
+        _ => Ok(print!(rt; "; {words}{more}; ")?),
     }
-    Ok(())
 }
 
 /// Prints what settled a message, and ends the line.
-fn print_by<R: Print>(rt: &R, settled_by: By) -> anyhow::Result<()> {
+fn print_by(rt: &HostRuntime, settled_by: By) -> anyhow::Result<()> {
     match settled_by {
-        By::Filter => println!(rt; "filter")?,
-        By::Connection => println!(rt; "connection")?,
-        By::Default(loss) => println!(rt; "default {loss}")?,
+        By::Filter => print_line(rt, "filter"),
+        By::Connection => print_line(rt, "connection"),
+        By::Default(loss) => Ok(println!(rt; "default {loss}")?),
     }
-    Ok(())
 }
 
 /// Prints the line of a report.
-fn print_report<R: Print>(rt: &R, report: &Report) -> anyhow::Result<()> {
+fn print_report(rt: &HostRuntime, report: &Report) -> anyhow::Result<()> {
     let mut separator = "";
     for acted in report.acted.as_slice() {
         print_acted(rt, separator, acted)?;
         separator = ", ";
     }
-    print!(rt; "; ")?;
     print_outcome(rt, &report.outcome)?;
-    print!(rt; "; ")?;
     print_by(rt, report.settled_by)
 }
 
-/// Prints the text of a message that is released.
-fn print_message<R: Print + AllocGlobal>(rt: &R, outcome: &Outcome) -> anyhow::Result<()> {
-    if let Outcome::Released(held) = outcome {
-        write_message(rt.alloc(), &mut io::writer(rt), held)?;
-    }
-    Ok(())
-}
-
-/// Prints each report in this detail.
-pub fn print_reports<R: Print + AllocGlobal>(
-    rt: &R,
-    reports: &Reports,
-    detail: Detail,
+/// Prints the line of each report, and after it the text of a message that is released, where that is asked for.
+pub fn print_reports(
+    rt: &HostRuntime,
+    reports: &[Report],
+    with_messages: bool,
 ) -> anyhow::Result<()> {
-    for report in reports.messages() {
+    for report in reports {
         print_report(rt, report)?;
-        if detail == Detail::Messages {
-            print_message(rt, &report.outcome)?;
+        match &report.outcome {
+            Outcome::Released(held) if with_messages => print_message(rt, held)?,
+            _ => {}
         }
     }
     Ok(())

@@ -1,15 +1,14 @@
 //! What is printed of edits.
 
-use crate::answers::print_hex;
+use crate::printed::{print_hex, print_message};
 use anyhow::{Context, bail};
-use milter_mail::{Edit, Held, Message, write_message};
+use milter_mail::{Edit, Held, Message};
 use milter_mta_connection::MtaConnection;
 use milter_wire::{Header, Params, Path, Text};
 use std::alloc::Global;
-use std::io;
 
 /// Prints the packet that asks for an edit.
-fn print_edit<R: Print + AllocGlobal>(rt: &R, edit: &Edit) -> anyhow::Result<()> {
+fn print_edit(rt: &HostRuntime, edit: &Edit) -> anyhow::Result<()> {
     let reply = edit.copy(rt.alloc())?.into_reply();
     if !reply.fits() {
         bail!("an edit fits no packet");
@@ -20,7 +19,7 @@ fn print_edit<R: Print + AllocGlobal>(rt: &R, edit: &Edit) -> anyhow::Result<()>
 }
 
 /// Prints how many edits there are, and the packet of each.
-pub fn print_edits<R: Print + AllocGlobal>(rt: &R, edits: &[Edit]) -> anyhow::Result<()> {
+pub fn print_edits(rt: &HostRuntime, edits: &[Edit]) -> anyhow::Result<()> {
     println!(rt; "edits {}", edits.len())?;
     for edit in edits {
         print_edit(rt, edit)?;
@@ -70,13 +69,12 @@ fn message_in(alloc: Global, texts: &[Text]) -> anyhow::Result<Message> {
 }
 
 /// Prints the message of these parts after the edits that came.
-pub fn print_edited<R: Print + AllocGlobal>(
-    rt: &R,
+pub fn print_edited(
+    rt: &HostRuntime,
     connection: &MtaConnection,
     texts: &[Text],
 ) -> anyhow::Result<()> {
     let message = message_in(rt.alloc(), texts)?;
     let held: Held = connection.edited(&message)?;
-    write_message(rt.alloc(), &mut io::writer(rt), &held)?;
-    Ok(())
+    print_message(rt, &held)
 }

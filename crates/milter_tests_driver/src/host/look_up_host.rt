@@ -1,5 +1,6 @@
 //! A host whose questions another program answers.
 
+use crate::texts::verdict_in;
 use milter_filter::{Answer, Pass, Served, Wants};
 use milter_filter_service::{
     AskedConnection, Given, Host, Interest, Key, MailServers, QuestionKey, Registry, ServiceError,
@@ -26,7 +27,7 @@ const PIECE: usize = 512;
 ///
 /// A line `QUESTION VERDICT` is an answer. Lines that can't be written at once are left out.
 #[derive(Drop)]
-pub(crate) struct LookUpHost {
+pub struct LookUpHost {
     alloc: Global,
     server: UnixStream,
     // The questions that were asked, by their numbers.
@@ -37,7 +38,7 @@ pub(crate) struct LookUpHost {
 
 impl LookUpHost {
     /// A host that is connected to the look-up server at this path.
-    pub(crate) fn connect(rt: &HostRuntime, path: &str) -> io::Result<Self> {
+    pub fn connect(rt: &HostRuntime, path: &str) -> io::Result<Self> {
         Ok(LookUpHost {
             alloc: rt.alloc(),
             server: UnixStream::connect(rt, path)?,
@@ -155,15 +156,7 @@ impl Host for LookUpHost {
 /// The question that a line is about, and the verdict in it.
 fn answer_in(line: &[u8]) -> Option<(usize, Verdict)> {
     let (number, word) = str::from_utf8(line).ok()?.split_once(' ')?;
-    let verdict = match word {
-        "accept" => Verdict::Accept,
-        "continue" => Verdict::Continue,
-        "reject" => Verdict::Reject,
-        "skip" => Verdict::Skip,
-        "tempfail" => Verdict::Tempfail,
-        _ => return None,
-    };
-    Some((number.parse().ok()?, verdict))
+    Some((number.parse().ok()?, verdict_in(word)?))
 }
 
 /// What became of an answer.

@@ -1,10 +1,19 @@
-//! What a mail server does with one filter.
+//! A session that is shown to a filter stage by stage, as a mail server does with one filter.
 
 use anyhow::bail;
 use milter_filter::{FilterCore, Pass};
 use milter_mail::{CHUNK_LEN, Message, Session};
+use milter_mail_file::read_session;
 use milter_mta_connection::{CallFault, CallOutcome, FilterEvent, MtaConnection};
-use milter_wire::Verdict;
+use milter_wire::{Actions, Options, Protocol, Verdict};
+use std::alloc::Global;
+
+/// An offer of no action and no protocol bit, so that each command is sent and answered.
+const OFFER: Options = Options {
+    version: 6,
+    actions: Actions(0),
+    protocol: Protocol(0),
+};
 
 /// What is pending comes to the filter, and its replies to the mail server's end.
 fn exchange(
@@ -38,7 +47,7 @@ fn ask(
 }
 
 /// Makes the offer, and shows the client.
-pub fn open(
+fn open(
     connection: &mut MtaConnection,
     filter: &mut FilterCore<'_, Pass>,
     session: &Session,
@@ -83,7 +92,7 @@ fn show_header(
 }
 
 /// Shows a message.
-pub fn show_message(
+fn show_message(
     connection: &mut MtaConnection,
     filter: &mut FilterCore<'_, Pass>,
     message: &Message,
@@ -96,4 +105,31 @@ pub fn show_message(
     }
     let outcome = connection.end(&[]);
     ask(connection, filter, outcome)
+}
+
+/// Shows a filter the client and each message of a session, one after the other.
+fn show_session(
+    connection: &mut MtaConnection,
+    filter: &mut FilterCore<'_, Pass>,
+    session: &Session,
+) -> anyhow::Result<()> {
+    open(connection, filter, session)?;
+    for message in session.messages() {
+        show_message(connection, filter, message)?;
+    }
+    Ok(())
+}
+
+/// Shows a new filter a session over this connection.
+fn show(alloc: Global, connection: &mut MtaConnection, session: &Session) -> anyhow::Result<()> {
+    let mut filter = FilterCore::new(alloc, &Pass)?;
+    show_session(connection, &mut filter, session)
+}
+
+/// Shows a filter the session of a file, and answers how many messages it has.
+pub fn count_shown(alloc: Global, file: &[u8]) -> anyhow::Result<usize> {
+    let session = read_session(alloc, file)?;
+    let mut connection = MtaConnection::new(alloc, OFFER)?;
+    show(alloc, &mut connection, &session)?;
+    Ok(session.messages().len())
 }

@@ -1,6 +1,6 @@
-//! `milter_tests_connection`: plays a script, which is standard input, on one end of a connection: a mail server's, for
-//! the tables `connection_*.table` and `tests/test_captures.py`, or that of a filter whose caller answers, for the
-//! tables `questions_*.table`. The first word says which.
+//! One end of a connection, played by a script, which is the input: a mail server's, for the tables
+//! `connection_*.table` and `tests/test_captures.py`, or that of a filter whose caller answers, for the tables
+//! `questions_*.table`. The first word says which.
 //!
 //! A line is words, plain or in quotes, as the lines of session files are; an empty line, and one that begins with `#`,
 //! is skipped. HEX are hexadecimal digits, two a byte. In brackets is what a line prints.
@@ -43,28 +43,22 @@
 //! - `shown`, `macro NAME`, `pending`, `unread`: [the sender, and how much is shown of the rest; the value of a macro;
 //!   the bytes that are pending as HEX; and how many bytes are unread].
 //! - `release`; `restart ORDER`: for another connection.
-#![tactic(auto)]
 
 mod answers;
 mod calls;
 mod edits;
 mod filter_player;
-mod player;
-mod script;
-mod texts;
+mod mta_player;
 
-use crate::texts::{next_texts, str_of};
-use anyhow::Context;
+use crate::script::{first_texts, line_of};
 use milter_text::LineCursor;
-use std::io::Read;
 
-fn main(rt: HostRuntime) -> anyhow::Result<()> {
-    let mut input = Vec::new(rt.alloc());
-    rt.reader().read_to_end(&mut input)?;
-    let mut lines = LineCursor::new(&input);
-    let first = next_texts(rt.alloc(), &mut lines)?.context("no line")?;
-    match str_of(first.first().context("no word")?)? {
-        "wants" => filter_player::play(&rt, &first, &mut lines),
-        _ => player::play(&rt, &first, &mut lines),
+/// Plays the script of the input, and prints what its lines ask for.
+pub fn print_played(rt: &HostRuntime, input: &[u8]) -> anyhow::Result<()> {
+    let mut lines = LineCursor::new(input);
+    let first = first_texts(rt.alloc(), &mut lines)?;
+    match line_of(&first)?.word {
+        "wants" => filter_player::play(rt, &first, &mut lines),
+        _ => mta_player::play(rt, &first, &mut lines),
     }
 }
