@@ -3,7 +3,6 @@
 use crate::socket_dial::Connect;
 use milter_dial::{Dial, DialFault};
 use std::io::ErrorKind;
-use std::rt::Clock;
 use std::thread;
 use std::time::{Duration, Instant};
 
@@ -15,8 +14,8 @@ const TRIES_MAX: u32 = 100_000;
 
 /// Makes connections as another does. The first of them is tried again for a while; where it is not made, none is.
 #[derive(Drop)]
-pub struct WaitingDial<'r, R: Clock, D: Connect> {
-    clock: &'r R,
+pub struct WaitingDial<'r, D: Connect> {
+    clock: &'r HostRuntime,
     dial: D,
     // For how long the first connection is tried again; none once it was tried, or where it is tried once.
     wait: Option<Duration>,
@@ -25,9 +24,9 @@ pub struct WaitingDial<'r, R: Clock, D: Connect> {
     refusal: Option<ErrorKind>,
 }
 
-impl<'r, R: Clock, D: Connect> WaitingDial<'r, R, D> {
+impl<'r, D: Connect> WaitingDial<'r, D> {
     /// Makes connections as `dial` does, and tries the first again for so many seconds; only once where that is 0.
-    pub fn new(clock: &'r R, dial: D, seconds: u32) -> Self {
+    pub fn new(clock: &'r HostRuntime, dial: D, seconds: u32) -> Self {
         let wait = match seconds {
             0 => None,
             _ => Some(Duration::from_secs(u64::from(seconds))),
@@ -78,7 +77,7 @@ impl<'r, R: Clock, D: Connect> WaitingDial<'r, R, D> {
     }
 }
 
-impl<'r, R: Clock, D: Connect> Dial for WaitingDial<'r, R, D> {
+impl<'r, D: Connect> Dial for WaitingDial<'r, D> {
     type Link = D::Link;
 
     fn dial(&mut self) -> Result<D::Link, DialFault> {

@@ -2,6 +2,7 @@
 
 use crate::faulty_line::{Content, first_word, line_at};
 use crate::known_names::{has_name, say_unknown};
+use crate::session_forms::beside;
 use milter_rules::RuleFault;
 use milter_rules_faults::{Notes, Span, say_fault};
 use milter_text::Word;
@@ -75,17 +76,19 @@ fn is_number(word: &Word) -> bool {
 }
 
 /// How a line with this first word is written.
+const FORMS: &[(&str, &str)] = &[
+    ("dial", "dial"),
+    ("send", "send N"),
+    ("to-filter", "to-filter N"),
+    ("answer", "answer N"),
+    ("to-mta", "to-mta N"),
+    ("die", "die"),
+    ("lose", "lose"),
+    ("timeout", "timeout"),
+    ("round", "round N"),
+];
+
+/// How a line with this first word is written; any other as `rounds`.
 fn form_of(first: &[u8]) -> &'static str {
-    match first {
-        b"dial" => "dial",
-        b"send" => "send N",
-        b"to-filter" => "to-filter N",
-        b"answer" => "answer N",
-        b"to-mta" => "to-mta N",
-        b"die" => "die",
-        b"lose" => "lose",
-        b"timeout" => "timeout",
-        b"round" => "round N",
-        _ => "rounds COUNT N",
-    }
+    beside(FORMS, first).unwrap_or("rounds COUNT N")
 }

@@ -4,7 +4,7 @@ use crate::address_words::say_bad_address;
 use crate::answer_words::answer_meaning;
 use crate::capture_words::capture_meaning;
 use crate::event_words::say_events;
-use crate::failure::Failure;
+use crate::failure::{DifferingReports, Failure};
 use crate::file_forms::fault_meaning;
 use crate::file_words::{bytes_again, unmade_reason, unread_reason, unstreamed_reason};
 use crate::option_words::{say_bad_macros, say_bad_mode, say_bad_names, say_bad_trials};
@@ -26,7 +26,6 @@ use milter_trace::TraceFault;
 use milter_wire::NoMemory;
 use std::alloc::Global;
 use std::path::Path;
-use std::rt::Files;
 
 /// What is said of an output that wasn't written.
 const NOT_WRITTEN: &str = "it couldn't be written: it is closed, or full";
@@ -50,8 +49,8 @@ const NOT_UTF8: &str =
 
 /// The lines that say why the request failed: what is wrong, where, and what is meant. Files that are at fault are read
 /// again; where they changed since, the lines say what the fault's number means.
-pub fn explain<R: Files>(
-    files: &R,
+pub fn explain(
+    files: &HostRuntime,
     alloc: Global,
     request: &Request<'_>,
     failure: &Failure<'_>,
@@ -72,8 +71,8 @@ pub fn explain<R: Files>(
 }
 
 /// The line of a directory of traces that can't be made, or that has traces already.
-fn explain_directory<R: Files>(
-    files: &R,
+fn explain_directory(
+    files: &HostRuntime,
     alloc: Global,
     request: &Request<'_>,
 ) -> Result<Vec<u8>, NoMemory> {
@@ -103,8 +102,7 @@ fn explain_trace(
         fault => {
             let name = shown_name(alloc, path.unwrap_or("standard input"))?;
             let mut notes = Notes::new(alloc, name.as_str());
-            say_trace(&mut notes, fault)?;
-            text_of(&notes)
+            text_after(say_trace(&mut notes, fault), &notes)
         }
     }
 }
@@ -132,8 +130,9 @@ fn explain_answer(alloc: Global, error: AnswerError) -> Result<Vec<u8>, NoMemory
     }
 }
 
-/// The lines that were said.
-fn text_of(notes: &Notes<'_>) -> Result<Vec<u8>, NoMemory> {
+/// The lines that were said, unless memory was refused for them.
+fn text_after(said: Result<(), NoMemory>, notes: &Notes<'_>) -> Result<Vec<u8>, NoMemory> {
+    said?;
     Ok(Vec::from_slice(notes.alloc(), notes.text())?)
 }
 
@@ -141,8 +140,7 @@ fn text_of(notes: &Notes<'_>) -> Result<Vec<u8>, NoMemory> {
 fn line(alloc: Global, name: &str, text: &str) -> Result<Vec<u8>, NoMemory> {
     let name = shown_name(alloc, name)?;
     let mut notes = Notes::new(alloc, name.as_str());
-    notes.say(&[Span::Plain(text.as_bytes())])?;
-    text_of(&notes)
+    text_after(notes.say(&[Span::Plain(text.as_bytes())]), &notes)
 }
 
 /// The lines of a wrong use of the program that has a request.
@@ -152,23 +150,29 @@ fn explain_usage(
     error: &UsageError,
 ) -> Result<Vec<u8>, NoMemory> {
     let mut notes = Notes::new(alloc, place_of(error));
+    text_after(say_usage(&mut notes, request, error), &notes)
+}
+
+/// Says what is wrong with the use of the program that has a request.
+fn say_usage(
+    notes: &mut Notes<'_>,
+    request: &Request<'_>,
+    error: &UsageError,
+) -> Result<(), NoMemory> {
     match error {
         UsageError::BadActions => {
-            let names = actions_of(request).unwrap_or("");
-            say_bad_names(&mut notes, "actions", names)?;
+            say_bad_names(notes, "actions", actions_of(request).unwrap_or(""))
         }
         UsageError::BadProtocol => {
-            let names = protocol_of(request).unwrap_or("");
-            say_bad_names(&mut notes, "protocol", names)?;
+            say_bad_names(notes, "protocol", protocol_of(request).unwrap_or(""))
         }
-        UsageError::BadMacro => say_bad_macros(&mut notes, macros_of(request))?,
-        UsageError::BadTrials => say_bad_trials(&mut notes, only_of(request).unwrap_or(""))?,
-        UsageError::BadMode => say_bad_mode(&mut notes, mode_of(request).unwrap_or(0))?,
-        UsageError::BadAddress => say_addresses(&mut notes, request)?,
+        UsageError::BadMacro => say_bad_macros(notes, macros_of(request)),
+        UsageError::BadTrials => say_bad_trials(notes, only_of(request).unwrap_or("")),
+        UsageError::BadMode => say_bad_mode(notes, mode_of(request).unwrap_or(0)),
+        UsageError::BadAddress => say_addresses(notes, request),
         // They say it themselves.
-        UsageError::CommandLine(_) | UsageError::NotUtf8 => {}
+        UsageError::CommandLine(_) | UsageError::NotUtf8 => Ok(()),
     }
-    text_of(&notes)
 }
 
 /// What of the command line a wrong use is about.
@@ -206,8 +210,8 @@ fn say_bad_addresses(notes: &mut Notes<'_>, texts: &[&str]) -> Result<(), NoMemo
 }
 
 /// The lines of a socket that the system refused.
-fn explain_socket<R: Files>(
-    files: &R,
+fn explain_socket(
+    files: &HostRuntime,
     alloc: Global,
     failure: &Failure<'_>,
 ) -> Result<Vec<u8>, NoMemory> {
@@ -220,11 +224,11 @@ fn explain_socket<R: Files>(
     };
     let name = shown_name(alloc, socket.address)?;
     let mut notes = Notes::new(alloc, name.as_str());
-    match &failure.error {
-        ToolError::Connect => say_unconnected(&mut notes, socket)?,
-        _ => say_unbound(files, &mut notes, socket)?,
-    }
-    text_of(&notes)
+    let said = match &failure.error {
+        ToolError::Connect => say_unconnected(&mut notes, socket),
+        _ => say_unbound(files, &mut notes, socket),
+    };
+    text_after(said, &notes)
 }
 
 /// The line of reports that aren't the expected ones, or of a filter that doesn't answer as it was recorded.
@@ -251,18 +255,32 @@ fn explain_reports(
 ) -> Result<Vec<u8>, NoMemory> {
     let mut said = explain_difference(alloc, request, number)?;
     if let Some(reports) = &failure.reports {
-        let expected = lines_of(alloc, reports.expected.as_slice())?;
-        let found = lines_of(alloc, reports.found.as_slice())?;
-        let difference = difference_text(alloc, expected.as_slice(), found.as_slice())?;
-        said.extend_from_slice(difference.as_slice())?;
+        put_difference(alloc, reports, &mut said)?;
     }
     Ok(said)
 }
 
+/// Puts the difference of reports, line by line.
+fn put_difference(
+    alloc: Global,
+    reports: &DifferingReports,
+    said: &mut Vec<u8>,
+) -> Result<(), NoMemory> {
+    let expected = lines_of(alloc, reports.expected.as_slice())?;
+    let difference = difference_from(alloc, expected.as_slice(), reports.found.as_slice())?;
+    Ok(said.extend_from_slice(difference.as_slice())?)
+}
+
+/// The difference of these reports from the lines that are expected.
+fn difference_from(alloc: Global, expected: &[&[u8]], found: &[u8]) -> Result<Vec<u8>, NoMemory> {
+    let found = lines_of(alloc, found)?;
+    difference_text(alloc, expected, found.as_slice())
+}
+
 /// The lines of an error of the file at this path, which is one of several; or of the one that a request names. A trace
 /// is read piece by piece, and has any size.
-fn explain_failed_file<R: Files>(
-    files: &R,
+fn explain_failed_file(
+    files: &HostRuntime,
     alloc: Global,
     request: &Request<'_>,
     path: Option<&str>,
@@ -281,8 +299,8 @@ fn explain_failed_file<R: Files>(
 }
 
 /// The lines of an error of a file that a request names.
-fn explain_request_file<R: Files>(
-    files: &R,
+fn explain_request_file(
+    files: &HostRuntime,
     alloc: Global,
     request: &Request<'_>,
     error: FileError,
@@ -295,8 +313,8 @@ fn explain_request_file<R: Files>(
 }
 
 /// The lines that say why the file at this path was not read, or is not of its form.
-pub fn explain_file<R: Files>(
-    files: &R,
+pub fn explain_file(
+    files: &HostRuntime,
     alloc: Global,
     path: &str,
     error: FileError,
@@ -326,34 +344,65 @@ fn explain_number(
     let name = shown_name(alloc, path)?;
     let mut notes = Notes::new(alloc, name.as_str());
     notes.go_to(Some(number));
-    notes.say(&[Span::Plain(meaning.as_bytes())])?;
-    text_of(&notes)
+    text_after(notes.say(&[Span::Plain(meaning.as_bytes())]), &notes)
 }
 
 /// The lines that say what is wrong with what the file at this path has; none where it can't be read again, or has
 /// nothing wrong now.
-fn explain_bytes<R: Files>(
-    files: &R,
+fn explain_bytes(
+    files: &HostRuntime,
     alloc: Global,
     path: &str,
     file: InputFile,
 ) -> Result<Vec<u8>, NoMemory> {
-    let name = shown_name(alloc, path)?;
-    let mut notes = Notes::new(alloc, name.as_str());
-    let Some(bytes) = bytes_again(files, alloc, file, path)? else {
-        return Ok(Vec::new(alloc));
-    };
-    match file {
-        InputFile::Session => say_session(&mut notes, bytes.as_slice())?,
-        InputFile::Events => say_events(&mut notes, bytes.as_slice())?,
-        InputFile::Rules => say_rules(files, &mut notes, path, bytes.as_slice())?,
-        InputFile::Reports | InputFile::Capture => {}
-        InputFile::Trace => say_recording(&mut notes, bytes.as_slice())?,
+    match bytes_again(files, alloc, file, path)? {
+        Some(bytes) => all_said(files, alloc, path, file, bytes.as_slice()),
+        None => Ok(Vec::new(alloc)),
     }
-    let mut said = text_of(&notes)?;
+}
+
+/// The same of what the file has.
+fn all_said(
+    files: &HostRuntime,
+    alloc: Global,
+    path: &str,
+    file: InputFile,
+    bytes: &[u8],
+) -> Result<Vec<u8>, NoMemory> {
+    let mut said = first_said(files, alloc, path, file, bytes)?;
     if let InputFile::Rules = file {
-        let lists = unread_lists(files, alloc, path, bytes.as_slice())?;
+        let lists = unread_lists(files, alloc, path, bytes)?;
         said.extend_from_slice(lists.as_slice())?;
     }
     Ok(said)
+}
+
+/// The same, but for lists that can't be read.
+fn first_said(
+    files: &HostRuntime,
+    alloc: Global,
+    path: &str,
+    file: InputFile,
+    bytes: &[u8],
+) -> Result<Vec<u8>, NoMemory> {
+    let name = shown_name(alloc, path)?;
+    let mut notes = Notes::new(alloc, name.as_str());
+    text_after(say_file(files, &mut notes, path, file, bytes), &notes)
+}
+
+/// Says what is wrong with what a file has.
+fn say_file(
+    files: &HostRuntime,
+    notes: &mut Notes<'_>,
+    path: &str,
+    file: InputFile,
+    bytes: &[u8],
+) -> Result<(), NoMemory> {
+    match file {
+        InputFile::Session => say_session(notes, bytes),
+        InputFile::Events => say_events(notes, bytes),
+        InputFile::Rules => say_rules(files, notes, path, bytes),
+        InputFile::Reports | InputFile::Capture => Ok(()),
+        InputFile::Trace => say_recording(notes, bytes),
+    }
 }

@@ -4,7 +4,7 @@ use milter_cli_io::ToolError;
 use std::io::ErrorKind;
 
 /// A socket that the system refused.
-#[derive(Clone, Copy, Debug)]
+#[derive(Clone, Copy)]
 pub struct SocketFault<'a> {
     /// The text of its address.
     pub address: &'a str,
@@ -13,7 +13,7 @@ pub struct SocketFault<'a> {
 }
 
 /// Reports that aren't the expected ones, and these.
-#[derive(Debug, Drop)]
+#[derive(Drop)]
 pub struct DifferingReports {
     /// The reports that were found.
     pub found: Vec<u8>,
@@ -22,7 +22,7 @@ pub struct DifferingReports {
 }
 
 /// Why the program did not do what it was asked, and the file, the socket or the reports that this is about.
-#[derive(Debug, Drop)]
+#[derive(Drop)]
 pub struct Failure<'a> {
     /// The error, which has the line on standard error and the status.
     pub error: ToolError,

@@ -6,10 +6,9 @@ use std::alloc::Global;
 use std::fs;
 use std::io::ErrorKind;
 use std::path::Path;
-use std::rt::Files;
 
 /// Why the file at this path can't be read, and what to do.
-pub(crate) fn unread_reason<R: Files>(files: &R, path: Path<'_>) -> &'static str {
+pub(crate) fn unread_reason(files: &HostRuntime, path: Path<'_>) -> &'static str {
     match fs::metadata(files, path) {
         Ok(found) if found.is_dir() => "is a folder, and a file is due",
         Ok(found) if found.len() > FILE_MAX => "has more than 134,217,728 bytes",
@@ -20,7 +19,7 @@ pub(crate) fn unread_reason<R: Files>(files: &R, path: Path<'_>) -> &'static str
 }
 
 /// The same of a file of any size, which is read piece by piece.
-pub(crate) fn unstreamed_reason<R: Files>(files: &R, path: Path<'_>) -> &'static str {
+pub(crate) fn unstreamed_reason(files: &HostRuntime, path: Path<'_>) -> &'static str {
     match fs::metadata(files, path) {
         Ok(found) if found.is_dir() => "is a folder, and a file is due",
         Ok(found) if found.is_file() => unopened_reason(files, path),
@@ -30,7 +29,7 @@ pub(crate) fn unstreamed_reason<R: Files>(files: &R, path: Path<'_>) -> &'static
 }
 
 /// Why the file at this path, which is there, can't be read.
-fn unopened_reason<R: Files>(files: &R, path: Path<'_>) -> &'static str {
+fn unopened_reason(files: &HostRuntime, path: Path<'_>) -> &'static str {
     match fs::open(files, path) {
         Ok(_) => "could not be read, and now can be opened: try again",
         Err(error) => kind_reason(error.kind()),
@@ -38,7 +37,7 @@ fn unopened_reason<R: Files>(files: &R, path: Path<'_>) -> &'static str {
 }
 
 /// Why there is no file at this path, for which the system answers so.
-fn missing_reason<R: Files>(files: &R, path: Path<'_>, kind: ErrorKind) -> &'static str {
+fn missing_reason(files: &HostRuntime, path: Path<'_>, kind: ErrorKind) -> &'static str {
     if kind == ErrorKind::NotFound && !has_folder(files, path) {
         "no such folder: its path begins in the folder where the program is started, or with /"
     } else {
@@ -47,7 +46,7 @@ fn missing_reason<R: Files>(files: &R, path: Path<'_>, kind: ErrorKind) -> &'sta
 }
 
 /// Why traces can't be recorded in the folder at this path.
-pub(crate) fn unmade_reason<R: Files>(files: &R, path: Path<'_>) -> &'static str {
+pub(crate) fn unmade_reason(files: &HostRuntime, path: Path<'_>) -> &'static str {
     match fs::metadata(files, path) {
         Ok(found) if found.is_dir() => {
             "has traces already, of which none is replaced: move them away, or take another folder"
@@ -63,7 +62,7 @@ pub(crate) fn unmade_reason<R: Files>(files: &R, path: Path<'_>) -> &'static str
 }
 
 /// Whether the folder of this path is there.
-pub(crate) fn has_folder<R: Files>(files: &R, path: Path<'_>) -> bool {
+pub(crate) fn has_folder(files: &HostRuntime, path: Path<'_>) -> bool {
     match path.parent() {
         Some(folder) if !folder.as_str().is_empty() => folder.is_dir(files),
         _ => true,
@@ -90,8 +89,8 @@ fn kind_reason(kind: ErrorKind) -> &'static str {
 
 /// The bytes of the file at this path, read again; none where it is no regular file, or can't be read any more. A pipe
 /// isn't read again, since its bytes come once.
-pub(crate) fn bytes_again<R: Files>(
-    files: &R,
+pub(crate) fn bytes_again(
+    files: &HostRuntime,
     alloc: Global,
     file: InputFile,
     path: &str,

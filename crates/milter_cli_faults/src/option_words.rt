@@ -4,6 +4,7 @@ use milter_cli_request::GivenMacro;
 use milter_rules::RuleFault;
 use milter_rules_faults::{Notes, Span, say_fault};
 use milter_wire::NoMemory;
+use std::alloc::Global;
 
 /// What is said of a value of `--macro` that gives no macro.
 const MACRO_FORM: &[u8] =
@@ -24,13 +25,21 @@ pub(crate) fn say_bad_names(
         let text = b"no value is given; it is names joined by |, or none";
         return notes.say(&[Span::Plain(text)]);
     }
-    let mut line = Vec::new(notes.alloc());
+    let line = line_of_names(notes.alloc(), first_word, names)?;
+    let mut said = Notes::new(notes.alloc(), "");
+    match say_fault(&mut said, line.as_slice(), RuleFault::UnknownWord(1)) {
+        Ok(()) => notes.say(&[Span::Plain(after_place(said.text()))]),
+        Err(error) => Err(error),
+    }
+}
+
+/// The line of a rule file with this first word and these names.
+fn line_of_names(alloc: Global, first_word: &str, names: &str) -> Result<Vec<u8>, NoMemory> {
+    let mut line = Vec::new(alloc);
     line.extend_from_slice(first_word.as_bytes())?;
     line.push(b' ')?;
     line.extend_from_slice(names.as_bytes())?;
-    let mut said = Notes::new(notes.alloc(), "");
-    say_fault(&mut said, line.as_slice(), RuleFault::UnknownWord(1))?;
-    notes.say(&[Span::Plain(after_place(said.text()))])
+    Ok(line)
 }
 
 /// The line that was said, without its place, `:1: `, and its end.

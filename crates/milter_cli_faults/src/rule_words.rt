@@ -9,12 +9,11 @@ use milter_wire::NoMemory;
 use std::alloc::Global;
 use std::fs;
 use std::path::Path;
-use std::rt::Files;
 
 /// Says why the rule file at this path, which has these bytes, can't be used: its first fault, or that of its lists,
 /// unless one of them is no file, whose end might never come.
-pub(crate) fn say_rules<R: Files>(
-    files: &R,
+pub(crate) fn say_rules(
+    files: &HostRuntime,
     notes: &mut Notes<'_>,
     path: &str,
     bytes: &[u8],
@@ -34,8 +33,8 @@ pub(crate) fn say_rules<R: Files>(
 
 /// Whether something is in the place of a list of the rule file at this path, which has these bytes, that is neither a
 /// file nor a folder.
-fn has_endless_list<R: Files>(
-    files: &R,
+fn has_endless_list(
+    files: &HostRuntime,
     alloc: Global,
     path: &str,
     bytes: &[u8],
@@ -50,7 +49,7 @@ fn has_endless_list<R: Files>(
 }
 
 /// Whether there is something at this path that is neither a file nor a folder.
-fn is_endless<R: Files>(files: &R, path: Path<'_>) -> bool {
+fn is_endless(files: &HostRuntime, path: Path<'_>) -> bool {
     match fs::metadata(files, path) {
         Ok(found) => !found.is_file() && !found.is_dir(),
         Err(_) => false,
@@ -58,8 +57,8 @@ fn is_endless<R: Files>(files: &R, path: Path<'_>) -> bool {
 }
 
 /// The lines that say why lists of the rule file at this path can't be read, which has these bytes.
-pub(crate) fn unread_lists<R: Files>(
-    files: &R,
+pub(crate) fn unread_lists(
+    files: &HostRuntime,
     alloc: Global,
     path: &str,
     bytes: &[u8],
@@ -67,13 +66,25 @@ pub(crate) fn unread_lists<R: Files>(
     let paths = list_paths(alloc, path, bytes)?;
     let mut said = Vec::new(alloc);
     for list in paths.as_slice() {
-        let path = list.path.as_path();
-        if !path.is_file(files) || fs::open(files, path).is_err() {
-            let name = shown_name(alloc, path.as_str())?;
-            let mut notes = Notes::new(alloc, name.as_str());
-            notes.say(&[Span::Plain(unread_reason(files, path).as_bytes())])?;
-            said.extend_from_slice(notes.text())?;
-        }
+        put_unread_list(files, alloc, list.path.as_path(), &mut said)?;
     }
     Ok(said)
+}
+
+/// Puts the line that says why the list at this path can't be read, if it can't.
+fn put_unread_list(
+    files: &HostRuntime,
+    alloc: Global,
+    path: Path<'_>,
+    said: &mut Vec<u8>,
+) -> Result<(), NoMemory> {
+    if path.is_file(files) && fs::open(files, path).is_ok() {
+        return Ok(());
+    }
+    let name = shown_name(alloc, path.as_str())?;
+    let mut notes = Notes::new(alloc, name.as_str());
+    match notes.say(&[Span::Plain(unread_reason(files, path).as_bytes())]) {
+        Ok(()) => Ok(said.extend_from_slice(notes.text())?),
+        Err(error) => Err(error),
+    }
 }

@@ -11,34 +11,53 @@ pub(crate) const MACRO_STAGES: &str = "connect|helo|mail|rcpt|data|eoh|eom";
 /// The families of a client's address.
 pub(crate) const FAMILIES: &str = "U|4|6|L";
 
+/// How a line with this first word is written; one with another is written `end`.
+const FORMS: &[(&str, &str)] = &[
+    (
+        "client",
+        "client U TEXT, or client 4 TEXT NUMBER TEXT (4, 6 or L)",
+    ),
+    ("helo", "helo TEXT"),
+    ("macro", "macro STAGE TEXT TEXT"),
+    ("message", "message"),
+    ("sender", "sender TEXT .."),
+    ("recipient", "recipient TEXT .."),
+    ("header", "header TEXT TEXT"),
+    ("body", "body TEXT"),
+];
+
+/// The first words of the lines that may follow a line with this first word.
+const DUE: &[(&str, &str)] = &[
+    ("client", "helo"),
+    ("helo", "macro|message"),
+    ("macro", "macro|message"),
+    ("message", "sender"),
+    ("sender", "recipient|header|body|end"),
+    ("recipient", "recipient|header|body|end"),
+    ("header", "header|body|end"),
+    ("body", "body|end"),
+    ("end", "message"),
+];
+
+/// What stands beside the word in these rows; none where no row has it.
+pub(crate) fn beside(rows: &[(&'static str, &'static str)], word: &[u8]) -> Option<&'static str> {
+    for (first, second) in rows {
+        if first.as_bytes() == word {
+            return Some(second);
+        }
+    }
+    None
+}
+
 /// How a line with this first word is written.
 pub(crate) fn form_of(first: &[u8]) -> &'static str {
-    match first {
-        b"client" => "client U TEXT, or client 4 TEXT NUMBER TEXT (4, 6 or L)",
-        b"helo" => "helo TEXT",
-        b"macro" => "macro STAGE TEXT TEXT",
-        b"message" => "message",
-        b"sender" => "sender TEXT ..",
-        b"recipient" => "recipient TEXT ..",
-        b"header" => "header TEXT TEXT",
-        b"body" => "body TEXT",
-        _ => "end",
-    }
+    beside(FORMS, first).unwrap_or("end")
 }
 
 /// The first words of the lines that may follow a line with this first word; those of the first line where there is
 /// none before it.
 pub(crate) fn due_after(before: &[u8]) -> &'static str {
-    match before {
-        b"client" => "helo",
-        b"helo" | b"macro" => "macro|message",
-        b"message" => "sender",
-        b"sender" | b"recipient" => "recipient|header|body|end",
-        b"header" => "header|body|end",
-        b"body" => "body|end",
-        b"end" => "message",
-        _ => "client",
-    }
+    beside(DUE, before).unwrap_or("client")
 }
 
 /// Whether the words, but for their order in the file, are a line of its form.

@@ -7,11 +7,10 @@ use milter_rules_faults::{Notes, Span};
 use milter_wire::NoMemory;
 use std::io::ErrorKind;
 use std::path::Path;
-use std::rt::Files;
 
 /// Says why the program can't listen at an address.
-pub(crate) fn say_unbound<R: Files>(
-    files: &R,
+pub(crate) fn say_unbound(
+    files: &HostRuntime,
     notes: &mut Notes<'_>,
     fault: SocketFault<'_>,
 ) -> Result<(), NoMemory> {
@@ -71,7 +70,7 @@ fn say_no_name(notes: &mut Notes<'_>, host: &str) -> Result<(), NoMemory> {
 }
 
 /// Why the program can't listen on this path.
-fn unbound_path<R: Files>(files: &R, path: Path<'_>, kind: ErrorKind) -> &'static str {
+fn unbound_path(files: &HostRuntime, path: Path<'_>, kind: ErrorKind) -> &'static str {
     match kind {
         ErrorKind::AddrInUse => {
             "address in use: there is a file of this path, or a program listens there; \

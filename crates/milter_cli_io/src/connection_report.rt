@@ -7,7 +7,7 @@ use milter_filter::Served;
 use std::fmt;
 
 /// How a connection ended. The text is its line, without the LF.
-#[derive(Clone, Copy, Debug, PartialEq, Eq)]
+#[derive(Clone, Copy)]
 pub struct ConnectionReport {
     /// The number of the connection, from 1.
     pub number: u32,

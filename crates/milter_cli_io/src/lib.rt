@@ -17,7 +17,7 @@ pub use connection_report::ConnectionReport;
 pub use file_error::{FileError, InputFile, fault_error, read_error, text_error};
 pub use file_input::{FILE_MAX, file_limit, read_file};
 pub use list_check::say_lists;
-pub use list_input::{ListPath, list_paths, open_list, read_list, read_lists};
+pub use list_input::{ListPath, list_file, list_paths, open_list, read_list, read_lists};
 pub use rules_run::{RuleUse, check_rule_file, load_rules, print_rules, rules_of, used_rules};
 pub use session_run::{load_session, print_session};
 pub use tool_error::{

@@ -9,44 +9,60 @@ use milter_wire::NoMemory;
 use std::alloc::Global;
 use std::io::Write;
 use std::path::Path;
-use std::rt::Files;
 
 /// Writes a line for each list that the rule file at this path names, which has these bytes, if the list's file can't
 /// be read, or has a line that is no entry, or is too large. Answers whether there was one.
 ///
 /// A line is `PATH:LINE: TEXT`, with the line of the list in the rule file. No line is written where the line of a list
 /// is at fault; nor where memory is refused.
-pub(crate) fn check_lists<R: Files, W: Write>(
-    files: &R,
+pub(crate) fn check_lists<W: Write>(
+    files: &HostRuntime,
     alloc: Global,
     path: &str,
     bytes: &[u8],
     writer: &mut W,
 ) -> Result<bool, TextFault> {
     let mut notes = Notes::new(alloc, path);
-    say_lists(files, &mut notes, path, bytes)?;
+    match say_lists(files, &mut notes, path, bytes) {
+        Ok(()) => write_notes(&notes, writer),
+        Err(error) => Err(TextFault::from(error)),
+    }
+}
+
+/// Writes what was said. Answers whether there was something.
+fn write_notes<W: Write>(notes: &Notes<'_>, writer: &mut W) -> Result<bool, TextFault> {
     write_text(writer, notes.text())?;
     Ok(notes.severity().is_some())
 }
 
 /// Says of each list that the rule file at this path names, which has these bytes, why it can't be used, if it can't.
 /// Of none it says so where the line of a list is at fault.
-pub fn say_lists<R: Files>(
-    files: &R,
+pub fn say_lists(
+    files: &HostRuntime,
     notes: &mut Notes<'_>,
     path: &str,
     bytes: &[u8],
 ) -> Result<(), NoMemory> {
+    match list_sources(notes.alloc(), bytes) {
+        Ok(sources) => say_sources(files, notes, path, bytes, sources.as_slice()),
+        Err(RuleFault::NoMemory) => Err(NoMemory),
+        Err(_) => Ok(()),
+    }
+}
+
+/// Says of each of these lists, which the rule file names, why it can't be used, if it can't.
+fn say_sources(
+    files: &HostRuntime,
+    notes: &mut Notes<'_>,
+    path: &str,
+    bytes: &[u8],
+    sources: &[ListSource],
+) -> Result<(), NoMemory> {
     let alloc = notes.alloc();
-    let sources = match list_sources(alloc, bytes) {
-        Ok(sources) => sources,
-        Err(RuleFault::NoMemory) => return Err(NoMemory),
-        Err(_) => return Ok(()),
-    };
     let mut lines = LineCursor::new(bytes);
     // The lists follow the line that gives the form.
     next_number(alloc, &mut lines)?;
-    for source in sources.as_slice() {
+    for source in sources {
         notes.go_to(next_number(alloc, &mut lines)?);
         say_list(files, notes, path, source)?;
     }
@@ -63,8 +79,8 @@ fn next_number(alloc: Global, lines: &mut LineCursor<'_>) -> Result<Option<u64>,
 }
 
 /// Says why the list can't be used, if it can't.
-fn say_list<R: Files>(
-    files: &R,
+fn say_list(
+    files: &HostRuntime,
     notes: &mut Notes<'_>,
     path: &str,
     source: &ListSource,

@@ -18,7 +18,6 @@ use milter_rules_check::{Severity, check_rules};
 use milter_wire::Stage;
 use std::alloc::Global;
 use std::io::{Read, Write};
-use std::rt::Files;
 
 /// Reads a rule file to its end, but not its lists, which have no entries. Memory is bounded by a small multiple of the
 /// file's size, which is at most 134,217,728 bytes.
@@ -81,7 +80,7 @@ fn with_case_ignored(rules: Rules, ignore_case: bool) -> Rules
 const NAMING_STAGES: [Stage; 4] = [Stage::Connect, Stage::Mail, Stage::Rcpt, Stage::DataCmd];
 
 /// How the rules of a file are used.
-#[derive(Clone, Copy, Debug, PartialEq, Eq)]
+#[derive(Clone, Copy)]
 pub struct RuleUse {
     /// Whether the case of ASCII letters doesn't count in the texts of conditions.
     pub ignore_case: bool,
@@ -144,22 +143,32 @@ pub fn print_rules<R: Read + Drop, W: Write>(
 /// Reads the rule file at this path to its end, and writes a line for each thing that is to be said of it, and then for
 /// each of its lists that can't be used; the error is `ToolError::Findings` where one of them is a warning, and not a
 /// hint.
-pub fn check_rule_file<F: Files, R: Read + Drop, W: Write>(
-    files: &F,
+pub fn check_rule_file<R: Read + Drop, W: Write>(
+    files: &HostRuntime,
     alloc: Global,
     path: &str,
     reader: R,
     writer: &mut W,
 ) -> Result<(), ToolError> {
-    let file = match read_file(alloc, InputFile::Rules, reader) {
-        Ok(file) => file,
-        Err(error) => return Err(ToolError::File(error)),
-    };
-    let severity = match check_rules(alloc, path, file.as_slice(), writer) {
+    match read_file(alloc, InputFile::Rules, reader) {
+        Ok(file) => check_rule_bytes(files, alloc, path, file.as_slice(), writer),
+        Err(error) => Err(ToolError::File(error)),
+    }
+}
+
+/// The same of a rule file at this path that has these bytes.
+fn check_rule_bytes<W: Write>(
+    files: &HostRuntime,
+    alloc: Global,
+    path: &str,
+    bytes: &[u8],
+    writer: &mut W,
+) -> Result<(), ToolError> {
+    let severity = match check_rules(alloc, path, bytes, writer) {
         Ok(severity) => severity,
         Err(fault) => return Err(output_error(fault)),
     };
-    let has_bad_lists = match check_lists(files, alloc, path, file.as_slice(), writer) {
+    let has_bad_lists = match check_lists(files, alloc, path, bytes, writer) {
         Ok(has_bad_lists) => has_bad_lists,
         Err(fault) => return Err(output_error(fault)),
     };

@@ -5,7 +5,7 @@ ghost use Rattle.milter_cli_request.specs.declared.address.Address.{Address};
 ghost use Rattle.milter_cli_request.specs.Address.{IsAddress, IsPlace, IsPort};
 
 /// The address of a socket.
-#[derive(Clone, Copy, Debug, PartialEq, Eq)]
+#[derive(Clone, Copy)]
 pub enum Address<'a> {
     /// A port of a host, over TCP.
     Inet {

@@ -6,7 +6,7 @@ ghost use Rattle.milter_cli_request.specs.GivenMacro.{IsMacro};
 use milter_wire_options::MacroStage;
 
 /// A macro that a command line gives.
-#[derive(Clone, Copy, Debug, PartialEq, Eq)]
+#[derive(Clone, Copy)]
 pub struct GivenMacro<'a> {
     /// The stage whose macro it is.
     pub stage: MacroStage,

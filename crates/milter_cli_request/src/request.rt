@@ -3,7 +3,7 @@
 use milter_mta_outcome::OnLoss;
 
 /// What the program is asked to do.
-#[derive(Debug, PartialEq, Eq, Drop)]
+#[derive(Drop)]
 pub enum Request<'a> {
     /// To print the packets of traces.
     Trace(TraceRequest<'a>),
@@ -40,7 +40,7 @@ pub enum Request<'a> {
 }
 
 /// Traces that are to be printed.
-#[derive(Debug, PartialEq, Eq, Drop)]
+#[derive(Drop)]
 pub struct TraceRequest<'a> {
     /// The paths of the files, which are read in this order; none where standard input is read.
     pub files: Vec<&'a str>,
@@ -53,7 +53,7 @@ pub struct TraceRequest<'a> {
 }
 
 /// A connection that is served by standard input and output.
-#[derive(Clone, Copy, Debug, PartialEq, Eq)]
+#[derive(Clone, Copy)]
 pub struct AnswerRequest<'a> {
     /// The path of a rule file. Without one all mail goes on.
     pub rules: Option<&'a str>,
@@ -66,7 +66,7 @@ pub struct AnswerRequest<'a> {
 }
 
 /// Connections that are served one after another.
-#[derive(Clone, Copy, Debug, PartialEq, Eq)]
+#[derive(Clone, Copy)]
 pub struct FilterRequest<'a> {
     /// The text of the address of the socket.
     pub address: &'a str,
@@ -83,7 +83,7 @@ pub struct FilterRequest<'a> {
 }
 
 /// A service of many connections.
-#[derive(Debug, PartialEq, Eq, Drop)]
+#[derive(Drop)]
 pub struct ServeRequest<'a> {
     /// The texts of the addresses of the sockets, at least one.
     pub addresses: Vec<&'a str>,
@@ -104,7 +104,7 @@ pub struct ServeRequest<'a> {
 }
 
 /// A session that is to be played to a filter.
-#[derive(Debug, PartialEq, Eq, Drop)]
+#[derive(Drop)]
 pub struct MtaRequest<'a> {
     /// The text of the address of the filter's socket.
     pub address: &'a str,
@@ -131,7 +131,7 @@ pub struct MtaRequest<'a> {
 }
 
 /// A session that is to be played to a filter in memory.
-#[derive(Clone, Copy, Debug, PartialEq, Eq)]
+#[derive(Clone, Copy)]
 pub struct PlayRequest<'a> {
     /// The path of the session file.
     pub session: &'a str,
@@ -154,7 +154,7 @@ pub struct PlayRequest<'a> {
 }
 
 /// A trace that is to be sent to a filter again.
-#[derive(Clone, Copy, Debug, PartialEq, Eq)]
+#[derive(Clone, Copy)]
 pub struct ReplayRequest<'a> {
     /// The text of the address of the filter's socket.
     pub address: &'a str,
@@ -167,7 +167,7 @@ pub struct ReplayRequest<'a> {
 }
 
 /// A load that is to be put on a filter.
-#[derive(Clone, Copy, Debug, PartialEq, Eq)]
+#[derive(Clone, Copy)]
 pub struct LoadRequest<'a> {
     /// The text of the address of the filter's socket.
     pub address: &'a str,
@@ -188,7 +188,7 @@ pub struct LoadRequest<'a> {
 }
 
 /// A filter whose robustness is to be tried.
-#[derive(Clone, Copy, Debug, PartialEq, Eq)]
+#[derive(Clone, Copy)]
 pub struct ProbeRequest<'a> {
     /// The text of the address of the filter's socket.
     pub address: &'a str,
@@ -203,7 +203,7 @@ pub struct ProbeRequest<'a> {
 }
 
 /// Connections that are to be passed on and recorded.
-#[derive(Clone, Copy, Debug, PartialEq, Eq)]
+#[derive(Clone, Copy)]
 pub struct RecordRequest<'a> {
     /// The text of the address of the socket on which they come.
     pub listen: &'a str,

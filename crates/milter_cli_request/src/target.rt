@@ -12,7 +12,7 @@ use milter_protocol::{ACTIONS_MAX, PROTOCOL_MAX};
 use milter_wire_options::{Actions, Protocol};
 
 /// The bits that are offered to a filter.
-#[derive(Clone, Copy, Debug, PartialEq, Eq)]
+#[derive(Clone, Copy)]
 pub struct Offer {
     /// The changes to a message that it may ask for.
     pub actions: Actions,
@@ -57,7 +57,7 @@ fn protocol_given(names: Option<&str>) -> Option<Protocol>
 }
 
 /// A filter that a session is played to.
-#[derive(Clone, Copy, Debug, PartialEq, Eq)]
+#[derive(Clone, Copy)]
 pub struct Target<'a> {
     /// What it is offered.
     pub offer: Offer,

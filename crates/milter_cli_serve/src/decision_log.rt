@@ -15,7 +15,7 @@ use std::io::Write;
 const QUEUE_ID: &[u8] = b"i";
 
 /// Which answers of rules have lines.
-#[derive(Clone, Copy, Debug, PartialEq, Eq)]
+#[derive(Clone, Copy, PartialEq, Eq)]
 pub enum LogDetail {
     /// None.
     Nothing,

@@ -2,8 +2,7 @@
 
 use milter_cli_io::{InputFile, read_file};
 use std::alloc::Global;
-use std::fs;
-use std::rt::Files;
+use std::fs::{self, File};
 
 /// The file in which the system says what a process is allowed, the beginning of the line about descriptors, and how
 /// many descriptors are looked at to see which are open when the program begins. Source: proc_pid_limits(5).
@@ -19,7 +18,7 @@ const NO_FILE: &str = "/dev/null";
 
 /// How many descriptors the process may open yet, of the first [`FIRST_DESCRIPTORS`] of which some are open; `None`
 /// where the system doesn't say how many it may have.
-pub fn free_descriptors<R: Files>(files: &R, alloc: Global) -> Option<u64> {
+pub fn free_descriptors(files: &HostRuntime, alloc: Global) -> Option<u64> {
     let file = fs::open(files, LIMITS_FILE).ok()?;
     let bytes = read_file(alloc, InputFile::Rules, file).ok()?;
     let most = most_descriptors(str::from_utf8(bytes.as_slice()).ok()?)?;
@@ -37,7 +36,7 @@ fn most_descriptors(text: &str) -> Option<u64> {
 }
 
 /// How many of the first descriptors are open.
-fn open_descriptors<R: Files>(files: &R, alloc: Global) -> u64 {
+fn open_descriptors(files: &HostRuntime, alloc: Global) -> u64 {
     let mut count = 0u64;
     for number in 0..FIRST_DESCRIPTORS {
         if is_open(files, alloc, number) {
@@ -48,7 +47,7 @@ fn open_descriptors<R: Files>(files: &R, alloc: Global) -> u64 {
 }
 
 /// Whether the descriptor of this number is open.
-fn is_open<R: Files>(files: &R, alloc: Global, number: u32) -> bool {
+fn is_open(files: &HostRuntime, alloc: Global, number: u32) -> bool {
     match format!(in alloc; "/proc/self/fd/{number}") {
         Ok(path) => fs::symlink_metadata(files, path.as_str()).is_ok(),
         Err(_) => false,
@@ -57,7 +56,7 @@ fn is_open<R: Files>(files: &R, alloc: Global, number: u32) -> bool {
 
 /// Opens a file without bytes for each of standard input, output and error that is closed, so that no socket gets its
 /// number, by which lines would go there. The files are to be kept.
-pub fn fill_standard<R: Files>(files: &R, alloc: Global) -> Vec<R::File> {
+pub fn fill_standard(files: &HostRuntime, alloc: Global) -> Vec<File> {
     let mut kept = Vec::new(alloc);
     for number in 0..STANDARD {
         if !is_open(files, alloc, number) {

@@ -4,7 +4,6 @@ ghost use Rattle.std.specs.Prelude.{◌≡◌, IfSome, IsNone};
 
 use std::fs::Metadata;
 use std::os::unix::fs::MetadataExt;
-use std::rt::Clock;
 use std::time::{SystemTime, UNIX_EPOCH};
 
 /// How many seconds pass before a file that changes again surely gets another time: the coarsest clock of a file
@@ -17,7 +16,7 @@ pub fn clock_grain()
 {}
 
 /// A time that a file system keeps.
-#[derive(Clone, Copy, Debug, PartialEq, Eq)]
+#[derive(Clone, Copy, PartialEq, Eq)]
 pub struct FileTime {
     /// The seconds since 1970; 0 for a time before.
     pub seconds: u64,
@@ -27,7 +26,7 @@ pub struct FileTime {
 
 /// What the system says of a file. Another file has another device or another number there, also one that took its
 /// place by a rename or that a link names now; and a file that is written gets other times, unless its clock stands.
-#[derive(Clone, Copy, Debug, PartialEq, Eq)]
+#[derive(Clone, Copy, PartialEq, Eq)]
 pub struct FileStamp {
     /// The number of the device that has the file.
     pub device: u64,
@@ -79,7 +78,7 @@ impl FileStamp {
 }
 
 /// The second that it is since 1970; `None` where the system doesn't say it.
-pub(crate) fn current_second<R: Clock>(clock: &R) -> Option<u64> {
+pub(crate) fn current_second(clock: &HostRuntime) -> Option<u64> {
     let now = SystemTime::now(clock).ok()?;
     let since = now.duration_since(UNIX_EPOCH).ok()?;
     Some(since.as_secs())

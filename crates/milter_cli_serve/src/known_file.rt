@@ -11,7 +11,7 @@ use std::alloc::Global;
 use std::marker::Model;
 
 /// What a rule file and its lists have.
-#[derive(Debug, Drop)]
+#[derive(Drop)]
 pub struct RuleBytes {
     /// The bytes of the rule file.
     pub file: Text,

@@ -4,7 +4,7 @@ use std::alloc::{AllocError, Global};
 use std::io::Write;
 
 /// What stands before and after the number in the line that says how many lines were lost.
-#[derive(Clone, Copy, Debug)]
+#[derive(Clone, Copy)]
 pub struct LostWords {
     /// What stands before it.
     pub before: &'static str,

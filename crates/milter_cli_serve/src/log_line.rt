@@ -74,8 +74,19 @@ pub(crate) trait LogKeys {
 pub(crate) fn line_of<K: LogKeys>(alloc: Global, keys: &K) -> Result<Vec<u8>, TextFault> {
     let mut text = Vec::new(alloc);
     let mut buffer = Vec::new(alloc);
-    let mut line = LogLine::new(alloc, &mut text, &mut buffer);
+    let put = put_line(LogLine::new(alloc, &mut text, &mut buffer), keys);
+    drop(buffer);
+    match put {
+        Ok(()) => Ok(text),
+        Err(fault) => {
+            drop(text);
+            Err(fault)
+        }
+    }
+}
+
+/// Puts these keys to a line, and ends it.
+fn put_line<K: LogKeys>(mut line: LogLine<'_>, keys: &K) -> Result<(), TextFault> {
     keys.put_keys(&mut line)?;
-    line.end()?;
-    Ok(text)
+    line.end()
 }

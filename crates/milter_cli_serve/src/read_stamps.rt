@@ -5,9 +5,8 @@ use crate::known_file::FileStamps;
 use milter_cli_io::ListPath;
 use milter_wire::NoMemory;
 use std::alloc::Global;
-use std::fs::{self, OpenFile};
+use std::fs::{self, File};
 use std::path::Path;
-use std::rt::Files;
 
 /// The stamps of files that are read, and whether these are trusted.
 #[derive(Drop)]
@@ -58,8 +57,8 @@ fn trusted_stamp(found: Option<FileStamp>, second: Option<u64>) -> Option<FileSt
 }
 
 /// The stamps of the rule file at this path and of the files of these lists.
-pub(crate) fn stamps_at<R: Files>(
-    files: &R,
+pub(crate) fn stamps_at(
+    files: &HostRuntime,
     alloc: Global,
     path: &str,
     lists: &[ListPath],
@@ -73,13 +72,13 @@ pub(crate) fn stamps_at<R: Files>(
 }
 
 /// The stamp of the file at this path; `None` where the system doesn't say it.
-fn stamp_at<R: Files>(files: &R, path: Path<'_>) -> Option<FileStamp> {
+fn stamp_at(files: &HostRuntime, path: Path<'_>) -> Option<FileStamp> {
     let found = fs::metadata(files, path).ok()?;
     Some(FileStamp::of(&found))
 }
 
 /// The stamp of this open file; `None` where the system doesn't say it.
-pub(crate) fn stamp_of<F: OpenFile>(file: &F) -> Option<FileStamp> {
+pub(crate) fn stamp_of(file: &File) -> Option<FileStamp> {
     let found = file.metadata().ok()?;
     Some(FileStamp::of(&found))
 }

@@ -9,14 +9,14 @@ use std::alloc::Global;
 const AT: &[u8] = b"at";
 
 /// The line of a rule.
-#[derive(Clone, Copy, Debug)]
+#[derive(Clone, Copy)]
 struct RuleLine {
     stage: Stage,
     number: u64,
 }
 
 /// The lines of the rules of a file, in its order.
-#[derive(Debug, Drop)]
+#[derive(Drop)]
 pub struct RuleLines {
     lines: Vec<RuleLine>,
 }

@@ -6,8 +6,8 @@ use crate::read_stamps::{ReadStamps, stamp_of, stamps_at};
 use crate::rule_lines::RuleLines;
 use milter_cli_faults::explain_file;
 use milter_cli_io::{
-    FILE_MAX, FileError, InputFile, ListPath, RuleUse, list_paths, open_list, read_error,
-    read_file, read_list,
+    FILE_MAX, FileError, InputFile, ListPath, RuleUse, list_file, list_paths, open_list,
+    read_error, read_file, read_list,
 };
 use milter_rules::{ListFile, Rules};
 use milter_wire::{List, NoMemory, Text};
@@ -16,7 +16,6 @@ use std::fs;
 use std::marker::Model;
 use std::os::unix::fs::FileTypeExt;
 use std::path::Path;
-use std::rt::{Clock, Files};
 
 /// A rule file as the log names it.
 #[derive(Clone, Copy)]
@@ -61,8 +60,8 @@ pub trait RuleSource {
 
 /// A rule file, and its lists.
 #[derive(Drop)]
-pub struct RuleFile<'r, R: Files + Clock> {
-    files: &'r R,
+pub struct RuleFile<'r> {
+    files: &'r HostRuntime,
     // None where there are no rules, which never change.
     path: Option<&'r str>,
     usage: RuleUse,
@@ -71,7 +70,7 @@ pub struct RuleFile<'r, R: Files + Clock> {
     lists: Vec<ListPath>,
 }
 
-impl<'r, R: Files + Clock> Model for RuleFile<'r, R> {
+impl<'r> Model for RuleFile<'r> {
     ghost use Rattle.milter_cli_serve.specs.KnownFiles.{Source};
 
     ghost Value = { Source };
@@ -82,13 +81,13 @@ impl<'r, R: Files + Clock> Model for RuleFile<'r, R> {
     } };
 }
 
-impl<'r, R: Files + Clock> RuleFile<'r, R> {
+impl<'r> RuleFile<'r> {
     ghost use Rattle.std.specs.Prelude.{◌≡◌, IfOk};
     ghost use Rattle.milter_cli_serve.specs.KnownFiles.{new_source};
 
     /// The file at this path, of which nothing is known yet, and how its rules are used; without a path there are no
     /// rules.
-    pub fn new(files: &'r R, alloc: Global, path: Option<&'r str>, usage: RuleUse) -> Self
+    pub fn new(files: &'r HostRuntime, alloc: Global, path: Option<&'r str>, usage: RuleUse) -> Self
         ensures { result ≡ new_source usage }
     {
         RuleFile {
@@ -101,7 +100,7 @@ impl<'r, R: Files + Clock> RuleFile<'r, R> {
     }
 }
 
-impl<'r, R: Files + Clock> RuleSource for RuleFile<'r, R> {
+impl<'r> RuleSource for RuleFile<'r> {
     ghost use Rattle.std.specs.Prelude.{◌≡◌, IfErr, IfSome, None};
     ghost use Rattle.milter_cli_io.specs.FileRun.{IsFileFault};
     ghost use Rattle.milter_cli_serve.specs.KnownFiles.{LooksAt};
@@ -138,33 +137,72 @@ impl<'r, R: Files + Clock> RuleSource for RuleFile<'r, R> {
 }
 
 /// Reads the rule file at this path, and its lists, the paths of whose files take the place of those in `lists`.
-fn read_files<R: Files + Clock>(
-    files: &R,
+fn read_files(
+    files: &HostRuntime,
     alloc: Global,
     path: &str,
     lists: &mut Vec<ListPath>,
 ) -> Result<ReadFile, FileError> {
     let mut stamps = ReadStamps::new(alloc, current_second(files));
-    let file = read_rule_file(files, alloc, path, &mut stamps)?;
-    let Ok(paths) = list_paths(alloc, path, file.as_slice()) else {
-        return Err(FileError::NoMemory);
-    };
-    let Ok(found) = read_lists(files, alloc, paths.as_slice(), &mut stamps) else {
-        return Err(FileError::NoMemory);
-    };
-    *lists = paths;
-    Ok(ReadFile {
-        bytes: RuleBytes {
+    match read_bytes(files, alloc, path, lists, &mut stamps) {
+        Ok(bytes) => Ok(ReadFile {
+            bytes,
+            stamps: stamps.into_trusted(),
+        }),
+        Err(error) => {
+            drop(stamps);
+            Err(error)
+        }
+    }
+}
+
+/// The bytes of the rule file at this path and of its lists, with their stamps.
+fn read_bytes(
+    files: &HostRuntime,
+    alloc: Global,
+    path: &str,
+    lists: &mut Vec<ListPath>,
+    stamps: &mut ReadStamps,
+) -> Result<RuleBytes, FileError> {
+    let file = read_rule_file(files, alloc, path, stamps)?;
+    match read_named_lists(files, alloc, path, file.as_slice(), lists, stamps) {
+        Ok(found) => Ok(RuleBytes {
             file: Text::new(file),
             lists: found,
-        },
-        stamps: stamps.into_trusted(),
-    })
+        }),
+        Err(NoMemory) => {
+            drop(file);
+            Err(FileError::NoMemory)
+        }
+    }
+}
+
+/// Reads the lists that the rule file at this path names, which has these bytes, but those that can't be read. The
+/// paths of their files take the place of those in `lists`.
+fn read_named_lists(
+    files: &HostRuntime,
+    alloc: Global,
+    path: &str,
+    bytes: &[u8],
+    lists: &mut Vec<ListPath>,
+    stamps: &mut ReadStamps,
+) -> Result<List<ListFile>, NoMemory> {
+    let paths = list_paths(alloc, path, bytes)?;
+    match read_lists(files, alloc, paths.as_slice(), stamps) {
+        Ok(found) => {
+            *lists = paths;
+            Ok(found)
+        }
+        Err(error) => {
+            drop(paths);
+            Err(error)
+        }
+    }
 }
 
 /// Whether a file at this path can be opened and read without a wait, since it is no pipe, no socket and no folder, or
 /// the system doesn't say what it is.
-fn is_read_at_once<R: Files>(files: &R, path: Path<'_>) -> bool {
+fn is_read_at_once(files: &HostRuntime, path: Path<'_>) -> bool {
     let Ok(found) = fs::metadata(files, path) else {
         return true;
     };
@@ -174,8 +212,8 @@ fn is_read_at_once<R: Files>(files: &R, path: Path<'_>) -> bool {
 
 /// Reads the rule file at this path, without its lists. Of a file that is too large nothing is read, since it is looked
 /// at again at each look; and one that isn't read at once isn't opened.
-fn read_rule_file<R: Files>(
-    files: &R,
+fn read_rule_file(
+    files: &HostRuntime,
     alloc: Global,
     path: &str,
     stamps: &mut ReadStamps,
@@ -189,17 +227,21 @@ fn read_rule_file<R: Files>(
     };
     let stamp = stamp_of(&file);
     if stamp.is_some_and(|stamp| stamp.size > FILE_MAX) {
+        drop(file);
         return Err(FileError::Read(InputFile::Rules));
     }
     match stamps.push_read(stamp) {
         Ok(()) => read_file(alloc, InputFile::Rules, file),
-        Err(_) => Err(FileError::NoMemory),
+        Err(_) => {
+            drop(file);
+            Err(FileError::NoMemory)
+        }
     }
 }
 
 /// Reads the lists at these paths, but those that can't be read.
-fn read_lists<R: Files>(
-    files: &R,
+fn read_lists(
+    files: &HostRuntime,
     alloc: Global,
     paths: &[ListPath],
     stamps: &mut ReadStamps,
@@ -207,18 +249,15 @@ fn read_lists<R: Files>(
     let mut lists = List::new(Vec::new(alloc));
     for path in paths {
         if let Some(bytes) = read_list_at(files, alloc, path, stamps)? {
-            lists.push(ListFile {
-                name: Text::copy_of(alloc, path.name.as_slice())?,
-                bytes: Text::new(bytes),
-            })?;
+            lists.push(list_file(alloc, path, bytes)?)?;
         }
     }
     Ok(lists)
 }
 
 /// Reads the list at this path; none where it can't be read, or not at once.
-fn read_list_at<R: Files>(
-    files: &R,
+fn read_list_at(
+    files: &HostRuntime,
     alloc: Global,
     path: &ListPath,
     stamps: &mut ReadStamps,
@@ -232,8 +271,13 @@ fn read_list_at<R: Files>(
         stamps.push_missing()?;
         return Ok(None);
     };
-    stamps.push_read(stamp_of(&file))?;
-    read_list(alloc, file)
+    match stamps.push_read(stamp_of(&file)) {
+        Ok(()) => read_list(alloc, file),
+        Err(error) => {
+            drop(file);
+            Err(error)
+        }
+    }
 }
 
 /// The lines of the rules of a file; none where there is no file, it wasn't read, or memory is refused.

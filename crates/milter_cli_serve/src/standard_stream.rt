@@ -13,7 +13,7 @@ const PIECE_MAX: usize = 4_096;
 /// `WouldBlock` where there is none, so that it doesn't wait for who reads a pipe, a socket or a terminal; and where
 /// nobody reads any more, it is an error, since the runtime ignores the signal SIGPIPE. A file has room always. Another
 /// program that writes to the same pipe may fill it between the question and the write, which then waits.
-#[derive(Clone, Copy, Debug)]
+#[derive(Clone, Copy)]
 pub struct StandardStream {
     // The number of its descriptor.
     number: i32,

@@ -1,7 +1,7 @@
 -- The words of subcommands as `clap` takes them.
 use Rattle.std.specs.Prelude.{◌≡◌, ℕ, List, [], ◌++◌, ◌∷◌, codes, map, true, false, Some}
 use Rattle.std.specs.Borrow.{Bor}
-use Rattle.clap.specs.Words.{App, Rule, Text, new_app, new_rule}
+use Rattle.clap.specs.Words.{App, Rule, Text, new_app, new_rule, with_subcommand}
 use Rattle.clap.specs.Walk.{texts}
 use Rattle.clap.specs.declared.builder.action.ArgAction.TheVariants.{Append, Set, SetTrue}
 use Rattle.clap.specs.declared.builder.command.Command.{Command}
@@ -79,6 +79,11 @@ with_rules app rules = record app { top = record app.top { rules = app.top.rules
 -- a subcommand with its words
 abbrev pub app_in : Subcommand → App
 app_in subcommand = with_rules (new_app subcommand.name.now) (map rule_of_word subcommand.words.now)
+
+-- a command line with these subcommands after its own
+unfoldable pub with_apps : App → List App → App
+with_apps whole [] = whole
+with_apps whole (app ∷ apps) = with_apps (with_subcommand whole app.top) apps
 
 -- the words of `--loss`
 abbrev pub AreLossWords : BorrowedWords → Type 0

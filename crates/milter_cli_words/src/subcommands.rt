@@ -1,10 +1,10 @@
 //! The subcommands, as `clap` reads and explains them.
 
-ghost use Rattle.std.specs.Prelude.{◌≡◌, IfOk};
-ghost use Rattle.clap.specs.Words.{app_of};
+ghost use Rattle.std.specs.Prelude.{◌≡◌, IfOk, map};
+ghost use Rattle.clap.specs.Words.{app_of, with_subcommand};
 ghost use Rattle.milter_cli_words.specs.Subcommands.{filtering_app, mta_app, play_app, playing_app, reading_app, tool_app};
 ghost use Rattle.milter_cli_words.specs.Subcommands.{top_app};
-ghost use Rattle.milter_cli_words.specs.Words.{IsLocal};
+ghost use Rattle.milter_cli_words.specs.Words.{app_in, with_apps};
 
 use crate::rows::{
     ACTIONS, ADDRESS, ADDRESSES, ALL_STAGES, AT_LOSS, AT_ONCE, BODIES, CHECK, COUNT, DIRECTORY,
@@ -120,44 +120,88 @@ const RECORD_SUBCOMMAND: Subcommand<'static, 'static> = Subcommand {
 };
 
 /// The whole command line, whose `--loss` takes these words.
+#[tactic(auto, unfolding(crate::specs::Words::rule_of_kind, crate::specs::Words::with_apps))]
 pub fn command<'a>(alloc: Global, losses: &'a [&'a str]) -> Result<Command<'a>, AllocError>
     ensures { IfOk result (λ c. app_of c ≡ tool_app losses.entry) }
 {
-    playing(alloc, losses)?
-        .subcommand(command_of(alloc, LOAD_SUBCOMMAND)?)?
-        .subcommand(command_of(alloc, PROBE_SUBCOMMAND)?)?
-        .subcommand(command_of(alloc, RECORD_SUBCOMMAND)?)
+    let command = playing(alloc, losses)?;
+    with_each(
+        alloc,
+        command,
+        &[LOAD_SUBCOMMAND, PROBE_SUBCOMMAND, RECORD_SUBCOMMAND],
+    )
 }
 
 /// The command line with the subcommands that read files, those that are a filter's end, and those that play a mail
 /// server's end.
+#[tactic(auto, unfolding(crate::specs::Words::rule_of_kind, crate::specs::Words::with_apps))]
 fn playing<'a>(alloc: Global, losses: &'a [&'a str]) -> Result<Command<'a>, AllocError>
     ensures { IfOk result (λ c. app_of c ≡ playing_app losses.entry) }
 {
-    filtering(alloc)?
-        .subcommand(mta(alloc, losses)?)?
-        .subcommand(play(alloc, losses)?)?
-        .subcommand(command_of(alloc, REPLAY_SUBCOMMAND)?)
+    let command = filtering(alloc)?;
+    let command = with_mta(alloc, command, losses)?;
+    let command = with_play(alloc, command, losses)?;
+    with(alloc, command, REPLAY_SUBCOMMAND)
 }
 
 /// The command line with the subcommands that read files, and those that are a filter's end.
+#[tactic(auto, unfolding(crate::specs::Words::rule_of_kind, crate::specs::Words::with_apps))]
 fn filtering<'a>(alloc: Global) -> Result<Command<'a>, AllocError>
     ensures { IfOk result (λ c. app_of c ≡ filtering_app) }
 {
-    reading(alloc)?
-        .subcommand(command_of(alloc, ANSWER_SUBCOMMAND)?)?
-        .subcommand(command_of(alloc, FILTER_SUBCOMMAND)?)?
-        .subcommand(command_of(alloc, SERVE_SUBCOMMAND)?)
+    let command = reading(alloc)?;
+    with_each(
+        alloc,
+        command,
+        &[ANSWER_SUBCOMMAND, FILTER_SUBCOMMAND, SERVE_SUBCOMMAND],
+    )
 }
 
 /// The command line with the subcommands that only read files.
+#[tactic(auto, unfolding(crate::specs::Words::rule_of_kind, crate::specs::Words::with_apps))]
 fn reading<'a>(alloc: Global) -> Result<Command<'a>, AllocError>
     ensures { IfOk result (λ c. app_of c ≡ reading_app) }
 {
-    top(alloc)?
-        .subcommand(command_of(alloc, TRACE_SUBCOMMAND)?)?
-        .subcommand(command_of(alloc, SESSION_SUBCOMMAND)?)?
-        .subcommand(command_of(alloc, RULES_SUBCOMMAND)?)
+    let command = top(alloc)?;
+    with_each(
+        alloc,
+        command,
+        &[TRACE_SUBCOMMAND, SESSION_SUBCOMMAND, RULES_SUBCOMMAND],
+    )
+}
+
+/// The command line with these subcommands after its own.
+#[tactic(auto, unfolding(crate::specs::Words::with_apps))]
+fn with_each<'a>(
+    alloc: Global,
+    command: Command<'a>,
+    subcommands: &[Subcommand<'a, '_>],
+) -> Result<Command<'a>, AllocError>
+    ensures { IfOk result (λ c. app_of c ≡ with_apps (app_of command.entry) (map app_in subcommands.entry.now)) }
+{
+    let mut command = command;
+    for subcommand in subcommands {
+        command = with(alloc, command, *subcommand)?;
+    }
+    Ok(command)
+}
+
+/// The command line with this subcommand after its own.
+#[tactic(auto, using(crate::proofs::RowLaws::with_subcommand_more))]
+fn with<'a>(
+    alloc: Global,
+    command: Command<'a>,
+    subcommand: Subcommand<'a, '_>,
+) -> Result<Command<'a>, AllocError>
+    ensures { IfOk result (λ c. app_of c ≡ with_subcommand (app_of command.entry) (app_in subcommand.entry).top) }
+{
+    match command_of(alloc, subcommand) {
+        Ok(added) => command.subcommand(added),
+        Err(error) => {
+            drop(command);
+            Err(error)
+        }
+    }
 }
 
 fn top<'a>(alloc: Global) -> Result<Command<'a>, AllocError>
@@ -172,17 +216,22 @@ fn top<'a>(alloc: Global) -> Result<Command<'a>, AllocError>
     )
 }
 
+/// The command line with the subcommand `mta` after its own.
 #[tactic(auto, unfolding(crate::specs::Words::rule_of_kind))]
-fn mta<'a>(alloc: Global, losses: &'a [&'a str]) -> Result<Command<'a>, AllocError>
-    ensures shape { IfOk result (λ c. app_of c ≡ mta_app losses.entry) }
-    ensures local { IfOk result IsLocal }
+fn with_mta<'a>(
+    alloc: Global,
+    command: Command<'a>,
+    losses: &'a [&'a str],
+) -> Result<Command<'a>, AllocError>
+    ensures { IfOk result (λ c. app_of c ≡ with_subcommand (app_of command.entry) (mta_app losses.entry).top) }
 {
     let loss = Word {
         kind: Kind::Choice(losses),
         ..LOSS
     };
-    command_of(
+    with(
         alloc,
+        command,
         Subcommand {
             name: "mta",
             about: "Plays a session to a filter, and prints what becomes of its messages",
@@ -205,17 +254,22 @@ fn mta<'a>(alloc: Global, losses: &'a [&'a str]) -> Result<Command<'a>, AllocErr
     )
 }
 
+/// The command line with the subcommand `play` after its own.
 #[tactic(auto, unfolding(crate::specs::Words::rule_of_kind))]
-fn play<'a>(alloc: Global, losses: &'a [&'a str]) -> Result<Command<'a>, AllocError>
-    ensures shape { IfOk result (λ c. app_of c ≡ play_app losses.entry) }
-    ensures local { IfOk result IsLocal }
+fn with_play<'a>(
+    alloc: Global,
+    command: Command<'a>,
+    losses: &'a [&'a str],
+) -> Result<Command<'a>, AllocError>
+    ensures { IfOk result (λ c. app_of c ≡ with_subcommand (app_of command.entry) (play_app losses.entry).top) }
 {
     let loss = Word {
         kind: Kind::Choice(losses),
         ..LOSS
     };
-    command_of(
+    with(
         alloc,
+        command,
         Subcommand {
             name: "play",
             about: "Plays a session to rules, and prints what becomes of its messages",

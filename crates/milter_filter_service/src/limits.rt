@@ -3,7 +3,7 @@
 /// What a service allows. Times are whole seconds since the service began, without their fractions. While there are
 /// mail servers all of them are looked at once in each of these seconds. So each time has bounds of its own, as below,
 /// but for the time that a round of the service takes, with what its host does in it.
-#[derive(Clone, Copy, Debug, PartialEq, Eq)]
+#[derive(Clone, Copy)]
 pub struct Limits {
     /// How many connections are open at once; others wait in the queues of the listeners.
     pub at_once: usize,

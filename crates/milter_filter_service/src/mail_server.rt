@@ -20,7 +20,7 @@ use std::marker::Model;
 const QUESTIONS_MAX: u32 = 256;
 
 /// A question that its host has.
-#[derive(Clone, Copy, Debug, PartialEq, Eq)]
+#[derive(Clone, Copy)]
 pub(crate) struct OpenQuestion {
     /// The second at which the host was asked.
     since: u64,
@@ -29,7 +29,7 @@ pub(crate) struct OpenQuestion {
 }
 
 /// What a mail server needs next.
-#[derive(Clone, Copy, Debug, PartialEq, Eq)]
+#[derive(Clone, Copy)]
 pub(crate) enum Next {
     /// Another turn, behind the others.
     Turn,
@@ -40,7 +40,7 @@ pub(crate) enum Next {
 }
 
 /// What is to be done about a mail server that has had no turn for a while.
-#[derive(Clone, Copy, Debug, PartialEq, Eq)]
+#[derive(Clone, Copy)]
 pub(crate) enum Due {
     /// Nothing.
     Nothing,
@@ -113,6 +113,19 @@ impl<S: Drop> MailServer<S> {
             count: 0,
             question: None,
         }
+    }
+
+    /// What the host keeps of it; the rest is dropped.
+    pub(crate) fn into_session(self) -> S {
+        let MailServer {
+            stream,
+            connection,
+            session,
+            ..
+        } = self;
+        drop(stream);
+        drop(connection);
+        session
     }
 
     /// Gives it a turn over its socket, as [`Connection::turn`] says. Of a socket nothing is known of what there is to

@@ -17,9 +17,7 @@ use mio::event::Event;
 use mio::{Events, Poll, Token};
 use std::alloc::Global;
 use std::io::ErrorKind;
-use std::net::Net;
 use std::ops::Range;
-use std::rt::Clock;
 use std::time::{Duration, Instant};
 
 /// The most events that are taken at once.
@@ -46,8 +44,8 @@ struct Source {
 
 /// A service of many connections, of each of which its host keeps an `S`.
 #[derive(Drop)]
-pub struct Service<'r, R: Net + Clock, S: Drop> {
-    rt: &'r R,
+pub struct Service<'r, S: Drop> {
+    rt: &'r HostRuntime,
     alloc: Global,
     limits: Limits,
     poll: Poll,
@@ -69,35 +67,24 @@ pub struct Service<'r, R: Net + Clock, S: Drop> {
     next_check: u64,
 }
 
-impl<'r, R: Net + Clock, S: Drop> Service<'r, R, S> {
+impl<'r, S: Drop> Service<'r, S> {
     /// A service on these listeners.
     pub fn new(
-        rt: &'r R,
+        rt: &'r HostRuntime,
         alloc: Global,
         limits: Limits,
         listeners: Vec<Listener>,
     ) -> Result<Self, ServiceError> {
+        let start = Instant::now(rt)?;
         let spare = Vec::with_capacity(alloc, SPARE_MAX)?;
-        let poll = Poll::new(rt)?;
-        let mut sources = Vec::new(alloc);
-        for listener in listeners {
-            let mut listener = listener;
-            let place = sources.len();
-            listener.watch(poll.registry(), Token(LISTENER_TOKENS - place))?;
-            let source = Source {
-                listener,
-                is_ready: true,
-            };
-            if sources.push(source).is_err() {
-                return Err(ServiceError::NoMemory);
-            }
-        }
+        let mut sources = sources_of(alloc, listeners)?;
+        let poll = watching(rt, sources.as_mut_slice())?;
         Ok(Service {
             rt,
             alloc,
             limits,
             poll,
-            start: Instant::now(rt)?,
+            start,
             sources,
             mail_servers: MailServers::new(alloc),
             spare,
@@ -112,20 +99,46 @@ impl<'r, R: Net + Clock, S: Drop> Service<'r, R, S> {
     /// Serves until it is ended from outside, or by an error.
     pub fn run<H: Host<Session = S>>(&mut self, host: &mut H) -> Result<(), ServiceError> {
         let mut events = Events::with_capacity(self.alloc, EVENTS_MAX)?;
-        let mut buffer = read_buffer(self.alloc)?;
+        match read_buffer(self.alloc) {
+            Ok(mut buffer) => self.serve(&mut events, buffer.as_mut_slice(), host),
+            Err(error) => Err(error.into()),
+        }
+    }
+
+    /// Serves with these events and this buffer.
+    fn serve<H: Host<Session = S>>(
+        &mut self,
+        events: &mut Events,
+        buffer: &mut [u8],
+        host: &mut H,
+    ) -> Result<(), ServiceError>
+        requires { 0 < length buffer.old }
+    {
         host.start(self.poll.registry(), self.host_tokens())?;
         for _ in 0..u64::MAX {
-            let timeout = self.time_to_wait(host.deadline())?;
-            self.poll.poll(&mut events, timeout)?;
-            let now = Instant::now(self.rt)?;
-            let second = now.saturating_duration_since(self.start).as_secs();
-            self.on_events(&events, host)?;
-            self.call_due(now, host)?;
-            self.accept(second, host)?;
-            self.run_turns(second, buffer.as_mut_slice(), host)?;
-            self.look(second, host)?;
+            self.serve_once(events, buffer, host)?;
         }
         Ok(())
+    }
+
+    /// Waits until something is to be done, and does it.
+    fn serve_once<H: Host<Session = S>>(
+        &mut self,
+        events: &mut Events,
+        buffer: &mut [u8],
+        host: &mut H,
+    ) -> Result<(), ServiceError>
+        requires { 0 < length buffer.old }
+    {
+        let timeout = self.time_to_wait(host.deadline())?;
+        self.poll.poll(events, timeout)?;
+        let now = Instant::now(self.rt)?;
+        let second = now.saturating_duration_since(self.start).as_secs();
+        self.on_events(events, host)?;
+        self.call_due(now, host)?;
+        self.accept(second, host)?;
+        self.run_turns(second, buffer, host)?;
+        self.look(second, host)
     }
 
     /// The tokens for sockets of the host: those of mail servers are below them, and those of listeners above.
@@ -283,6 +296,7 @@ impl<'r, R: Net + Clock, S: Drop> Service<'r, R, S> {
             number: self.count,
         };
         let Ok((wants, session)) = host.connect(key) else {
+            drop(stream);
             return host.refused(key);
         };
         let connection = self.connect(wants);
@@ -290,11 +304,8 @@ impl<'r, R: Net + Clock, S: Drop> Service<'r, R, S> {
         match self.mail_servers.add(mail_server) {
             Ok(()) => self.watch(key, host),
             Err(mail_server) => {
-                host.ended(
-                    key,
-                    mail_server.session,
-                    Served::Failed(FilterFault::NoMemory),
-                )
+                let session = mail_server.into_session();
+                host.ended(key, session, Served::Failed(FilterFault::NoMemory))
             }
         }
     }
@@ -322,6 +333,8 @@ impl<'r, R: Net + Clock, S: Drop> Service<'r, R, S> {
             ended.restart(CommandOrder::Lenient);
             self.is_released = false;
             drop(self.spare.push(ended));
+        } else {
+            drop(ended);
         }
     }
 
@@ -458,4 +471,41 @@ impl<'r, R: Net + Clock, S: Drop> Service<'r, R, S> {
             Due::Close => self.close(place, Served::ReadFault, host),
         }
     }
+}
+
+/// These listeners, on each of which a connection may have come.
+fn sources_of(alloc: Global, listeners: Vec<Listener>) -> Result<Vec<Source>, ServiceError> {
+    let mut sources = Vec::new(alloc);
+    for listener in listeners {
+        let source = Source {
+            listener,
+            is_ready: true,
+        };
+        if sources.push(source).is_err() {
+            return Err(ServiceError::NoMemory);
+        }
+    }
+    Ok(sources)
+}
+
+/// What says when one of these listeners is ready.
+fn watching(rt: &HostRuntime, sources: &mut [Source]) -> Result<Poll, ServiceError> {
+    let poll = Poll::new(rt)?;
+    match watch_all(&poll, sources) {
+        Ok(()) => Ok(poll),
+        Err(error) => {
+            drop(poll);
+            Err(error)
+        }
+    }
+}
+
+/// Has the system say when one of these listeners is ready.
+fn watch_all(poll: &Poll, sources: &mut [Source]) -> Result<(), ServiceError> {
+    let mut token = LISTENER_TOKENS;
+    for source in sources {
+        source.listener.watch(poll.registry(), Token(token))?;
+        token = token.saturating_sub(1);
+    }
+    Ok(())
 }

@@ -1,7 +1,7 @@
 //! What became of going on with a connection.
 
 /// What became of going on with a connection that wants a command.
-#[derive(Clone, Copy, Debug, PartialEq, Eq)]
+#[derive(Clone, Copy)]
 pub enum Advance {
     /// A command was called for, or left out: there is something to be sent, or the next command.
     Called,

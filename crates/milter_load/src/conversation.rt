@@ -14,7 +14,7 @@ use milter_wire::{NoMemory, Options, Stage, Verdict};
 use std::alloc::Global;
 
 /// What a connection has before it when something happens: the session that is played, and the time.
-#[derive(Clone, Copy, Debug)]
+#[derive(Clone, Copy)]
 pub struct Moment<'s> {
     /// The session.
     pub session: &'s Session,
@@ -23,7 +23,7 @@ pub struct Moment<'s> {
 }
 
 /// A connection to a filter, on which a session is played: its client once, and its messages again and again.
-#[derive(Debug, Drop)]
+#[derive(Drop)]
 pub struct Conversation {
     connection: MtaConnection,
     step: Step,

@@ -10,7 +10,7 @@ use std::io::Write;
 const MILLI: u64 = 1_000;
 
 /// What some of a thousand replies took at most, and all of them, in microseconds.
-#[derive(Clone, Copy, Debug, PartialEq, Eq)]
+#[derive(Clone, Copy)]
 pub(crate) struct Figures {
     pub(crate) count: u64,
     pub(crate) p50: u64,

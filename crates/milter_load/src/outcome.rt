@@ -4,7 +4,7 @@ use milter_mta_outcome::Loss;
 use milter_wire::{Stage, Verdict};
 
 /// What a filter made of a message. Source: the libmilter callback documentation (return values).
-#[derive(Clone, Copy, Debug, PartialEq, Eq)]
+#[derive(Clone, Copy)]
 pub enum Settled {
     /// It is delivered, or quarantined.
     Released,
@@ -64,7 +64,7 @@ impl Settled {
 }
 
 /// Why a message was settled by default.
-#[derive(Clone, Copy, Debug, PartialEq, Eq)]
+#[derive(Clone, Copy)]
 pub enum Cause {
     /// The connection broke.
     Reset,

@@ -12,7 +12,7 @@ use std::alloc::Global;
 use std::io::Write;
 
 /// How a report is written.
-#[derive(Clone, Copy, Debug, PartialEq, Eq)]
+#[derive(Clone, Copy)]
 pub enum ReportForm {
     /// As lines of words and numbers. Outcomes, causes and latencies of which there is none are left out.
     Lines,
@@ -29,9 +29,18 @@ pub fn write_report<W: Write>(
 ) -> Result<(), TextFault> {
     let mut buffer = Vec::new(alloc);
     let mut output = TextWriter::new(writer, &mut buffer);
+    put_report(&mut output, totals, form)
+}
+
+/// Puts the report in this form.
+fn put_report<W: Write>(
+    output: &mut TextWriter<'_, W>,
+    totals: &Totals,
+    form: ReportForm,
+) -> Result<(), TextFault> {
     match form {
-        ReportForm::Lines => put_lines(&mut output, totals)?,
-        ReportForm::Json => put_object(&mut output, totals)?,
+        ReportForm::Lines => put_lines(output, totals)?,
+        ReportForm::Json => put_object(output, totals)?,
     }
     output.flush()
 }
@@ -53,15 +62,23 @@ pub fn write_progress<W: Write>(
 ) -> Result<(), TextFault> {
     let mut buffer = Vec::new(alloc);
     let mut output = TextWriter::new(writer, &mut buffer);
-    let micros = now.saturating_sub(totals.start);
+    put_progress(&mut output, totals, now.saturating_sub(totals.start))
+}
+
+/// Puts how far a load is after so many microseconds.
+fn put_progress<W: Write>(
+    output: &mut TextWriter<'_, W>,
+    totals: &Totals,
+    micros: u64,
+) -> Result<(), TextFault> {
     output.put(b"\rsecond ")?;
-    put_number(&mut output, micros / SECOND)?;
+    put_number(output, micros / SECOND)?;
     output.put(b", messages ")?;
-    put_number(&mut output, totals.messages())?;
+    put_number(output, totals.messages())?;
     output.put(b", a second ")?;
-    put_a_second(&mut output, totals.messages(), micros)?;
+    put_a_second(output, totals.messages(), micros)?;
     output.put(b", by default ")?;
-    put_number(&mut output, totals.by_default())?;
+    put_number(output, totals.by_default())?;
     output.put(b" ")?;
     output.flush()
 }

@@ -4,7 +4,7 @@
 pub(crate) const SECOND: u64 = 1_000_000;
 
 /// When the messages of a load are due: each as soon as a connection has none, or by a rate.
-#[derive(Clone, Copy, Debug, PartialEq, Eq)]
+#[derive(Clone, Copy)]
 pub struct Schedule {
     // Messages a second; 0 where there is no rate.
     rate: u64,

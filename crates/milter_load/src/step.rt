@@ -5,7 +5,7 @@ use milter_mta_connection::{CallFault, CallOutcome, MtaConnection};
 use milter_wire::Stage;
 
 /// What comes next on a connection.
-#[derive(Clone, Copy, Debug, PartialEq, Eq)]
+#[derive(Clone, Copy, PartialEq, Eq)]
 pub(crate) enum Step {
     /// The client connects.
     Connect,

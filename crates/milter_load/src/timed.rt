@@ -7,7 +7,7 @@ use milter_wire::Stage;
 pub(crate) const KINDS: usize = 11;
 
 /// What is timed: how long it takes until its reply is there.
-#[derive(Clone, Copy, Debug, PartialEq, Eq)]
+#[derive(Clone, Copy)]
 pub enum Timed {
     /// The negotiation.
     Negotiation,

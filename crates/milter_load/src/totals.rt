@@ -6,7 +6,7 @@ use milter_load_stats::Latencies;
 use std::alloc::{AllocError, Global};
 
 /// What came of a load: of its messages, of its connections, and how long replies took.
-#[derive(Debug, Drop)]
+#[derive(Drop)]
 pub struct Totals {
     latencies: Vec<Latencies>,
     settled: [u64; 5],

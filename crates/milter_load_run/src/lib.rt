@@ -9,6 +9,7 @@ mod looks;
 mod open_connection;
 mod settings;
 mod slot;
+mod sockets;
 mod spin;
 
 pub use load::run_load;

@@ -5,17 +5,16 @@ use crate::looks::LOOK;
 use crate::open_connection::{Next, OpenConnection, Work};
 use crate::settings::{SECOND, Settings};
 use crate::slot::Slot;
+use crate::sockets::Sockets;
 use crate::spin::Spin;
 use milter_load::{Cause, Conversation, Schedule, Totals};
 use milter_mail::Session;
-use milter_sockets::Target;
+use milter_sockets::{Stream, Target};
 use milter_wire::{Options, read_buffer};
 use mio::event::Event;
 use mio::{Events, Poll, Token};
 use std::alloc::Global;
 use std::io::{self, ErrorKind, Write};
-use std::net::Net;
-use std::rt::Clock;
 use std::time::{Duration, Instant};
 
 /// The most events that are taken at once.
@@ -33,8 +32,8 @@ pub(crate) const FIRST: u64 = SECOND;
 
 /// A load that is put on a filter.
 #[derive(Drop)]
-pub(crate) struct Load<'r, 's, R: Net + Clock> {
-    pub(crate) rt: &'r R,
+pub(crate) struct Load<'r, 's> {
+    pub(crate) rt: &'r HostRuntime,
     pub(crate) alloc: Global,
     pub(crate) settings: Settings,
     pub(crate) offer: Options,
@@ -68,8 +67,8 @@ pub(crate) struct Load<'r, 's, R: Net + Clock> {
 ///
 /// The filter is lost where nothing comes of it for as long as a reply may take. The load also ends where for a second
 /// more no connection is open that the filter negotiated on. A session without messages is no load.
-pub fn run_load<'s, R: Net + Clock, W: Write>(
-    rt: &R,
+pub fn run_load<'s, W: Write>(
+    rt: &HostRuntime,
     alloc: Global,
     settings: Settings,
     offer: Options,
@@ -79,25 +78,39 @@ pub fn run_load<'s, R: Net + Clock, W: Write>(
 ) -> Result<Totals, LoadError> {
     let totals = Totals::new(alloc)?;
     if session.messages().is_empty() {
+        drop(target);
         return Ok(totals);
     }
-    let work = Work {
-        session,
-        schedule: Schedule::new(settings.rate, settings.messages),
-        totals,
+    let sockets = match Sockets::new(rt, alloc, settings.at_once) {
+        Ok(sockets) => sockets,
+        Err(error) => {
+            drop(totals);
+            drop(target);
+            return Err(error);
+        }
     };
-    let mut load = Load {
+    let Sockets {
+        poll,
+        begin,
+        slots,
+        idle,
+    } = sockets;
+    let load = Load {
         rt,
         alloc,
         settings,
         offer,
         target,
         address: 0,
-        poll: Poll::new(rt)?,
-        begin: Instant::now(rt)?,
-        slots: slots_of(alloc, settings.at_once)?,
-        idle: Vec::with_capacity(alloc, settings.at_once)?,
-        work,
+        poll,
+        begin,
+        slots,
+        idle,
+        work: Work {
+            session,
+            schedule: Schedule::new(settings.rate, settings.messages),
+            totals,
+        },
         open: 0,
         first: 0,
         last_negotiated: 0,
@@ -107,6 +120,11 @@ pub fn run_load<'s, R: Net + Clock, W: Write>(
         next_second: SECOND,
         spin: Spin::new(),
     };
+    totals_of(load, errors)
+}
+
+/// Puts the load on the filter, and what came of it.
+fn totals_of<W: Write>(mut load: Load<'_, '_>, errors: &mut W) -> Result<Totals, LoadError> {
     load.run(errors)?;
     if load.work.totals.made == 0 {
         return Err(LoadError::Connect(load.refusal.unwrap_or(ErrorKind::TimedOut)));
@@ -114,32 +132,33 @@ pub fn run_load<'s, R: Net + Clock, W: Write>(
     Ok(load.work.totals)
 }
 
-/// So many places.
-fn slots_of(alloc: Global, at_once: usize) -> Result<Vec<Slot>, LoadError> {
-    let mut slots = Vec::with_capacity(alloc, at_once)?;
-    for _ in 0..at_once {
-        if slots.push(Slot::new()).is_err() {
-            return Err(LoadError::NoMemory);
-        }
-    }
-    Ok(slots)
-}
-
-impl<'r, 's, R: Net + Clock> Load<'r, 's, R> {
+impl<'r, 's> Load<'r, 's> {
     /// Puts the load on the filter.
     fn run<W: Write>(&mut self, errors: &mut W) -> Result<(), LoadError> {
         let mut events = Events::with_capacity(self.alloc, EVENTS_MAX)?;
-        let mut buffer = read_buffer(self.alloc)?;
+        match read_buffer(self.alloc) {
+            Ok(mut buffer) => self.run_with(&mut events, buffer.as_mut_slice(), errors),
+            Err(error) => Err(LoadError::from(error)),
+        }
+    }
+
+    /// The same with these events and this buffer.
+    fn run_with<W: Write>(
+        &mut self,
+        events: &mut Events,
+        buffer: &mut [u8],
+        errors: &mut W,
+    ) -> Result<(), LoadError> {
         let mut now = self.now()?;
         for _ in 0..u64::MAX {
             self.look(now, errors)?;
-            self.begin_due(now, buffer.as_mut_slice())?;
+            self.begin_due(now, buffer)?;
             if self.is_done(now) {
                 break;
             }
             let timeout = Some(self.time_to_wait(now));
-            self.poll.poll(&mut events, timeout)?;
-            now = self.on_events(&events, buffer.as_mut_slice())?;
+            self.poll.poll(events, timeout)?;
+            now = self.on_events(events, buffer)?;
         }
         self.end()
     }
@@ -399,19 +418,27 @@ impl<'r, 's, R: Net + Clock> Load<'r, 's, R> {
             return Ok(());
         }
         match self.target.connect(self.rt, self.address) {
-            Ok(mut stream) => {
-                stream.watch(self.poll.registry(), Token(place))?;
-                let conversation = Conversation::new(self.alloc, self.offer, place, now).map_err(
-                    |_| LoadError::NoMemory,
-                )?;
+            Ok(stream) => self.converse(place, stream, now),
+            Err(error) => {
+                self.on_refusal(place, error.kind(), now);
+                Ok(())
+            }
+        }
+    }
+
+    /// Begins a conversation on a connection that is being made.
+    fn converse(&mut self, place: usize, mut stream: Stream, now: u64) -> Result<(), LoadError> {
+        stream.watch(self.poll.registry(), Token(place))?;
+        match Conversation::new(self.alloc, self.offer, place, now) {
+            Ok(conversation) => {
                 if let Some(slot) = self.slots.get_mut(place) {
                     slot.open = Some(OpenConnection::new(stream, conversation, now));
                 }
                 Ok(())
             }
-            Err(error) => {
-                self.on_refusal(place, error.kind(), now);
-                Ok(())
+            Err(_) => {
+                drop(stream);
+                Err(LoadError::NoMemory)
             }
         }
     }

@@ -6,8 +6,6 @@ use crate::settings::SECOND;
 use crate::slot::Need;
 use milter_load::{Cause, write_progress};
 use std::io::{ErrorKind, Write};
-use std::net::Net;
-use std::rt::Clock;
 
 /// How many microseconds pass between two looks at all connections.
 pub(crate) const LOOK: u64 = 10_000;
@@ -15,7 +13,7 @@ pub(crate) const LOOK: u64 = 10_000;
 /// the processor's timer for it.
 const LOOK_STEADY: u64 = 100_000;
 
-impl<'r, 's, R: Net + Clock> Load<'r, 's, R> {
+impl<'r, 's> Load<'r, 's> {
     /// Looks at all connections, where the time for it has come: at those that are late, and those that are to be made.
     pub(crate) fn look<W: Write>(&mut self, now: u64, errors: &mut W) -> Result<(), LoadError> {
         if now < self.next_look {

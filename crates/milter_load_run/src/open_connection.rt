@@ -10,7 +10,7 @@ use std::io::ErrorKind;
 const TURNS_MAX: u32 = 1_000_000;
 
 /// What all connections share: what is played, when it is due, and what came of it.
-#[derive(Debug, Drop)]
+#[derive(Drop)]
 pub(crate) struct Work<'s> {
     pub(crate) session: &'s Session,
     pub(crate) schedule: Schedule,
@@ -18,7 +18,7 @@ pub(crate) struct Work<'s> {
 }
 
 /// What a connection needs next.
-#[derive(Clone, Copy, Debug, PartialEq, Eq)]
+#[derive(Clone, Copy)]
 pub(crate) enum Next {
     /// Nothing, until there is something to read.
     Wait,

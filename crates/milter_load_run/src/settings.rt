@@ -4,7 +4,7 @@
 pub(crate) const SECOND: u64 = 1_000_000;
 
 /// What is asked of a load.
-#[derive(Clone, Copy, Debug, PartialEq, Eq)]
+#[derive(Clone, Copy)]
 pub struct Settings {
     /// How many connections there are at once.
     pub at_once: usize,

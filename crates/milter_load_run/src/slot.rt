@@ -3,7 +3,7 @@
 use crate::open_connection::OpenConnection;
 
 /// What a place needs at a look at all of them.
-#[derive(Clone, Copy, Debug, PartialEq, Eq)]
+#[derive(Clone, Copy)]
 pub(crate) enum Need {
     /// Nothing.
     Nothing,

@@ -7,7 +7,7 @@ const CREDIT_MAX: u32 = 64;
 
 /// Whether the sockets are polled without a wait for a moment. To be woken takes as long as many filters take for a
 /// reply, and costs as much as several polls. It goes on as long as events come within that moment.
-#[derive(Clone, Copy, Debug, PartialEq, Eq)]
+#[derive(Clone, Copy)]
 pub(crate) struct Spin {
     // Until when the sockets are polled without a wait; 0 where they are not.
     until: u64,

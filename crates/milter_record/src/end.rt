@@ -21,7 +21,7 @@ pub(crate) struct End {
 }
 
 /// What came of a read.
-#[derive(Clone, Copy, Debug, PartialEq, Eq)]
+#[derive(Clone, Copy)]
 pub(crate) enum Came {
     /// So many bytes.
     Bytes(usize),

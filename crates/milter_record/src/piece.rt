@@ -6,7 +6,7 @@ ghost use Rattle.milter_record.specs.Pieces.{rest_of};
 use std::alloc::{AllocError, Global};
 
 /// A piece that was read and is passed on, as far as it isn't written yet.
-#[derive(Debug, Drop)]
+#[derive(Drop)]
 pub(crate) struct Piece {
     bytes: Vec<u8>,
     // How many of them are written.

@@ -10,9 +10,8 @@ use mio::event::Event;
 use mio::{Events, Poll, Token};
 use slab::Slab;
 use std::alloc::Global;
+use std::fs::File;
 use std::io::{self, ErrorKind, Write};
-use std::net::Net;
-use std::rt::Files;
 use std::time::Duration;
 
 /// The most events that are taken at once.
@@ -28,8 +27,8 @@ const LISTENER: Token = Token(usize::MAX);
 
 /// Connections that are passed on to a filter and recorded.
 #[derive(Drop)]
-struct Recorder<'r, 's, R: Net + Files> {
-    rt: &'r R,
+struct Recorder<'r, 's> {
+    rt: &'r HostRuntime,
     alloc: Global,
     target: Target<'s>,
     directory: &'s str,
@@ -39,7 +38,7 @@ struct Recorder<'r, 's, R: Net + Files> {
     is_ready: bool,
     // Whether the system had no room for a connection.
     is_full: bool,
-    connections: Slab<RecordedConnection<R::File>>,
+    connections: Slab<RecordedConnection<File>>,
     // How many connections have come.
     came: u64,
     // How many are taken; all where there is no number.
@@ -50,8 +49,8 @@ struct Recorder<'r, 's, R: Net + Files> {
 /// of the directory: `1.trace` of the first connection, `2.trace` of the second, and so on. It ends once so many
 /// connections have ended; without their number it ends by an error alone. A connection that can't be passed on, or
 /// whose file can't be written, is closed, and a line says so.
-pub fn record<'s, R: Net + Files, W: Write>(
-    rt: &R,
+pub fn record<'s, W: Write>(
+    rt: &HostRuntime,
     alloc: Global,
     mut listener: Listener,
     target: Target<'s>,
@@ -77,7 +76,7 @@ pub fn record<'s, R: Net + Files, W: Write>(
     recorder.run(errors)
 }
 
-impl<'r, 's, R: Net + Files> Recorder<'r, 's, R> {
+impl<'r, 's> Recorder<'r, 's> {
     /// Takes connections, and passes on what comes.
     fn run<W: Write>(&mut self, errors: &mut W) -> Result<(), RecordError> {
         let mut events = Events::with_capacity(self.alloc, EVENTS_MAX)?;

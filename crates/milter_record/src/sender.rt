@@ -6,7 +6,7 @@ ghost use Rattle.milter_record.specs.TraceLine.{mark_of, recorded_line};
 use std::alloc::{AllocError, Global};
 
 /// Who sent what is recorded.
-#[derive(Clone, Copy, Debug, PartialEq, Eq)]
+#[derive(Clone, Copy)]
 pub enum Sender {
     /// The mail server.
     MailServer,

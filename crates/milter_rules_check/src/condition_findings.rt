@@ -10,7 +10,7 @@ use milter_rules_faults::{Notes, Span};
 use milter_wire::{NoMemory, Options, Protocol, Stage, Text};
 
 /// Why a field has no value.
-#[derive(Clone, Copy, Debug)]
+#[derive(Clone, Copy)]
 enum Absence {
     /// Its stage is left out, by this bit.
     NotSent(Protocol),
@@ -28,7 +28,7 @@ struct Place {
 }
 
 /// What becomes of conditions at a stage, as far as that is known from the fields that have no value there.
-#[derive(Clone, Copy, Debug, PartialEq, Eq)]
+#[derive(Clone, Copy)]
 enum Certainty {
     /// They are never met.
     Never,

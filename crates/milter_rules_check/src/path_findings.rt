@@ -19,7 +19,7 @@ const IN_BRACKETS: &[u8] =
     b" misses the same address in other case, in quotes, with a source route or with a dot at its end";
 
 /// How an address is written in a text.
-#[derive(Clone, Copy, Debug, PartialEq, Eq)]
+#[derive(Clone, Copy, PartialEq, Eq)]
 enum Form {
     /// As nothing, which may be meant for the null sender.
     Empty,

@@ -7,7 +7,7 @@ use milter_wire::NoMemory;
 const MALFORMED: &[u8] = b"; Postfix takes it for malformed, and answers 451 4.3.5 in its place";
 
 /// What is wrong with the lines of a reply.
-#[derive(Clone, Copy, Debug, PartialEq, Eq)]
+#[derive(Clone, Copy)]
 enum LineTrouble {
     /// A line doesn't begin with the reply code.
     NoCode,

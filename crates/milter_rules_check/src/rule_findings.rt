@@ -12,7 +12,7 @@ use milter_rules_faults::{Notes, RuleLine, Span, form_of_file, rule_lines};
 use milter_wire::{NoMemory, Options, Stage};
 
 /// How far the rules of a stage were looked at.
-#[derive(Clone, Copy, Debug)]
+#[derive(Clone, Copy)]
 struct Progress {
     /// How many were.
     count: usize,

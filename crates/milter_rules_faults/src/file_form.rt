@@ -5,7 +5,7 @@ use milter_wire::NoMemory;
 use std::alloc::Global;
 
 /// The form of a rule file.
-#[derive(Clone, Copy, Debug, PartialEq, Eq)]
+#[derive(Clone, Copy, PartialEq, Eq)]
 pub enum FileForm {
     /// The form of files without a first line `rules 2`.
     First,

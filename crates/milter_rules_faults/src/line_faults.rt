@@ -41,6 +41,18 @@ pub fn say_fault(notes: &mut Notes<'_>, bytes: &[u8], fault: RuleFault) -> Resul
         form,
         lists: lists.as_ref().map(|lists| lists.as_slice()),
     };
+    say_fault_at(notes, head, bytes, line, fault)
+}
+
+/// Says what is wrong with this line, of a file of these bytes that begins so.
+fn say_fault_at(
+    notes: &mut Notes<'_>,
+    head: FileHead<'_>,
+    bytes: &[u8],
+    line: &[u8],
+    fault: RuleFault,
+) -> Result<(), NoMemory> {
+    let alloc = notes.alloc();
     if let Some(start) = comment_start(line)
         && is_right_alone(alloc, head, &line[..start.min(line.len())])?
     {

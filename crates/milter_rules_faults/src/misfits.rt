@@ -82,20 +82,22 @@ fn say_bad_texts(notes: &mut Notes<'_>, condition: ConditionWords<'_>) -> Result
         say_no_case(notes, condition.test)?;
         return Ok(true);
     }
-    match condition.test.keyword() {
-        Some(b"under") => say_dotted_domain(notes, condition.texts),
-        Some(b"within") => say_no_network(notes, condition.texts),
-        Some(b"like") if condition.field.is_keyword(b"body") => {
-            let text = b"body isn't compared with patterns; body has TEXT finds a text in it";
-            notes.say(&[Span::Plain(text)])?;
-            Ok(true)
-        }
-        _ if condition.any_case && is_one_of(condition.field, CANONICAL_FIELDS) => {
-            say_no_case(notes, condition.field)?;
-            Ok(true)
-        }
-        _ => Ok(false),
+    if condition.test.is_keyword(b"under") {
+        return say_dotted_domain(notes, condition.texts);
     }
+    if condition.test.is_keyword(b"within") {
+        return say_no_network(notes, condition.texts);
+    }
+    if condition.test.is_keyword(b"like") && condition.field.is_keyword(b"body") {
+        let text = b"body isn't compared with patterns; body has TEXT finds a text in it";
+        notes.say(&[Span::Plain(text)])?;
+        return Ok(true);
+    }
+    if condition.any_case && is_one_of(condition.field, CANONICAL_FIELDS) {
+        say_no_case(notes, condition.field)?;
+        return Ok(true);
+    }
+    Ok(false)
 }
 
 /// Says which of the texts is a domain with a dot before it; answers whether there is one.

@@ -14,7 +14,7 @@ const SHOWN_MAX: usize = 80;
 const TEXTS_SHOWN_MAX: usize = 4;
 
 /// What a line that is said asks for.
-#[derive(Clone, Copy, Debug, PartialEq, Eq)]
+#[derive(Clone, Copy, PartialEq, Eq)]
 pub enum Severity {
     /// Nothing that must be done: what is meant works, and can be got round or be written better.
     Hint,

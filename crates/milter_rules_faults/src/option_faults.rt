@@ -22,16 +22,19 @@ pub(crate) fn say_bad_option(
     if is_repeated {
         return say_repeated(notes, first, rest);
     }
-    match first.keyword() {
-        Some(b"version") => say_bad_version(notes, rest),
-        Some(b"actions") => say_bad_actions(notes, first, rest),
-        Some(b"protocol") => say_bad_protocol(notes, first, rest),
-        Some(b"symbols") => say_bad_symbols(notes, rest),
-        _ if is_one_of(first, STAGE.names) => {
-            let begin = Span::Plain(b"at is missing before the stage ");
-            notes.say(&[begin, Span::Quoted(first.text.as_slice())])
-        }
-        _ => say_unknown(notes, &FIRST_WORD, first),
+    if first.is_keyword(b"version") {
+        say_bad_version(notes, rest)
+    } else if first.is_keyword(b"actions") {
+        say_bad_actions(notes, first, rest)
+    } else if first.is_keyword(b"protocol") {
+        say_bad_protocol(notes, first, rest)
+    } else if first.is_keyword(b"symbols") {
+        say_bad_symbols(notes, rest)
+    } else if is_one_of(first, STAGE.names) {
+        let begin = Span::Plain(b"at is missing before the stage ");
+        notes.say(&[begin, Span::Quoted(first.text.as_slice())])
+    } else {
+        say_unknown(notes, &FIRST_WORD, first)
     }
 }
 

@@ -7,7 +7,7 @@ use milter_wire::{NoMemory, Stage};
 use std::alloc::Global;
 
 /// The line of a rule.
-#[derive(Clone, Copy, Debug)]
+#[derive(Clone, Copy)]
 pub struct RuleLine {
     /// Its number.
     pub number: u64,

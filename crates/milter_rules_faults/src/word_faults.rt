@@ -4,7 +4,7 @@ use crate::notes::{Notes, Span};
 use milter_wire::NoMemory;
 
 /// What the next byte of a line belongs to.
-#[derive(Clone, Copy, Debug, PartialEq, Eq)]
+#[derive(Clone, Copy, PartialEq, Eq)]
 enum Place {
     /// Nothing yet: it may begin a word.
     Between,
@@ -23,7 +23,7 @@ enum Place {
 }
 
 /// Why a byte can't be where it is.
-#[derive(Clone, Copy, Debug, PartialEq, Eq)]
+#[derive(Clone, Copy)]
 enum Trouble {
     /// It is a TAB outside of texts.
     Tab,

@@ -6,12 +6,11 @@ use milter_cli_io::{RuleUse, ToolError, ended_as};
 use milter_cli_request::AnswerRequest;
 use milter_filter::serve_in_order;
 use std::io;
-use std::rt::Files;
 
 /// Replies to the mail server on standard input, as a filter.
-pub(crate) fn answer_mail_server<R: Input + Files + Print + AllocGlobal>(
-    rt: &R,
-    asked: AnswerRequest<'_>,
+pub(crate) fn answer_mail_server(
+    rt: &HostRuntime,
+    asked: &AnswerRequest<'_>,
 ) -> Result<(), ToolError> {
     let usage = RuleUse {
         ignore_case: asked.ignore_case,

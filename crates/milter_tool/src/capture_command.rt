@@ -6,12 +6,11 @@ use milter_cli_faults::Failure;
 use milter_cli_io::{InputFile, ToolError, output_error, read_file};
 use milter_trace::TraceForm;
 use std::io::{self, Read};
-use std::rt::Files;
 
 /// Prints the conversations of the captures at these paths, one capture after another up to the first fault; or those
 /// of standard input, where there is no path.
-pub(crate) fn print_captures<'x, R: Input + Files + Print + AllocGlobal>(
-    rt: &R,
+pub(crate) fn print_captures<'x>(
+    rt: &HostRuntime,
     form: TraceForm,
     paths: &[&'x str],
 ) -> Result<(), Failure<'x>> {
@@ -27,18 +26,14 @@ pub(crate) fn print_captures<'x, R: Input + Files + Print + AllocGlobal>(
 }
 
 /// Prints the conversations of the capture at this path.
-fn print_file<R: Files + Print + AllocGlobal>(
-    rt: &R,
-    form: TraceForm,
-    path: &str,
-) -> Result<(), ToolError> {
+fn print_file(rt: &HostRuntime, form: TraceForm, path: &str) -> Result<(), ToolError> {
     let file = open(rt, InputFile::Capture, path)?;
     print_from(rt, form, file)
 }
 
 /// Prints the conversations of the capture that is read from here.
-fn print_from<R: Print + AllocGlobal, I: Read + Drop>(
-    rt: &R,
+fn print_from<I: Read + Drop>(
+    rt: &HostRuntime,
     form: TraceForm,
     reader: I,
 ) -> Result<(), ToolError> {

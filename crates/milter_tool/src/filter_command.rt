@@ -10,15 +10,14 @@ use milter_cli_request::{Address, FilterRequest, UsageError};
 use milter_filter::CommandOrder;
 use milter_rules::Rules;
 use std::io;
-use std::net::{Net, TcpListener, TcpStream};
+use std::net::TcpListener;
 use std::os::unix::net::UnixListener;
-use std::rt::Files;
 
 /// Serves connections of mail servers one after another, as a filter.
-pub(crate) fn serve_in_turn<
-    'x,
-    R: Net<Listener = TcpListener, Stream = TcpStream> + Files + Print + AllocGlobal,
->(rt: &R, asked: FilterRequest<'x>) -> Result<(), Failure<'x>> {
+pub(crate) fn serve_in_turn<'x>(
+    rt: &HostRuntime,
+    asked: &FilterRequest<'x>,
+) -> Result<(), Failure<'x>> {
     let Some(address) = Address::parse(asked.address) else {
         return Err(Failure::from(ToolError::Usage(UsageError::BadAddress)));
     };
@@ -28,15 +27,17 @@ pub(crate) fn serve_in_turn<
         names_messages: false,
     };
     let rules = rules_at(rt, asked.rules, usage)?;
-    serve_at(rt, &rules, address, asked)
+    let served = serve_at(rt, &rules, address, asked);
+    drop(rules);
+    served
 }
 
 /// Serves so many of the connections at this address as are asked for, with these rules.
-fn serve_at<'x, R: Net<Listener = TcpListener, Stream = TcpStream> + Files + Print + AllocGlobal>(
-    rt: &R,
+fn serve_at<'x>(
+    rt: &HostRuntime,
     rules: &Rules,
     address: Address<'x>,
-    asked: FilterRequest<'x>,
+    asked: &FilterRequest<'x>,
 ) -> Result<(), Failure<'x>> {
     let order = order_of(asked.lenient);
     match address {
@@ -52,8 +53,8 @@ fn serve_at<'x, R: Net<Listener = TcpListener, Stream = TcpStream> + Files + Pri
 }
 
 /// Serves so many of these connections, as a filter with these rules.
-fn serve_connections<R: Print + AllocGlobal, C: Connections + Drop>(
-    rt: &R,
+fn serve_connections<C: Connections + Drop>(
+    rt: &HostRuntime,
     rules: &Rules,
     mut connections: C,
     count: u32,

@@ -6,21 +6,21 @@ use milter_cli_io::{ToolError, output_error};
 use milter_cli_request::{Address, LoadRequest, Target as Filter};
 use milter_load::{ReportForm, Totals, write_report};
 use milter_load_run::{LoadError, Settings, Target, run_load};
+use milter_mail::Session;
 use milter_mta::{Config, OnLoss};
-use std::io::{self, ErrorKind, Write};
-use std::net::{Net, TcpStream};
-use std::rt::{Clock, Files};
+use std::io::{self, ErrorKind, Stderr, Write};
 
 /// After how many seconds a load ends, where neither seconds nor messages are asked for.
 const SECONDS: u32 = 10;
 
 /// Puts the load on a filter that is asked for, and prints what came of it. How far it is is written to `errors` where
 /// that is a terminal.
-pub(crate) fn put_load<
-    'x,
-    R: Net<Stream = TcpStream> + Files + Clock + Print + AllocGlobal,
-    E: Write,
->(rt: &R, asked: LoadRequest<'x>, is_terminal: bool, errors: &mut E) -> Result<(), Failure<'x>> {
+pub(crate) fn put_load<'x>(
+    rt: &HostRuntime,
+    asked: &LoadRequest<'x>,
+    is_terminal: bool,
+    errors: &mut Stderr,
+) -> Result<(), Failure<'x>> {
     let filter = match Filter::parse(asked.address, None, None) {
         Ok(filter) => filter,
         Err(error) => return Err(Failure::from(ToolError::Usage(error))),
@@ -31,8 +31,31 @@ pub(crate) fn put_load<
         OnLoss::Tempfail,
     )
     .unwrap();
-    let session = session_at(rt, asked.session)?;
-    let target = match target_of(rt, filter.address) {
+    match session_at(rt, asked.session) {
+        Ok(session) => put_session(
+            rt,
+            asked,
+            filter.address,
+            &config,
+            &session,
+            is_terminal,
+            errors,
+        ),
+        Err(error) => Err(Failure::from(error)),
+    }
+}
+
+/// The same of this session, on the filter at this address, by a mail server with this configuration.
+fn put_session<'x>(
+    rt: &HostRuntime,
+    asked: &LoadRequest<'x>,
+    address: Address<'x>,
+    config: &Config,
+    session: &Session,
+    is_terminal: bool,
+    errors: &mut Stderr,
+) -> Result<(), Failure<'x>> {
+    let target = match target_of(rt, address) {
         Ok(target) => target,
         Err(kind) => return Err(not_connected(asked, kind)),
     };
@@ -43,7 +66,7 @@ pub(crate) fn put_load<
         settings,
         config.offer(),
         target,
-        &session,
+        session,
         errors,
     );
     if is_terminal {
@@ -58,7 +81,7 @@ pub(crate) fn put_load<
 }
 
 /// What is asked of the load.
-fn settings_of(asked: LoadRequest<'_>, is_terminal: bool) -> Settings {
+fn settings_of(asked: &LoadRequest<'_>, is_terminal: bool) -> Settings {
     Settings {
         at_once: asked.at_once as usize,
         seconds: match (asked.seconds, asked.messages) {
@@ -73,8 +96,8 @@ fn settings_of(asked: LoadRequest<'_>, is_terminal: bool) -> Settings {
 }
 
 /// The filter at this address, whose host is looked up; or why it wasn't found.
-pub(crate) fn target_of<'x, R: Net + AllocGlobal>(
-    rt: &R,
+pub(crate) fn target_of<'x>(
+    rt: &HostRuntime,
     address: Address<'x>,
 ) -> Result<Target<'x>, ErrorKind> {
     match address {
@@ -86,7 +109,7 @@ pub(crate) fn target_of<'x, R: Net + AllocGlobal>(
 }
 
 /// No connection was ever made, for this reason.
-fn not_connected<'x>(asked: LoadRequest<'x>, kind: ErrorKind) -> Failure<'x> {
+fn not_connected<'x>(asked: &LoadRequest<'x>, kind: ErrorKind) -> Failure<'x> {
     match kind {
         ErrorKind::OutOfMemory => Failure::from(ToolError::NoMemory),
         kind => Failure::of_socket(ToolError::Connect, asked.address, Some(kind)),
@@ -94,9 +117,9 @@ fn not_connected<'x>(asked: LoadRequest<'x>, kind: ErrorKind) -> Failure<'x> {
 }
 
 /// Prints what came of the load. It fails where no message was settled by the filter.
-fn print_totals<R: Print + AllocGlobal>(
-    rt: &R,
-    asked: LoadRequest<'_>,
+fn print_totals(
+    rt: &HostRuntime,
+    asked: &LoadRequest<'_>,
     totals: &Totals,
 ) -> Result<(), ToolError> {
     let writer = &mut io::writer(rt);

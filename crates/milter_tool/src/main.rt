@@ -41,14 +41,12 @@ use crate::trace_command::print_traces;
 use milter_cli_faults::{Failure, explain, explain_words};
 use milter_cli_io::{ToolError, argument_error, end_usage, report};
 use milter_cli_request::{Request, is_explained, parse};
-use std::env::{self, Env};
-use std::io::{self, IsTerminal, Write};
-use std::net::{Net, TcpListener, TcpStream};
+use std::env;
+use std::io::{self, IsTerminal, Stderr, Write};
 use std::process::ExitCode;
-use std::rt::{Clock, Files};
 
 /// The words of the command line, the program's name first.
-fn words<R: Env + AllocGlobal>(rt: &R) -> Result<Vec<String>, ToolError> {
+fn words(rt: &HostRuntime) -> Result<Vec<String>, ToolError> {
     match env::args(rt) {
         Ok(words) => words.collect(rt.alloc()).map_err(|_| ToolError::NoMemory),
         Err(error) => Err(argument_error(error.kind())),
@@ -57,26 +55,28 @@ fn words<R: Env + AllocGlobal>(rt: &R) -> Result<Vec<String>, ToolError> {
 
 /// Does what these words ask for, and ends the program. Faults are explained in words where standard error is a
 /// terminal, where `--explain` is given, and always of a command for which that is so.
-fn run<
-    R: Net<Listener = TcpListener, Stream = TcpStream>
-        + Input
-        + Files
-        + Clock
-        + Print
-        + AllocGlobal,
-    E: Write,
->(rt: &R, words: &[String], is_terminal: bool, errors: &mut E) -> ExitCode {
-    let request = match parse(rt.alloc(), words) {
-        Ok(request) => request,
-        Err(error) => return report(end_usage(error, &mut io::writer(rt)), errors),
-    };
-    let Err(failure) = run_request(rt, &request, is_terminal, errors) else {
-        return report(Ok(()), errors);
-    };
-    if is_terminal || is_explained(words) || is_always_explained(&request) {
-        report_in_words(rt, &request, failure, errors)
-    } else {
-        report(Err(failure.error), errors)
+fn run(rt: &HostRuntime, words: &[String], is_terminal: bool, errors: &mut Stderr) -> ExitCode {
+    match parse(rt.alloc(), words) {
+        Ok(request) => {
+            let is_in_words = is_terminal || is_explained(words) || is_always_explained(&request);
+            run_parsed(rt, &request, is_terminal, is_in_words, errors)
+        }
+        Err(error) => report(end_usage(error, &mut io::writer(rt)), errors),
+    }
+}
+
+/// Does what a request asks for, and ends the program, with the explanation of a fault where that is wanted.
+fn run_parsed(
+    rt: &HostRuntime,
+    request: &Request<'_>,
+    is_terminal: bool,
+    is_in_words: bool,
+    errors: &mut Stderr,
+) -> ExitCode {
+    match run_request(rt, request, is_terminal, errors) {
+        Ok(()) => report(Ok(()), errors),
+        Err(failure) if is_in_words => report_in_words(rt, request, failure, errors),
+        Err(failure) => report(Err(failure.error), errors),
     }
 }
 
@@ -87,11 +87,11 @@ fn is_always_explained(request: &Request<'_>) -> bool {
 
 /// Ends the program: writes the line of a failure, and then those that explain it; the line alone where memory is
 /// refused for these.
-fn report_in_words<R: Files + AllocGlobal, E: Write>(
-    rt: &R,
+fn report_in_words(
+    rt: &HostRuntime,
     request: &Request<'_>,
     failure: Failure<'_>,
-    errors: &mut E,
+    errors: &mut Stderr,
 ) -> ExitCode {
     match explain(rt, rt.alloc(), request, &failure) {
         Ok(lines) => report_with(failure.error, lines.as_slice(), errors),
@@ -100,11 +100,11 @@ fn report_in_words<R: Files + AllocGlobal, E: Write>(
 }
 
 /// Ends the program where its words can't be read: writes the line of that, and on a terminal the one that explains it.
-fn report_unread<R: AllocGlobal, E: Write>(
-    rt: &R,
+fn report_unread(
+    rt: &HostRuntime,
     error: ToolError,
     is_terminal: bool,
-    errors: &mut E,
+    errors: &mut Stderr,
 ) -> ExitCode {
     match explain_words(rt.alloc(), &error) {
         Ok(lines) if is_terminal => report_with(error, lines.as_slice(), errors),
@@ -113,7 +113,7 @@ fn report_unread<R: AllocGlobal, E: Write>(
 }
 
 /// Ends the program: writes the line of an error, and then these.
-fn report_with<E: Write>(error: ToolError, lines: &[u8], errors: &mut E) -> ExitCode {
+fn report_with(error: ToolError, lines: &[u8], errors: &mut Stderr) -> ExitCode {
     let ended = report(Err(error), errors);
     let _ = errors.write_all(lines);
     ended
@@ -121,30 +121,26 @@ fn report_with<E: Write>(error: ToolError, lines: &[u8], errors: &mut E) -> Exit
 
 /// Does what a request asks for. What is written while it lasts goes to `errors`: how far a load is, where that is a
 /// terminal, and what becomes of connections that aren't recorded to their end.
-fn run_request<
-    'x,
-    R: Net<Listener = TcpListener, Stream = TcpStream>
-        + Input
-        + Files
-        + Clock
-        + Print
-        + AllocGlobal,
-    E: Write,
->(rt: &'x R, request: &Request<'x>, is_terminal: bool, errors: &mut E) -> Result<(), Failure<'x>> {
+fn run_request<'x>(
+    rt: &'x HostRuntime,
+    request: &Request<'x>,
+    is_terminal: bool,
+    errors: &mut Stderr,
+) -> Result<(), Failure<'x>> {
     match request {
         Request::Trace(asked) => print_traces(rt, asked),
         Request::Session { file } => Ok(print_session_file(rt, file)?),
         Request::Rules { file, check: false } => Ok(print_rule_file(rt, file)?),
         Request::Rules { file, check: true } => Ok(check_rules_at(rt, file)?),
-        Request::Answer(asked) => Ok(answer_mail_server(rt, *asked)?),
-        Request::Filter(asked) => serve_in_turn(rt, *asked),
+        Request::Answer(asked) => Ok(answer_mail_server(rt, asked)?),
+        Request::Filter(asked) => serve_in_turn(rt, asked),
         Request::Serve(asked) => serve_many(rt, asked),
         Request::Mta(asked) => play_session(rt, asked),
-        Request::Play(asked) => play_in_memory(rt, *asked),
-        Request::Replay(asked) => replay_trace(rt, *asked),
-        Request::Load(asked) => put_load(rt, *asked, is_terminal, errors),
-        Request::Probe(asked) => probe_filter(rt, *asked),
-        Request::Record(asked) => record_connections(rt, *asked, errors),
+        Request::Play(asked) => play_in_memory(rt, asked),
+        Request::Replay(asked) => replay_trace(rt, asked),
+        Request::Load(asked) => put_load(rt, asked, is_terminal, errors),
+        Request::Probe(asked) => probe_filter(rt, asked),
+        Request::Record(asked) => record_connections(rt, asked, errors),
     }
 }
 

@@ -1,10 +1,9 @@
 //! The files that are named on the command line.
 
 use milter_cli_io::{InputFile, ToolError, read_error};
-use std::fs;
-use std::rt::Files;
+use std::fs::{self, File};
 
 /// Opens the file at this path.
-pub(crate) fn open<R: Files>(rt: &R, file: InputFile, path: &str) -> Result<R::File, ToolError> {
+pub(crate) fn open(rt: &HostRuntime, file: InputFile, path: &str) -> Result<File, ToolError> {
     fs::open(rt, path).map_err(|error| ToolError::File(read_error(file, error.kind())))
 }

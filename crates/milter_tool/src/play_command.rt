@@ -13,13 +13,12 @@ use milter_mta::Config;
 use milter_rules::Rules;
 use milter_world::Event;
 use std::io::{self, Write};
-use std::rt::Files;
 
 /// Plays the session of a file to a filter in memory, and prints what becomes of its messages; only where that isn't
 /// what is expected, if something is.
-pub(crate) fn play_in_memory<'x, R: Files + Print + AllocGlobal>(
-    rt: &R,
-    asked: PlayRequest<'x>,
+pub(crate) fn play_in_memory<'x>(
+    rt: &HostRuntime,
+    asked: &PlayRequest<'x>,
 ) -> Result<(), Failure<'x>> {
     let offer = match Offer::parse(asked.actions, asked.protocol) {
         Ok(offer) => offer,
@@ -32,87 +31,89 @@ pub(crate) fn play_in_memory<'x, R: Files + Print + AllocGlobal>(
         names_messages: false,
     };
     let rules = rules_at(rt, asked.rules, usage)?;
-    play_with_rules(rt, config, asked, &rules)
+    let played = play_with_rules(rt, config, asked, &rules);
+    drop(rules);
+    played
 }
 
 /// The same with these rules.
-fn play_with_rules<'x, R: Files + Print + AllocGlobal>(
-    rt: &R,
+fn play_with_rules<'x>(
+    rt: &HostRuntime,
     config: Config,
-    asked: PlayRequest<'x>,
+    asked: &PlayRequest<'x>,
     rules: &Rules,
 ) -> Result<(), Failure<'x>> {
     if asked.expect.is_none() {
         return Ok(play_by_rules(rt, config, asked, rules, &mut io::writer(rt))?);
     }
     let expected = expected_at(rt, asked.expect)?;
-    let found = reports_found(rt, config, asked, rules)?;
-    end_reports(rt, found, expected)
+    match reports_found(rt, config, asked, rules) {
+        Ok(found) => end_reports(rt, found, expected),
+        Err(error) => {
+            drop(expected);
+            Err(Failure::from(error))
+        }
+    }
 }
 
 /// The reports of a session that is played in memory.
-fn reports_found<R: Files + Print + AllocGlobal>(
-    rt: &R,
+fn reports_found(
+    rt: &HostRuntime,
     config: Config,
-    asked: PlayRequest<'_>,
+    asked: &PlayRequest<'_>,
     rules: &Rules,
 ) -> Result<Vec<u8>, ToolError> {
     let mut found = Vec::new(rt.alloc());
     match play_by_rules(rt, config, asked, rules, &mut found) {
         Ok(()) => Ok(found),
-        Err(error) => Err(kept_error(error)),
+        Err(error) => {
+            drop(found);
+            Err(kept_error(error))
+        }
     }
 }
 
 /// Plays the session of a file to a filter with these rules.
-fn play_by_rules<R: Files + AllocGlobal, W: Write>(
-    rt: &R,
+fn play_by_rules<W: Write>(
+    rt: &HostRuntime,
     config: Config,
-    asked: PlayRequest<'_>,
+    asked: &PlayRequest<'_>,
     rules: &Rules,
     writer: &mut W,
 ) -> Result<(), ToolError> {
     let session = session_at(rt, asked.session)?;
-    match asked.events {
-        Some(path) => play_by_events(rt, config, session, rules, path, writer),
-        None => match play_run(rt.alloc(), config, session, rules, writer) {
+    let Some(path) = asked.events else {
+        return match play_run(rt.alloc(), config, session, rules, writer) {
             Ok(()) => Ok(()),
             Err(fault) => Err(output_error(fault)),
-        },
+        };
+    };
+    match events_at(rt, path) {
+        Ok(events) => play_by_events(rt, config, session, rules, events.as_slice(), writer),
+        Err(error) => {
+            drop(session);
+            Err(error)
+        }
     }
 }
 
-/// Plays a session to a filter with these rules while the events of the file at this path happen.
-fn play_by_events<R: Files + AllocGlobal, W: Write>(
-    rt: &R,
+/// Plays a session to a filter with these rules while these events happen.
+fn play_by_events<W: Write>(
+    rt: &HostRuntime,
     config: Config,
     session: Session,
     rules: &Rules,
-    path: &str,
+    events: &[Event],
     writer: &mut W,
 ) -> Result<(), ToolError> {
-    let events = match events_at(rt, path) {
-        Ok(events) => events,
-        Err(error) => {
-            drop(session);
-            return Err(error);
-        }
-    };
-    match schedule_run(
-        rt.alloc(),
-        config,
-        session,
-        rules,
-        events.as_slice(),
-        writer,
-    ) {
+    match schedule_run(rt.alloc(), config, session, rules, events, writer) {
         Ok(()) => Ok(()),
         Err(fault) => Err(output_error(fault)),
     }
 }
 
 /// The events of the file at this path.
-fn events_at<R: Files + AllocGlobal>(rt: &R, path: &str) -> Result<Vec<Event>, ToolError> {
+fn events_at(rt: &HostRuntime, path: &str) -> Result<Vec<Event>, ToolError> {
     let file = open(rt, InputFile::Events, path)?;
     load_events(rt.alloc(), file).map_err(ToolError::File)
 }

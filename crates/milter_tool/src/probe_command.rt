@@ -8,14 +8,12 @@ use milter_cli_request::{Address, ProbeRequest, UsageError};
 use milter_mail::Session;
 use milter_probe::{Kind, Settings, probe};
 use std::io;
-use std::net::{Net, TcpStream};
-use std::rt::{Clock, Files};
 use std::time::Duration;
 
 /// Tries how robust a filter is, and prints what breaks.
-pub(crate) fn probe_filter<'x, R: Net<Stream = TcpStream> + Files + Clock + Print + AllocGlobal>(
-    rt: &R,
-    asked: ProbeRequest<'x>,
+pub(crate) fn probe_filter<'x>(
+    rt: &HostRuntime,
+    asked: &ProbeRequest<'x>,
 ) -> Result<(), Failure<'x>> {
     let Some(address) = Address::parse(asked.address) else {
         return Err(Failure::from(ToolError::Usage(UsageError::BadAddress)));
@@ -24,7 +22,20 @@ pub(crate) fn probe_filter<'x, R: Net<Stream = TcpStream> + Files + Clock + Prin
         Ok(only) => only,
         Err(error) => return Err(Failure::from(ToolError::Usage(error))),
     };
-    let session = session_at(rt, asked.session)?;
+    match session_at(rt, asked.session) {
+        Ok(session) => probe_at(rt, asked, address, only, &session),
+        Err(error) => Err(Failure::from(error)),
+    }
+}
+
+/// Tries the filter at this address with this session, by the trials of one kind where there is one.
+fn probe_at<'x>(
+    rt: &HostRuntime,
+    asked: &ProbeRequest<'x>,
+    address: Address<'x>,
+    only: Option<Kind>,
+    session: &Session,
+) -> Result<(), Failure<'x>> {
     let limit = Duration::from_secs(u64::from(asked.timeout));
     let settings = Settings {
         only,
@@ -33,12 +44,16 @@ pub(crate) fn probe_filter<'x, R: Net<Stream = TcpStream> + Files + Clock + Prin
     };
     match address {
         Address::Inet { port, host } => {
-            let dial = TcpDial::new(rt, port, host, limit);
-            probe_over(rt, asked, &session, settings, dial)
+            probe_over(
+                rt,
+                asked,
+                session,
+                settings,
+                TcpDial::new(rt, port, host, limit),
+            )
         }
         Address::Unix { path } => {
-            let dial = UnixDial::new(rt, path, limit);
-            probe_over(rt, asked, &session, settings, dial)
+            probe_over(rt, asked, session, settings, UnixDial::new(rt, path, limit))
         }
     }
 }
@@ -56,9 +71,9 @@ fn only_kind(name: Option<&str>) -> Result<Option<Kind>, UsageError> {
 
 /// Tries the filter over the connections that `dial` makes. The error says that something broke, as was printed, or
 /// that there is no connection at all.
-fn probe_over<'x, R: Clock + Print + AllocGlobal, D: Connect + Drop>(
-    rt: &R,
-    asked: ProbeRequest<'x>,
+fn probe_over<'x, D: Connect + Drop>(
+    rt: &HostRuntime,
+    asked: &ProbeRequest<'x>,
     session: &Session,
     settings: Settings,
     dial: D,

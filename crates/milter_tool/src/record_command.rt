@@ -7,31 +7,34 @@ use milter_cli_io::ToolError;
 use milter_cli_request::{Address, RecordRequest, UsageError};
 use milter_record::{RecordError, create_directory, has_traces, record};
 use milter_sockets::Target;
-use std::io::{ErrorKind, Write};
-use std::net::{Net, TcpListener, TcpStream};
-use std::rt::Files;
+use std::io::{ErrorKind, Stderr};
 
 /// The mode of a Unix socket.
 const MODE: u32 = 0o660;
 
 /// Passes connections of mail servers on to a filter, and records each in a trace. What becomes of connections that
 /// can't be passed on is written to `errors`.
-pub(crate) fn record_connections<
-    'x,
-    R: Net<Listener = TcpListener, Stream = TcpStream> + Files + AllocGlobal,
-    E: Write,
->(rt: &R, asked: RecordRequest<'x>, errors: &mut E) -> Result<(), Failure<'x>> {
+pub(crate) fn record_connections<'x>(
+    rt: &HostRuntime,
+    asked: &RecordRequest<'x>,
+    errors: &mut Stderr,
+) -> Result<(), Failure<'x>> {
     let filter = filter_of(asked)?;
     let target = match target_of(rt, filter) {
         Ok(target) => target,
         Err(kind) => return Err(not_found(asked, kind)),
     };
-    make_directory(rt, asked.directory)?;
-    record_at(rt, asked, target, errors)
+    match make_directory(rt, asked.directory) {
+        Ok(()) => record_at(rt, asked, target, errors),
+        Err(error) => {
+            drop(target);
+            Err(Failure::from(error))
+        }
+    }
 }
 
 /// The address of the filter, where both addresses are of their form.
-fn filter_of<'x>(asked: RecordRequest<'x>) -> Result<Address<'x>, ToolError> {
+fn filter_of<'x>(asked: &RecordRequest<'x>) -> Result<Address<'x>, ToolError> {
     match (Address::parse(asked.listen), Address::parse(asked.address)) {
         (Some(_), Some(filter)) => Ok(filter),
         _ => Err(ToolError::Usage(UsageError::BadAddress)),
@@ -39,7 +42,7 @@ fn filter_of<'x>(asked: RecordRequest<'x>) -> Result<Address<'x>, ToolError> {
 }
 
 /// The filter's host was not found.
-fn not_found<'x>(asked: RecordRequest<'x>, kind: ErrorKind) -> Failure<'x> {
+fn not_found<'x>(asked: &RecordRequest<'x>, kind: ErrorKind) -> Failure<'x> {
     match kind {
         ErrorKind::OutOfMemory => Failure::from(ToolError::NoMemory),
         kind => Failure::of_socket(ToolError::Connect, asked.address, Some(kind)),
@@ -47,7 +50,7 @@ fn not_found<'x>(asked: RecordRequest<'x>, kind: ErrorKind) -> Failure<'x> {
 }
 
 /// Makes the directory of the traces: an error where it has some already.
-fn make_directory<R: Files + AllocGlobal>(rt: &R, directory: &str) -> Result<(), ToolError> {
+fn make_directory(rt: &HostRuntime, directory: &str) -> Result<(), ToolError> {
     if let Err(error) = create_directory(rt, directory) {
         return Err(match error.kind() {
             ErrorKind::OutOfMemory => ToolError::NoMemory,
@@ -62,12 +65,19 @@ fn make_directory<R: Files + AllocGlobal>(rt: &R, directory: &str) -> Result<(),
 }
 
 /// Records the connections that come at the address that is asked for.
-fn record_at<
-    'x,
-    R: Net<Listener = TcpListener, Stream = TcpStream> + Files + AllocGlobal,
-    E: Write,
->(rt: &R, asked: RecordRequest<'x>, target: Target<'x>, errors: &mut E) -> Result<(), Failure<'x>> {
-    let listener = listener_at(rt, asked.listen, MODE)?;
+fn record_at<'x>(
+    rt: &HostRuntime,
+    asked: &RecordRequest<'x>,
+    target: Target<'x>,
+    errors: &mut Stderr,
+) -> Result<(), Failure<'x>> {
+    let listener = match listener_at(rt, asked.listen, MODE) {
+        Ok(listener) => listener,
+        Err(failure) => {
+            drop(target);
+            return Err(failure);
+        }
+    };
     let most = match asked.count {
         0 => None,
         count => Some(u64::from(count)),

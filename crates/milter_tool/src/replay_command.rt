@@ -10,14 +10,12 @@ use milter_cli_io::{InputFile, ToolError};
 use milter_cli_request::{Address, ReplayRequest, UsageError};
 use milter_replay::Recording;
 use std::io::{self, Read, Write};
-use std::net::{Net, TcpStream};
-use std::rt::{Clock, Files};
 use std::time::Duration;
 
 /// Sends the commands of a trace to a filter, as a mail server, and prints what it replies beside what was recorded.
-pub(crate) fn replay_trace<'x, R: Net<Stream = TcpStream> + Files + Clock + Print + AllocGlobal>(
-    rt: &R,
-    asked: ReplayRequest<'x>,
+pub(crate) fn replay_trace<'x>(
+    rt: &HostRuntime,
+    asked: &ReplayRequest<'x>,
 ) -> Result<(), Failure<'x>> {
     let Some(address) = Address::parse(asked.address) else {
         return Err(Failure::from(ToolError::Usage(UsageError::BadAddress)));
@@ -26,20 +24,22 @@ pub(crate) fn replay_trace<'x, R: Net<Stream = TcpStream> + Files + Clock + Prin
     let limit = Duration::from_secs(u64::from(asked.timeout));
     match address {
         Address::Inet { port, host } => {
-            let link = connected(rt, asked, TcpDial::new(rt, port, host, limit))?;
-            Ok(replay_over(rt, &recording, &mut &link, &mut &link)?)
+            match connected(rt, asked, TcpDial::new(rt, port, host, limit)) {
+                Ok(link) => replay_over(rt, &recording, &mut &link, &mut &link),
+                Err(failure) => Err(failure),
+            }
         }
-        Address::Unix { path } => {
-            let link = connected(rt, asked, UnixDial::new(rt, path, limit))?;
-            Ok(replay_over(rt, &recording, &mut &link, &mut &link)?)
-        }
+        Address::Unix { path } => match connected(rt, asked, UnixDial::new(rt, path, limit)) {
+            Ok(link) => replay_over(rt, &recording, &mut &link, &mut &link),
+            Err(failure) => Err(failure),
+        },
     }
 }
 
 /// The connection that `dial` makes, for which it is tried as long as is asked for.
-fn connected<'x, R: Clock, D: Connect + Drop>(
-    rt: &R,
-    asked: ReplayRequest<'x>,
+fn connected<'x, D: Connect + Drop>(
+    rt: &HostRuntime,
+    asked: &ReplayRequest<'x>,
     dial: D,
 ) -> Result<D::Link, Failure<'x>> {
     let mut dial = WaitingDial::new(rt, dial, asked.wait);
@@ -50,19 +50,22 @@ fn connected<'x, R: Clock, D: Connect + Drop>(
 }
 
 /// Sends the commands of a recording over a connection, and prints the lines of both sides.
-fn replay_over<R: Print + AllocGlobal, I: Read, O: Write>(
-    rt: &R,
+fn replay_over<'x, I: Read, O: Write>(
+    rt: &HostRuntime,
     recording: &Recording,
     reader: &mut I,
     link: &mut O,
-) -> Result<(), ToolError>
+) -> Result<(), Failure<'x>>
     requires { AllFit recording.now.exchanges.items }
 {
-    replay_run(rt.alloc(), recording, reader, link, &mut io::writer(rt))
+    match replay_run(rt.alloc(), recording, reader, link, &mut io::writer(rt)) {
+        Ok(()) => Ok(()),
+        Err(error) => Err(Failure::from(error)),
+    }
 }
 
 /// The recorded conversation of the trace at this path.
-fn recording_at<R: Files + AllocGlobal>(rt: &R, path: &str) -> Result<Recording, ToolError>
+fn recording_at(rt: &HostRuntime, path: &str) -> Result<Recording, ToolError>
     // Each command has an encoding.
     ensures { IfOk result (λ recording. AllFit recording.exchanges.items) }
 {

@@ -5,11 +5,11 @@ use milter_cli_io::{
     FileError, InputFile, RuleUse, ToolError, read_file, read_lists, rules_of, used_rules,
 };
 use milter_rules::Rules;
-use std::rt::Files;
+use std::fs::File;
 
 /// The rules of the file at this path, with its lists, as they are used; or none where there is no path.
-pub(crate) fn rules_at<R: Files + AllocGlobal>(
-    rt: &R,
+pub(crate) fn rules_at(
+    rt: &HostRuntime,
     path: Option<&str>,
     usage: RuleUse,
 ) -> Result<Rules, ToolError> {
@@ -24,7 +24,7 @@ pub(crate) fn rules_at<R: Files + AllocGlobal>(
 }
 
 /// The rules of this file, opened at the path, with its lists.
-fn rules_in<R: Files + AllocGlobal>(rt: &R, path: &str, file: R::File) -> Result<Rules, FileError> {
+fn rules_in(rt: &HostRuntime, path: &str, file: File) -> Result<Rules, FileError> {
     let bytes = read_file(rt.alloc(), InputFile::Rules, file)?;
     let Ok(lists) = read_lists(rt, rt.alloc(), path, bytes.as_slice()) else {
         return Err(FileError::NoMemory);

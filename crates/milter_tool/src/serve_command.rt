@@ -12,9 +12,7 @@ use milter_cli_serve::{
 use milter_filter_service::{Host, Limits, Listener, Service};
 use milter_rules::Rules;
 use std::alloc::Global;
-use std::net::{Net, TcpListener, TcpStream};
 use std::rc::Rc;
-use std::rt::{Clock, Files};
 
 /// The word after `--log` by which each message has a line. It is no address.
 const ALL: &str = "all";
@@ -44,24 +42,68 @@ struct Serving<'x> {
 }
 
 /// Serves connections of mail servers at once, as a filter, until it is ended.
-pub(crate) fn serve_many<
-    'x,
-    R: Net<Listener = TcpListener, Stream = TcpStream> + Files + Clock + AllocGlobal,
->(rt: &'x R, asked: &ServeRequest<'x>) -> Result<(), Failure<'x>> {
+pub(crate) fn serve_many<'x>(
+    rt: &'x HostRuntime,
+    asked: &ServeRequest<'x>,
+) -> Result<(), Failure<'x>> {
     let serving = serving_of(rt.alloc(), asked)?;
-    let _filled = fill_standard(rt, rt.alloc());
+    let filled = fill_standard(rt, rt.alloc());
+    let served = serve_as(rt, &serving);
+    drop(serving);
+    drop(filled);
+    served
+}
+
+/// The same, by what the command line asks for.
+fn serve_as<'x>(rt: &'x HostRuntime, serving: &Serving<'x>) -> Result<(), Failure<'x>> {
     let errors = LineOutput::new(rt.alloc(), StandardStream::errors(), LOST_EVENTS);
     let log = ServiceLog::new(errors, serving.detail);
+    let ended = serve_logged(rt, serving, &log);
+    drop(log);
+    ended
+}
+
+/// The same with this log.
+fn serve_logged<'x>(
+    rt: &'x HostRuntime,
+    serving: &Serving<'x>,
+    log: &ServiceLog<StandardStream>,
+) -> Result<(), Failure<'x>> {
     let mut source = RuleFile::new(rt, rt.alloc(), serving.rules, serving.usage);
-    let rules = first_rules(rt.alloc(), &mut source)?;
-    let free = free_descriptors(rt, rt.alloc());
-    let listeners = listeners_at(rt, serving.addresses.as_slice(), serving.mode)?;
-    log_start(rt.alloc(), &log, &serving, source.text(), &rules, free);
-    let ended = serve_rules(rt, &serving, listeners, source, rules, &log);
-    if let Err(error) = &ended {
-        log.write_event(rt.alloc(), &ServiceEvent::End(error));
+    match first_rules(rt.alloc(), &mut source) {
+        Ok(rules) => serve_first_by(rt, serving, source, rules, log),
+        Err(error) => {
+            drop(source);
+            Err(Failure::from(error))
+        }
     }
-    Ok(ended?)
+}
+
+/// The same, first by these rules of the source.
+fn serve_first_by<'x, 's>(
+    rt: &HostRuntime,
+    serving: &Serving<'x>,
+    source: RuleFile<'s>,
+    rules: Rules,
+    log: &ServiceLog<StandardStream>,
+) -> Result<(), Failure<'x>> {
+    let free = free_descriptors(rt, rt.alloc());
+    let listeners = match listeners_at(rt, serving.addresses.as_slice(), serving.mode) {
+        Ok(listeners) => listeners,
+        Err(failure) => {
+            drop(rules);
+            drop(source);
+            return Err(failure);
+        }
+    };
+    log_start(rt.alloc(), log, serving, source.text(), &rules, free);
+    match serve_rules(rt, serving, listeners, source, rules, log) {
+        Ok(()) => Ok(()),
+        Err(error) => {
+            log.write_event(rt.alloc(), &ServiceEvent::End(&error));
+            Err(Failure::from(error))
+        }
+    }
 }
 
 /// What the command line asks for; or why it is wrong.
@@ -69,11 +111,15 @@ fn serving_of<'x>(alloc: Global, asked: &ServeRequest<'x>) -> Result<Serving<'x>
     let detail = detail_of(asked);
     let addresses = addresses_of(alloc, asked.addresses.as_slice(), detail)?;
     if addresses.is_empty() || !are_addresses(addresses.as_slice()) {
+        drop(addresses);
         return Err(ToolError::Usage(UsageError::BadAddress));
     }
     let mode = match parse_mode(asked.mode) {
         Ok(mode) => mode,
-        Err(error) => return Err(ToolError::Usage(error)),
+        Err(error) => {
+            drop(addresses);
+            return Err(ToolError::Usage(error));
+        }
     };
     Ok(Serving {
         addresses,
@@ -171,11 +217,11 @@ fn first_rules<S: RuleSource>(alloc: Global, source: &mut S) -> Result<Rules, To
 }
 
 /// Serves connections at once, first by these rules.
-fn serve_rules<'s, R: Net + Files + Clock + AllocGlobal>(
-    rt: &R,
+fn serve_rules<'s>(
+    rt: &HostRuntime,
     serving: &Serving<'_>,
     listeners: Vec<Listener>,
-    source: RuleFile<'s, R>,
+    source: RuleFile<'s>,
     rules: Rules,
     log: &ServiceLog<StandardStream>,
 ) -> Result<(), ToolError> {
@@ -185,6 +231,8 @@ fn serve_rules<'s, R: Net + Files + Clock + AllocGlobal>(
         log,
     };
     let Ok(current) = Rc::new(rt.alloc(), policy) else {
+        drop(source);
+        drop(listeners);
         return Err(ToolError::NoMemory);
     };
     let mut host = RuleHost {
@@ -210,24 +258,32 @@ fn are_addresses(texts: &[&str]) -> bool {
 }
 
 /// Listeners on these addresses, on sockets of this mode where they have paths.
-fn listeners_at<'x, R: Net<Listener = TcpListener, Stream = TcpStream> + Files + AllocGlobal>(
-    rt: &R,
+fn listeners_at<'x>(
+    rt: &HostRuntime,
     addresses: &[&'x str],
     mode: u32,
 ) -> Result<Vec<Listener>, Failure<'x>> {
     let mut listeners = Vec::new(rt.alloc());
     for address in addresses {
-        let listener = listener_at(rt, address, mode)?;
-        if listeners.push(listener).is_err() {
-            return Err(Failure::from(ToolError::NoMemory));
+        match listener_at(rt, address, mode) {
+            Ok(listener) => {
+                if listeners.push(listener).is_err() {
+                    drop(listeners);
+                    return Err(Failure::from(ToolError::NoMemory));
+                }
+            }
+            Err(failure) => {
+                drop(listeners);
+                return Err(failure);
+            }
         }
     }
     Ok(listeners)
 }
 
 /// A listener on this address.
-pub(crate) fn listener_at<'x, R: Net<Listener = TcpListener, Stream = TcpStream> + Files>(
-    rt: &R,
+pub(crate) fn listener_at<'x>(
+    rt: &HostRuntime,
     address: &'x str,
     mode: u32,
 ) -> Result<Listener, Failure<'x>> {
@@ -243,16 +299,23 @@ pub(crate) fn listener_at<'x, R: Net<Listener = TcpListener, Stream = TcpStream>
 }
 
 /// Serves the connections of these listeners at once, as a filter whose questions the host answers.
-fn serve_listeners<R: Net + Clock + AllocGlobal, H: Host>(
-    rt: &R,
+fn serve_listeners<H: Host>(
+    rt: &HostRuntime,
     limits: Limits,
     listeners: Vec<Listener>,
     host: &mut H,
 ) -> Result<(), ToolError> {
-    let mut service = match Service::new(rt, rt.alloc(), limits, listeners) {
-        Ok(service) => service,
-        Err(error) => return Err(service_error(error)),
-    };
+    match Service::new(rt, rt.alloc(), limits, listeners) {
+        Ok(mut service) => run_service(&mut service, host),
+        Err(error) => Err(service_error(error)),
+    }
+}
+
+/// Runs the service until it ends.
+fn run_service<H: Host>(
+    service: &mut Service<'_, H::Session>,
+    host: &mut H,
+) -> Result<(), ToolError> {
     match service.run(host) {
         Ok(()) => Ok(()),
         Err(error) => Err(service_error(error)),

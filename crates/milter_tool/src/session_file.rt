@@ -3,10 +3,9 @@
 use crate::opened_file::open;
 use milter_cli_io::{InputFile, ToolError, load_session};
 use milter_mail::Session;
-use std::rt::Files;
 
 /// The session of the file at this path.
-pub(crate) fn session_at<R: Files + AllocGlobal>(rt: &R, path: &str) -> Result<Session, ToolError> {
+pub(crate) fn session_at(rt: &HostRuntime, path: &str) -> Result<Session, ToolError> {
     let file = open(rt, InputFile::Session, path)?;
     load_session(rt.alloc(), file).map_err(ToolError::File)
 }

@@ -6,11 +6,10 @@ use milter_cli_faults::{DifferingReports, Failure};
 use milter_cli_io::{FileError, InputFile, ToolError, output_error};
 use milter_text::write_text;
 use std::io;
-use std::rt::Files;
 
 /// The reports that are expected by the file at this path; none where there is no path.
-pub(crate) fn expected_at<R: Files + AllocGlobal>(
-    rt: &R,
+pub(crate) fn expected_at(
+    rt: &HostRuntime,
     path: Option<&str>,
 ) -> Result<Option<Vec<u8>>, ToolError> {
     let Some(path) = path else {
@@ -32,8 +31,8 @@ pub(crate) fn kept_error(error: ToolError) -> ToolError {
 }
 
 /// Prints these reports; only where they aren't the expected ones, if some are expected.
-pub(crate) fn end_reports<'x, R: Print + AllocGlobal>(
-    rt: &R,
+pub(crate) fn end_reports<'x>(
+    rt: &HostRuntime,
     found: Vec<u8>,
     expected: Option<Vec<u8>>,
 ) -> Result<(), Failure<'x>> {

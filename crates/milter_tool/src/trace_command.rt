@@ -7,12 +7,11 @@ use milter_cli_io::{FileError, InputFile, ToolError};
 use milter_cli_request::TraceRequest;
 use milter_trace::{TraceFault, TraceForm, trace_run_as};
 use std::io;
-use std::rt::Files;
 
 /// Prints the packets of the traces that are asked for, or of the captures, one after another up to the first fault; or
 /// those of standard input, where no file is named.
-pub(crate) fn print_traces<'x, R: Input + Files + Print + AllocGlobal>(
-    rt: &R,
+pub(crate) fn print_traces<'x>(
+    rt: &HostRuntime,
     asked: &TraceRequest<'x>,
 ) -> Result<(), Failure<'x>> {
     let form = TraceForm {
@@ -34,18 +33,14 @@ pub(crate) fn print_traces<'x, R: Input + Files + Print + AllocGlobal>(
 }
 
 /// Prints the packets of the trace on standard input.
-fn print_input<R: Input + Print + AllocGlobal>(rt: &R, form: TraceForm) -> Result<(), ToolError> {
+fn print_input(rt: &HostRuntime, form: TraceForm) -> Result<(), ToolError> {
     let mut reader = rt.reader();
     let mut writer = io::writer(rt);
     trace_run_as(rt.alloc(), form, &mut reader, &mut writer).map_err(ToolError::Trace)
 }
 
 /// Prints the packets of the trace at this path.
-fn print_file<R: Files + Print + AllocGlobal>(
-    rt: &R,
-    form: TraceForm,
-    path: &str,
-) -> Result<(), ToolError> {
+fn print_file(rt: &HostRuntime, form: TraceForm, path: &str) -> Result<(), ToolError> {
     let mut reader = open(rt, InputFile::Trace, path)?;
     let mut writer = io::writer(rt);
     match trace_run_as(rt.alloc(), form, &mut reader, &mut writer) {
