@@ -19,6 +19,13 @@ def content(folder, name):
         return file.read()
 
 
+def output(folder):
+    """What the run of a case prints. A build without a proof says so after its version."""
+    text = content(folder, 'stdout')
+    is_version = folder.rstrip('/').endswith('help/version')
+    return text.replace(b'\n', b' (built without its proof)\n') if is_version and not programs.is_proved() else text
+
+
 def case_in(folder):
     """The case of this folder."""
     script = os.path.join(folder, 'run')
@@ -28,7 +35,7 @@ def case_in(folder):
     return Case(
         os.path.relpath(folder, os.path.join(programs.TOP, 'cases')), None if is_script else words,
         script if is_script else None, content(folder, 'stdin'),
-        (int(content(folder, 'status') or 0), content(folder, 'stdout'), content(folder, 'stderr')))
+        (int(content(folder, 'status') or 0), output(folder), content(folder, 'stderr')))
 
 
 def cases():

@@ -46,6 +46,12 @@ def tool(build):
     return command_of('tool', build)[0]
 
 
+def is_proved():
+    """Whether milter_tool is proved, by what stands beside it."""
+    with open(os.path.join(BUILD, 'milter_tool.key'), encoding='utf-8') as file:
+        return file.read().split()[1] == 'proved'
+
+
 def need(*names):
     """Ends the test where one of these programs isn't built."""
     need_files(command_of(name, build)[0] for name in names for build in BUILDS)
