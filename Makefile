@@ -7,7 +7,6 @@
 # packages debhelper and dh-python. `make bench` measures, and `make definitions` writes docs/proofs/DEFINITIONS.md again.
 
 PREFIX ?= /usr/local
-BUILT := build/milter_tool build/libmilter_c.a
 LIBRARY := build/deiruska/lib/libdeiruska.a
 
 .PHONY: all built prove check definitions test gate interop bench install uninstall dist deb clean
