@@ -281,7 +281,8 @@ def logged(program, folder):
         address = 'inet:%d@%s' % served.at[::-1]
         found = [served.process.stderr.readline() for _ in range(2)]
         first = re.sub(rb'connections="[0-9]+"', b'connections="N"', found[0])
-        before = 'event="start" version="0.1.0" address="%s" at-once="200" connections="N" ' % address
+        before = 'event="start" version="0.1.0%s" address="%s" at-once="200" connections="N" ' % (
+            programs.unproved(), address)
         expect('start', first, event('', 'count="1"').replace(b'event="" ', before.encode()))
         expect('listen', found[1], ('event="listen" address="%s"\n' % address).encode())
 

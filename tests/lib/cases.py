@@ -23,7 +23,7 @@ def output(folder):
     """What the run of a case prints. A build without a proof says so after its version."""
     text = content(folder, 'stdout')
     is_version = folder.rstrip('/').endswith('help/version')
-    return text.replace(b'\n', b' (built without its proof)\n') if is_version and not programs.is_proved() else text
+    return text.replace(b'\n', programs.unproved().encode() + b'\n') if is_version else text
 
 
 def case_in(folder):

@@ -46,10 +46,10 @@ def tool(build):
     return command_of('tool', build)[0]
 
 
-def is_proved():
-    """Whether milter_tool is proved, by what stands beside it."""
+def unproved():
+    """What milter_tool says after its version where it was built without its proof, by what stands beside it."""
     with open(os.path.join(BUILD, 'milter_tool.key'), encoding='utf-8') as file:
-        return file.read().split()[1] == 'proved'
+        return '' if file.read().split()[1] == 'proved' else ' (built without its proof)'
 
 
 def need(*names):
