@@ -13,6 +13,7 @@
 //!   commands, which shows that a world asks no sooner than the bytes come.
 
 use crate::printed::print_number;
+use crate::texts::value_in;
 use crate::{pair, stages, world};
 use anyhow::{Context, bail};
 use milter_mail_file::read_session;
@@ -31,26 +32,29 @@ enum Work {
     Asked,
 }
 
-/// What is done by the first word and the second one.
-const WORKS: [(&str, &str, Work); 8] = [
-    ("pair", "read", Work::Read),
-    ("pair", "play", Work::Pair),
-    ("stages", "read", Work::Read),
-    ("stages", "play", Work::Stages),
-    ("world", "read", Work::Read),
-    ("world", "play", Work::Arrival),
-    ("world", "run", Work::Events),
-    ("world", "asked", Work::Asked),
+/// What is done by the word after `pair`.
+const OF_PAIR: [(&str, Work); 2] = [("read", Work::Read), ("play", Work::Pair)];
+
+/// What is done by the word after `stages`.
+const OF_STAGES: [(&str, Work); 2] = [("read", Work::Read), ("play", Work::Stages)];
+
+/// What is done by the word after `world`.
+const OF_WORLD: [(&str, Work); 4] = [
+    ("read", Work::Read),
+    ("play", Work::Arrival),
+    ("run", Work::Events),
+    ("asked", Work::Asked),
 ];
 
 /// What these words ask for.
 fn work_of(first: &str, second: &str) -> Option<Work> {
-    for (one, other, work) in &WORKS {
-        if *one == first && *other == second {
-            return Some(*work);
-        }
+    if first == "pair" {
+        return value_in(&OF_PAIR, second);
     }
-    None
+    if first == "stages" {
+        return value_in(&OF_STAGES, second);
+    }
+    value_in(&OF_WORLD, second)
 }
 
 /// The events of these lines.
