@@ -21,7 +21,7 @@ import subprocess
 import sys
 import tempfile
 
-from lib import c_library, completions, packed, runner
+from lib import c_library, completions, packed, programs, runner
 from lib.programs import BUILDS, TOP, ended, need, tool, written
 
 USE = '#include <deiruska.h>\nint main(void) { return (deiruska_version() & ~DEIRUSKA_UNPROVED) != DEIRUSKA_VERSION; }\n'
@@ -127,12 +127,13 @@ def library(prefix, target, libdir, documents, python, folder):
     environment = {**os.environ, 'PYTHONPATH': python, 'PYTHONDONTWRITEBYTECODE': '1',
                    'DEIRUSKA_LIBRARY': os.path.join(prefix, libdir, 'libdeiruska.so.0')}
     end = ended([sys.executable, '-c', 'import deiruska.testing; print(deiruska.version())'], env=environment)
-    yield None if end == (0, b'%s\n' % version(), b'') else 'the package for Python: %s' % (end,)
+    expected = version() + programs.unproved().encode()
+    yield None if end == (0, b'%s\n' % expected, b'') else 'the package for Python: %s' % (end,)
 
 
 def version():
-    """The version of the program."""
-    return ended([tool(BUILDS[0]), '--version'])[1].split()[-1]
+    """The number of the program's version."""
+    return ended([tool(BUILDS[0]), '--version'])[1].split()[1]
 
 
 def tree(root):

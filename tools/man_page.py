@@ -29,7 +29,7 @@ def as_it_is(text):
 
 def main():
     (program,) = sys.argv[1:]
-    name, version = printed(program, "--version").split()
+    name, version = printed(program, "--version").strip().split(" ", 1)
     summary, _, rest = printed(program, "--help").partition("\n\n")
     commands = re.findall(r"(?m)^  (\w+)  ", rest)
     print(f'.TH {name.upper()} 1 {DATE} "{name} {version}"')

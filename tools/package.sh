@@ -12,7 +12,7 @@
 # The program is one file that needs the C library alone, and so does the shared library for C: the packages are for
 # machines without the toolchain. Those for Debian take debhelper and dh-python. What is in build/ is taken; `dist` and
 # `deb` take what is proved alone, unless UNPROVED=1 is set.
-set -eu
+set -euo pipefail
 cd "$(dirname "${BASH_SOURCE[0]}")/.."
 program=build/milter_tool
 library=build/deiruska
