@@ -152,9 +152,11 @@ fn reports_of<D: Connect + Drop>(
     dial: &mut Dialing<'_, '_, D>,
 ) -> Result<Vec<u8>, ToolError> {
     let session = session_with(rt, path, macros)?;
-    match mta_run(rt.alloc(), config, session, dial, Vec::new(rt.alloc())) {
-        (found, Ok(())) => Ok(found),
-        (found, Err(fault)) => {
+    let kept = Vec::new(rt.alloc());
+    let (found, played) = mta_run(rt.alloc(), config, session, dial, kept);
+    match played {
+        Ok(()) => Ok(found),
+        Err(fault) => {
             drop(found);
             Err(kept_error(output_error(fault)))
         }
