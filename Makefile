@@ -1,4 +1,4 @@
-# `make` builds the program and the library for C from their source, in three minutes and without a proof; `make prove`
+# `make` builds the program and the library for C from their source, in minutes and without a proof; `make prove`
 # proves them, and puts what is proved in their place; `make check` proves what changed. `make test` runs each test on
 # what is built, `make gate` proves all from nothing and then tests that, and `make interop` tries other mail software.
 # `make install PREFIX=/usr/local` puts the program in place, with its manual pages, units and documents, and the library
