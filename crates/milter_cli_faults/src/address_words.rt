@@ -1,7 +1,7 @@
 //! What is said of texts that are no addresses.
 
 use crate::known_names::say_unknown;
-use milter_rules_faults::{Notes, Span};
+use milter_rules::{Notes, Span};
 use milter_wire::NoMemory;
 
 /// What an address is.

@@ -3,8 +3,8 @@
 use crate::file_words::unread_reason;
 use crate::shown_name::shown_name;
 use milter_cli_io::{list_paths, say_lists};
-use milter_rules::{RuleFault, read_rule_lines};
-use milter_rules_faults::{Notes, Span, say_fault};
+use milter_rules::{Notes, RuleFault, Span, read_rule_lines};
+use milter_rules_faults::say_fault;
 use milter_wire::NoMemory;
 use std::alloc::Global;
 use std::fs;

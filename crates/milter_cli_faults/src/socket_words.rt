@@ -3,7 +3,7 @@
 use crate::failure::SocketFault;
 use crate::file_words::has_folder;
 use milter_cli_request::Address;
-use milter_rules_faults::{Notes, Span};
+use milter_rules::{Notes, Span};
 use milter_wire::NoMemory;
 use std::io::ErrorKind;
 use std::path::Path;

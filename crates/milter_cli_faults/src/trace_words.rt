@@ -2,7 +2,7 @@
 
 use crate::file_forms::{NO_OFFER, SECOND_OFFER, TRUNCATED};
 use milter_replay::{RecordingFault, read_trace};
-use milter_rules_faults::{Notes, Span};
+use milter_rules::{Notes, Span};
 use milter_trace::TraceFault;
 use milter_wire::{NoMemory, WireFault};
 

@@ -8,6 +8,7 @@ mod file_error;
 mod file_input;
 mod list_check;
 mod list_input;
+mod rule_check;
 mod rules_run;
 mod session_run;
 mod tool_error;

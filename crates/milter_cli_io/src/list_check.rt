@@ -2,8 +2,7 @@
 
 use crate::list_input::{list_path, read_list_at};
 use milter_filter_rules::{ListFault, ListKind, ListSource, TextList};
-use milter_rules::{RuleFault, list_sources};
-use milter_rules_faults::{Notes, Span};
+use milter_rules::{Notes, RuleFault, Span, list_sources};
 use milter_text::{LineCursor, LineFault, TextFault, write_text};
 use milter_wire::NoMemory;
 use std::alloc::Global;

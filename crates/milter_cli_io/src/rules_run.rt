@@ -12,9 +12,9 @@ ghost use Rattle.milter_cli_io.specs.FileRun.{Has, HasNone, IsFaultOrMemory, IsF
 use crate::file_error::{FileError, InputFile, fault_error, text_error};
 use crate::file_input::read_file;
 use crate::list_check::check_lists;
+use crate::rule_check::check_rules;
 use crate::tool_error::{ToolError, output_error};
-use milter_rules::{ListFile, Rules, read_rule_lines, read_rules, write_rules};
-use milter_rules_check::{Severity, check_rules};
+use milter_rules::{ListFile, Rules, Severity, read_rule_lines, read_rules, write_rules};
 use milter_wire::Stage;
 use std::alloc::Global;
 use std::io::{Read, Write};

@@ -3,17 +3,23 @@
 #![tactic(auto)]
 
 mod action_words;
+mod compared;
 mod condition_words;
+mod file_form;
 mod form;
 mod laws;
 mod list_lines;
+mod notes;
 mod rule_builder;
 mod rule_fault;
 mod rule_file;
 mod rule_line;
+mod rule_stages;
 mod rules_text;
 mod words_text;
 
+pub use compared::Compared;
+pub use file_form::{FileForm, form_of_file, is_form_line};
 pub use form::{kind_fits, limit_max};
 pub use laws::{lines_of_written_words, rule_limit, words_of_actions, written_rules};
 pub use milter_filter_rules::{
@@ -23,7 +29,9 @@ pub use milter_filter_rules::{
 };
 pub use milter_list_files::ListFile;
 pub use milter_list_lines::LISTS_MAX;
+pub use notes::{Notes, Severity, Span};
 pub use rule_builder::RULES_MAX;
 pub use rule_fault::RuleFault;
 pub use rule_file::{list_sources, read_rule_lines, read_rules};
+pub use rule_stages::{RuleLine, rule_lines};
 pub use rules_text::write_rules;

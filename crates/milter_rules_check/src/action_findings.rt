@@ -5,7 +5,7 @@ use crate::reply_findings::say_reply;
 use crate::sent_stages::bit_among;
 use milter_filter_rules::{Action, RuleAction};
 use milter_message::Edit;
-use milter_rules_faults::{Notes, Span};
+use milter_rules::{Notes, Span};
 use milter_wire::{Actions, Header, NoMemory, Options, Protocol, Stage, Text, Verdict};
 
 /// Says what is to be said of the action of a rule, where a filter asks for these options.

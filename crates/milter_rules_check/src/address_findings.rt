@@ -4,7 +4,7 @@ use crate::advice::{on_part, part_field, without_brackets};
 use crate::compared::say_unfound;
 use memchr::memrchr;
 use milter_filter_rules::{PathPart, Test};
-use milter_rules_faults::{Compared, Notes};
+use milter_rules::{Compared, Notes};
 use milter_wire::NoMemory;
 
 /// Why an address isn't found by a text with a bracket.

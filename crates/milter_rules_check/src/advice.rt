@@ -1,7 +1,7 @@
 //! What is written in place of a condition on an address as the client wrote it.
 
 use milter_filter_rules::{Field, PathPart, Test};
-use milter_rules_faults::{Compared, FileForm, Span};
+use milter_rules::{Compared, FileForm, Span};
 use milter_wire::NoMemory;
 use std::alloc::Global;
 

@@ -1,7 +1,7 @@
 //! A rule file that is read.
 
 use milter_filter_rules::Rules;
-use milter_rules_faults::FileForm;
+use milter_rules::FileForm;
 
 /// A rule file that is read.
 #[derive(Clone, Copy)]

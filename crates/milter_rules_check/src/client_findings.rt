@@ -5,7 +5,7 @@ use crate::compared::{outcome_unfound, say_empty};
 use crate::networks_meant::network_meant;
 use milter_filter_rules::Test;
 use milter_network::{Address, Network};
-use milter_rules_faults::{Compared, FileForm, Notes, Span};
+use milter_rules::{Compared, FileForm, Notes, Span};
 use milter_wire::NoMemory;
 
 /// Says what is to be said of a text that is compared with the address of a client, in a file of this form.

@@ -1,7 +1,7 @@
 //! What becomes of conditions whose text isn't found.
 
 use milter_filter_rules::{Test, TextCheck};
-use milter_rules_faults::{Compared, Notes, Span};
+use milter_rules::{Compared, Notes, Span};
 use milter_wire::NoMemory;
 
 /// Whether a condition with this test is met where no text of it is found.

@@ -6,7 +6,7 @@ use crate::compared::{finds_empty, is_met_unfound};
 use crate::sent_stages::bit_among;
 use milter_filter_rules::{Check, Condition, Field, Joint};
 use milter_protocol::rank_of;
-use milter_rules_faults::{Notes, Span};
+use milter_rules::{Notes, Span};
 use milter_wire::{NoMemory, Options, Protocol, Stage, Text};
 
 /// Why a field has no value.

@@ -2,7 +2,7 @@
 
 use crate::sent_stages::has_stage;
 use milter_filter_rules::Rules;
-use milter_rules_faults::{Notes, Span};
+use milter_rules::{Notes, Span};
 use milter_wire::{NoMemory, Options, Stage};
 use std::alloc::Global;
 use std::str;

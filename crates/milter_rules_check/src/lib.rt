@@ -11,7 +11,6 @@ mod checked_file;
 mod client_findings;
 mod compared;
 mod condition_findings;
-mod file_check;
 mod file_findings;
 mod macro_findings;
 mod networks_meant;
@@ -22,6 +21,4 @@ mod sent_stages;
 mod text_findings;
 mod wildcards;
 
-pub use file_check::check_rules;
-pub use milter_rules_faults::Severity;
-pub use milter_text::TextFault;
+pub use rule_findings::say_findings;

@@ -4,7 +4,7 @@ use crate::advice::{MAIL_ADDR, RCPT_ADDR, without, without_brackets};
 use crate::checked_file::CheckedFile;
 use crate::compared::{outcome_by, outcome_unfound, say_unfound};
 use milter_filter_rules::Condition;
-use milter_rules_faults::{Compared, FileForm, Notes, Span};
+use milter_rules::{Compared, FileForm, Notes, Span};
 use milter_wire::{MacroStage, NoMemory, SymList};
 
 /// Why an address isn't found by a text with a bracket.

@@ -5,7 +5,7 @@ use crate::checked_file::CheckedFile;
 use crate::compared::{outcome_unfound, part_of};
 use milter_address::{canonical_address, domain_of};
 use milter_filter_rules::{Check, Condition, Field, PathPart, Rule, Rules, Test, TextCheck};
-use milter_rules_faults::{Compared, FileForm, Notes, Span};
+use milter_rules::{Compared, FileForm, Notes, Span};
 use milter_wire::{NoMemory, Stage};
 
 /// What is said of an address without brackets.

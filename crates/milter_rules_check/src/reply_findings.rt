@@ -1,6 +1,6 @@
 //! What is said of replies, which are the texts of codes.
 
-use milter_rules_faults::{Notes, Span};
+use milter_rules::{Notes, Span};
 use milter_wire::NoMemory;
 
 /// What becomes of a reply that Postfix doesn't take.

@@ -8,7 +8,7 @@ use crate::sent_stages::{bit_among, has_stage};
 use crate::text_findings::say_texts;
 use milter_filter_rules::{Action, Rule, RuleAction, Rules};
 use milter_protocol::rank_of;
-use milter_rules_faults::{Notes, RuleLine, Span, form_of_file, rule_lines};
+use milter_rules::{Notes, RuleLine, Span, form_of_file, rule_lines};
 use milter_wire::{NoMemory, Options, Stage};
 
 /// How far the rules of a stage were looked at.
@@ -21,7 +21,7 @@ struct Progress {
 }
 
 /// Says what is to be said of the rules, and of their file, which is these bytes.
-pub(crate) fn say_findings(
+pub fn say_findings(
     notes: &mut Notes<'_>,
     bytes: &[u8],
     rules: &Rules,

@@ -8,7 +8,7 @@ use crate::macro_findings::{say_listed_macro, say_macro_text};
 use crate::path_findings::say_path_text;
 use crate::wildcards::say_wildcard;
 use milter_filter_rules::{Check, Condition, Field, PathPart, TextCheck};
-use milter_rules_faults::{Compared, Notes};
+use milter_rules::{Compared, Notes};
 use milter_wire::NoMemory;
 
 /// Says what is to be said of the texts of these conditions of the file, and of their macros in lists.

@@ -7,7 +7,7 @@ use crate::advice::{
 use crate::compared::part_of;
 use crate::networks_meant::network_meant;
 use milter_filter_rules::{Field, PathPart, Test};
-use milter_rules_faults::{Compared, FileForm, Notes, Span};
+use milter_rules::{Compared, FileForm, Notes, Span};
 use milter_wire::NoMemory;
 use std::alloc::Global;
 

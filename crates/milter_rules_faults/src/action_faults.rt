@@ -1,11 +1,10 @@
 //! What is said of a rule whose action is none, or may not be done at its stage.
 
-use crate::file_form::FileForm;
 use crate::form_faults::say_needs_form;
 use crate::known_words::{
     ACTION, Kind, WIDE_ACTION, WIDE_ACTIONS, is_one_of, say_missing, say_unknown, say_unquoted,
 };
-use crate::notes::{Notes, Span};
+use milter_rules::{FileForm, Notes, Span};
 use milter_text::Word;
 use milter_wire::NoMemory;
 

@@ -5,7 +5,6 @@ ghost use Rattle.std.specs.Prelude.{◌<◌, IfSome, length};
 use crate::condition_words::{
     FieldWords, after_stage, condition_in, field_in, flag_in, words_after,
 };
-use crate::file_form::FileForm;
 use crate::file_head::FileHead;
 use crate::flag_faults::{is_not, say_any_case_place, say_not_place};
 use crate::form_faults::{WITHOUT_NOT, WITHOUT_OR, say_needs_form};
@@ -16,9 +15,9 @@ use crate::known_words::{
 };
 use crate::misfits::{say_misfit, say_other_field};
 use crate::nearest::name_meant;
-use crate::notes::{Notes, Span};
 use crate::number_faults::say_bad_over;
 use crate::reference_faults::say_no_name;
+use milter_rules::{FileForm, Notes, Span};
 use milter_text::Word;
 use milter_wire::NoMemory;
 use std::alloc::Global;

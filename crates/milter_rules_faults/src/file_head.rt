@@ -1,7 +1,6 @@
 //! What the first lines of a rule file give: its form, and its lists.
 
-use crate::file_form::FileForm;
-use milter_rules::{ListSource, ListSources, RuleFault, list_sources};
+use milter_rules::{FileForm, ListSource, ListSources, RuleFault, list_sources};
 use milter_wire::NoMemory;
 use std::alloc::Global;
 

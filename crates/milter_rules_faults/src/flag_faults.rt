@@ -1,9 +1,8 @@
 //! What is said of `not` and `any-case` where they can't stand.
 
-use crate::file_form::FileForm;
 use crate::form_faults::say_needs_form;
 use crate::known_words::is_one_of;
-use crate::notes::{Notes, Span};
+use milter_rules::{FileForm, Notes, Span};
 use milter_text::Word;
 use milter_wire::NoMemory;
 

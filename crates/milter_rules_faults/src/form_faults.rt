@@ -1,7 +1,6 @@
 //! What is said of the line that gives a file its form, and of what takes such a line.
 
-use crate::file_form::{FileForm, is_form_line};
-use crate::notes::{Notes, Span};
+use milter_rules::{FileForm, Notes, Span, is_form_line};
 use milter_text::Word;
 use milter_wire::NoMemory;
 

@@ -1,7 +1,7 @@
 //! The words of rule files, and what is said of a word that is none of them.
 
 use crate::nearest::name_meant;
-use crate::notes::{Notes, Span};
+use milter_rules::{Notes, Span};
 use milter_text::Word;
 use milter_wire::NoMemory;
 

@@ -4,10 +4,8 @@
 #![tactic(auto)]
 
 mod action_faults;
-mod compared;
 mod condition_faults;
 mod condition_words;
-mod file_form;
 mod file_head;
 mod flag_faults;
 mod form_faults;
@@ -17,16 +15,10 @@ mod list_faults;
 mod list_words;
 mod misfits;
 mod nearest;
-mod notes;
 mod number_faults;
 mod number_words;
 mod option_faults;
 mod reference_faults;
-mod rule_line;
 mod word_faults;
 
-pub use compared::Compared;
-pub use file_form::{FileForm, form_of_file};
 pub use line_faults::say_fault;
-pub use notes::{Notes, Severity, Span};
-pub use rule_line::{RuleLine, rule_lines};

@@ -2,16 +2,13 @@
 
 use crate::action_faults::{say_action_not_here, say_bad_action};
 use crate::condition_faults::{say_bad_conditions, say_bad_stage};
-use crate::file_form::form_of_file;
 use crate::file_head::{FileHead, lists_of_file};
 use crate::form_faults::say_bad_form_line;
 use crate::list_faults::say_bad_list_line;
-use crate::notes::{Notes, Span};
 use crate::option_faults::say_bad_option;
-use crate::rule_line::rule_lines;
 use crate::word_faults::{comment_start, say_no_words};
 use memchr::memchr;
-use milter_rules::{RULES_MAX, RuleFault, read_rule_lines};
+use milter_rules::{Notes, RULES_MAX, RuleFault, Span, form_of_file, read_rule_lines, rule_lines};
 use milter_text::{Word, WordFault, line_content, words};
 use milter_wire::NoMemory;
 use std::alloc::Global;

@@ -1,12 +1,11 @@
 //! What is said of the line of a list.
 
-use crate::file_form::FileForm;
 use crate::file_head::FileHead;
 use crate::form_faults::say_needs_form;
 use crate::known_words::{is_one_of, say_missing, say_unknown, say_unquoted};
 use crate::list_words::LIST_KIND;
-use crate::notes::{Notes, Span};
 use milter_list_lines::is_list_name;
+use milter_rules::{FileForm, Notes, Span};
 use milter_text::Word;
 use milter_wire::NoMemory;
 

@@ -1,16 +1,15 @@
 //! What is said of a condition whose words are there, but don't go with each other or with the form of the file.
 
 use crate::condition_words::ConditionWords;
-use crate::file_form::FileForm;
 use crate::file_head::FileHead;
 use crate::flag_faults::say_no_case;
 use crate::form_faults::{WITHOUT_NOT, WITHOUT_OR, say_needs_form};
 use crate::known_words::{
     CANONICAL_FIELDS, DOMAIN_FIELDS, NUMBER_FIELDS, WIDE_FIELDS, WIDE_TESTS, is_one_of,
 };
-use crate::notes::{Notes, Span};
 use crate::reference_faults::say_bad_reference;
 use milter_network::Network;
+use milter_rules::{FileForm, Notes, Span};
 use milter_text::Word;
 use milter_wire::NoMemory;
 

@@ -1,11 +1,10 @@
 //! What is said of a condition that compares a number.
 
 use crate::condition_words::FieldWords;
-use crate::file_form::FileForm;
 use crate::flag_faults::{is_not, say_not_place};
 use crate::known_words::is_joint;
-use crate::notes::{Notes, Span};
 use crate::number_words::{has_digits_alone, has_needless_zero, highest_of};
+use milter_rules::{FileForm, Notes, Span};
 use milter_text::Word;
 use milter_wire::NoMemory;
 

@@ -4,8 +4,8 @@ use crate::known_words::{
     FIRST_WORD, Kind, MACRO_STAGE, STAGE, VERSION, has_name, is_one_of, say_unknown,
     say_unknown_name, say_unquoted,
 };
-use crate::notes::{Notes, Span};
 use milter_protocol::{ACTIONS_MAX, PROTOCOL_MAX};
+use milter_rules::{Notes, Span};
 use milter_text::Word;
 use milter_wire::{Actions, NoMemory, Protocol};
 use std::str;

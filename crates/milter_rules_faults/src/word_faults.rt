@@ -1,6 +1,6 @@
 //! What is said of a line that isn't in words.
 
-use crate::notes::{Notes, Span};
+use milter_rules::{Notes, Span};
 use milter_wire::NoMemory;
 
 /// What the next byte of a line belongs to.

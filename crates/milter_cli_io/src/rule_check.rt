@@ -1,8 +1,8 @@
 //! The check of a rule file.
 
-use crate::rule_findings::say_findings;
-use milter_rules::read_rule_lines;
-use milter_rules_faults::{Notes, Severity, say_fault};
+use milter_rules::{Notes, Severity, read_rule_lines};
+use milter_rules_check::say_findings;
+use milter_rules_faults::say_fault;
 use milter_text::{TextFault, write_text};
 use std::alloc::Global;
 use std::io::Write;
@@ -14,7 +14,7 @@ use std::io::Write;
 /// as `NAME: TEXT`. Of a file that has no rules its first fault is said, and nothing else. Long words of the file are
 /// cut off, so that a line has a few hundred bytes beside the name. The error is `NoMemory` where memory is refused,
 /// and nothing is written then; and `Write` where a write fails, also one that is interrupted, or takes nothing.
-pub fn check_rules<W: Write>(
+pub(crate) fn check_rules<W: Write>(
     alloc: Global,
     name: &str,
     bytes: &[u8],

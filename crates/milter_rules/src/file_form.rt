@@ -24,7 +24,7 @@ pub fn form_of_file(alloc: Global, bytes: &[u8]) -> Result<FileForm, NoMemory> {
 }
 
 /// Whether the words are the line that gives a file the second form.
-pub(crate) fn is_form_line(words: &[Word]) -> bool {
+pub fn is_form_line(words: &[Word]) -> bool {
     match words {
         [first, number] => first.is_keyword(b"rules") && number.is_keyword(b"2"),
         _ => false,
