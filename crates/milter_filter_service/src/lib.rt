@@ -12,6 +12,7 @@ mod mail_servers;
 mod service;
 mod service_error;
 mod shortage;
+mod sources;
 
 pub use asked_connection::AskedConnection;
 pub use given::Given;

@@ -11,6 +11,7 @@ use crate::mail_server::{Due, MailServer, Next};
 use crate::mail_servers::MailServers;
 use crate::service_error::ServiceError;
 use crate::shortage::Shortage;
+use crate::sources::{LISTENER_TOKENS, Source, sources_of, watching};
 use milter_filter::{CommandOrder, Connection, FilterFault, Served, Wants, read_buffer};
 use milter_sockets::{Listener, Stream};
 use mio::event::Event;
@@ -32,16 +33,6 @@ const CHECK: u64 = 1_000;
 /// connected: for each of them room for one packet, 65,540 bytes, up to the next look, and what else
 /// `Connection::restart` leaves it, which is less than 3 MB.
 const SPARE_MAX: usize = 16;
-/// The tokens of listeners: the highest is that of the first.
-const LISTENER_TOKENS: usize = usize::MAX;
-
-/// A listener, and whether a connection may have come on it.
-#[derive(Drop)]
-struct Source {
-    listener: Listener,
-    is_ready: bool,
-}
-
 /// A service of many connections, of each of which its host keeps an `S`.
 #[derive(Drop)]
 pub struct Service<'r, S: Drop> {
@@ -471,41 +462,4 @@ impl<'r, S: Drop> Service<'r, S> {
             Due::Close => self.close(place, Served::ReadFault, host),
         }
     }
-}
-
-/// These listeners, on each of which a connection may have come.
-fn sources_of(alloc: Global, listeners: Vec<Listener>) -> Result<Vec<Source>, ServiceError> {
-    let mut sources = Vec::new(alloc);
-    for listener in listeners {
-        let source = Source {
-            listener,
-            is_ready: true,
-        };
-        if sources.push(source).is_err() {
-            return Err(ServiceError::NoMemory);
-        }
-    }
-    Ok(sources)
-}
-
-/// What says when one of these listeners is ready.
-fn watching(rt: &HostRuntime, sources: &mut [Source]) -> Result<Poll, ServiceError> {
-    let poll = Poll::new(rt)?;
-    match watch_all(&poll, sources) {
-        Ok(()) => Ok(poll),
-        Err(error) => {
-            drop(poll);
-            Err(error)
-        }
-    }
-}
-
-/// Has the system say when one of these listeners is ready.
-fn watch_all(poll: &Poll, sources: &mut [Source]) -> Result<(), ServiceError> {
-    let mut token = LISTENER_TOKENS;
-    for source in sources {
-        source.listener.watch(poll.registry(), Token(token))?;
-        token = token.saturating_sub(1);
-    }
-    Ok(())
 }
