@@ -3,8 +3,8 @@ use Rattle.std.specs.Prelude.{◌≡◌, ◌≢◌, ◌≤◌, ℕ, zero, suc, n
 use Rattle.std.specs.List.{sum_by}
 use Rattle.std.proofs.Common.{arith, sym, true≢false}
 use Rattle.std.proofs.lemmas.List.Elements.{All-cons, All-nil}
-use Rattle.milter_wire_stream.specs.Number.{number}
-use Rattle.milter_wire_fields.specs.Field.{HasNoNul}
+use Rattle.milter_fields.specs.Number.{number}
+use Rattle.milter_fields.specs.Field.{HasNoNul}
 use Rattle.milter_wire.specs.declared.reply.Reply.TheVariants as replies
 use Rattle.milter_wire.specs.declared.stage.Stage.{Stage}
 use Rattle.milter_wire.specs.declared.stage.Stage.TheVariants.{Eob}

@@ -7,7 +7,7 @@ use crate::mailbox::canonical_path;
 use crate::quotes::quoted_rest;
 use crate::trimmed::bare;
 use memchr::memrchr;
-use milter_wire_stream::NoMemory;
+use milter_fields::NoMemory;
 use std::alloc::Global;
 
 /// The address of a MAIL FROM or RCPT TO command in the form in which addresses are compared: in lower case, without

@@ -4,7 +4,7 @@ ghost use Rattle.std.specs.Prelude.{◌≡◌, IfOk};
 ghost use Rattle.milter_address.specs.Domain.{canonical_domain, is_under};
 
 use crate::trimmed::without_dots;
-use milter_wire_stream::NoMemory;
+use milter_fields::NoMemory;
 use std::alloc::Global;
 
 /// The domain in the form in which domains are compared: without dots at its end, and with ASCII letters in lower case.

@@ -5,7 +5,7 @@ ghost use Rattle.std.specs.List.{flat_map};
 ghost use Rattle.milter_address.specs.LocalPart.{local_text, quoted_byte};
 
 use crate::atoms::is_dot_string;
-use milter_wire_stream::NoMemory;
+use milter_fields::NoMemory;
 use std::alloc::Global;
 
 /// The local part with this content in its canonical form: without quotes where it is a Dot-string.

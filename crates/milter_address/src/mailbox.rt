@@ -11,7 +11,7 @@ use crate::local_part::local_text;
 use crate::parts::cut;
 use crate::quotes::{quoted_rest, quoted_text};
 use crate::route::{at_domain, behind_route, is_domain};
-use milter_wire_stream::NoMemory;
+use milter_fields::NoMemory;
 use std::alloc::Global;
 
 /// A path without brackets in its canonical form: its mailbox, without the source route, or the path itself where it

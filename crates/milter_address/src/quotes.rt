@@ -5,7 +5,7 @@ ghost use Rattle.milter_address.specs.LocalPart.{quoted_rest, quoted_text};
 ghost use Rattle.milter_address.specs.QuotedString.{is_closing, pairs_next, read_byte};
 
 use crate::bytes::{is_paired, is_qtext};
-use milter_wire_stream::NoMemory;
+use milter_fields::NoMemory;
 use std::alloc::Global;
 
 /// The bytes behind the closing quote of a Quoted-string, given those behind its opening quote, or none where these

@@ -1,7 +1,7 @@
 -- The packets of a caller in C: what they are decoded to, and their lines.
 use Rattle.std.specs.Prelude.{◌≡◌, ◌≢◌, ◌==◌, ◌++◌, [], ℕ, ℤ, List, MatchResult, Option, None, Some, Result, if◌then◌else◌}
-use Rattle.milter_wire_stream.specs.Stream.{Frame}
-use Rattle.milter_wire_stream.specs.declared.fault.WireFault.{WireFault}
+use Rattle.milter_fields.specs.Stream.{Frame}
+use Rattle.milter_fields.specs.declared.fault.WireFault.{WireFault}
 use Rattle.milter_trace.specs.declared.direction.Direction.{Direction}
 use Rattle.milter_trace.specs.declared.direction.Direction.TheVariants as directions
 use Rattle.milter_trace.specs.declared.fault.TraceFault.{TraceFault}

@@ -1,6 +1,6 @@
 -- What a caller reads by what it borrows.
 use Rattle.std.specs.Prelude.{◌≡◌, ℤ, ℕ, List, Option, None, Some}
-use Rattle.milter_wire_stream.specs.Stream.{Frame}
+use Rattle.milter_fields.specs.Stream.{Frame}
 use Rattle.milter_c_objects.specs.declared.status.TheConstants.{NOTHING, OK}
 use Rattle.milter_c_packets.specs.Parts.{PartValue}
 use Rattle.milter_c.specs.declared.view.PacketView.{PacketView}

@@ -1,7 +1,7 @@
 //! What packets are decoded to.
 
 ghost use Rattle.std.specs.Prelude.{◌≡◌, ◌≢◌, ◌≤◌, ◌<◌, IsSomeAnd, MatchOption, Ok, length, slice_get};
-ghost use Rattle.milter_wire_stream.specs.declared.number.TheConstants.{PAYLOAD_MAX};
+ghost use Rattle.milter_fields.specs.declared.number.TheConstants.{PAYLOAD_MAX};
 ghost use Rattle.milter_c_handle.specs.Objects.{IsKept, decoded_of};
 ghost use Rattle.milter_c_packets.specs.DecodedPackets.{decoded_command, decoded_reply};
 ghost use Rattle.milter_c_packets.specs.Parts.{parts_of};
@@ -11,10 +11,10 @@ ghost use Rattle.milter_c.specs.Views.{part_in};
 use crate::let_object::let_object;
 use crate::view::PartView;
 use milter_c_handle::{Handle, Object};
-use milter_c_objects::status::{NO_MEMORY, NOTHING, OK, WIRE_NO_MEMORY, WIRE_TOO_LONG, WRONG_KIND};
 use milter_c_objects::{memory_status, wire_fault_number};
+use milter_c_objects::status::{NOTHING, NO_MEMORY, OK, WIRE_NO_MEMORY, WIRE_TOO_LONG, WRONG_KIND};
 use milter_c_packets::Decoded;
-use milter_wire_stream::PAYLOAD_MAX;
+use milter_fields::PAYLOAD_MAX;
 use std::alloc::Global;
 
 /// Decodes a packet to a filter, and puts its command into the handle.

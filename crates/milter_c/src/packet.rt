@@ -1,13 +1,13 @@
 //! Packets of bytes that the caller has.
 
 ghost use Rattle.std.specs.Prelude.{◌≡◌, ◌≢◌, ◌↔◌, ◌+◌, take, length};
-ghost use Rattle.milter_wire_stream.specs.declared.number.TheConstants.{HEAD_LEN};
-ghost use Rattle.milter_wire_stream.specs.Stream.{IsRest, IsFrame, frame_bytes};
+ghost use Rattle.milter_fields.specs.declared.number.TheConstants.{HEAD_LEN};
+ghost use Rattle.milter_fields.specs.Stream.{IsRest, IsFrame, frame_bytes};
 ghost use Rattle.milter_c.specs.Views.{frame_in};
 
 use crate::view::PacketView;
 use milter_c_objects::status::{NOTHING, OK};
-use milter_wire_stream::Packet;
+use milter_fields::Packet;
 
 /// The packet that the bytes begin with, where it is whole. Doesn't allocate.
 #[unsafe(no_mangle)]

@@ -4,8 +4,8 @@ ghost use Rattle.std.specs.Prelude.{◌≡◌, Some, None, OnOk, OnErr, is_some,
 
 use crate::object::Object;
 use crate::slot::Slot;
+use milter_fields::NoMemory;
 use milter_raw_box::Loose;
-use milter_wire_stream::NoMemory;
 use std::alloc::Global;
 
 /// A place for an object, and whether one is there. One whose bytes are all zero is empty.

@@ -2,12 +2,12 @@
 
 use milter_c_mta::MtaEnd;
 use milter_c_packets::Decoded;
+use milter_fields::Splitter;
 use milter_filter_core::FilterConnection;
 use milter_message::Held;
 use milter_protocol::Answer;
 use milter_rules::Rules;
 use milter_trace::PacketTrace;
-use milter_wire_stream::Splitter;
 
 /// What a handle has.
 #[derive(Drop)]

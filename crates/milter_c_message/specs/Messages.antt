@@ -1,7 +1,7 @@
 -- A message that is put together part by part, and what edits make of it.
 use Rattle.std.specs.Prelude.{ℕ, List, [], ◌∷◌, ◌++◌, Bool, Option, None, Some, option_map, slice_get}
-use Rattle.milter_wire_fields.specs.declared.header.Header.{Header}
-use Rattle.milter_wire_fields.specs.declared.path.Path.{Path}
+use Rattle.milter_fields.specs.declared.header.Header.{Header}
+use Rattle.milter_fields.specs.declared.path.Path.{Path}
 use Rattle.milter_message.specs.declared.edit.Edit.{Edit}
 use Rattle.milter_message.specs.declared.message.Held.{Held}
 use Rattle.milter_message.specs.EditedMessage.{edited_message}

@@ -4,8 +4,8 @@ use Rattle.milter_wire.specs.declared.command.Command.{Command}
 use Rattle.milter_wire.specs.declared.command.Command.TheVariants as commands
 use Rattle.milter_wire.specs.declared.stage.Stage.{Stage}
 use Rattle.milter_wire.specs.declared.stage.Stage.TheVariants as stages
-use Rattle.milter_wire_fields.specs.declared.header.Header.{Header}
-use Rattle.milter_wire_fields.specs.declared.path.Path.{Path}
+use Rattle.milter_fields.specs.declared.header.Header.{Header}
+use Rattle.milter_fields.specs.declared.path.Path.{Path}
 use Rattle.milter_mta_channel.specs.declared.filter_event.Fed.{Fed}
 use Rattle.milter_mta_channel.specs.declared.filter_event.FilterEvent.TheVariants.{Nothing}
 use Rattle.milter_mta_channel.specs.Channel.{sent}

@@ -1,7 +1,7 @@
 -- Where a client connects from, by the number of the family of its address.
 use Rattle.std.specs.Prelude.{ℕ, nat_eq, List, Option, None, Some, if◌then◌else◌}
-use Rattle.milter_wire_fields.specs.declared.client.Origin.{Origin}
-use Rattle.milter_wire_fields.specs.declared.client.Origin.TheVariants as origins
+use Rattle.milter_fields.specs.declared.client.Origin.{Origin}
+use Rattle.milter_fields.specs.declared.client.Origin.TheVariants as origins
 use Rattle.milter_c_objects.specs.declared.status.TheConstants as status
 
 -- an unknown one has neither port nor address

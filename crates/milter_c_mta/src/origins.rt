@@ -1,11 +1,11 @@
 //! Where a client connects from.
 
 ghost use Rattle.std.specs.Prelude.{◌≡◌, option_map};
-ghost use Rattle.milter_wire_fields.specs.Borrowed.{origin_of};
+ghost use Rattle.milter_fields.specs.Borrowed.{origin_of};
 ghost use Rattle.milter_c_mta.specs.Origins.{origin_numbered};
 
 use milter_c_objects::status::{FAMILY_INET, FAMILY_INET6, FAMILY_UNIX, FAMILY_UNKNOWN};
-use milter_wire_fields::OriginRef;
+use milter_fields::OriginRef;
 
 /// Where a client connects from, by the number of the family of its address. Doesn't allocate.
 pub fn origin_numbered(family: u32, port: u16, address: &[u8]) -> Option<OriginRef<'_>>

@@ -1,6 +1,6 @@
 -- What becomes of an answer that is built edit by edit.
 use Rattle.std.specs.Prelude.{◌≡◌, ℕ, List, [], ◌∷◌, ◌++◌, Option, None, Some, Result, Ok, Err}
-use Rattle.milter_wire_stream.specs.declared.fault.NoMemory.{NoMemory}
+use Rattle.milter_fields.specs.declared.fault.NoMemory.{NoMemory}
 use Rattle.milter_wire.specs.declared.verdict.Verdict.{Verdict}
 use Rattle.milter_message.specs.declared.edit.Edit.{Edit}
 use Rattle.milter_protocol.specs.declared.answer.Answer.{Answer}

@@ -1,8 +1,8 @@
 -- The numbers of faults.
 use Rattle.std.specs.Prelude.{ℤ, Result, Ok, Err}
-use Rattle.milter_wire_stream.specs.declared.fault.NoMemory.{NoMemory}
-use Rattle.milter_wire_stream.specs.declared.fault.WireFault.{WireFault}
-use Rattle.milter_wire_stream.specs.declared.fault.WireFault.TheVariants as wire
+use Rattle.milter_fields.specs.declared.fault.NoMemory.{NoMemory}
+use Rattle.milter_fields.specs.declared.fault.WireFault.{WireFault}
+use Rattle.milter_fields.specs.declared.fault.WireFault.TheVariants as wire
 use Rattle.milter_protocol.specs.declared.filter_fault.FilterFault.{FilterFault}
 use Rattle.milter_protocol.specs.declared.filter_fault.FilterFault.TheVariants as filter
 use Rattle.milter_filter_answer.specs.declared.answer_fault.AnswerFault.{AnswerFault}

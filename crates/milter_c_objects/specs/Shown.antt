@@ -1,8 +1,8 @@
 -- The texts of what a filter is shown.
 use Rattle.std.specs.Prelude.{ℕ, List, Option, None, Some, option_map, slice_get}
-use Rattle.milter_wire_fields.specs.declared.client.Client.{Client}
-use Rattle.milter_wire_fields.specs.declared.client.Origin.{Origin}
-use Rattle.milter_wire_fields.specs.declared.client.Origin.TheVariants as origins
+use Rattle.milter_fields.specs.declared.client.Client.{Client}
+use Rattle.milter_fields.specs.declared.client.Origin.{Origin}
+use Rattle.milter_fields.specs.declared.client.Origin.TheVariants as origins
 use Rattle.milter_protocol.specs.Seen.{Seen}
 use Rattle.milter_c_objects.specs.declared.shown.Address.{Address}
 use Rattle.milter_c_objects.specs.declared.status.TheConstants.{FAMILY_INET, FAMILY_INET6, FAMILY_UNIX}

@@ -5,10 +5,10 @@ ghost use Rattle.milter_message.specs.declared.edit.Edit.TheVariants as edits;
 ghost use Rattle.milter_wire.specs.declared.verdict.Verdict.TheVariants as verdicts;
 ghost use Rattle.milter_c_objects.specs.Edits.{AddsEdit, parameters_of, with_verdict};
 
+use milter_fields::NoMemory;
 use milter_message::Edit;
 use milter_protocol::Answer;
 use milter_wire::{Header, Text, Verdict};
-use milter_wire_stream::NoMemory;
 use std::alloc::Global;
 
 /// Sets the verdict to a refusal with this text.

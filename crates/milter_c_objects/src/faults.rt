@@ -4,16 +4,16 @@ ghost use Rattle.std.specs.Prelude.{◌≡◌, ◌≢◌, IsErr, ◌↔◌};
 ghost use Rattle.milter_c_objects.specs.Faults.{answer_status_of, answer_fault_number, filter_fault_number, memory_status_of, wants_fault_number, wire_fault_number};
 
 use crate::status::{
-    ANSWER_BAD_TEXT, ANSWER_EDITS_BEFORE_END, ANSWER_NO_MEMORY, ANSWER_NOT_ASKED,
-    ANSWER_NOT_AT_END, ANSWER_NOT_GIVEN_THERE, ANSWER_TOO_LONG, ANSWER_TOO_MUCH,
-    FILTER_NEGOTIATED_TWICE, FILTER_NO_MEMORY, FILTER_NOT_NEGOTIATED, FILTER_OUT_OF_ORDER,
+    ANSWER_BAD_TEXT, ANSWER_EDITS_BEFORE_END, ANSWER_NOT_ASKED, ANSWER_NOT_AT_END,
+    ANSWER_NOT_GIVEN_THERE, ANSWER_NO_MEMORY, ANSWER_TOO_LONG, ANSWER_TOO_MUCH,
+    FILTER_NEGOTIATED_TWICE, FILTER_NOT_NEGOTIATED, FILTER_NO_MEMORY, FILTER_OUT_OF_ORDER,
     FILTER_TOO_MUCH, FILTER_VERSION, FILTER_WIRE, NO_MEMORY, OK, WANTS_ACTION, WANTS_BAD_TEXT,
     WANTS_LISTS, WANTS_PROTOCOL, WANTS_TOO_LONG, WANTS_VERSION, WIRE_MALFORMED, WIRE_NO_MEMORY,
     WIRE_TOO_LONG, WIRE_TRUNCATED, WIRE_UNKNOWN_CODE, WIRE_ZERO_LENGTH,
 };
+use milter_fields::{NoMemory, WireFault};
 use milter_filter_answer::{AnswerFault, WantsFault};
 use milter_protocol::FilterFault;
-use milter_wire_stream::{NoMemory, WireFault};
 
 /// The number of a fault of a packet. Doesn't allocate.
 pub fn wire_fault_number(fault: WireFault) -> i32

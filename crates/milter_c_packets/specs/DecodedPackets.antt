@@ -1,8 +1,8 @@
 -- What packets are decoded to.
 use Rattle.std.specs.Prelude.{◌≡◌, Result, Ok, Err}
-use Rattle.milter_wire_stream.specs.Stream.{Frame}
-use Rattle.milter_wire_stream.specs.declared.fault.WireFault.{WireFault}
-use Rattle.milter_wire_stream.specs.declared.fault.WireFault.TheVariants.{NoMemory}
+use Rattle.milter_fields.specs.Stream.{Frame}
+use Rattle.milter_fields.specs.declared.fault.WireFault.{WireFault}
+use Rattle.milter_fields.specs.declared.fault.WireFault.TheVariants.{NoMemory}
 use Rattle.milter_wire.specs.Frames.{frame_command, frame_reply}
 use Rattle.milter_wire.specs.Tables.{map_ok}
 use Rattle.milter_c_packets.specs.declared.decoded.Decoded.{Decoded}

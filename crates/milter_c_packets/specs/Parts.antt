@@ -1,11 +1,11 @@
 -- The parts of a command and of a reply, in the order of its payload.
 use Rattle.std.specs.Prelude.{ℕ, List, [], ◌∷◌, ◌++◌, Option, None, Some, map}
-use Rattle.milter_wire_fields.specs.declared.client.Client.{Client}
-use Rattle.milter_wire_fields.specs.declared.client.Origin.{Origin}
-use Rattle.milter_wire_fields.specs.declared.client.Origin.TheVariants as origins
-use Rattle.milter_wire_fields.specs.declared.header.Header.{Header}
-use Rattle.milter_wire_fields.specs.declared.pair.Pair.{Pair}
-use Rattle.milter_wire_fields.specs.declared.path.Path.{Path}
+use Rattle.milter_fields.specs.declared.client.Client.{Client}
+use Rattle.milter_fields.specs.declared.client.Origin.{Origin}
+use Rattle.milter_fields.specs.declared.client.Origin.TheVariants as origins
+use Rattle.milter_fields.specs.declared.header.Header.{Header}
+use Rattle.milter_fields.specs.declared.pair.Pair.{Pair}
+use Rattle.milter_fields.specs.declared.path.Path.{Path}
 use Rattle.milter_wire_options.specs.declared.options.Options.{Options}
 use Rattle.milter_wire_options.specs.declared.symbol_lists.SymList.{SymList}
 use Rattle.milter_wire.specs.declared.command.Command.{Command}

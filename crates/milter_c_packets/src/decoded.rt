@@ -1,7 +1,7 @@
 //! What a packet is decoded to.
 
 ghost use Rattle.std.specs.Prelude.{◌≡◌, ◌≤◌, length, option_map, slice_get};
-ghost use Rattle.milter_wire_stream.specs.declared.number.TheConstants.{PAYLOAD_MAX};
+ghost use Rattle.milter_fields.specs.declared.number.TheConstants.{PAYLOAD_MAX};
 ghost use Rattle.milter_c_packets.specs.DecodedPackets.{IsRead, decoded_command, decoded_reply};
 ghost use Rattle.milter_c_packets.specs.Parts.{parts_of, value_of};
 

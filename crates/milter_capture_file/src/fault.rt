@@ -4,9 +4,9 @@ ghost use Rattle.milter_capture_file.specs.FaultText.{capture_fault_text};
 ghost use Rattle.milter_capture_file.specs.declared.fault.CaptureFault.TheVariants as faults;
 ghost use Rattle.std.specs.Prelude.{◌≡◌};
 
-use milter_wire_stream::RefusedMemory;
-use std::error::Error;
+use milter_fields::RefusedMemory;
 use std::fmt;
+use std::error::Error;
 
 /// Why a file isn't read as a capture. Its records, which are the blocks of a pcapng file, are numbered from 1. The
 /// text of each is its fault line, without the LF.

@@ -1,6 +1,6 @@
 -- What a connection comes to from its beginning.
 use Rattle.std.proofs.Common.{◌≡◌, ℕ, List, ◌++◌, length, Option, sym, ◌∙◌, ap, append-nil}
-use Rattle.milter_wire_stream.specs.Stream.{divide}
+use Rattle.milter_fields.specs.Stream.{divide}
 use Rattle.milter_protocol.specs.declared.command_order.CommandOrder.{CommandOrder}
 use Rattle.milter_protocol.specs.declared.filter_state.FilterState.{FilterState}
 use Rattle.milter_protocol.specs.declared.filter_state.FilterState.TheVariants as states

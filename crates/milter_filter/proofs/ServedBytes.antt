@@ -2,7 +2,7 @@
 use Rattle.std.proofs.Common.{◌≡◌, ◌≢◌, ℕ, List, [], ◌++◌, length, take, Option, refl, sym, ◌∙◌, ap, subst, append_assoc, append-nil}
 use Rattle.std.specs.Io.KnownBytes.{Appends, Consumes, IsAtEnd, Keeps}
 use Rattle.std.proofs.KnownBytes.{Appends-nil, Appends-trans, Consumes-kept, Consumes-nil, Consumes-trans}
-use Rattle.milter_wire_stream.specs.Stream.{IsUnfinished, divide}
+use Rattle.milter_fields.specs.Stream.{IsUnfinished, divide}
 use Rattle.milter_protocol.specs.Behavior.{Behavior}
 use Rattle.milter_protocol.specs.declared.command_order.CommandOrder.{CommandOrder}
 use Rattle.milter_protocol.specs.declared.filter_fault.FilterFault.{FilterFault}

@@ -11,7 +11,7 @@ ghost use Rattle.milter_filter.specs.declared.turn.Turn.TheVariants as turns;
 use crate::served::Served;
 use crate::steps::run_turn;
 use crate::turn::Turn;
-use milter_byte_queue::ByteQueue;
+use milter_fields::ByteQueue;
 use milter_filter_core::{
     Answer, AnswerFault, CommandOrder, FilterConnection, Policy, Search, Seen, Wants,
 };

@@ -12,7 +12,7 @@ ghost use Rattle.milter_filter.specs.Connections.{EndsBy, GoesBy, IsDone, IsOver
 use crate::output::write_now;
 use crate::served::Served;
 use crate::turn::Turn;
-use milter_byte_queue::ByteQueue;
+use milter_fields::ByteQueue;
 use milter_filter_core::{FilterConnection, FilterFault, NextStep};
 use std::io::{ErrorKind, Read, Write};
 

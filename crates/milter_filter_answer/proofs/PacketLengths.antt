@@ -1,8 +1,8 @@
 -- The number of bytes of a packet.
 use Rattle.std.proofs.Common.{◌≡◌, ℕ, ◌+◌, List, ◌∷◌, length, arith, length-append}
-use Rattle.milter_wire_stream.specs.Number.{number}
-use Rattle.milter_wire_stream.specs.Packet.{packet}
-use Rattle.milter_wire_stream.proofs.Numbers.{length-number}
+use Rattle.milter_fields.specs.Number.{number}
+use Rattle.milter_fields.specs.Packet.{packet}
+use Rattle.milter_fields.proofs.Numbers.{length-number}
 
 pub packet-len : (code : ℕ) (payload : List ℕ) → length (packet code payload) ≡ length payload + 5
 packet-len code payload =

@@ -1,7 +1,7 @@
 -- The rules that an answer breaks.
 use Rattle.std.specs.Prelude.{◌≡◌, ◌≢◌, ◌<◌, ◌⊎◌, false, List, [], length, Contains}
 use Rattle.std.specs.List.{sum_by}
-use Rattle.milter_wire_stream.specs.declared.number.TheConstants.{PAYLOAD_MAX}
+use Rattle.milter_fields.specs.declared.number.TheConstants.{PAYLOAD_MAX}
 use Rattle.milter_wire.specs.declared.stage.Stage.{Stage}
 use Rattle.milter_wire.specs.declared.stage.Stage.TheVariants.{Eob}
 use Rattle.milter_wire.specs.declared.verdict.Verdict.{Verdict}

@@ -1,7 +1,7 @@
 -- The rules that break what a filter wants.
 use Rattle.std.specs.Prelude.{◌≡◌, ◌≢◌, ◌<◌, ◌⊎◌, false, [], length}
 use Rattle.std.specs.Int.Bits.{bit_and}
-use Rattle.milter_wire_stream.specs.declared.number.TheConstants.{PAYLOAD_MAX}
+use Rattle.milter_fields.specs.declared.number.TheConstants.{PAYLOAD_MAX}
 use Rattle.milter_wire_options.specs.Payload.{OptionsWithListsFit, options_with_lists}
 use Rattle.milter_wire_options.specs.declared.options.TheConstants.Actions.{SETSYMLIST}
 use Rattle.milter_wire.specs.Negotiation.{has_bit}

@@ -6,7 +6,7 @@ ghost use Rattle.milter_message.specs.EditReplies as asked;
 ghost use Rattle.milter_wire.specs.declared.reply.Reply.TheVariants as Reply;
 ghost use Rattle.milter_wire.specs.Reply.{Fits, encoding};
 ghost use Rattle.milter_wire.specs.Verdicts as given;
-ghost use Rattle.milter_wire_stream.specs.AppendedBytes.{Extends};
+ghost use Rattle.milter_fields.specs.AppendedBytes.{Extends};
 ghost use Rattle.milter_protocol.specs.Permitted.{is_permitted, permitted, permitted_verdict};
 ghost use Rattle.milter_protocol.specs.Replies.{replies_of_answer};
 
@@ -111,7 +111,7 @@ fn put_verdict(
 
 /// Appends the packet that lets the message go on, which is most of what a filter sends. After `NoMemory`, `out` is as
 /// it was. Source: mfdef.h (SMFIR_CONTINUE).
-#[tactic(auto, unfolding(milter_wire_stream::specs::Number::number))]
+#[tactic(auto, unfolding(milter_fields::specs::Number::number))]
 pub fn put_continue(out: &mut Vec<u8>) -> Result<(), NoMemory>
     ensures ok { OnOk result (out.new.items ≡ out.old.items ++ encoding Reply.Continue) }
     ensures err { OnErr result (out.new.items ≡ out.old.items) }
@@ -122,7 +122,7 @@ pub fn put_continue(out: &mut Vec<u8>) -> Result<(), NoMemory>
 
 /// Appends the packet that reports progress: the mail server waits anew for the answer. After `NoMemory`, `out` is as
 /// it was. Source: mfdef.h (SMFIR_PROGRESS).
-#[tactic(auto, unfolding(milter_wire_stream::specs::Number::number))]
+#[tactic(auto, unfolding(milter_fields::specs::Number::number))]
 pub fn put_progress(out: &mut Vec<u8>) -> Result<(), NoMemory>
     ensures ok { OnOk result (out.new.items ≡ out.old.items ++ encoding Reply.Progress) }
     ensures err { OnErr result (out.new.items ≡ out.old.items) }

@@ -1,9 +1,9 @@
 -- A core goes on by pieces as by the whole.
 use Rattle.std.proofs.Common.{◌≡◌, ◌≢◌, ℕ, List, [], ◌++◌, take, drop, map, Option, None, Some, refl, sym, ◌∙◌, ap, subst, append_assoc, append-nil, flat_map, take-append-drop}
 use Rattle.std.proofs.lemmas.Grind.{flat_map-append}
-use Rattle.milter_wire_stream.specs.declared.fault.WireFault.{WireFault}
-use Rattle.milter_wire_stream.specs.Stream.{Division, IsUnfinished, divide, length_fault}
-use Rattle.milter_wire_stream.proofs.StreamLaws.{divide-append, divide-fault, divide-unfinished, length_fault-fed, length_fault-unfinished}
+use Rattle.milter_fields.specs.declared.fault.WireFault.{WireFault}
+use Rattle.milter_fields.specs.Stream.{Division, IsUnfinished, divide, length_fault}
+use Rattle.milter_fields.proofs.StreamLaws.{divide-append, divide-fault, divide-unfinished, length_fault-fed, length_fault-unfinished}
 use Rattle.milter_wire.specs.Frames.{frame_command}
 use Rattle.milter_wire.specs.Reply.{encoding}
 use Rattle.milter_protocol.specs.Behavior.{Behavior}

@@ -2,7 +2,7 @@
 
 ghost use Rattle.std.specs.Prelude.{◌≡◌, ◌≢◌, ◌++◌, ◌∷◌, [], List, ℕ, Some, None, drop, map, take};
 ghost use Rattle.std.specs.List.{flat_map};
-ghost use Rattle.milter_wire_stream.specs.Stream.{IsUnfinished};
+ghost use Rattle.milter_fields.specs.Stream.{IsUnfinished};
 ghost use Rattle.milter_wire.specs.Reply.{encoding};
 ghost use Rattle.milter_wire.specs.declared.stage.Stage.{Stage as At};
 ghost use Rattle.milter_wire.specs.declared.stage.Stage.TheVariants.{Eob};

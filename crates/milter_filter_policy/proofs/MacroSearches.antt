@@ -4,7 +4,7 @@ use Rattle.std.specs.Option.{option_and_then, option_or}
 use Rattle.std.specs.Str.{bytes_eq}
 use Rattle.std.proofs.lemmas.List.{length-take-le, take_more}
 use Rattle.std.proofs.lemmas.Option.{same_Some, slice_get_read}
-use Rattle.milter_wire_fields.specs.declared.pair.Pair.{Pair}
+use Rattle.milter_fields.specs.declared.pair.Pair.{Pair}
 use Rattle.milter_protocol.specs.Seen.{value_in}
 use Rattle.milter_filter_policy.specs.declared.macro_group.MacroGroup.{MacroGroup}
 use Rattle.milter_filter_policy.specs.declared.macro_group.MacroPosition.{MacroPosition}

@@ -1,7 +1,7 @@
 -- The macros that are kept: all that are shown, and those of them that stay for the whole connection.
 use Rattle.std.specs.Prelude.{Bool, List, ◌++◌, reverse, if◌then◌else◌}
 use Rattle.std.specs.List.{filter, flat_map}
-use Rattle.milter_wire_fields.specs.declared.pair.Pair.{Pair}
+use Rattle.milter_fields.specs.declared.pair.Pair.{Pair}
 use Rattle.milter_filter_policy.specs.declared.macro_group.MacroGroup.{MacroGroup}
 
 -- the last ones first

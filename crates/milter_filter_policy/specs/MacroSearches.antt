@@ -1,7 +1,7 @@
 -- What was searched for among the macros: each search says of the first packets where the last value of a name is.
 use Rattle.std.specs.Prelude.{◌≡◌, ◌≤◌, ℕ, List, Option, Some, None, length, option_map, reverse, slice_get, take}
 use Rattle.std.specs.Option.{option_and_then}
-use Rattle.milter_wire_fields.specs.declared.pair.Pair.{Pair}
+use Rattle.milter_fields.specs.declared.pair.Pair.{Pair}
 use Rattle.milter_protocol.specs.Seen.{value_in}
 use Rattle.milter_filter_policy.specs.declared.macro_group.MacroGroup.{MacroGroup}
 use Rattle.milter_filter_policy.specs.declared.macro_group.MacroPosition.{MacroPosition}

@@ -2,8 +2,8 @@
 use Rattle.std.proofs.Common.{◌≡◌, ◌∙◌, ◌&&◌, ◌||◌, ℕ, Bool, List, [], ◌∷◌, length, map, take, refl, sym, ap}
 use Rattle.std.specs.List.{list_any}
 use Rattle.std.proofs.Math.Seq.{take-length}
-use Rattle.milter_wire_fields.specs.declared.header.Header.{Header}
-use Rattle.milter_wire_fields.specs.declared.path.Path.{Path}
+use Rattle.milter_fields.specs.declared.header.Header.{Header}
+use Rattle.milter_fields.specs.declared.path.Path.{Path}
 use Rattle.milter_filter_search.specs.declared.header_key.HeaderKey.{HeaderKey}
 use Rattle.milter_filter_search.specs.declared.needle.Needle.{Needle}
 use Rattle.milter_filter_search.specs.declared.path_key.PathKey.{PathKey}

@@ -2,7 +2,7 @@
 use Rattle.std.specs.Prelude.{◌≡◌, ◌<◌, ◌+◌, ℕ, suc, Bool, true, false, ◌&&◌, ◌||◌, List, ◌∷◌, drop, length, refl}
 use Rattle.std.specs.List.{list_any}
 use Rattle.std.proofs.Common.{add-one, drop-cons, get_or}
-use Rattle.milter_wire_fields.specs.declared.header.Header.{Header}
+use Rattle.milter_fields.specs.declared.header.Header.{Header}
 use Rattle.milter_filter_search.specs.Texts.{is_named, values_named}
 
 -- the first header field has the name and such a value, or one of the others

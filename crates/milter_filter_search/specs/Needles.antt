@@ -3,8 +3,8 @@ use Rattle.std.specs.Prelude.{ℕ, Bool, ◌&&◌, List}
 use Rattle.milter_address.specs.Address.{canonical_address, domain_of}
 use Rattle.milter_address.specs.Domain.{canonical_domain}
 use Rattle.milter_lists.specs.ListValues.{has_value}
-use Rattle.milter_wire_fields.specs.declared.header.Header.{Header}
-use Rattle.milter_wire_fields.specs.declared.path.Path.{Path}
+use Rattle.milter_fields.specs.declared.header.Header.{Header}
+use Rattle.milter_fields.specs.declared.path.Path.{Path}
 use Rattle.milter_filter_search.specs.declared.header_key.HeaderKey.{HeaderKey}
 use Rattle.milter_filter_search.specs.declared.needle.KeptNeedle.{KeptNeedle}
 use Rattle.milter_filter_search.specs.declared.needle.KeptNeedle.TheVariants as kept

@@ -4,7 +4,7 @@ use Rattle.std.specs.List.{filter, list_any}
 use Rattle.std.specs.Str.{bytes_eq, str_eq_ignore_ascii_case, str_to_ascii_lowercase}
 use Rattle.milter_address.specs.Domain.{is_under}
 use Rattle.milter_glob.specs.Globs.{is_like}
-use Rattle.milter_wire_fields.specs.declared.header.Header.{Header}
+use Rattle.milter_fields.specs.declared.header.Header.{Header}
 use Rattle.milter_filter_search.specs.declared.pattern.Test.{Test}
 use Rattle.milter_filter_search.specs.declared.pattern.Test.TheVariants.{Is, Has, Lacks, Begins, Ends, Like, Under}
 use Rattle.milter_glob.specs.declared.text_case.TextCase.{TextCase}

@@ -7,7 +7,7 @@ ghost use Rattle.milter_filter_search.specs.Texts.{finds};
 use crate::body_search::{BodySearch, look_at_all, reset_all};
 use crate::pattern::{Pattern, Test};
 use crate::text_case::contains;
-use milter_wire_stream::NoMemory;
+use milter_fields::NoMemory;
 use std::alloc::Global;
 use std::marker::Model;
 

@@ -1,14 +1,13 @@
 //! What is looked for in header fields.
 
 ghost use Rattle.std.specs.Prelude.{◌≡◌, ◌&&◌, IfOk, IsTrue};
-ghost use Rattle.milter_wire_fields.specs.declared.header.Header.{Header};
+ghost use Rattle.milter_fields.specs.declared.header.Header.{Header};
 ghost use Rattle.milter_filter_search.specs.Needles.{header_found, matches};
 ghost use Rattle.milter_filter_search.specs.Texts.{is_named};
 
 use crate::needle::{KeptNeedle, Needle};
 use crate::search::Lookup;
-use milter_wire_fields::{Header, Text};
-use milter_wire_stream::NoMemory;
+use milter_fields::{Header, NoMemory, Text};
 use std::alloc::Global;
 
 /// A needle that is looked for in header fields of a name.

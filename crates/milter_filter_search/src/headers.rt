@@ -2,15 +2,14 @@
 
 ghost use Rattle.std.specs.Prelude.{◌≡◌, ◌++◌, ◌∷◌, ◌&&◌, [], IfOk, OnErr, OnOk};
 ghost use Rattle.std.specs.List.{list_any};
-ghost use Rattle.milter_wire_fields.specs.Borrowed.{header_of};
+ghost use Rattle.milter_fields.specs.Borrowed.{header_of};
 ghost use Rattle.milter_filter_search.specs.Needles.{matches};
 ghost use Rattle.milter_filter_search.specs.Texts.{is_named, values_named};
 
 use crate::header_key::{HeaderKey, finds_in_header};
 use crate::needle::Needle;
 use crate::search::{Search, look_at_all, reset_all};
-use milter_wire_fields::{Header, HeaderRef, header_len};
-use milter_wire_stream::NoMemory;
+use milter_fields::{Header, HeaderRef, NoMemory, header_len};
 use std::alloc::Global;
 use std::marker::Model;
 
@@ -32,7 +31,7 @@ pub struct Headers {
 impl Model for Headers {
     ghost use Rattle.std.specs.Prelude.{◌≤◌, List, length, take};
     ghost use Rattle.std.specs.List.{All};
-    ghost use Rattle.milter_wire_fields.specs.declared.header.Header.{Header};
+    ghost use Rattle.milter_fields.specs.declared.header.Header.{Header};
     ghost use Rattle.milter_filter_search.specs.Needles.{header_found};
     ghost use Rattle.milter_filter_search.specs.Searches.{HasLooked};
 

@@ -1,15 +1,14 @@
 //! What is looked for in recipients.
 
 ghost use Rattle.std.specs.Prelude.{◌≡◌, IfOk, IsTrue};
-ghost use Rattle.milter_wire_fields.specs.declared.path.Path.{Path};
+ghost use Rattle.milter_fields.specs.declared.path.Path.{Path};
 ghost use Rattle.milter_filter_search.specs.Needles.{matches, part_of, path_found};
 
 use crate::needle::{KeptNeedle, Needle};
 use crate::path_part::PathPart;
 use crate::search::Lookup;
 use milter_address::{canonical_address, domain_of};
-use milter_wire_fields::Path;
-use milter_wire_stream::NoMemory;
+use milter_fields::{NoMemory, Path};
 use std::alloc::Global;
 
 /// A needle that is looked for in a part of paths.

@@ -8,8 +8,7 @@ use crate::needle::Needle;
 use crate::path_key::{PathKey, finds_in_path};
 use crate::path_part::PathPart;
 use crate::search::{Search, look_at_all, reset_all};
-use milter_wire_fields::Path;
-use milter_wire_stream::NoMemory;
+use milter_fields::{NoMemory, Path};
 use std::alloc::Global;
 use std::marker::Model;
 
@@ -24,7 +23,7 @@ pub struct Recipients {
 impl Model for Recipients {
     ghost use Rattle.std.specs.Prelude.{List};
     ghost use Rattle.std.specs.List.{All};
-    ghost use Rattle.milter_wire_fields.specs.declared.path.Path.{Path};
+    ghost use Rattle.milter_fields.specs.declared.path.Path.{Path};
     ghost use Rattle.milter_filter_search.specs.Needles.{path_found};
     ghost use Rattle.milter_filter_search.specs.Searches.{HasLooked};
 

@@ -4,7 +4,7 @@ ghost use Rattle.std.specs.Prelude.{◌≡◌, ◌<◌, ◌+◌, Bool, IfOk, OnO
 ghost use Rattle.std.specs.List.{All};
 ghost use Rattle.milter_filter_search.specs.Searches.{HasLooked, IsUnlooked};
 
-use milter_wire_stream::NoMemory;
+use milter_fields::NoMemory;
 use std::alloc::Global;
 
 /// What is looked for in items.

@@ -5,13 +5,13 @@ use Rattle.std.proofs.lemmas.Bool.{eqb-true}
 use Rattle.std.proofs.lemmas.Option.{same_Some}
 use Rattle.std.proofs.lemmas.List.{length-take}
 use Rattle.std.proofs.lemmas.List.Elements.{All-nil, All-append, All-from_get_or, All-take}
-use Rattle.milter_wire_stream.specs.declared.fault.NoMemory.{NoMemory}
-use Rattle.milter_wire_stream.specs.declared.fault.WireFault.{WireFault}
-use Rattle.milter_wire_stream.specs.declared.fault.WireFault.TheVariants.{ZeroLength, TooLong}
-use Rattle.milter_wire_stream.specs.FirstPacket.{fed_len, first_packet_end}
-use Rattle.milter_wire_stream.specs.Number.{IsBytes, number, number_from_bytes}
-use Rattle.milter_wire_stream.specs.Stream.{IsUnfinished, fault_of, length_fault}
-use Rattle.milter_wire_stream.proofs.StreamLaws.{length_fault-fed, number_takes}
+use Rattle.milter_fields.specs.declared.fault.NoMemory.{NoMemory}
+use Rattle.milter_fields.specs.declared.fault.WireFault.{WireFault}
+use Rattle.milter_fields.specs.declared.fault.WireFault.TheVariants.{ZeroLength, TooLong}
+use Rattle.milter_fields.specs.FirstPacket.{fed_len, first_packet_end}
+use Rattle.milter_fields.specs.Number.{IsBytes, number, number_from_bytes}
+use Rattle.milter_fields.specs.Stream.{IsUnfinished, fault_of, length_fault}
+use Rattle.milter_fields.proofs.StreamLaws.{length_fault-fed, number_takes}
 use Rattle.milter_filter_stream.specs.Conversations.{length_field}
 
 -- ---- a length at fault

@@ -1,8 +1,8 @@
 -- The command of a packet.
 use Rattle.std.proofs.Common.{◌≡◌, ◌≢◌, if◌then◌else◌, ℕ, ◌+◌, ◌<◌, Bool, true, false, Option, None, Some, Result, Ok, Err, length, get_or, refl, sym, ◌∙◌, ap, IfOk}
-use Rattle.milter_wire_stream.specs.declared.fault.WireFault.{WireFault}
-use Rattle.milter_wire_stream.specs.Packet.{packet}
-use Rattle.milter_wire_stream.specs.Stream.{Frame, IsFrame}
+use Rattle.milter_fields.specs.declared.fault.WireFault.{WireFault}
+use Rattle.milter_fields.specs.Packet.{packet}
+use Rattle.milter_fields.specs.Stream.{Frame, IsFrame}
 use Rattle.milter_wire.specs.declared.command.Command.{Command}
 use Rattle.milter_wire.specs.Command.{IsEncodedAs, command_in, encoding, is_code}
 use Rattle.milter_wire.specs.declared.command_ref.CommandRef.{CommandRef}

@@ -1,10 +1,10 @@
 -- A stream of one packet, and one that begins with a packet or a fault.
 use Rattle.std.proofs.Common.{◌≡◌, ℕ, false, if◌then◌else◌, List, [], ◌∷◌, ◌++◌, take, drop, map, Option, None, Some, Ok, Err, refl, sym, ◌∙◌, ap, append-nil, inl, inr}
-use Rattle.milter_wire_stream.specs.declared.fault.WireFault.{WireFault}
-use Rattle.milter_wire_stream.specs.Stream.{Division, Frame, IsFrame, IsUnfinished, divide, first_frame, frame_bytes, length_fault, with_frame}
-use Rattle.milter_wire_stream.proofs.Division.{divide-first}
-use Rattle.milter_wire_stream.proofs.Frames.{first_frame-packet}
-use Rattle.milter_wire_stream.proofs.StreamLaws.{divide-fault, divide-handed, divide-nil, divide-unfinished, length_fault-fed}
+use Rattle.milter_fields.specs.declared.fault.WireFault.{WireFault}
+use Rattle.milter_fields.specs.Stream.{Division, Frame, IsFrame, IsUnfinished, divide, first_frame, frame_bytes, length_fault, with_frame}
+use Rattle.milter_fields.proofs.Division.{divide-first}
+use Rattle.milter_fields.proofs.Frames.{first_frame-packet}
+use Rattle.milter_fields.proofs.StreamLaws.{divide-fault, divide-handed, divide-nil, divide-unfinished, length_fault-fed}
 use Rattle.milter_wire.specs.Frames.{frame_command}
 use Rattle.milter_wire.specs.declared.negotiation.Negotiated.{Negotiated}
 use Rattle.milter_wire.specs.declared.command.Command.TheVariants.{Abort}

@@ -1,9 +1,9 @@
 -- What a filter's end asks and replies, by what the filter wants and by what is kept of a connection.
 use Rattle.std.specs.Prelude.{◌≡◌, ◌≢◌, ◌≤◌, ◌<◌, ◌+◌, ℕ, true, List, [], ◌++◌, length, take, Option, None, Some, Result, Ok, Err, if◌then◌else◌}
 use Rattle.std.specs.List.{flat_map}
-use Rattle.milter_wire_stream.specs.declared.number.TheConstants.{HEAD_LEN}
-use Rattle.milter_wire_stream.specs.Number.{IsBytes}
-use Rattle.milter_wire_stream.specs.Stream.{IsUnfinished, divide}
+use Rattle.milter_fields.specs.declared.number.TheConstants.{HEAD_LEN}
+use Rattle.milter_fields.specs.Number.{IsBytes}
+use Rattle.milter_fields.specs.Stream.{IsUnfinished, divide}
 use Rattle.milter_wire.specs.declared.command.Command.{Command}
 use Rattle.milter_wire.specs.declared.command.Command.TheVariants.{DataCmd}
 use Rattle.milter_wire.specs.declared.stage.Stage.{Stage}

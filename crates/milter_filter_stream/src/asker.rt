@@ -1,10 +1,10 @@
 //! What a filter's end asks and replies at the commands of a connection.
 
 ghost use Rattle.std.specs.Prelude.{◌≡◌, ◌≤◌, ◌+◌, ◌↔◌, [], ◌∷◌, All, IfErr, IfOk, IsTrue, None, Ok, OnErr, OnOk, Some, length, true};
-ghost use Rattle.milter_wire_stream.specs.Packet.{packet};
-ghost use Rattle.milter_wire_stream.specs.Splitter.{frame_of};
-ghost use Rattle.milter_wire_stream.specs.Stream.{IsFrame};
-ghost use Rattle.milter_wire_stream.specs.declared.number.TheConstants.{PAYLOAD_MAX};
+ghost use Rattle.milter_fields.specs.Packet.{packet};
+ghost use Rattle.milter_fields.specs.Splitter.{frame_of};
+ghost use Rattle.milter_fields.specs.Stream.{IsFrame};
+ghost use Rattle.milter_fields.specs.declared.number.TheConstants.{PAYLOAD_MAX};
 ghost use Rattle.milter_message.specs.declared.message.TheConstants.{WEIGHT_MAX};
 ghost use Rattle.milter_message.specs.EditReplies as asked_by;
 ghost use Rattle.milter_wire_options.specs.Payload.{OptionsFit};

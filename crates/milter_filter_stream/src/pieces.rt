@@ -1,8 +1,8 @@
 //! What a filter's end does with a piece of a stream.
 
 ghost use Rattle.std.specs.Prelude.{◌≡◌, ◌≢◌, ◌≤◌, ◌<◌, ◌++◌, [], IfErr, IfOk, OnErr, length, take};
-ghost use Rattle.milter_wire_stream.specs.FirstPacket.{fed_len};
-ghost use Rattle.milter_wire_stream.specs.Stream.{IsUnfinished};
+ghost use Rattle.milter_fields.specs.FirstPacket.{fed_len};
+ghost use Rattle.milter_fields.specs.Stream.{IsUnfinished};
 ghost use Rattle.milter_filter_stream.specs.Asking.{FailsIn, IsReady, StopsAt, TakesBytes, TakesPacket};
 
 use crate::asker::Asker;

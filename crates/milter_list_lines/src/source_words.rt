@@ -5,10 +5,9 @@ ghost use Rattle.std.specs.List.{list_all};
 ghost use Rattle.milter_list_lines.specs.ListLines.{is_list_name, is_name_byte, kind_in, name_in, source_of};
 
 use crate::list_source::ListSource;
+use milter_fields::{NoMemory, Text};
 use milter_lists::ListKind;
 use milter_text::Word;
-use milter_wire_fields::Text;
-use milter_wire_stream::NoMemory;
 use std::alloc::Global;
 
 /// The source that the words `list NAME KIND FILE` give; none where they don't have this form.

@@ -9,8 +9,8 @@ ghost use Rattle.milter_lists.specs.declared.list_kind.ListKind.TheVariants as k
 
 use crate::list_kind::ListKind;
 use milter_address::{canonical_address, canonical_domain};
+use milter_fields::NoMemory;
 use milter_network::Network;
-use milter_wire_stream::NoMemory;
 use std::alloc::Global;
 
 /// An entry of a list.

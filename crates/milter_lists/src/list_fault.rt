@@ -3,7 +3,7 @@
 ghost use Rattle.std.specs.Prelude.{◌≡◌};
 ghost use Rattle.milter_lists.specs.declared.list_fault.ListFault.TheVariants as faults;
 
-use milter_wire_stream::RefusedMemory;
+use milter_fields::RefusedMemory;
 use thiserror::Error;
 
 /// Why a file has no list. Lines are numbered from 1, the skipped ones too.

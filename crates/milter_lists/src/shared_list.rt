@@ -4,7 +4,7 @@ ghost use Rattle.std.specs.Prelude.{◌≡◌, IfOk, IsTrue, List, ℕ};
 ghost use Rattle.milter_lists.specs.ListValues.{has_value};
 
 use crate::text_list::TextList;
-use milter_wire_stream::NoMemory;
+use milter_fields::NoMemory;
 use std::alloc::Global;
 use std::marker::Model;
 use std::sync::Arc;

@@ -16,7 +16,7 @@ use crate::list_kind::ListKind;
 use crate::list_reader::read_entries;
 use crate::network_set::has_address_text;
 use milter_address::canonical_domain;
-use milter_wire_stream::NoMemory;
+use milter_fields::NoMemory;
 use std::alloc::Global;
 
 /// A list that stays as it is.

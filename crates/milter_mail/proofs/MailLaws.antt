@@ -1,6 +1,6 @@
 -- Laws of weights and plans, for proofs in the crates above: each is also the contract of a function in src/laws.rt.
 use Rattle.std.proofs.Common.{◌≤◌, ℕ, List, All}
-use Rattle.milter_wire_fields.specs.declared.client.Client.{Client}
+use Rattle.milter_fields.specs.declared.client.Client.{Client}
 use Rattle.milter_mail.specs.Macros.{Macros}
 use Rattle.milter_mail.specs.declared.weight.Overhead.{Overhead}
 use Rattle.milter_message.specs.MailObject.{MailObject}

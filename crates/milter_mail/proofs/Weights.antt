@@ -9,14 +9,14 @@ use Rattle.std.proofs.lemmas.List.Sums.{sum_by-append, sum_by-cons, sum_by_push}
 use Rattle.milter_message.specs.declared.message.TheConstants.{CHUNK_LEN}
 use Rattle.milter_message.specs.declared.message.TheConstants.{WEIGHT_MAX}
 use Rattle.milter_wire.specs.declared.codes.TheConstants.{SMFIC_BODYEOB, SMFIC_CONNECT, SMFIC_DATA, SMFIC_EOH, SMFIC_HELO, SMFIC_MAIL, SMFIC_RCPT}
-use Rattle.milter_wire_fields.specs.declared.client.Client.{Client}
+use Rattle.milter_fields.specs.declared.client.Client.{Client}
 use Rattle.milter_wire.specs.declared.command.Command.{Command}
 use Rattle.milter_wire.specs.declared.command.Command.TheVariants as commands
-use Rattle.milter_wire_fields.specs.declared.header.Header.{Header}
-use Rattle.milter_wire_fields.specs.declared.pair.Pair.{Pair}
-use Rattle.milter_wire_fields.specs.declared.path.Path.{Path}
+use Rattle.milter_fields.specs.declared.header.Header.{Header}
+use Rattle.milter_fields.specs.declared.pair.Pair.{Pair}
+use Rattle.milter_fields.specs.declared.path.Path.{Path}
 use Rattle.milter_wire.specs.Command.{bytes_of, payload_of, encoding}
-use Rattle.milter_wire_stream.specs.Number.{number}
+use Rattle.milter_fields.specs.Number.{number}
 use Rattle.milter_mail.specs.Macros.{Macros}
 use Rattle.milter_message.specs.MailObject.{MailObject}
 use Rattle.milter_mail.specs.MailSession.{IsSendable}

@@ -1,8 +1,8 @@
 -- How a held message is written: a line for each part of it, which is a keyword and then texts in quotes.
 use Rattle.std.specs.Prelude.{ℕ, List, [], ◌∷◌, ◌++◌, codes, Option, None, Some}
 use Rattle.std.specs.List.{flat_map}
-use Rattle.milter_wire_fields.specs.declared.header.Header.{Header}
-use Rattle.milter_wire_fields.specs.declared.path.Path.{Path}
+use Rattle.milter_fields.specs.declared.header.Header.{Header}
+use Rattle.milter_fields.specs.declared.path.Path.{Path}
 use Rattle.milter_message.specs.declared.message.Held.{Held}
 use Rattle.milter_message.specs.MailObject.{MailObject}
 use Rattle.milter_text.specs.QuotedText.{quoted}

@@ -1,13 +1,13 @@
 -- The weight of a message as a sum: what it weighs of itself, and what each message of the session weighs beside that.
 use Rattle.std.specs.Prelude.{◌≡◌, ◌≢◌, ◌≤◌, ℕ, ◌+◌, ◌-◌, ◌*◌, ◌^◌, All, min, List, [], length, Option, None, Some}
 use Rattle.std.specs.List.{sum_by}
-use Rattle.milter_wire_stream.specs.declared.number.TheConstants.{HEAD_LEN}
+use Rattle.milter_fields.specs.declared.number.TheConstants.{HEAD_LEN}
 use Rattle.milter_message.specs.declared.message.TheConstants.{WEIGHT_MAX}
 use Rattle.milter_wire.specs.declared.codes.TheConstants.{SMFIC_BODYEOB, SMFIC_CONNECT, SMFIC_DATA, SMFIC_EOH, SMFIC_HELO, SMFIC_MAIL, SMFIC_RCPT}
-use Rattle.milter_wire_fields.specs.declared.client.Client.{Client}
+use Rattle.milter_fields.specs.declared.client.Client.{Client}
 use Rattle.milter_wire.specs.declared.command.Command.TheVariants as commands
-use Rattle.milter_wire_fields.specs.declared.header.Header.{Header}
-use Rattle.milter_wire_fields.specs.declared.pair.Pair.{Pair}
+use Rattle.milter_fields.specs.declared.header.Header.{Header}
+use Rattle.milter_fields.specs.declared.pair.Pair.{Pair}
 use Rattle.milter_wire.specs.Command.{Fits, bytes_of, encoding}
 use Rattle.milter_mail.specs.Macros.{Macros}
 use Rattle.milter_mail.specs.declared.weight.Overhead.{Overhead}

@@ -6,8 +6,8 @@ use Rattle.std.specs.Option.{option_map}
 use Rattle.std.proofs.lemmas.Bool.{cases_Bool}
 use Rattle.std.proofs.lemmas.List.{take_rest}
 use Rattle.std.proofs.lemmas.List.Elements.{All-nil, All-cons, All-head, All-tail}
-use Rattle.milter_wire_fields.specs.declared.path.Path.{Path}
-use Rattle.milter_wire_fields.specs.Field.{HasNoNul}
+use Rattle.milter_fields.specs.declared.path.Path.{Path}
+use Rattle.milter_fields.specs.Field.{HasNoNul}
 use Rattle.milter_text.specs.declared.word.Word.{Word}
 use Rattle.milter_text.specs.WordValues.{is_keyword, texts_of}
 use Rattle.milter_mail_file.specs.LineValues.{path_of, path_with}

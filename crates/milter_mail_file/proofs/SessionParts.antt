@@ -1,6 +1,6 @@
 -- A session and its parts.
 use Rattle.std.proofs.Common.{◌≡◌, ℕ, List, [], ◌∷◌, ◌++◌, All, IfOk, Result, Ok, Err, codes, refl, sym, ap, subst, ◌∙◌}
-use Rattle.milter_wire_fields.specs.declared.client.Client.{Client}
+use Rattle.milter_fields.specs.declared.client.Client.{Client}
 use Rattle.milter_mail.specs.Macros.{Macros}
 use Rattle.milter_mail.specs.declared.weight.Overhead.{Overhead}
 use Rattle.milter_message.specs.MailObject.{MailObject}

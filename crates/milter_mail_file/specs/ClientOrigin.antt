@@ -1,7 +1,7 @@
 -- The origins of clients by their endpoints.
 use Rattle.std.specs.Prelude.{ℕ, List, Option, None, Some}
-use Rattle.milter_wire_fields.specs.declared.client.Origin.{Origin}
-use Rattle.milter_wire_fields.specs.declared.client.Origin.TheVariants.{Unknown, Unix, Inet, Inet6}
+use Rattle.milter_fields.specs.declared.client.Origin.{Origin}
+use Rattle.milter_fields.specs.declared.client.Origin.TheVariants.{Unknown, Unix, Inet, Inet6}
 use Rattle.milter_mail_file.specs.declared.client_line.Family.{Family}
 use Rattle.milter_mail_file.specs.declared.client_line.Family.TheVariants as families
 use Rattle.milter_mail_file.specs.declared.client_line.Endpoint.{Endpoint}

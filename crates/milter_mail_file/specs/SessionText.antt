@@ -2,10 +2,10 @@
 -- each body as one text.
 use Rattle.std.specs.Prelude.{ℕ, List, [], ◌∷◌, ◌++◌, codes, decimal}
 use Rattle.std.specs.List.{flat_map}
-use Rattle.milter_wire_fields.specs.declared.client.Client.{Client}
-use Rattle.milter_wire_fields.specs.declared.client.Origin.{Origin}
-use Rattle.milter_wire_fields.specs.declared.client.Origin.TheVariants.{Unknown, Unix, Inet, Inet6}
-use Rattle.milter_wire_fields.specs.declared.pair.Pair.{Pair}
+use Rattle.milter_fields.specs.declared.client.Client.{Client}
+use Rattle.milter_fields.specs.declared.client.Origin.{Origin}
+use Rattle.milter_fields.specs.declared.client.Origin.TheVariants.{Unknown, Unix, Inet, Inet6}
+use Rattle.milter_fields.specs.declared.pair.Pair.{Pair}
 use Rattle.milter_wire_options.specs.declared.macro_stage.MacroStage.{MacroStage}
 use Rattle.milter_wire_options.specs.MacroStages.{macro_stage_name, macro_stages}
 use Rattle.milter_mail.specs.Macros.{Macros}

@@ -6,7 +6,7 @@ ghost use Rattle.std.specs.Prelude.{option_map};
 ghost use Rattle.std.specs.Str.Parse.{digits_value};
 ghost use Rattle.milter_wire.specs.declared.command.Command.TheVariants as commands;
 ghost use Rattle.milter_wire.specs.Command.{Fits};
-ghost use Rattle.milter_wire_fields.specs.Layout.{OriginFits};
+ghost use Rattle.milter_fields.specs.Layout.{OriginFits};
 ghost use Rattle.milter_mail_file.specs.ClientOrigin.{endpoint_origin, origin_with};
 ghost use Rattle.milter_mail_file.specs.LineValues.{client_of, is_port, origin_of};
 ghost use Rattle.milter_mail_file.specs.SessionFault.{IsAt, Reads};

@@ -6,7 +6,7 @@ ghost use Rattle.std.specs.Prelude.{None, Some, ℕ, map, option_map};
 ghost use Rattle.std.specs.List.{list_all};
 ghost use Rattle.milter_wire.specs.declared.command.Command.TheVariants as commands;
 ghost use Rattle.milter_wire.specs.Command.{Fits};
-ghost use Rattle.milter_wire_fields.specs.Field.{HasNoNul};
+ghost use Rattle.milter_fields.specs.Field.{HasNoNul};
 ghost use Rattle.milter_message.specs.LeadingSpace.{WholeFieldFits};
 ghost use Rattle.milter_mail_file.specs.LineValues.{header_of, helo_of, if_named, is_name, path_of, chunk_of};
 ghost use Rattle.milter_mail_file.specs.declared.session_fault.SessionFault.TheVariants as SessionFault;

@@ -2,7 +2,7 @@
 
 ghost use Rattle.std.specs.Prelude.{◌≡◌, ◌≤◌, ◌+◌, ◌∷◌, IfErr, IfOk, List, MatchResult, ℕ, length};
 ghost use Rattle.milter_wire.specs.declared.command.Command.TheVariants as commands;
-ghost use Rattle.milter_wire_fields.specs.declared.client.Client.{Client};
+ghost use Rattle.milter_fields.specs.declared.client.Client.{Client};
 ghost use Rattle.milter_wire.specs.Command.{Fits};
 ghost use Rattle.milter_text.specs.Lines.{lines_of};
 ghost use Rattle.milter_mail.specs.MailSession.{IsSession, MacrosFit, MailSession};

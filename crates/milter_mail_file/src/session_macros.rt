@@ -3,7 +3,7 @@
 ghost use Rattle.std.specs.Prelude.{◌≡◌, ◌-◌, ◌^◌, ◌++◌, ◌∷◌, [], codes, IfErr, OnOk, ℕ, length, min, option_map};
 ghost use Rattle.milter_wire.specs.declared.command.Command.TheVariants as commands;
 ghost use Rattle.milter_wire.specs.Command.{Fits};
-ghost use Rattle.milter_wire_fields.specs.Layout.{PairFits, pair};
+ghost use Rattle.milter_fields.specs.Layout.{PairFits, pair};
 ghost use Rattle.milter_mail.specs.MailSession.{MacrosFit};
 ghost use Rattle.milter_mail_file.specs.declared.session_fault.SessionFault.TheVariants as faults;
 ghost use Rattle.milter_mail_file.specs.LineValues.{macro_of, macro_with, stage_of};
@@ -36,9 +36,9 @@ pub(crate) struct StageMacros {
 impl Model for StageMacros {
     ghost use Rattle.std.specs.Prelude.{◌≡◌, ◌+◌, ◌≤◌, All, List, length};
     ghost use Rattle.std.specs.List.{flat_map};
-    ghost use Rattle.milter_wire_fields.specs.declared.pair.Pair.{Pair};
-    ghost use Rattle.milter_wire_stream.specs.declared.number.TheConstants.{PAYLOAD_MAX};
-    ghost use Rattle.milter_wire_fields.specs.Layout.{PairFits, pair};
+    ghost use Rattle.milter_fields.specs.declared.pair.Pair.{Pair};
+    ghost use Rattle.milter_fields.specs.declared.number.TheConstants.{PAYLOAD_MAX};
+    ghost use Rattle.milter_fields.specs.Layout.{PairFits, pair};
 
     ghost Value = { List Pair };
 

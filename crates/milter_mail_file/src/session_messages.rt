@@ -3,7 +3,7 @@
 ghost use Rattle.std.specs.Prelude.{◌≡◌, ◌≢◌, ◌↔◌, ◌≤◌, ◌++◌, ◌∷◌, [], All, IfErr, IfOk, IsOk, IsTrue, List};
 ghost use Rattle.std.specs.Prelude.{MatchResult, codes, ℕ};
 ghost use Rattle.milter_wire.specs.declared.command.Command.TheVariants as commands;
-ghost use Rattle.milter_wire_fields.specs.declared.path.Path.{Path};
+ghost use Rattle.milter_fields.specs.declared.path.Path.{Path};
 ghost use Rattle.milter_wire.specs.Command.{Fits};
 ghost use Rattle.milter_text.specs.declared.word.Word.{Word};
 ghost use Rattle.milter_text.specs.Words.{HasWords};

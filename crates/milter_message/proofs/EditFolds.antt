@@ -7,7 +7,7 @@ use Rattle.std.proofs.Math.Seq.{take-suc}
 use Rattle.std.proofs.lemmas.Bool.{cases_Bool, false≢true}
 use Rattle.std.proofs.lemmas.List.Elements.{filter_map-append}
 use Rattle.std.proofs.lemmas.Option.{none-some, same_Some}
-use Rattle.milter_wire_fields.specs.declared.header.Header.{Header}
+use Rattle.milter_fields.specs.declared.header.Header.{Header}
 use Rattle.milter_message.specs.declared.edit.Edit.{Edit}
 use Rattle.milter_message.specs.declared.edit.Edit.TheVariants.{ReplaceBody}
 use Rattle.milter_message.specs.EditedMessage.{body_of, changed_field, occurrence, new_chunk, positions_from}

@@ -8,14 +8,14 @@ use Rattle.std.proofs.lemmas.List.{length-map}
 use Rattle.std.proofs.lemmas.List.Elements.{All-nil, All-cons, All-head, All-tail, All-append, All-push, All-take, All-drop, All-filter}
 use Rattle.std.proofs.lemmas.Slice.Eq.{bytes_eq-Decides}
 use Rattle.milter_wire.specs.declared.command.Command.TheVariants as commands
-use Rattle.milter_wire_fields.specs.declared.header.Header.{Header}
-use Rattle.milter_wire_fields.specs.declared.path.Path.{Path}
+use Rattle.milter_fields.specs.declared.header.Header.{Header}
+use Rattle.milter_fields.specs.declared.path.Path.{Path}
 use Rattle.milter_wire.specs.declared.reply.Reply.TheVariants as replies
 use Rattle.milter_wire.specs.Command.{Fits}
 use Rattle.milter_wire.specs.Reply.{Fits as ReplyFits}
-use Rattle.milter_wire_fields.specs.Field.{HasNoNul, string}
-use Rattle.milter_wire_stream.specs.Number.{number}
-use Rattle.milter_wire_fields.specs.Layout.{PathFits}
+use Rattle.milter_fields.specs.Field.{HasNoNul, string}
+use Rattle.milter_fields.specs.Number.{number}
+use Rattle.milter_fields.specs.Layout.{PathFits}
 use Rattle.milter_message.specs.declared.edit.Edit.{Edit}
 use Rattle.milter_message.specs.declared.edit.Edit.TheVariants.{AddHeader, InsertHeader, ChangeHeader, AddRcpt, AddRcptPar, DelRcpt, ChangeFrom}
 use Rattle.milter_message.specs.EditReplies.{reply_of}

@@ -11,7 +11,7 @@ use Rattle.std.proofs.lemmas.List.Sums.{sum_by-cons, sum_by-remove}
 use Rattle.std.proofs.lemmas.Option.{none-some, same_Some, slice_get-get_or, slice_get_past}
 use Rattle.milter_field_index.specs.Fields.{Entry, Fields}
 use Rattle.milter_field_index.proofs.Edits.{map-remove}
-use Rattle.milter_wire_fields.specs.declared.header.Header.{Header}
+use Rattle.milter_fields.specs.declared.header.Header.{Header}
 use Rattle.milter_message.specs.declared.source.Source.{Source}
 use Rattle.milter_message.specs.EditedFields.{HasSources, NumberedField, field_of, header_at, numbered_fields, set_numbered, with_value, with_value_at}
 use Rattle.milter_message.specs.EditedMessage.{changed_field, set_field}

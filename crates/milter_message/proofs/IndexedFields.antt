@@ -13,7 +13,7 @@ use Rattle.milter_field_index.specs.Fields.{Entry, Fields}
 use Rattle.milter_field_index.specs.Occurrence.{later, nth}
 use Rattle.milter_field_index.proofs.Edits.{map-insert, map-remove, nth-map, nth-same_test}
 use Rattle.milter_field_index.proofs.Occurrences.{nth-first, nth-other, nth-same}
-use Rattle.milter_wire_fields.specs.declared.header.Header.{Header}
+use Rattle.milter_fields.specs.declared.header.Header.{Header}
 use Rattle.milter_message.specs.declared.source.Source.{Source}
 use Rattle.milter_message.specs.EditedFields.{HasSources, IsNumberedBy, NumberedField, changed, field_of, fields_of, header_at, headers_of, numbered_fields, shown, with_number}
 use Rattle.milter_message.specs.EditedMessage.{added_field, changed_field, insert_at, occurrence, positions_from, set_field}

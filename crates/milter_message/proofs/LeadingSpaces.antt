@@ -3,9 +3,9 @@ use Rattle.std.proofs.Common.{◌≡◌, ℕ, suc, ◌≤◌, ◌==◌, ◌≢�
 use Rattle.std.proofs.lemmas.Bool.{cases_Bool, eqb-true}
 use Rattle.std.proofs.lemmas.Bool.Decides.{nat_tests}
 use Rattle.std.proofs.lemmas.List.Elements.{All-cons, All-tail, All-weaker}
-use Rattle.milter_wire_fields.specs.declared.header.Header.{Header}
-use Rattle.milter_wire_fields.specs.Field.{HasNoNul, string}
-use Rattle.milter_wire_fields.specs.Layout.{header as fields}
+use Rattle.milter_fields.specs.declared.header.Header.{Header}
+use Rattle.milter_fields.specs.Field.{HasNoNul, string}
+use Rattle.milter_fields.specs.Layout.{header as fields}
 use Rattle.milter_message.specs.declared.leading_space.TheConstants.{LEADING_SPACE}
 use Rattle.milter_message.specs.LeadingSpace.{FieldFits, WholeFieldFits, change_header, changed_value, put_header, put_value, sent_header, without_leading_space}
 

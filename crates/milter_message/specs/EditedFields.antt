@@ -4,7 +4,7 @@ use Rattle.std.specs.Borrow.{Bor}
 use Rattle.std.specs.BTreeMap.{BTreeMap}
 use Rattle.std.specs.List.{All, count_by, remove}
 use Rattle.milter_field_index.specs.Fields.{Entry, Fields}
-use Rattle.milter_wire_fields.specs.declared.header.Header.{Header}
+use Rattle.milter_fields.specs.declared.header.Header.{Header}
 use Rattle.milter_message.specs.declared.source.Source.{Source}
 use Rattle.milter_message.specs.LeadingSpace.{changed_value, put_value}
 use Rattle.milter_message.specs.NameNumbers.{number_of}

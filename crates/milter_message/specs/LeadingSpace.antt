@@ -2,7 +2,7 @@
 -- sent, a value is sent without it, and a value that the filter puts gets one.
 use Rattle.std.specs.Prelude.{ℕ, ◌==◌, Bool, true, false, List, [], ◌∷◌, if◌then◌else◌}
 use Rattle.milter_wire.specs.declared.command.Command.TheVariants as commands
-use Rattle.milter_wire_fields.specs.declared.header.Header.{Header}
+use Rattle.milter_fields.specs.declared.header.Header.{Header}
 use Rattle.milter_wire.specs.Command.{Fits}
 use Rattle.milter_message.specs.declared.leading_space.TheConstants.{LEADING_SPACE}
 

@@ -1,8 +1,8 @@
 -- A message as SMTP carries it: the envelope, the header and the body.
 use Rattle.std.specs.Prelude.{ℕ, List, All}
 use Rattle.milter_wire.specs.declared.command.Command.TheVariants as commands
-use Rattle.milter_wire_fields.specs.declared.header.Header.{Header}
-use Rattle.milter_wire_fields.specs.declared.path.Path.{Path}
+use Rattle.milter_fields.specs.declared.header.Header.{Header}
+use Rattle.milter_fields.specs.declared.path.Path.{Path}
 use Rattle.milter_wire.specs.Command.{Fits}
 use Rattle.milter_message.specs.LeadingSpace.{FieldFits}
 

@@ -114,7 +114,7 @@ impl Edit {
 
     /// The number of bytes of the packet that asks for the edit, its length field among them; or the greatest `usize`,
     /// where there are more. Doesn't allocate.
-    #[tactic(auto, unfolding(milter_wire_stream::specs::Number::number))]
+    #[tactic(auto, unfolding(milter_fields::specs::Number::number))]
     pub fn weight(&self) -> usize
         ensures { result ≡ min (weight_of self.now) (2 ^ 64 - 1) }
     {

@@ -2,8 +2,8 @@
 
 ghost use Rattle.std.specs.Prelude.{◌≡◌, ◌≢◌, ◌+◌, ◌-◌, ◌∷◌, ◌++◌, [], All, Bool, drop, take, Err, List, Ok, Some, ℕ};
 ghost use Rattle.std.specs.List.{concat, filter_map};
-ghost use Rattle.milter_wire_fields.specs.declared.header.Header.{Header};
-ghost use Rattle.milter_wire_fields.specs.declared.path.Path.{Path};
+ghost use Rattle.milter_fields.specs.declared.header.Header.{Header};
+ghost use Rattle.milter_fields.specs.declared.path.Path.{Path};
 ghost use Rattle.milter_wire.specs.declared.reply.Reply.{Reply};
 ghost use Rattle.milter_message.specs.declared.leading_space.TheConstants.{LEADING_SPACE};
 ghost use Rattle.milter_message.specs.declared.message.TheConstants.{CHUNK_LEN, WEIGHT_MAX};

@@ -2,8 +2,8 @@
 //! they negotiated.
 
 ghost use Rattle.std.specs.Prelude.{◌≡◌, ◌-◌, ◌^◌, ◌↔◌, All, IfOk, IsTrue, false, length, min};
-ghost use Rattle.milter_wire_fields.specs.Borrowed.{header_of};
-ghost use Rattle.milter_wire_fields.specs.Layout.{header};
+ghost use Rattle.milter_fields.specs.Borrowed.{header_of};
+ghost use Rattle.milter_fields.specs.Layout.{header};
 ghost use Rattle.milter_message.specs.LeadingSpace.{FieldFits, put_header, put_value, sent_header};
 
 use milter_wire::{Header, HeaderRef, NoMemory, PAYLOAD_MAX, Text, string_len};

@@ -22,7 +22,7 @@ pub(crate) struct OrderedFields<'a> {
 impl<'a> Model for OrderedFields<'a> {
     ghost use Rattle.std.specs.Prelude.{List, map};
     ghost use Rattle.milter_message.specs.EditedFields.{HasOrder, header_at, shown};
-    ghost use Rattle.milter_wire_fields.specs.declared.header.Header.{Header};
+    ghost use Rattle.milter_fields.specs.declared.header.Header.{Header};
 
     ghost Value = { List Header };
 

@@ -1,9 +1,9 @@
 -- What is received of the bytes of a piece, up to the end of one packet.
 use Rattle.std.proofs.Common.{◌≡◌, ℕ, true, List, [], ◌∷◌, ◌++◌, Option, None, Some, refl, sym, ◌∙◌, ap, subst, append_assoc, append-nil}
 use Rattle.std.specs.List.{fold}
-use Rattle.milter_wire_stream.specs.declared.fault.WireFault.{WireFault}
-use Rattle.milter_wire_stream.specs.Stream.{Frame, IsFrame, IsUnfinished, first_frame, frame_bytes, length_fault}
-use Rattle.milter_wire_stream.proofs.StreamLaws.{length_fault-unfinished, prefix-unfinished}
+use Rattle.milter_fields.specs.declared.fault.WireFault.{WireFault}
+use Rattle.milter_fields.specs.Stream.{Frame, IsFrame, IsUnfinished, first_frame, frame_bytes, length_fault}
+use Rattle.milter_fields.proofs.StreamLaws.{length_fault-unfinished, prefix-unfinished}
 use Rattle.milter_wire.specs.Frames.{frame_reply}
 use Rattle.milter_mta_outcome.specs.declared.loss.Loss.{Loss}
 use Rattle.milter_mta_outcome.specs.declared.loss.MtaFault.TheVariants.{Wire}

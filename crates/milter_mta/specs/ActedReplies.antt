@@ -1,7 +1,7 @@
 -- What an answer leaves of a message under way.
 use Rattle.std.specs.Prelude.{◌≡◌, true, false, drop, Option, None, Some, Result, Ok, Err}
 use Rattle.milter_wire.specs.declared.stage.Stage.{Stage}
-use Rattle.milter_wire_stream.specs.declared.fault.NoMemory.{NoMemory}
+use Rattle.milter_fields.specs.declared.fault.NoMemory.{NoMemory}
 use Rattle.milter_protocol.specs.declared.answer.Answer.{Answer}
 use Rattle.milter_mta_transaction.specs.declared.cursor.ClientInfo.{ClientInfo}
 use Rattle.milter_mta_transaction.specs.declared.transaction.Transaction.{Transaction}

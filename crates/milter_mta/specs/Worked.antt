@@ -2,8 +2,8 @@
 use Rattle.std.specs.Prelude.{ℕ, List, map, [], ◌∷◌, ◌++◌, codes, Option, None, Some}
 use Rattle.std.specs.Option.{option_to_list}
 use Rattle.milter_wire_options.specs.declared.options.Options.{Options}
-use Rattle.milter_wire_fields.specs.declared.client.Origin.TheVariants.{Unknown}
-use Rattle.milter_wire_fields.specs.declared.path.Path.{Path}
+use Rattle.milter_fields.specs.declared.client.Origin.TheVariants.{Unknown}
+use Rattle.milter_fields.specs.declared.path.Path.{Path}
 use Rattle.milter_wire.specs.declared.command.Command.{Command}
 use Rattle.milter_wire.specs.declared.reply.Reply.{Reply}
 use Rattle.milter_wire.specs.declared.reply.Reply.TheVariants as replies

@@ -2,9 +2,9 @@
 
 ghost use Rattle.std.specs.Prelude.{◌≡◌, ◌≢◌, ◌++◌, ◌∷◌, ◌↔◌, [], Err, List, None, Some, false, true, ℕ};
 ghost use Rattle.std.specs.List.{fold};
-ghost use Rattle.milter_wire_stream.specs.declared.fault.WireFault.{WireFault};
-ghost use Rattle.milter_wire_stream.specs.declared.fault.WireFault.TheVariants.{Malformed, UnknownCode};
-ghost use Rattle.milter_wire_stream.specs.Stream.{Frame, IsFrame, IsUnfinished, frame_bytes, length_fault};
+ghost use Rattle.milter_fields.specs.declared.fault.WireFault.{WireFault};
+ghost use Rattle.milter_fields.specs.declared.fault.WireFault.TheVariants.{Malformed, UnknownCode};
+ghost use Rattle.milter_fields.specs.Stream.{Frame, IsFrame, IsUnfinished, frame_bytes, length_fault};
 ghost use Rattle.milter_wire.specs.declared.reply.Reply.{Reply};
 ghost use Rattle.milter_wire.specs.Frames.{frame_reply};
 ghost use Rattle.milter_wire.specs.Reply.{Fits, encoding, is_code};

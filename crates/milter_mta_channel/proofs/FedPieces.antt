@@ -2,10 +2,10 @@
 use Rattle.std.proofs.Common.{◌≡◌, ℕ, true, false, List, [], ◌++◌, Some, Err, sym, ◌∙◌, ap, subst, take, drop, length, ◌+◌, ◌<◌, take-add, take-append-drop}
 use Rattle.std.specs.List.{fold}
 use Rattle.std.proofs.lemmas.List.Sums.{fold-append}
-use Rattle.milter_wire_stream.specs.declared.fault.WireFault.{WireFault}
-use Rattle.milter_wire_stream.specs.declared.fault.WireFault.TheVariants.{NoMemory}
-use Rattle.milter_wire_stream.specs.Stream.{Frame, IsFrame, IsUnfinished, frame_bytes, length_fault}
-use Rattle.milter_wire_stream.proofs.StreamLaws.{length_fault-fed}
+use Rattle.milter_fields.specs.declared.fault.WireFault.{WireFault}
+use Rattle.milter_fields.specs.declared.fault.WireFault.TheVariants.{NoMemory}
+use Rattle.milter_fields.specs.Stream.{Frame, IsFrame, IsUnfinished, frame_bytes, length_fault}
+use Rattle.milter_fields.proofs.StreamLaws.{length_fault-fed}
 use Rattle.milter_wire.specs.Frames.{frame_reply}
 use Rattle.milter_mta_outcome.specs.declared.loss.Loss.{Loss}
 use Rattle.milter_mta_outcome.specs.declared.loss.Loss.TheVariants.{Fault, Memory, Reset, Timeout}

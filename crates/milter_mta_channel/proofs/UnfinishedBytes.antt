@@ -1,11 +1,11 @@
 -- Bytes that begin with no packet, and those of one packet.
 use Rattle.std.proofs.Common.{◌≡◌, ℕ, ◌+◌, List, [], ◌∷◌, ◌++◌, length, Option, None, Some, sym, ◌∙◌, ap, append-nil, arith, length-append}
-use Rattle.milter_wire_stream.specs.declared.fault.WireFault.{WireFault}
-use Rattle.milter_wire_stream.specs.Stream.{Frame, IsFrame, IsUnfinished, fault_of, first_frame, frame_bytes, length_fault}
-use Rattle.milter_wire_stream.proofs.Frames.{fault_of-valid, first_frame-packet, first_frame-rest}
-use Rattle.milter_wire_stream.proofs.Numbers.{four_bytes}
-use Rattle.milter_wire_stream.proofs.PacketLaws.{packet_cells}
-use Rattle.milter_wire_stream.proofs.Pieces.{rest_of_unfinished}
+use Rattle.milter_fields.specs.declared.fault.WireFault.{WireFault}
+use Rattle.milter_fields.specs.Stream.{Frame, IsFrame, IsUnfinished, fault_of, first_frame, frame_bytes, length_fault}
+use Rattle.milter_fields.proofs.Frames.{fault_of-valid, first_frame-packet, first_frame-rest}
+use Rattle.milter_fields.proofs.Numbers.{four_bytes}
+use Rattle.milter_fields.proofs.PacketLaws.{packet_cells}
+use Rattle.milter_fields.proofs.Pieces.{rest_of_unfinished}
 
 pub no_frame-unfinished : (bytes : List ℕ) → IsUnfinished bytes → first_frame bytes ≡ None
 no_frame-unfinished bytes u = first_frame-rest bytes (rest_of_unfinished bytes u)

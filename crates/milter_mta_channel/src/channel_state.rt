@@ -1,8 +1,8 @@
 //! The state of a channel without its bytes: what was negotiated, the reply that is expected, and the edits that came.
 
 ghost use Rattle.std.specs.Prelude.{◌≡◌, ◌<◌, ◌≤◌, [], IfOk, OnErr, OnOk, None, length, true};
-ghost use Rattle.milter_wire_stream.specs.Splitter.{frame_of};
-ghost use Rattle.milter_wire_stream.specs.Stream.{IsFrame, IsUnfinished};
+ghost use Rattle.milter_fields.specs.Splitter.{frame_of};
+ghost use Rattle.milter_fields.specs.Stream.{IsFrame, IsUnfinished};
 ghost use Rattle.milter_wire.specs.BorrowedCommand.{command_of};
 ghost use Rattle.milter_wire.specs.Frames.{frame_reply};
 ghost use Rattle.milter_wire.specs.Reply.{Fits};

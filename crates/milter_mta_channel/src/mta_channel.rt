@@ -13,14 +13,14 @@ use crate::channel_state::ChannelState;
 use crate::expected_reply::ExpectedReply;
 use crate::filter_event::{Fed, FilterEvent};
 use crate::pending::append;
-use milter_byte_queue::ByteQueue;
+use milter_fields::ByteQueue;
 use milter_message::Edit;
 use milter_mta_outcome::{Loss, MtaFault, ReceivedEdits};
 use milter_protocol::Edits;
 use milter_wire::{CommandRef, Negotiated, NoMemory, Options, Splitter};
+use std::mem;
 use std::alloc::Global;
 use std::marker::Model;
-use std::mem;
 
 /// A channel to a filter: the commands that a mail server sends on a connection, one by one, and the replies to them.
 /// It knows nothing of the order of commands. It neither reads nor writes. Source: mfdef.h.
@@ -32,7 +32,7 @@ pub struct MtaChannel {
 }
 
 impl Model for MtaChannel {
-    ghost use Rattle.milter_wire_stream.specs.Stream.{IsUnfinished};
+    ghost use Rattle.milter_fields.specs.Stream.{IsUnfinished};
     ghost use Rattle.milter_mta_channel.specs.Channel.{Channel};
     ghost use Rattle.milter_mta_channel.specs.ChannelParts.{channel_of};
 

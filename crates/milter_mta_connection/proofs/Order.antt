@@ -10,7 +10,7 @@ use Rattle.milter_wire.specs.declared.stage.Stage.{Stage}
 use Rattle.milter_wire.specs.declared.stage.Stage.TheVariants as stages
 use Rattle.milter_wire.specs.declared.verdict.Verdict.{Verdict}
 use Rattle.milter_wire.specs.Stages.{macro_command_of, stage_of}
-use Rattle.milter_wire_fields.specs.declared.pair.Pair.{Pair}
+use Rattle.milter_fields.specs.declared.pair.Pair.{Pair}
 use Rattle.milter_mail.specs.Steps.{macro_step}
 use Rattle.milter_protocol.specs.Commands.{is_abort, is_end_by}
 use Rattle.milter_protocol.specs.StageOrder.{may_follow, rank_of}

@@ -1,7 +1,7 @@
 -- What queuing a command leaves.
 use Rattle.std.proofs.Common.{◌≡◌, ◌≢◌, ℕ, Bool, true, false, List, [], ◌∷◌, ◌++◌, Option, None, Some, Err, refl, sym, ◌∙◌, ap, append_assoc, append-nil, ◌⊎◌, inl, inr, ◌+◌, length, length-append, arith, if◌then◌else◌}
-use Rattle.milter_wire_stream.specs.Number.{number}
-use Rattle.milter_wire_stream.specs.Packet.{packet}
+use Rattle.milter_fields.specs.Number.{number}
+use Rattle.milter_fields.specs.Packet.{packet}
 use Rattle.milter_wire.specs.declared.command.Command.TheVariants as commands
 use Rattle.milter_wire.specs.declared.stage.Stage.TheVariants as stages
 use Rattle.milter_wire.specs.Negotiation.{is_answered}
@@ -11,7 +11,7 @@ use Rattle.milter_wire.specs.declared.negotiation.Negotiated.{Negotiated}
 use Rattle.milter_wire.specs.declared.stage.Stage.{Stage}
 use Rattle.milter_wire.specs.Command.{code_of, encoding, payload_of}
 use Rattle.milter_wire.specs.Stages.{macro_command_of, stage_of}
-use Rattle.milter_wire_fields.specs.declared.pair.Pair.{Pair}
+use Rattle.milter_fields.specs.declared.pair.Pair.{Pair}
 use Rattle.milter_mail.specs.Steps.{macro_step}
 use Rattle.milter_mta_channel.specs.declared.expected_reply.ExpectedReply.{ExpectedReply}
 use Rattle.milter_mta_channel.specs.declared.expected_reply.ExpectedReply.TheVariants as expects

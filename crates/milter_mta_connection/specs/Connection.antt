@@ -10,8 +10,8 @@ use Rattle.milter_wire.specs.declared.verdict.Verdict.{Verdict}
 use Rattle.milter_wire.specs.Command.{Fits}
 use Rattle.milter_wire.specs.Negotiation.{has, has_leading_space, is_answered, is_sent}
 use Rattle.milter_wire.specs.Stages.{macro_command_of, macro_stage_of}
-use Rattle.milter_wire_fields.specs.declared.header.Header.{Header}
-use Rattle.milter_wire_fields.specs.declared.pair.Pair.{Pair}
+use Rattle.milter_fields.specs.declared.header.Header.{Header}
+use Rattle.milter_fields.specs.declared.pair.Pair.{Pair}
 use Rattle.milter_wire_options.specs.declared.macro_stage.MacroStage.{MacroStage}
 use Rattle.milter_wire_options.specs.declared.options.Options.{Options}
 use Rattle.milter_wire_options.specs.declared.options.TheConstants.Protocol.{NOUNKNOWN}

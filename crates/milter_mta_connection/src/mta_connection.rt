@@ -6,7 +6,7 @@ ghost use Rattle.milter_wire.specs.declared.command.Command.TheVariants as comma
 ghost use Rattle.milter_wire.specs.BorrowedCommand.{command_of};
 ghost use Rattle.milter_wire.specs.Reply.{Fits as ReplyFits};
 ghost use Rattle.milter_wire.specs.Stages.{macro_command_of};
-ghost use Rattle.milter_wire_fields.specs.Borrowed.{client_of, header_of, path_of};
+ghost use Rattle.milter_fields.specs.Borrowed.{client_of, header_of, path_of};
 ghost use Rattle.milter_message.specs.EditReplies.{reply_of};
 ghost use Rattle.milter_message.specs.EditedMessage.{edited_message};
 ghost use Rattle.milter_mta_channel.specs.Channel.{sent, without_edits};

@@ -11,7 +11,7 @@ use Rattle.milter_wire.specs.declared.stage.Stage.{Stage}
 use Rattle.milter_wire.specs.declared.stage.Stage.TheVariants as stages
 use Rattle.milter_wire.specs.Negotiation.{is_answered, is_sent}
 use Rattle.milter_wire.specs.Stages.{macro_command_of, macro_stage_of, stage_of}
-use Rattle.milter_wire_fields.specs.declared.pair.Pair.{Pair}
+use Rattle.milter_fields.specs.declared.pair.Pair.{Pair}
 use Rattle.milter_message.specs.declared.edit.Edit.{Edit}
 use Rattle.milter_mail.specs.ChosenMacros.{chosen_macros}
 use Rattle.milter_mail.specs.Macros.{Macros}

@@ -13,7 +13,7 @@ use Rattle.milter_wire.specs.declared.verdict.Verdict.{Verdict}
 use Rattle.milter_wire.specs.declared.verdict.Verdict.TheVariants.{Skip}
 use Rattle.milter_wire.specs.Negotiation.{is_sent}
 use Rattle.milter_wire.specs.Stages.{macro_command_of, macro_stage_of, stage_of}
-use Rattle.milter_wire_fields.specs.declared.pair.Pair.{Pair}
+use Rattle.milter_fields.specs.declared.pair.Pair.{Pair}
 use Rattle.milter_mail.specs.ChosenMacros.{chosen_macros}
 use Rattle.milter_mail.specs.Macros.{Macros}
 use Rattle.milter_mail.specs.Steps.{macro_step, macros_at, step}

@@ -15,7 +15,7 @@ use Rattle.milter_wire.specs.declared.verdict.Verdict.{Verdict}
 use Rattle.milter_wire.specs.Command as sent_to
 use Rattle.milter_wire.specs.Negotiation.{has_leading_space, is_asked_at, is_sent}
 use Rattle.milter_wire.specs.Stages.{macro_command_of, stage_of}
-use Rattle.milter_wire_fields.specs.declared.pair.Pair.{Pair}
+use Rattle.milter_fields.specs.declared.pair.Pair.{Pair}
 use Rattle.milter_message.specs.MailObject.{MailObject}
 use Rattle.milter_mail.specs.ChosenMacros.{chosen_macros}
 use Rattle.milter_mail.specs.Macros.{Macros}

@@ -4,8 +4,8 @@ use Rattle.std.proofs.Common.{drop_of_length-le}
 use Rattle.milter_wire.specs.declared.command.Command.{Command}
 use Rattle.milter_wire.specs.declared.stage.Stage.{Stage}
 use Rattle.std.specs.List.{fold}
-use Rattle.milter_wire_stream.specs.declared.fault.WireFault.{WireFault}
-use Rattle.milter_wire_stream.specs.Stream.{Frame, first_frame, length_fault}
+use Rattle.milter_fields.specs.declared.fault.WireFault.{WireFault}
+use Rattle.milter_fields.specs.Stream.{Frame, first_frame, length_fault}
 use Rattle.milter_wire.specs.declared.negotiation.Negotiated.{Negotiated}
 use Rattle.milter_wire.specs.declared.reply.Reply.{Reply}
 use Rattle.milter_wire.specs.declared.stage.Stage.TheVariants.{Rcpt}
@@ -13,7 +13,7 @@ use Rattle.milter_wire.specs.Frames.{frame_reply}
 use Rattle.milter_wire.specs.Stages.{stage_of}
 use Rattle.milter_protocol.specs.declared.action.Action.{Action}
 use Rattle.milter_protocol.specs.declared.action.Action.TheVariants as actions
-use Rattle.milter_wire_fields.specs.declared.pair.Pair.{Pair}
+use Rattle.milter_fields.specs.declared.pair.Pair.{Pair}
 use Rattle.milter_mta_outcome.specs.declared.loss.Loss.{Loss}
 use Rattle.milter_mta_outcome.specs.declared.loss.MtaFault.{MtaFault}
 use Rattle.milter_mta_outcome.specs.declared.loss.MtaFault.TheVariants.{Early, NotAtThisStage, Wire}

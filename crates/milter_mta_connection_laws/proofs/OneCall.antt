@@ -4,7 +4,7 @@ use Rattle.std.proofs.Common.{◌≡◌, ◌≢◌, ◌+◌, ℕ, Bool, true, fa
 use Rattle.std.proofs.Common.{drop_of_length-le}
 use Rattle.std.specs.List.{flat_map}
 use Rattle.std.specs.Option.{option_to_list}
-use Rattle.milter_wire_stream.specs.Number.{number}
+use Rattle.milter_fields.specs.Number.{number}
 use Rattle.milter_wire_options.specs.declared.options.Options.{Options}
 use Rattle.milter_wire.specs.declared.command.Command.{Command}
 use Rattle.milter_wire.specs.declared.command.Command.TheVariants as commands
@@ -17,7 +17,7 @@ use Rattle.milter_wire.specs.Command as sent_to
 use Rattle.milter_wire.specs.Reply.{code_of, encoding, payload_of}
 use Rattle.milter_wire.specs.Stages.{macro_command_of, stage_of}
 use Rattle.milter_wire.specs.Verdicts as verdicts
-use Rattle.milter_wire_fields.specs.declared.pair.Pair.{Pair}
+use Rattle.milter_fields.specs.declared.pair.Pair.{Pair}
 use Rattle.milter_message.specs.declared.edit.Edit.{Edit}
 use Rattle.milter_message.specs.EditReplies as edits
 use Rattle.milter_mail.specs.Steps.{macro_step}

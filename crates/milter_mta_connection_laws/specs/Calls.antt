@@ -7,8 +7,8 @@ use Rattle.milter_wire.specs.declared.negotiation.Negotiated.{Negotiated}
 use Rattle.milter_wire.specs.declared.stage.Stage.{Stage}
 use Rattle.milter_wire.specs.Negotiation.{has_leading_space}
 use Rattle.milter_wire.specs.Stages.{macro_command_of}
-use Rattle.milter_wire_fields.specs.declared.pair.Pair.{Pair}
-use Rattle.milter_wire_fields.specs.declared.client.Client.{Client}
+use Rattle.milter_fields.specs.declared.pair.Pair.{Pair}
+use Rattle.milter_fields.specs.declared.client.Client.{Client}
 use Rattle.milter_message.specs.declared.edit.Edit.{Edit}
 use Rattle.milter_message.specs.Chunks.{chunks_of}
 use Rattle.milter_message.specs.LeadingSpace.{sent_header}

@@ -5,7 +5,7 @@ ghost use Rattle.std.specs.Prelude.{◌≡◌, ◌≢◌, List, Ok, Some, ℕ};
 ghost use Rattle.milter_wire.specs.declared.command.Command.{Command};
 ghost use Rattle.milter_wire.specs.declared.stage.Stage.{Stage};
 ghost use Rattle.milter_wire.specs.Stages.{stage_of};
-ghost use Rattle.milter_wire_fields.specs.declared.pair.Pair.{Pair};
+ghost use Rattle.milter_fields.specs.declared.pair.Pair.{Pair};
 ghost use Rattle.milter_mta_outcome.specs.declared.loss.Loss.{Loss};
 ghost use Rattle.milter_mta_outcome.specs.declared.loss.Loss.TheVariants.{Memory};
 ghost use Rattle.milter_mta_channel.specs.declared.filter_event.Fed.{Fed};

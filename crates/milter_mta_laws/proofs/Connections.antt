@@ -4,8 +4,8 @@ use Rattle.std.specs.List.{fold}
 use Rattle.std.proofs.Common.{◌≡◌, ◌≢◌, ℕ, Bool, true, false, List, [], ◌∷◌, ◌++◌, drop, map, Option, None, Some, Result, Ok, Err, refl, sym, ap, ◌∙◌, subst, append-nil}
 use Rattle.std.proofs.lemmas.List.Elements.{filter-append}
 use Rattle.std.proofs.lemmas.Option.{same_Some}
-use Rattle.milter_wire_stream.specs.declared.fault.WireFault.{WireFault}
-use Rattle.milter_wire_stream.specs.Stream.{Frame, first_frame, length_fault}
+use Rattle.milter_fields.specs.declared.fault.WireFault.{WireFault}
+use Rattle.milter_fields.specs.Stream.{Frame, first_frame, length_fault}
 use Rattle.milter_wire.specs.declared.negotiation.Negotiated.{Negotiated}
 use Rattle.milter_wire.specs.declared.command.Command.{Command}
 use Rattle.milter_wire.specs.declared.reply.Reply.{Reply}

@@ -6,8 +6,8 @@ use Rattle.std.specs.List.{flat_map}
 use Rattle.std.proofs.lemmas.List.Elements.{All-nil}
 use Rattle.std.proofs.lemmas.Nat.{and_assoc}
 use lib.Bits.{and_le_r, and_self}
-use Rattle.milter_wire_stream.specs.Number.{number}
-use Rattle.milter_wire_stream.proofs.Numbers.{length-number}
+use Rattle.milter_fields.specs.Number.{number}
+use Rattle.milter_fields.proofs.Numbers.{length-number}
 use Rattle.milter_wire_options.specs.declared.options.Options.{Options}
 use Rattle.milter_wire_options.specs.declared.options.TheConstants.Actions.{SETSYMLIST}
 use Rattle.milter_wire_options.specs.Negotiation.{common}

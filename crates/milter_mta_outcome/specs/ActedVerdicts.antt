@@ -1,7 +1,7 @@
 -- What the verdicts that were acted on leave of a message.
 use Rattle.std.specs.Prelude.{Bool, false, List, [], ◌∷◌, Option, None, Some, if◌then◌else◌}
 use Rattle.std.specs.List.{filter_map}
-use Rattle.milter_wire_fields.specs.declared.path.Path.{Path}
+use Rattle.milter_fields.specs.declared.path.Path.{Path}
 use Rattle.milter_wire.specs.declared.stage.Stage.{Stage}
 use Rattle.milter_wire.specs.declared.stage.Stage.TheVariants.{Rcpt}
 use Rattle.milter_wire.specs.declared.verdict.Verdict.{Verdict}

@@ -11,7 +11,7 @@ use Rattle.milter_wire.specs.declared.command.Command.{Command}
 use Rattle.milter_wire.specs.declared.command.Command.TheVariants as commands
 use Rattle.milter_wire.specs.declared.stage.Stage.TheVariants.{Connect, Mail}
 use Rattle.milter_wire.specs.Command.{Fits, bytes_of, code_of, encoding, payload_of}
-use Rattle.milter_wire_stream.specs.Number.{number}
+use Rattle.milter_fields.specs.Number.{number}
 use Rattle.milter_mail.specs.ChosenMacros.{chosen_macros}
 use Rattle.milter_mail.specs.Macros.{Macros}
 use Rattle.milter_mail.specs.MailSession.{IsSendable, MacrosFit, MailSession}

@@ -1,7 +1,7 @@
 -- The commands that are sent of a message, stage by stage, from any one of them on.
 use Rattle.std.specs.Prelude.{ℕ, ◌==◌, List, [], ◌∷◌, ◌++◌, drop, map, not, Option, None, Some, if◌then◌else◌}
 use Rattle.std.specs.List.{filter, flat_map}
-use Rattle.milter_wire_fields.specs.declared.client.Client.{Client}
+use Rattle.milter_fields.specs.declared.client.Client.{Client}
 use Rattle.milter_wire.specs.declared.negotiation.Negotiated.{Negotiated}
 use Rattle.milter_wire.specs.declared.command.Command.{Command}
 use Rattle.milter_wire.specs.declared.command.Command.TheVariants as commands

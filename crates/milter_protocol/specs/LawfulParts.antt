@@ -2,8 +2,8 @@
 use Rattle.std.specs.Prelude.{◌≤◌, [], length, refl}
 use Rattle.std.proofs.Common.{arith}
 use Rattle.std.proofs.lemmas.List.Elements.{All-nil}
-use Rattle.milter_wire_stream.specs.declared.number.TheConstants.{PAYLOAD_MAX}
-use Rattle.milter_wire_stream.specs.Number.{number}
+use Rattle.milter_fields.specs.declared.number.TheConstants.{PAYLOAD_MAX}
+use Rattle.milter_fields.specs.Number.{number}
 use Rattle.milter_wire_options.specs.declared.options.Options.{Options}
 use Rattle.milter_wire_options.specs.Payload.{OptionsFit, SymListFits, options_with_lists}
 use Rattle.milter_wire.specs.declared.reply.Reply.TheVariants as replies

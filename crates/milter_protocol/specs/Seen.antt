@@ -2,12 +2,12 @@
 use Rattle.std.specs.Prelude.{ℕ, Bool, List, [], ◌∷◌, ◌++◌, reverse, Option, None, Some, option_map}
 use Rattle.std.specs.List.{concat, filter_map, find, flat_map}
 use Rattle.std.specs.Str.{bytes_eq}
-use Rattle.milter_wire_fields.specs.declared.client.Client.{Client}
+use Rattle.milter_fields.specs.declared.client.Client.{Client}
 use Rattle.milter_wire.specs.declared.command.Command.{Command}
 use Rattle.milter_wire.specs.declared.command.Command.TheVariants as commands
-use Rattle.milter_wire_fields.specs.declared.header.Header.{Header}
-use Rattle.milter_wire_fields.specs.declared.pair.Pair.{Pair}
-use Rattle.milter_wire_fields.specs.declared.path.Path.{Path}
+use Rattle.milter_fields.specs.declared.header.Header.{Header}
+use Rattle.milter_fields.specs.declared.pair.Pair.{Pair}
+use Rattle.milter_fields.specs.declared.path.Path.{Path}
 use Rattle.milter_protocol.specs.Exchanges.{latest}
 
 -- Values of header fields are as they were sent, with leading spaces or without. Of the macros the last ones come

@@ -1,12 +1,12 @@
 -- Worked connections: what mail servers send, and filters that want more than to pass.
 use Rattle.std.specs.Prelude.{ℕ, List, [], ◌∷◌, codes, map, length, Ok, Option, None, Some, replicate}
 use Rattle.milter_wire_options.specs.declared.options.Options.{Options}
-use Rattle.milter_wire_fields.specs.declared.client.Client.{Client}
-use Rattle.milter_wire_fields.specs.declared.client.Origin.TheVariants.{Unknown}
+use Rattle.milter_fields.specs.declared.client.Client.{Client}
+use Rattle.milter_fields.specs.declared.client.Origin.TheVariants.{Unknown}
 use Rattle.milter_wire.specs.declared.codes.TheConstants.{SMFIC_MAIL}
 use Rattle.milter_wire.specs.declared.command.Command.{Command}
 use Rattle.milter_wire.specs.declared.command.Command.TheVariants as commands
-use Rattle.milter_wire_fields.specs.declared.path.Path.{Path}
+use Rattle.milter_fields.specs.declared.path.Path.{Path}
 use Rattle.milter_wire.specs.declared.reply.Reply.{Reply}
 use Rattle.milter_wire.specs.declared.reply.Reply.TheVariants as replies_with
 use Rattle.milter_wire.specs.declared.stage.Stage.{Stage}

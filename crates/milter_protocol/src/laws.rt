@@ -4,7 +4,7 @@ ghost use Rattle.std.specs.Prelude.{◌≡◌, ◌≢◌, ◌++◌, ◌∷◌, �
 ghost use Rattle.std.specs.Option.{option_or};
 ghost use Rattle.milter_wire.specs.declared.negotiation.Negotiated.{Negotiated};
 ghost use Rattle.milter_wire.specs.declared.command.Command.{Command};
-ghost use Rattle.milter_wire_fields.specs.declared.pair.Pair.{Pair};
+ghost use Rattle.milter_fields.specs.declared.pair.Pair.{Pair};
 ghost use Rattle.milter_wire.specs.declared.stage.Stage.{Stage};
 ghost use Rattle.milter_protocol.specs.declared.answer.Answer.{Answer};
 ghost use Rattle.milter_protocol.specs.Behavior.{Behavior};

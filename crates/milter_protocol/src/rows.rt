@@ -1,7 +1,7 @@
 //! Worked connections, as the definitions compute them.
 
 ghost use Rattle.std.specs.Prelude.{◌≡◌, [], ◌∷◌, ◌++◌, codes, map, Err, List, Ok, ℕ, None, Some};
-ghost use Rattle.milter_wire_stream.specs.declared.fault.WireFault.TheVariants as wire_faults;
+ghost use Rattle.milter_fields.specs.declared.fault.WireFault.TheVariants as wire_faults;
 ghost use Rattle.milter_wire.specs.declared.command.Command.TheVariants as commands;
 ghost use Rattle.milter_wire.specs.declared.reply.Reply.TheVariants as replies_with;
 ghost use Rattle.milter_wire.specs.declared.stage.Stage.TheVariants.{DataCmd};
@@ -17,7 +17,7 @@ ghost use Rattle.milter_protocol.specs.Questions.{ProgressReported};
 ghost use Rattle.milter_protocol.specs.Worked.{negotiated, always, another_rcpt, at, at_data, came, client, count_fields, deciding, edits_at_end, field, given, given_after, given_replies, helo, kept_in, macros_of_mail, mail, name_queue_file, offer, options, rcpt, replied, replied_in, state};
 
 /// What a filter that passes all replies to the first commands.
-#[tactic(auto, unfolding(milter_wire_stream::specs::Number::number))]
+#[tactic(auto, unfolding(milter_fields::specs::Number::number))]
 pub(crate) fn openings()
     ensures plain { replied pass (offer ∷ helo ∷ commands.Quit ∷ []) ≡ negotiated 6 0 0 ∷ replies_with.Continue ∷ [] }
     ensures quit { state pass (offer ∷ helo ∷ commands.Quit ∷ []) ≡ Quit }
@@ -31,7 +31,7 @@ pub(crate) fn openings()
 {}
 
 /// Commands at fault, and those in order.
-#[tactic(auto, unfolding(milter_wire_stream::specs::Number::number))]
+#[tactic(auto, unfolding(milter_fields::specs::Number::number))]
 pub(crate) fn orders()
     ensures first { state pass (mail ∷ []) ≡ Failed NotNegotiated }
     ensures lower { state pass (offer ∷ field (codes "A") [] ∷ rcpt ∷ []) ≡ Failed OutOfOrder }
@@ -53,7 +53,7 @@ pub(crate) fn orders()
 {}
 
 /// Which answers a filter gives, by what was negotiated.
-#[tactic(auto, unfolding(milter_wire_stream::specs::Number::number))]
+#[tactic(auto, unfolding(milter_fields::specs::Number::number))]
 pub(crate) fn answers()
     // Without its NR bit a stage is answered, with it not: the end of a message always is.
     ensures not_answered { replied (deciding 24576 (always Reject)) (offer ∷ helo ∷ mail ∷ rcpt ∷ commands.Eob [] ∷ [])
@@ -76,7 +76,7 @@ pub(crate) fn answers()
 {}
 
 /// What is shown of a message is gone with it, and what is of the connection stays.
-#[tactic(auto, unfolding(milter_wire_stream::specs::Number::number))]
+#[tactic(auto, unfolding(milter_fields::specs::Number::number))]
 pub(crate) fn messages()
     // The first message has two header fields, the second one.
     ensures counted { replied (deciding 1032320 count_fields)
@@ -93,7 +93,7 @@ pub(crate) fn messages()
 {}
 
 /// What an end that takes commands in the lenient order takes them for.
-#[tactic(auto, unfolding(milter_wire_stream::specs::Number::number))]
+#[tactic(auto, unfolding(milter_fields::specs::Number::number))]
 pub(crate) fn lenient_aborts()
     ensures two_senders { taken_by Lenient pass (map Ok (offer ∷ mail ∷ mail ∷ []))
         ≡ map Ok (offer ∷ mail ∷ commands.Abort ∷ mail ∷ []) }
@@ -110,7 +110,7 @@ pub(crate) fn lenient_aborts()
 {}
 
 /// DATA that a policy refuses within a message.
-#[tactic(auto, unfolding(milter_wire_stream::specs::Number::number))]
+#[tactic(auto, unfolding(milter_fields::specs::Number::number))]
 pub(crate) fn refused_data()
     // It is undone in the lenient order, and may come again, with further recipients.
     ensures undone { kept_in Lenient (deciding 0 (at_data Reject)) (offer ∷ mail ∷ rcpt ∷ commands.DataCmd ∷ [])
@@ -142,7 +142,7 @@ pub(crate) fn refused_data()
 {}
 
 /// An end in the lenient order whose caller answers.
-#[tactic(auto, unfolding(milter_wire_stream::specs::Number::number))]
+#[tactic(auto, unfolding(milter_fields::specs::Number::number))]
 pub(crate) fn given_answers()
     ensures progress { given_replies (came offer ∷ came (commands.Eob []) ∷ ProgressReported ∷ given Accept ∷ [])
         ≡ negotiated 6 511 0 ∷ replies_with.Progress ∷ replies_with.Accept ∷ [] }

@@ -5,7 +5,7 @@ ghost use Rattle.milter_range_set.specs.Ranges.{has_number};
 
 use crate::number_range::{NumberRange, raise_ends, sort_ranges};
 use crate::set::RangeSet;
-use milter_wire_stream::NoMemory;
+use milter_fields::NoMemory;
 use std::alloc::Global;
 use std::marker::Model;
 

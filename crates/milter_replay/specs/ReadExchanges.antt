@@ -1,6 +1,6 @@
 -- The exchanges of a trace, while it is read.
 use Rattle.std.specs.Prelude.{◌≡◌, ℕ, List, ◌++◌}
-use Rattle.milter_wire_stream.specs.Stream.{IsUnfinished}
+use Rattle.milter_fields.specs.Stream.{IsUnfinished}
 use Rattle.milter_trace.specs.declared.direction.Direction.TheVariants.{ToFilter}
 use Rattle.milter_trace.specs.Trace.{bytes_if, stream}
 use Rattle.milter_text.specs.Lines.{lines_of}

@@ -1,9 +1,9 @@
 //! The exchanges of a trace, packet by packet.
 
 ghost use Rattle.std.specs.Prelude.{◌≡◌, ◌++◌, [], IfOk, OnOk};
-ghost use Rattle.milter_wire_stream.specs.Packet.{IsPayload};
-ghost use Rattle.milter_wire_stream.specs.Splitter.{frame_of};
-ghost use Rattle.milter_wire_stream.specs.Stream.{frame_bytes};
+ghost use Rattle.milter_fields.specs.Packet.{IsPayload};
+ghost use Rattle.milter_fields.specs.Splitter.{frame_of};
+ghost use Rattle.milter_fields.specs.Stream.{frame_bytes};
 ghost use Rattle.milter_wire.specs.Command.{Fits, encoding};
 ghost use Rattle.milter_trace.specs.declared.direction.Direction.TheVariants.{ToFilter};
 ghost use Rattle.milter_trace.specs.Trace.{bytes_if};

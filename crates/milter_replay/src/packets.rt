@@ -1,6 +1,6 @@
 //! The packets of a filter, with their lines.
 
-ghost use Rattle.milter_wire_stream.specs.Packet.{IsPayload};
+ghost use Rattle.milter_fields.specs.Packet.{IsPayload};
 
 use crate::conversation::ReplyPacket;
 use milter_trace::{Direction, put_packet};

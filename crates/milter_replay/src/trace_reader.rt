@@ -1,7 +1,7 @@
 //! The reading of a trace into a recorded conversation.
 
 ghost use Rattle.std.specs.Prelude.{◌≡◌, ◌++◌, IfOk, OnOk};
-ghost use Rattle.milter_wire_stream.specs.Stream.{IsUnfinished};
+ghost use Rattle.milter_fields.specs.Stream.{IsUnfinished};
 ghost use Rattle.milter_text.specs.Lines.{lines_of};
 ghost use Rattle.milter_trace.specs.declared.direction.Direction.TheVariants.{ToFilter};
 ghost use Rattle.milter_trace.specs.ParsedLine.{parsed_line};

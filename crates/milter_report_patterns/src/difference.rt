@@ -4,7 +4,7 @@ ghost use Rattle.std.specs.Prelude.{◌≡◌, ◌∷◌, IfOk, MatchOption, fal
 ghost use Rattle.milter_report_patterns.specs.Patterns.{IsFirstDifference, stand_for};
 
 use crate::places::{advance, first_place, is_any_open, may_end};
-use milter_wire_stream::NoMemory;
+use milter_fields::NoMemory;
 use std::alloc::Global;
 
 /// The first line, counted from 0, with which the lines that were found aren't what the expected ones stand for:

@@ -4,7 +4,7 @@ ghost use Rattle.std.specs.Prelude.{◌≡◌, IfOk, map};
 ghost use Rattle.bstr.specs.Text.{lines_of};
 
 use bstr::ByteSlice;
-use milter_wire_stream::NoMemory;
+use milter_fields::NoMemory;
 use std::alloc::Global;
 
 /// The lines of a text, each with its LF; the last may have none.

@@ -5,7 +5,7 @@ ghost use Rattle.milter_report_patterns.specs.Places.{any_open, is_any_open};
 ghost use Rattle.milter_report_patterns.specs.Steps.{stays_at, step_over};
 
 use crate::pattern::{is_gap, stands_for};
-use milter_wire_stream::NoMemory;
+use milter_fields::NoMemory;
 use std::alloc::Global;
 
 /// The place before the first of so many patterns is open, and the others aren't.

@@ -1,7 +1,7 @@
 -- What each line of a rule file gives, by its words. A keyword and a number are plain words, a text is a quoted one.
 use Rattle.std.specs.Prelude.{◌≡◌, ℕ, IsUtf8, nat_le, ◌&&◌, true, List, [], ◌∷◌, ◌++◌, codes, Option, None, Some, if◌then◌else◌}
 use Rattle.std.specs.Option.{option_map}
-use Rattle.milter_wire_fields.specs.Bind.{◌>>=◌}
+use Rattle.milter_fields.specs.Bind.{◌>>=◌}
 use Rattle.milter_text.specs.declared.word.Word.{Word}
 use Rattle.milter_text.specs.WordValues.{is_keyword, keyword, number_of, plain_text, text_of}
 use Rattle.milter_wire_options.specs.declared.macro_stage.MacroStage.{MacroStage}

@@ -1,6 +1,6 @@
 -- Edits of header fields, one after the other.
 use Rattle.std.specs.Prelude.{List, [], ◌∷◌, codes}
-use Rattle.milter_wire_fields.specs.declared.header.Header.{Header}
+use Rattle.milter_fields.specs.declared.header.Header.{Header}
 use Rattle.milter_message.specs.declared.edit.Edit.{Edit}
 use Rattle.milter_message.specs.declared.edit.Edit.TheVariants.{InsertHeader, ChangeHeader}
 use Rattle.milter_tests_worked.specs.WorkedMessage.{field}

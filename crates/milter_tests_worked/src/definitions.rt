@@ -64,7 +64,7 @@ pub fn edited_messages()
 {}
 
 /// The commands of one small session, and their weight.
-#[tactic(auto, unfolding(milter_wire_stream::specs::Number::number))]
+#[tactic(auto, unfolding(milter_fields::specs::Number::number))]
 pub fn planned_sessions()
     ensures opened { opening_steps (negotiated 6 0) no_macros client helo
         ≡ commands.Connect client ∷ commands.Helo helo ∷ [] }
@@ -183,7 +183,7 @@ pub fn named_bits()
 
 /// The bytes of the connection, by the symbol lists of its first stage: without one all macros, else the last macro of
 /// each name, in the order of the list, and no packet of macros where none is left.
-#[tactic(auto, unfolding(milter_wire_stream::specs::Number::number))]
+#[tactic(auto, unfolding(milter_fields::specs::Number::number))]
 pub fn symbol_lists()
     ensures all { opened [] two_pairs ≡ both_packets }
     ensures one { opened (list 0 (codes "j") ∷ []) two_pairs ≡ one_packets }
@@ -201,7 +201,7 @@ pub fn symbol_lists()
 
 /// A header field whose value begins with a blank is sent without it, unless leading spaces are sent; another first
 /// byte stays.
-#[tactic(auto, unfolding(milter_wire_stream::specs::Number::number))]
+#[tactic(auto, unfolding(milter_fields::specs::Number::number))]
 pub fn sent_headers()
     ensures without_blank { encoding (commands.Header (sent_header false blank_field)) ≡ field_packet }
     ensures with_blank { encoding (commands.Header (sent_header true blank_field)) ≡ blank_field_packet }
@@ -217,7 +217,7 @@ pub fn sent_headers()
 {}
 
 /// The largest body of a message of that session: 16 MiB with all else.
-#[tactic(auto, unfolding(milter_wire_stream::specs::Number::number))]
+#[tactic(auto, unfolding(milter_fields::specs::Number::number))]
 pub fn largest_messages()
     ensures { (body : List ℕ) → length body ≡ 16775877 →
         weight client helo no_macros (record {

@@ -4,7 +4,7 @@ ghost use Rattle.std.specs.Prelude.{◌≡◌};
 ghost use Rattle.milter_text.specs.declared.line_fault.LineFault.TheVariants as faults;
 ghost use Rattle.milter_text.specs.LineFault.{line_fault_line};
 
-use milter_wire_stream::RefusedMemory;
+use milter_fields::RefusedMemory;
 use thiserror::Error;
 
 /// Why the next line of a file was not read.

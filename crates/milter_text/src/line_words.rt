@@ -8,7 +8,7 @@ ghost use Rattle.milter_text.specs.Words.{BeginsWith, HasWords, IsAfterWord, is_
 
 use crate::escapes::{bare_len, take_byte};
 use crate::word::{Word, WordFault};
-use milter_wire_fields::Text;
+use milter_fields::Text;
 use std::alloc::Global;
 
 /// The words of a line, which has no LF. They are plain or quoted, with one or more blanks (0x20) between

@@ -7,8 +7,7 @@ ghost use Rattle.milter_text.specs.declared.word.WordFault.TheVariants as faults
 ghost use Rattle.milter_text.specs.WordFault.{word_fault_number};
 ghost use Rattle.milter_text.specs.WordValues.{is_keyword, is_number, number_of, plain_text, text_of};
 
-use milter_wire_fields::Text;
-use milter_wire_stream::RefusedMemory;
+use milter_fields::{RefusedMemory, Text};
 use std::str;
 use thiserror::Error;
 

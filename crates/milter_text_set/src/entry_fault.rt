@@ -3,7 +3,7 @@
 ghost use Rattle.std.specs.Prelude.{◌≡◌};
 ghost use Rattle.milter_text_set.specs.declared.entry_fault.EntryFault.TheVariants as faults;
 
-use milter_wire_stream::RefusedMemory;
+use milter_fields::RefusedMemory;
 use thiserror::Error;
 
 /// Why an entry was not added. The entries are then as they were before.

@@ -1,9 +1,9 @@
 -- The packets of a line, printed one after the other.
 use Rattle.std.proofs.Common.{◌≡◌, ◌≢◌, ℕ, List, [], ◌∷◌, ◌++◌, length, take, drop, Some, None, Result, Ok, Err, refl, sym, ap, subst, ◌∙◌, append_assoc, append-nil, arith}
-use Rattle.milter_wire_stream.specs.declared.fault.WireFault.{WireFault}
-use Rattle.milter_wire_stream.specs.declared.fault.WireFault.TheVariants.{ZeroLength, TooLong, UnknownCode, Malformed, Truncated, NoMemory}
-use Rattle.milter_wire_stream.specs.Stream.{Frame, Division, IsFrame, IsUnfinished, divide, frame_bytes, length_fault}
-use Rattle.milter_wire_stream.proofs.StreamLaws.{divide-fault, divide-handed, divide-unfinished, fed_on, length_fault-fed, length_fault-unfinished}
+use Rattle.milter_fields.specs.declared.fault.WireFault.{WireFault}
+use Rattle.milter_fields.specs.declared.fault.WireFault.TheVariants.{ZeroLength, TooLong, UnknownCode, Malformed, Truncated, NoMemory}
+use Rattle.milter_fields.specs.Stream.{Frame, Division, IsFrame, IsUnfinished, divide, frame_bytes, length_fault}
+use Rattle.milter_fields.proofs.StreamLaws.{divide-fault, divide-handed, divide-unfinished, fed_on, length_fault-fed, length_fault-unfinished}
 use Rattle.milter_trace.specs.declared.form.TraceForm.{TraceForm}
 use Rattle.milter_trace.specs.declared.direction.Direction.{Direction}
 use Rattle.milter_trace.specs.declared.fault.TraceFault.{TraceFault}

@@ -2,9 +2,9 @@
 use Rattle.std.proofs.Common.{◌≡◌, ℕ, ◌+◌, List, [], ◌∷◌, ◌++◌, length, drop, Option, refl, sym, ap, ◌∙◌, append-nil, length-append}
 use Rattle.std.proofs.lemmas.List.{drop_at}
 use Rattle.std.proofs.lemmas.List.Concat.{flat_map-append}
-use Rattle.milter_wire_stream.specs.declared.fault.WireFault.{WireFault}
-use Rattle.milter_wire_stream.specs.Stream.{Division, Frame, divide, length_fault}
-use Rattle.milter_wire_stream.proofs.StreamLaws.{divide-append, divide-nil}
+use Rattle.milter_fields.specs.declared.fault.WireFault.{WireFault}
+use Rattle.milter_fields.specs.Stream.{Division, Frame, divide, length_fault}
+use Rattle.milter_fields.proofs.StreamLaws.{divide-append, divide-nil}
 use Rattle.milter_text.specs.Lines.{Line, lines_of}
 use Rattle.milter_trace.specs.declared.form.TraceForm.{TraceForm}
 use Rattle.milter_trace.specs.declared.direction.Direction.{Direction}

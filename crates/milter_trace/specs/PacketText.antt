@@ -2,25 +2,25 @@
 use Rattle.std.specs.Prelude.{◌≡◌, ℕ, false, List, [], ◌∷◌, ◌++◌, map, codes, length, take, decimal, Option, Some, None, Result, Ok, Err, if◌then◌else◌}
 use Rattle.std.specs.List.{flat_map}
 use Rattle.hex.specs.Hex.{encode_lower}
-use Rattle.milter_wire_stream.specs.declared.fault.WireFault.{WireFault}
-use Rattle.milter_wire_stream.specs.declared.fault.WireFault.TheVariants.{ZeroLength, TooLong, UnknownCode, Malformed, Truncated, NoMemory}
-use Rattle.milter_wire_fields.specs.declared.client.Client.{Client}
-use Rattle.milter_wire_fields.specs.declared.client.Origin.{Origin}
-use Rattle.milter_wire_fields.specs.declared.client.Origin.TheVariants as origins
-use Rattle.milter_wire_fields.specs.declared.header.Header.{Header}
+use Rattle.milter_fields.specs.declared.fault.WireFault.{WireFault}
+use Rattle.milter_fields.specs.declared.fault.WireFault.TheVariants.{ZeroLength, TooLong, UnknownCode, Malformed, Truncated, NoMemory}
+use Rattle.milter_fields.specs.declared.client.Client.{Client}
+use Rattle.milter_fields.specs.declared.client.Origin.{Origin}
+use Rattle.milter_fields.specs.declared.client.Origin.TheVariants as origins
+use Rattle.milter_fields.specs.declared.header.Header.{Header}
 use Rattle.milter_wire_options.specs.Bits.{actions_table, names_text, protocol_table}
 use Rattle.milter_wire_options.specs.declared.options.Options.{Options}
-use Rattle.milter_wire_fields.specs.declared.pair.Pair.{Pair}
-use Rattle.milter_wire_fields.specs.declared.path.Path.{Path}
+use Rattle.milter_fields.specs.declared.pair.Pair.{Pair}
+use Rattle.milter_fields.specs.declared.path.Path.{Path}
 use Rattle.milter_wire_options.specs.declared.symbol_lists.SymList.{SymList}
 use Rattle.milter_wire.specs.declared.command.Command.{Command}
 use Rattle.milter_wire.specs.declared.command.Command.TheVariants as commands
 use Rattle.milter_wire.specs.declared.reply.Reply.{Reply}
 use Rattle.milter_wire.specs.declared.reply.Reply.TheVariants as replies
-use Rattle.milter_wire_stream.specs.Code.{code_text}
-use Rattle.milter_wire_stream.specs.Number.{number}
+use Rattle.milter_fields.specs.Code.{code_text}
+use Rattle.milter_fields.specs.Number.{number}
 use Rattle.milter_wire.specs.Frames.{frame_command, frame_reply}
-use Rattle.milter_wire_stream.specs.Stream.{Frame}
+use Rattle.milter_fields.specs.Stream.{Frame}
 use Rattle.milter_text.specs.QuotedText.{quoted}
 use Rattle.milter_trace.specs.declared.direction.Direction.{Direction}
 use Rattle.milter_trace.specs.declared.direction.Direction.TheVariants.{ToFilter, ToMta}

@@ -1,6 +1,6 @@
 -- The packets of a connection, printed as their bytes come.
 use Rattle.std.specs.Prelude.{ℕ, List, [], ◌++◌, Option, None}
-use Rattle.milter_wire_stream.specs.Stream.{divide}
+use Rattle.milter_fields.specs.Stream.{divide}
 use Rattle.milter_trace.specs.declared.direction.Direction.{Direction}
 use Rattle.milter_trace.specs.declared.fault.TraceFault.{TraceFault}
 use Rattle.milter_trace.specs.PacketText.{plain_form}

@@ -1,5 +1,5 @@
 -- The state of a printer.
-use Rattle.milter_wire_stream.specs.Stream.{IsUnfinished}
+use Rattle.milter_fields.specs.Stream.{IsUnfinished}
 use Rattle.milter_trace.specs.declared.trace_printer.TracePrinter.{TracePrinter}
 use Rattle.milter_trace.specs.TraceState.{TraceState}
 

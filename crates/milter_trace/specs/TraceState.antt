@@ -1,8 +1,8 @@
 -- A trace under way: its state between two lines, and the trace of the lines that follow.
 use Rattle.std.specs.Prelude.{◌≡◌, ◌≢◌, ℕ, ◌+◌, List, [], ◌∷◌, ◌++◌, length, All, None, Some, Result, Ok, Err}
-use Rattle.milter_wire_stream.specs.declared.fault.WireFault.{WireFault}
-use Rattle.milter_wire_stream.specs.declared.fault.WireFault.TheVariants as wires
-use Rattle.milter_wire_stream.specs.Stream.{Division, divide, length_fault}
+use Rattle.milter_fields.specs.declared.fault.WireFault.{WireFault}
+use Rattle.milter_fields.specs.declared.fault.WireFault.TheVariants as wires
+use Rattle.milter_fields.specs.Stream.{Division, divide, length_fault}
 use Rattle.milter_text.specs.Lines.{Line, lines_of}
 use Rattle.milter_trace.specs.declared.direction.Direction.{Direction}
 use Rattle.milter_trace.specs.declared.direction.Direction.TheVariants.{ToFilter, ToMta}

@@ -2,7 +2,7 @@
 
 ghost use Rattle.std.specs.Prelude.{◌≡◌, ◌++◌, ◌∷◌, [], OnOk, decimal, map, take};
 ghost use Rattle.std.specs.List.{flat_map};
-ghost use Rattle.milter_wire_stream.specs.Code.{code_text};
+ghost use Rattle.milter_fields.specs.Code.{code_text};
 ghost use Rattle.milter_text.specs.QuotedText.{quoted};
 ghost use Rattle.milter_trace.specs.PacketText.{arguments_fields, body_fields, client_fields, command_fields, fields_text, header_fields, hex8, names_fields};
 ghost use Rattle.milter_trace.specs.PacketText.{options_fields, origin_fields, pair_fields, path_fields, reply_fields, sym_list_fields};
@@ -253,7 +253,7 @@ fn put_number(text: &mut Vec<u8>, number: u64) -> Result<(), NoMemory>
 }
 
 /// Appends a set of bits in eight hexadecimal digits, letters in lower case.
-#[tactic(auto, unfolding(milter_wire_stream::specs::Number::number))]
+#[tactic(auto, unfolding(milter_fields::specs::Number::number))]
 fn put_hex8(text: &mut Vec<u8>, number: u32) -> Result<(), NoMemory>
     ensures { OnOk result (text.new.items ≡ text.old.items ++ fields_text (hex8 number ∷ [])) }
 {

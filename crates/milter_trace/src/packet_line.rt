@@ -2,9 +2,9 @@
 
 ghost use Rattle.std.specs.Prelude.{◌≡◌, ◌++◌, ◌∷◌, [], OnOk};
 ghost use Rattle.milter_trace.specs.declared.direction.Direction.TheVariants.{ToFilter, ToMta};
-ghost use Rattle.milter_wire_stream.specs.Code.{code_text};
-ghost use Rattle.milter_wire_stream.specs.Packet.{IsPayload};
-ghost use Rattle.milter_wire_stream.specs.Splitter.{frame_of};
+ghost use Rattle.milter_fields.specs.Code.{code_text};
+ghost use Rattle.milter_fields.specs.Packet.{IsPayload};
+ghost use Rattle.milter_fields.specs.Splitter.{frame_of};
 ghost use Rattle.milter_trace.specs.PacketText.{AppendsText, command_fields, line_text, mark_of, packet_text};
 ghost use Rattle.milter_trace.specs.PacketText.{packet_text_in, reply_fields};
 

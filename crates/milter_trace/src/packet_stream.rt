@@ -1,7 +1,7 @@
 //! The packets of a direction that become whole in a line.
 
 ghost use Rattle.std.specs.Prelude.{◌≡◌, ◌++◌, OnOk};
-ghost use Rattle.milter_wire_stream.specs.Stream.{IsUnfinished, divide};
+ghost use Rattle.milter_fields.specs.Stream.{IsUnfinished, divide};
 ghost use Rattle.milter_trace.specs.TraceState.{AppendsTrace, division_trace, packet_fault};
 
 use crate::direction::Direction;

@@ -1,7 +1,7 @@
 //! The text of a trace, line by line.
 
 ghost use Rattle.std.specs.Prelude.{◌≡◌, ◌<◌, ◌+◌, ◌++◌, ◌^◌, [], Ok, OnOk, length};
-ghost use Rattle.milter_wire_stream.specs.Stream.{IsUnfinished, divide};
+ghost use Rattle.milter_fields.specs.Stream.{IsUnfinished, divide};
 ghost use Rattle.milter_trace.specs.ParsedLine.{parsed_line};
 ghost use Rattle.milter_trace.specs.Trace.{end_trace};
 ghost use Rattle.milter_trace.specs.TraceState.{AppendsTrace, initial_state, next_state, division_trace, next_trace, with_unread, unread_in};

@@ -5,18 +5,18 @@ use Rattle.std.proofs.lemmas.Option.{same_Some}
 use Rattle.std.proofs.lemmas.List.Elements.{All-from_get_or}
 use Rattle.milter_wire.specs.declared.command.Command.{Command}
 use Rattle.milter_wire.specs.declared.command.Command.TheVariants.{Options, Macro, Connect, Helo, Mail, Rcpt, DataCmd, Header, Eoh, Body, Eob, Unknown, Abort, Quit, QuitNew}
-use Rattle.milter_wire_fields.specs.declared.path.Path.{Path}
-use Rattle.milter_wire_fields.specs.Layout.{path, PathFits}
-use Rattle.milter_wire_stream.specs.Packet.{packet, IsPayload}
-use Rattle.milter_wire_fields.specs.Decoders.{client_in, header_in, macro_in, path_in, string_in}
+use Rattle.milter_fields.specs.declared.path.Path.{Path}
+use Rattle.milter_fields.specs.Layout.{path, PathFits}
+use Rattle.milter_fields.specs.Packet.{packet, IsPayload}
+use Rattle.milter_fields.specs.Decoders.{client_in, header_in, macro_in, path_in, string_in}
 use Rattle.milter_wire_options.specs.Payload.{options_in}
 use Rattle.milter_wire.specs.Command.{code_of, payload_of, is_code, FieldsFit, IsEncodedAs, command_in, rows}
-use Rattle.milter_wire_stream.specs.Number.{IsBytes}
+use Rattle.milter_fields.specs.Number.{IsBytes}
 use Rattle.milter_wire_options.proofs.PayloadLaws.{options_in-options, options_take}
 use Rattle.milter_wire.proofs.Grammar.{◌⨾◌, EachRow, Reads, bytes_row, field_row, empty_row, row_relates}
-use Rattle.milter_wire_stream.proofs.StreamLaws.{packet-same, packet-whole}
-use Rattle.milter_wire_fields.proofs.StringFields.{one_string_takes, string_in-string}
-use Rattle.milter_wire_fields.proofs.Values.{client_takes, client_in-client, header_takes, header_in-header, macro_takes, macro_in-macro, path_takes, path_in-path}
+use Rattle.milter_fields.proofs.StreamLaws.{packet-same, packet-whole}
+use Rattle.milter_fields.proofs.StringFields.{one_string_takes, string_in-string}
+use Rattle.milter_fields.proofs.Values.{client_takes, client_in-client, header_takes, header_in-header, macro_takes, macro_in-macro, path_takes, path_in-path}
 
 -- a code and a payload that are a command's row of the table
 record IsRow (c : Command) (code : ℕ) (payload : List ℕ) : Type 0 where

@@ -6,17 +6,17 @@ use Rattle.std.proofs.lemmas.Bool.{eqb-true, eq-eqb}
 use Rattle.std.proofs.lemmas.List.{take_at, drop_at}
 use Rattle.std.proofs.lemmas.List.Sums.{sum_by-cons}
 use Rattle.std.proofs.lemmas.List.Elements.{All-nil, All-cons, All-head, All-tail}
-use Rattle.milter_wire_stream.specs.declared.fault.WireFault.{WireFault}
-use Rattle.milter_wire_stream.specs.declared.fault.WireFault.TheVariants.{ZeroLength, TooLong, UnknownCode, Malformed, Truncated, NoMemory}
-use Rattle.milter_wire_stream.specs.Stream.{Divides, Frame, IsFrame, IsRest, divide, frame_bytes, with_frame}
-use Rattle.milter_wire_stream.proofs.StreamLaws.{divide-handed}
+use Rattle.milter_fields.specs.declared.fault.WireFault.{WireFault}
+use Rattle.milter_fields.specs.declared.fault.WireFault.TheVariants.{ZeroLength, TooLong, UnknownCode, Malformed, Truncated, NoMemory}
+use Rattle.milter_fields.specs.Stream.{Divides, Frame, IsFrame, IsRest, divide, frame_bytes, with_frame}
+use Rattle.milter_fields.proofs.StreamLaws.{divide-handed}
 use Rattle.milter_wire.specs.declared.command.Command.{Command}
 use Rattle.milter_wire.specs.declared.reply.Reply.{Reply}
 use Rattle.milter_wire.specs.Tables.{Decodes, Row, has_row, read_by}
 use Rattle.milter_wire.specs.Command as of_commands
 use Rattle.milter_wire.specs.Reply as of_replies
 use Rattle.milter_wire.specs.Frames.{value_or_fault, frames_and}
-use Rattle.milter_wire_fields.proofs.Steps.{chosen}
+use Rattle.milter_fields.proofs.Steps.{chosen}
 
 -- ---- codes that are known
 

@@ -4,12 +4,12 @@ use Rattle.std.specs.Prelude.{◌==◌, ◌||◌, ◌⊎◌, IsTrue, IfOk, Match
 use Rattle.std.specs.Option.{option_map}
 use Rattle.std.proofs.lemmas.Bool.{eqb-true}
 use Rattle.std.proofs.lemmas.Option.{none-some, same_Some}
-use Rattle.milter_wire_stream.specs.declared.fault.WireFault.{WireFault}
-use Rattle.milter_wire_stream.specs.declared.fault.WireFault.TheVariants.{ZeroLength, TooLong, UnknownCode, Malformed, Truncated, NoMemory}
+use Rattle.milter_fields.specs.declared.fault.WireFault.{WireFault}
+use Rattle.milter_fields.specs.declared.fault.WireFault.TheVariants.{ZeroLength, TooLong, UnknownCode, Malformed, Truncated, NoMemory}
 use Rattle.milter_wire.specs.Tables.{Decodes, Row, has_row, read_by}
-use Rattle.milter_wire_fields.specs.Decoders.{ended}
-use Rattle.milter_wire_fields.proofs.Binds.{some_value}
-use Rattle.milter_wire_fields.proofs.Steps.{chosen, ended_takes}
+use Rattle.milter_fields.specs.Decoders.{ended}
+use Rattle.milter_fields.proofs.Binds.{some_value}
+use Rattle.milter_fields.proofs.Steps.{chosen, ended_takes}
 
 -- ---- rows of a table
 

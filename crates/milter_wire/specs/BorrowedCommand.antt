@@ -3,7 +3,7 @@ use Rattle.milter_wire.specs.declared.command.Command.{Command}
 use Rattle.milter_wire.specs.declared.command.Command.TheVariants as commands
 use Rattle.milter_wire.specs.declared.command_ref.CommandRef.{CommandRef}
 use Rattle.milter_wire.specs.declared.command_ref.CommandRef.TheVariants.{Options, Macro, Connect, Helo, Mail, Rcpt, DataCmd, Header, Eoh, Body, Eob, Unknown, Abort, Quit, QuitNew}
-use Rattle.milter_wire_fields.specs.Borrowed.{client_of, header_of, path_of}
+use Rattle.milter_fields.specs.Borrowed.{client_of, header_of, path_of}
 
 abbrev pub command_of : CommandRef → Command
 command_of (Options o) = commands.Options o

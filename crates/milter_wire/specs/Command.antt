@@ -5,12 +5,12 @@ use Rattle.std.specs.Option.{option_map}
 use Rattle.milter_wire.specs.declared.codes.TheConstants.{SMFIC_ABORT, SMFIC_BODY, SMFIC_BODYEOB, SMFIC_CONNECT, SMFIC_DATA, SMFIC_EOH, SMFIC_HEADER, SMFIC_HELO, SMFIC_MACRO, SMFIC_MAIL, SMFIC_OPTNEG, SMFIC_QUIT, SMFIC_QUIT_NC, SMFIC_RCPT, SMFIC_UNKNOWN}
 use Rattle.milter_wire.specs.declared.command.Command.{Command}
 use Rattle.milter_wire.specs.declared.command.Command.TheVariants.{Options, Macro, Connect, Helo, Mail, Rcpt, DataCmd, Header, Eoh, Body, Eob, Unknown, Abort, Quit, QuitNew}
-use Rattle.milter_wire_fields.specs.Field.{string, HasNoNul}
+use Rattle.milter_fields.specs.Field.{string, HasNoNul}
 use Rattle.milter_wire_options.specs.Payload.{options, OptionsFit, options_in}
-use Rattle.milter_wire_fields.specs.Layout.{pair, PairFits, client, ClientFits, path, PathFits, header, HeaderFits}
-use Rattle.milter_wire_stream.specs.Packet.{packet, IsPayload}
+use Rattle.milter_fields.specs.Layout.{pair, PairFits, client, ClientFits, path, PathFits, header, HeaderFits}
+use Rattle.milter_fields.specs.Packet.{packet, IsPayload}
 use Rattle.milter_wire.specs.Tables.{Row, has_row, read_by}
-use Rattle.milter_wire_fields.specs.Decoders.{ended, macro_in, client_in, string_in, path_in, header_in}
+use Rattle.milter_fields.specs.Decoders.{ended, macro_in, client_in, string_in, path_in, header_in}
 
 -- ---- the table
 

@@ -1,8 +1,8 @@
 -- Commands and replies as the frames of a stream: the frame of each, and what a frame is decoded to.
 use Rattle.std.specs.Prelude.{ℕ, Bool, true, false, List, ◌++◌, Option, None, Some, Result, Ok, Err}
-use Rattle.milter_wire_stream.specs.declared.fault.WireFault.{WireFault}
-use Rattle.milter_wire_stream.specs.declared.fault.WireFault.TheVariants.{UnknownCode, Malformed}
-use Rattle.milter_wire_stream.specs.Stream.{Division, Frame, divide}
+use Rattle.milter_fields.specs.declared.fault.WireFault.{WireFault}
+use Rattle.milter_fields.specs.declared.fault.WireFault.TheVariants.{UnknownCode, Malformed}
+use Rattle.milter_fields.specs.Stream.{Division, Frame, divide}
 use Rattle.milter_wire.specs.declared.command.Command.{Command}
 use Rattle.milter_wire.specs.declared.reply.Reply.{Reply}
 use Rattle.milter_wire.specs.Command as commands

@@ -1,8 +1,8 @@
 -- The payload of a reply, by its layout: its bytes, and what its layout asks of its parts.
 use Rattle.std.specs.Prelude.{ℕ, List, [], ◌++◌}
-use Rattle.milter_wire_stream.specs.Number.{number}
-use Rattle.milter_wire_fields.specs.Field.{string, HasNoNul}
-use Rattle.milter_wire_fields.specs.Layout.{header, HeaderFits, IndexedFits, arguments, AddressedFits, ReplyCodeFits}
+use Rattle.milter_fields.specs.Number.{number}
+use Rattle.milter_fields.specs.Field.{string, HasNoNul}
+use Rattle.milter_fields.specs.Layout.{header, HeaderFits, IndexedFits, arguments, AddressedFits, ReplyCodeFits}
 use Rattle.milter_wire_options.specs.Payload.{options_with_lists, OptionsWithListsFit}
 use Rattle.milter_wire.specs.declared.payload.PayloadRef.{PayloadRef}
 use Rattle.milter_wire.specs.declared.payload.PayloadRef.TheVariants.{Empty, Bytes, String, Code, Addressed, Header, Indexed, Options}

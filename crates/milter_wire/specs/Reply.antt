@@ -5,13 +5,13 @@ use Rattle.std.specs.Option.{option_map}
 use Rattle.milter_wire.specs.declared.codes.TheConstants.{SMFIC_OPTNEG, SMFIR_ACCEPT, SMFIR_ADDHEADER, SMFIR_ADDRCPT, SMFIR_ADDRCPT_PAR, SMFIR_CHGFROM, SMFIR_CHGHEADER, SMFIR_CONTINUE, SMFIR_DELRCPT, SMFIR_DISCARD, SMFIR_INSHEADER, SMFIR_PROGRESS, SMFIR_QUARANTINE, SMFIR_REJECT, SMFIR_REPLBODY, SMFIR_REPLYCODE, SMFIR_SKIP, SMFIR_TEMPFAIL}
 use Rattle.milter_wire.specs.declared.reply.Reply.{Reply}
 use Rattle.milter_wire.specs.declared.reply.Reply.TheVariants.{Options, AddRcpt, DelRcpt, AddRcptPar, Accept, ReplaceBody, Continue, Discard, ChangeFrom, AddHeader, InsertHeader, ChangeHeader, Progress, Quarantine, Reject, Skip, Tempfail, Code}
-use Rattle.milter_wire_stream.specs.Number.{number}
-use Rattle.milter_wire_fields.specs.Field.{string, HasNoNul}
+use Rattle.milter_fields.specs.Number.{number}
+use Rattle.milter_fields.specs.Field.{string, HasNoNul}
 use Rattle.milter_wire_options.specs.Payload.{options_with_lists, OptionsWithListsFit, options_with_lists_in}
-use Rattle.milter_wire_fields.specs.Layout.{header, HeaderFits, IndexedFits, arguments, AddressedFits, ReplyCodeFits}
-use Rattle.milter_wire_stream.specs.Packet.{packet, IsPayload}
+use Rattle.milter_fields.specs.Layout.{header, HeaderFits, IndexedFits, arguments, AddressedFits, ReplyCodeFits}
+use Rattle.milter_fields.specs.Packet.{packet, IsPayload}
 use Rattle.milter_wire.specs.Tables.{Row, has_row, read_by}
-use Rattle.milter_wire_fields.specs.Decoders.{ended, string_in, header_in, indexed_in, addressed_in, reply_code_in}
+use Rattle.milter_fields.specs.Decoders.{ended, string_in, header_in, indexed_in, addressed_in, reply_code_in}
 
 -- ---- the table
 

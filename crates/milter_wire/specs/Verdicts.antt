@@ -1,6 +1,6 @@
 -- What the protocol knows of a filter's verdicts.
 use Rattle.std.specs.Prelude.{ℕ, Bool, true, false, List, [], ◌∷◌, codes, Option, Result, Ok, Err}
-use Rattle.milter_wire_fields.specs.Decoders.{ended}
+use Rattle.milter_fields.specs.Decoders.{ended}
 use Rattle.milter_wire.specs.declared.codes.TheConstants.{SMFIR_ACCEPT, SMFIR_CONTINUE, SMFIR_DISCARD, SMFIR_REJECT, SMFIR_SKIP, SMFIR_TEMPFAIL}
 use Rattle.milter_wire.specs.declared.reply.Reply.{Reply}
 use Rattle.milter_wire.specs.declared.reply.Reply.TheVariants as replies

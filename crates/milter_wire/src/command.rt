@@ -3,16 +3,15 @@
 ghost use Rattle.std.specs.Prelude.{◌≡◌, ◌≤◌, ◌++◌, ◌↔◌, length, IsTrue, OnOk, OnErr, IfOk, IsErrOf, MatchResult};
 ghost use Rattle.milter_wire.specs.declared.command.Command.{Command};
 ghost use Rattle.milter_wire.specs.Stages.{stage_of};
-ghost use Rattle.milter_wire_stream.specs.Packet.{packet};
+ghost use Rattle.milter_fields.specs.Packet.{packet};
 ghost use Rattle.milter_wire.specs.Command.{is_code, Fits, IsEncodedAs, encoding, command_in};
 ghost use Rattle.milter_wire.specs.Tables.{Decodes};
 ghost use Rattle.milter_wire.specs.BorrowedCommand.{command_of};
 
 use crate::command_ref::CommandRef;
 use crate::stage::Stage;
-use milter_wire_fields::{Client, Header, Pairs, PairsRef, Path, Text};
+use milter_fields::{Client, Header, NoMemory, PAYLOAD_MAX, Pairs, PairsRef, Path, Text, WireFault};
 use milter_wire_options::Options;
-use milter_wire_stream::{NoMemory, PAYLOAD_MAX, WireFault};
 use std::alloc::Global;
 
 /// A packet that an MTA sends to a filter. Source: mfdef.h (the codes SMFIC_), and the layouts that libmilter reads.

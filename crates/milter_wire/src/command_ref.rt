@@ -2,12 +2,12 @@
 
 ghost use Rattle.std.specs.Prelude.{◌≡◌, ◌-◌, ◌^◌, ◌∷◌, ◌++◌, ◌↔◌, IfOk, IsTrue, OnErr, OnOk, length, min, if◌then◌else◌, option_map};
 ghost use Rattle.std.specs.List.{flat_map};
-ghost use Rattle.milter_wire_stream.specs.AppendedBytes.{PutsBytes};
-ghost use Rattle.milter_wire_stream.specs.declared.fault.WireFault.TheVariants as faults;
+ghost use Rattle.milter_fields.specs.AppendedBytes.{PutsBytes};
+ghost use Rattle.milter_fields.specs.declared.fault.WireFault.TheVariants as faults;
 ghost use Rattle.milter_wire.specs.declared.command.Command.TheVariants as commands;
-ghost use Rattle.milter_wire_fields.specs.Layout.{pair};
+ghost use Rattle.milter_fields.specs.Layout.{pair};
 ghost use Rattle.milter_wire.specs.Command.{code_of, payload_of, is_code, Fits, FieldsFit, encoding, command_in};
-ghost use Rattle.milter_wire_fields.specs.Decoders.{macro_in};
+ghost use Rattle.milter_fields.specs.Decoders.{macro_in};
 ghost use Rattle.milter_wire.specs.Tables.{map_ok};
 ghost use Rattle.milter_wire.specs.Frames.{frame_command};
 ghost use Rattle.milter_wire.specs.BorrowedCommand.{command_of};
@@ -20,12 +20,11 @@ use crate::codes::{
 };
 use crate::command::Command;
 use crate::stage::Stage;
-use milter_wire_fields::{
-    ClientRef, HeaderRef, PairsRef, PathRef, Text, has_no_nul, one_string, put_bytes, put_string,
-    string_len,
+use milter_fields::{
+    ClientRef, HeaderRef, NoMemory, PAYLOAD_MAX, PairsRef, PathRef, Text, WireFault, has_no_nul,
+    one_string, put_bytes, put_head, put_string, string_len,
 };
 use milter_wire_options::{OPTIONS_LEN, Options, options_fit, put_options, take_options};
-use milter_wire_stream::{NoMemory, PAYLOAD_MAX, WireFault, put_head};
 use std::alloc::Global;
 
 /// A command that is borrowed: from a packet, from a [`Command`], or from the parts of a session. Each variant is that
@@ -219,7 +218,7 @@ impl<'a> CommandRef<'a> {
     }
 
     /// The number of bytes of the payload, or the greatest `usize`.
-    #[tactic(auto, unfolding(milter_wire_stream::specs::Number::number))]
+    #[tactic(auto, unfolding(milter_fields::specs::Number::number))]
     fn payload_len(&self) -> usize
         ensures { result ≡ min (length (payload_of (command_of self.now))) (2 ^ 64 - 1) }
     {
@@ -260,7 +259,7 @@ fn put_macro(out: &mut Vec<u8>, command: u8, pairs: &PairsRef<'_>) -> Result<(),
 }
 
 /// The macros that these bytes encode, all of the bytes, and the code before them.
-#[tactic(auto, unfolding(milter_wire_fields::specs::Decoders::macro_in))]
+#[tactic(auto, unfolding(milter_fields::specs::Decoders::macro_in))]
 fn macro_of(bytes: &[u8]) -> Option<CommandRef<'_>>
     ensures { option_map command_of result ≡ option_map (λ m. commands.Macro m.0 m.1) (macro_in bytes.now) }
 {

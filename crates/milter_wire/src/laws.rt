@@ -2,8 +2,8 @@
 
 ghost use Rattle.std.specs.Prelude.{◌≡◌, ◌≢◌, ◌∷◌, ◌++◌, ◌↔◌, All, IsTrue, List, ℕ, [], codes, length, map, Err, Ok, Result, Some};
 ghost use Rattle.std.specs.List.{flat_map};
-ghost use Rattle.milter_wire_stream.specs.declared.fault.WireFault.{WireFault};
-ghost use Rattle.milter_wire_stream.specs.Stream.{Divides, Frame, IsRest, divide};
+ghost use Rattle.milter_fields.specs.declared.fault.WireFault.{WireFault};
+ghost use Rattle.milter_fields.specs.Stream.{Divides, Frame, IsRest, divide};
 ghost use Rattle.milter_wire.specs.declared.codes.TheConstants.{SMFIC_ABORT, SMFIC_BODY, SMFIC_BODYEOB, SMFIC_CONNECT, SMFIC_DATA, SMFIC_EOH, SMFIC_HEADER, SMFIC_HELO, SMFIC_MACRO, SMFIC_MAIL, SMFIC_OPTNEG, SMFIC_QUIT, SMFIC_QUIT_NC, SMFIC_RCPT, SMFIC_UNKNOWN};
 ghost use Rattle.milter_wire.specs.declared.codes.TheConstants.{SMFIR_ACCEPT, SMFIR_ADDHEADER, SMFIR_ADDRCPT, SMFIR_ADDRCPT_PAR, SMFIR_CHGFROM, SMFIR_CHGHEADER, SMFIR_CONTINUE, SMFIR_DELRCPT, SMFIR_DISCARD, SMFIR_INSHEADER, SMFIR_PROGRESS, SMFIR_QUARANTINE, SMFIR_REJECT, SMFIR_REPLBODY, SMFIR_REPLYCODE, SMFIR_SKIP, SMFIR_TEMPFAIL};
 ghost use Rattle.milter_wire.specs.declared.command.Command.{Command};

@@ -4,15 +4,14 @@ ghost use Rattle.std.specs.Prelude.{◌≡◌, ◌≤◌, ◌<◌, ◌+◌, ℕ,
 ghost use Rattle.milter_wire.specs.declared.command.Command.{Command};
 ghost use Rattle.milter_wire.specs.Command.{PacketLen};
 
-use milter_wire_fields::{
-    Client, Header, Pairs, Path, Text, has_no_nul, header_fits, header_len, pairs_fit, pairs_len,
-    string_len,
+use milter_fields::{
+    Client, HEAD_LEN, Header, PAYLOAD_MAX, Pairs, Path, Text, has_no_nul, header_fits, header_len,
+    pairs_fit, pairs_len, string_len,
 };
-use milter_wire_stream::{HEAD_LEN, PAYLOAD_MAX};
 
 /// The number of bytes of the packet of the client, from 8 to 65,540, its length field among them; or none, where there
 /// is no such packet: a string has a NUL, or they have too many bytes. Doesn't allocate.
-#[tactic(auto, unfolding(milter_wire_stream::specs::Number::number))]
+#[tactic(auto, unfolding(milter_fields::specs::Number::number))]
 pub fn connect_packet_len(client: &Client) -> Option<usize>
     ensures { PacketLen (Command.Connect client.now) result }
 {
@@ -25,7 +24,7 @@ pub fn connect_packet_len(client: &Client) -> Option<usize>
 
 /// The number of bytes of the packet of the sender or the recipient, from 6 to 65,540, its length field among them; or
 /// none, where there is no such packet: a string has a NUL, or they have too many bytes. Doesn't allocate.
-#[tactic(auto, unfolding(milter_wire_stream::specs::Number::number))]
+#[tactic(auto, unfolding(milter_fields::specs::Number::number))]
 pub fn path_packet_len(path: &Path) -> Option<usize>
     ensures mail { PacketLen (Command.Mail path.now) result }
     ensures rcpt { PacketLen (Command.Rcpt path.now) result }
@@ -39,7 +38,7 @@ pub fn path_packet_len(path: &Path) -> Option<usize>
 
 /// The number of bytes of the packet of the header field, from 7 to 65,540, its length field among them; or none, where
 /// there is no such packet: a string has a NUL, or they have too many bytes. Doesn't allocate.
-#[tactic(auto, unfolding(milter_wire_stream::specs::Number::number))]
+#[tactic(auto, unfolding(milter_fields::specs::Number::number))]
 pub fn header_packet_len(header: &Header) -> Option<usize>
     ensures { PacketLen (Command.Header header.now) result }
 {
@@ -51,7 +50,7 @@ pub fn header_packet_len(header: &Header) -> Option<usize>
 
 /// The number of bytes of a packet with these macros, from 6 to 65,540, its length field among them; or none, where no
 /// packet has them: a string has a NUL, or they have too many bytes. Doesn't allocate.
-#[tactic(auto, unfolding(milter_wire_stream::specs::Number::number))]
+#[tactic(auto, unfolding(milter_fields::specs::Number::number))]
 pub fn macro_packet_len(pairs: &Pairs) -> Option<usize>
     ensures { (command : ℕ) → PacketLen (Command.Macro command pairs.now) result }
 {
@@ -63,7 +62,7 @@ pub fn macro_packet_len(pairs: &Pairs) -> Option<usize>
 
 /// The number of bytes of the packet with a client's greeting, from 6 to 65,540, its length field among them; or none,
 /// where no packet has the name: it has a NUL, or has too many bytes. Doesn't allocate.
-#[tactic(auto, unfolding(milter_wire_stream::specs::Number::number))]
+#[tactic(auto, unfolding(milter_fields::specs::Number::number))]
 pub fn helo_packet_len(name: &Text) -> Option<usize>
     ensures { PacketLen (Command.Helo name.now) result }
 {

@@ -28,14 +28,12 @@ pub use laws::{
 pub use lengths::{
     connect_packet_len, header_packet_len, helo_packet_len, macro_packet_len, path_packet_len,
 };
-pub use milter_wire_fields::{
-    Client, ClientRef, Header, HeaderRef, List, Origin, OriginRef, Pair, PairRef, Pairs, PairsRef,
-    Params, ParamsRef, Path, PathRef, Text, has_no_nul, pair_len, string_len,
+pub use milter_fields::{
+    Client, ClientRef, CodeName, HEAD_LEN, Header, HeaderRef, List, NoMemory, Origin, OriginRef,
+    PAYLOAD_MAX, Packet, Pair, PairRef, Pairs, PairsRef, Params, ParamsRef, Path, PathRef,
+    RefusedMemory, Splitter, Text, WireFault, has_no_nul, pair_len, string_len,
 };
 pub use milter_wire_options::{Actions, MacroStage, Options, Protocol, SymList, SymLists};
-pub use milter_wire_stream::{
-    CodeName, HEAD_LEN, NoMemory, PAYLOAD_MAX, Packet, RefusedMemory, Splitter, WireFault,
-};
 pub use negotiation::{Negotiated, negotiate};
 pub use payload::PayloadRef;
 pub use reply::Reply;

@@ -1,17 +1,16 @@
 //! The payloads of replies, by their layouts.
 
 ghost use Rattle.std.specs.Prelude.{◌≡◌, ◌-◌, ◌^◌, ◌↔◌, IsTrue, length, min};
-ghost use Rattle.milter_wire_stream.specs.AppendedBytes.{PutsBytes};
+ghost use Rattle.milter_fields.specs.AppendedBytes.{PutsBytes};
 ghost use Rattle.milter_wire.specs.Payload.{PayloadFits, payload_bytes};
 
-use milter_wire_fields::{
-    Header, Text, arguments_fit, arguments_len, has_no_nul, header_fits, header_len, is_reply_code,
-    put_addressed, put_bytes, put_header, put_indexed, put_string, string_len,
+use milter_fields::{
+    Header, NoMemory, Text, arguments_fit, arguments_len, has_no_nul, header_fits, header_len,
+    is_reply_code, put_addressed, put_bytes, put_header, put_indexed, put_string, string_len,
 };
 use milter_wire_options::{
     Options, SymLists, options_with_lists_fit, options_with_lists_len, put_options_with_lists,
 };
-use milter_wire_stream::NoMemory;
 
 /// The bytes of the index of a header field.
 const INDEX_LEN: usize = 4;
@@ -60,7 +59,7 @@ impl<'a> PayloadRef<'a> {
     }
 
     /// The number of its bytes, or the greatest `usize`. Doesn't allocate.
-    #[tactic(auto, unfolding(milter_wire_stream::specs::Number::number))]
+    #[tactic(auto, unfolding(milter_fields::specs::Number::number))]
     pub fn len(&self) -> usize
         ensures { result ≡ min (length (payload_bytes self.now)) (2 ^ 64 - 1) }
     {

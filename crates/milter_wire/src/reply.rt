@@ -2,12 +2,12 @@
 
 ghost use Rattle.std.specs.Prelude.{◌≡◌, ◌≤◌, ◌-◌, ◌^◌, ◌++◌, ◌↔◌, length, min, IsTrue, OnOk, OnErr, IfOk, IsErrOf, MatchResult};
 ghost use Rattle.milter_wire.specs.declared.reply.Reply.{Reply};
-ghost use Rattle.milter_wire_stream.specs.AppendedBytes.{PutsBytes};
-ghost use Rattle.milter_wire_stream.specs.Packet.{packet};
+ghost use Rattle.milter_fields.specs.AppendedBytes.{PutsBytes};
+ghost use Rattle.milter_fields.specs.Packet.{packet};
 ghost use Rattle.milter_wire.specs.Reply.{code_of, payload_of, is_code, Fits, FieldsFit, IsEncodedAs, encoding, reply_in};
 ghost use Rattle.milter_wire.specs.Payload.{PayloadFits, payload_bytes};
 ghost use Rattle.milter_wire.specs.Tables.{Decodes};
-ghost use Rattle.milter_wire_fields.specs.Decoders.{DecodesOptional};
+ghost use Rattle.milter_fields.specs.Decoders.{DecodesOptional};
 
 use crate::codes::{
     SMFIC_OPTNEG, SMFIR_ACCEPT, SMFIR_ADDHEADER, SMFIR_ADDRCPT, SMFIR_ADDRCPT_PAR, SMFIR_CHGFROM,
@@ -15,11 +15,11 @@ use crate::codes::{
     SMFIR_QUARANTINE, SMFIR_REJECT, SMFIR_REPLBODY, SMFIR_REPLYCODE, SMFIR_SKIP, SMFIR_TEMPFAIL,
 };
 use crate::payload::PayloadRef;
-use milter_wire_fields::{
-    Header, Text, take_addressed, take_header, take_indexed, take_reply_code, take_text,
+use milter_fields::{
+    Header, NoMemory, PAYLOAD_MAX, Text, WireFault, put_head, take_addressed, take_header,
+    take_indexed, take_reply_code, take_text,
 };
 use milter_wire_options::{Options, SymLists, take_options_with_lists};
-use milter_wire_stream::{NoMemory, PAYLOAD_MAX, WireFault, put_head};
 use std::alloc::Global;
 
 /// A packet that a filter sends to an MTA. Source: mfdef.h (the codes SMFIR_), and the layouts that libmilter writes.

@@ -11,8 +11,7 @@ use crate::codes::{
 use crate::payload::PayloadRef;
 use crate::reply::Reply;
 use crate::stage::Stage;
-use milter_wire_fields::Text;
-use milter_wire_stream::NoMemory;
+use milter_fields::{NoMemory, Text};
 use std::alloc::Global;
 
 /// A filter's answer to a stage. Source: mfdef.h (SMFIR_CONTINUE and those after it), and the libmilter callback

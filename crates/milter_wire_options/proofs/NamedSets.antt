@@ -12,8 +12,8 @@ use Rattle.std.proofs.lemmas.Nat.Bits.{bit_at_and, bit_at_or, same_from_bits}
 use Rattle.std.proofs.lemmas.Option.{same_Some}
 use Rattle.std.proofs.lemmas.Str.{IsUtf8-append, IsUtf8-from_ascii}
 use Rattle.bitflags.specs.Sets.{Row, find_name, find_row}
-use Rattle.milter_wire_fields.specs.Bind.{◌>>=◌}
-use Rattle.milter_wire_fields.proofs.Binds.{bind_some}
+use Rattle.milter_fields.specs.Bind.{◌>>=◌}
+use Rattle.milter_fields.proofs.Binds.{bind_some}
 use Rattle.milter_wire_options.specs.Bits.{actions_table, bits_named, each_found, is_within, names_in, protocol_table, with_bits}
 
 -- ---- ASCII

@@ -7,7 +7,7 @@ use Rattle.std.proofs.lemmas.List.Sums.{fails_before_first}
 use Rattle.std.proofs.lemmas.List.Splits.{slice_split_first, slice_split_none}
 use Rattle.bitflags.specs.Sets.{Row, find_name}
 use Rattle.milter_wire_options.specs.Bits.{each_found, names_in, with_bits}
-use Rattle.milter_wire_fields.specs.Bind.{◌>>=◌}
+use Rattle.milter_fields.specs.Bind.{◌>>=◌}
 
 -- the set of the names of a text, after this one
 abbrev pub set_with : List Row → ℕ → List ℕ → Option ℕ

@@ -7,7 +7,7 @@ use Rattle.std.proofs.lemmas.List.{get_or-map, length-map, map-append, take_all,
 use Rattle.std.proofs.lemmas.List.Elements.{filter-append}
 use Rattle.std.proofs.Math.Seq.{take-append_seam}
 use Rattle.bitflags.specs.Sets.{Row}
-use Rattle.milter_wire_stream.specs.AppendedBytes.{Extends}
+use Rattle.milter_fields.specs.AppendedBytes.{Extends}
 use Rattle.milter_wire_options.specs.Bits.{names_joined, names_of, names_text}
 
 abbrev pub are_none : List (List ℕ) → Bool

@@ -2,12 +2,12 @@
 use Rattle.std.proofs.Common.{◌≡◌, ℕ, List, [], ◌++◌, Some, refl, sym, ap, subst, ◌∙◌, append_assoc, append-nil}
 use Rattle.std.specs.List.{flat_map}
 use Rattle.std.proofs.lemmas.Option.{same_Some}
-use Rattle.milter_wire_stream.specs.Number.{number, number_at, IsBytes}
-use Rattle.milter_wire_stream.proofs.StreamLaws.{number_at-number, number_takes}
-use Rattle.milter_wire_fields.specs.Bind.{◌>>=◌}
-use Rattle.milter_wire_fields.specs.Decoders.{ended}
-use Rattle.milter_wire_fields.proofs.Binds.{bind_some}
-use Rattle.milter_wire_fields.proofs.Steps.{ended_takes}
+use Rattle.milter_fields.specs.Number.{number, number_at, IsBytes}
+use Rattle.milter_fields.proofs.StreamLaws.{number_at-number, number_takes}
+use Rattle.milter_fields.specs.Bind.{◌>>=◌}
+use Rattle.milter_fields.specs.Decoders.{ended}
+use Rattle.milter_fields.proofs.Binds.{bind_some}
+use Rattle.milter_fields.proofs.Steps.{ended_takes}
 use Rattle.milter_wire_options.specs.declared.options.Options.{Options}
 use Rattle.milter_wire_options.specs.declared.symbol_lists.SymList.{SymList}
 use Rattle.milter_wire_options.specs.Payload.{options, OptionsFit, options_at, options_in, sym_list, sym_lists_in, options_with_lists, OptionsWithListsFit, options_with_lists_in}

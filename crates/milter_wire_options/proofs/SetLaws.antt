@@ -10,8 +10,8 @@ use Rattle.std.proofs.lemmas.Option.{none-some, same_Some}
 use Rattle.std.proofs.lemmas.List.Elements.{All-nil, All-cons, All-head, All-tail}
 use Rattle.bitflags.specs.Sets.{Row, find_name}
 use Rattle.milter_wire_options.specs.Bits.{AreKnown, IsSetOf, OneNames, bits_named, each_found, names_in, with_bits}
-use Rattle.milter_wire_fields.specs.Bind.{◌>>=◌}
-use Rattle.milter_wire_fields.proofs.Binds.{bind_some, some_value}
+use Rattle.milter_fields.specs.Bind.{◌>>=◌}
+use Rattle.milter_fields.proofs.Binds.{bind_some, some_value}
 
 -- ---- the bits of a number
 

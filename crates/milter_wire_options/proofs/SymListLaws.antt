@@ -4,15 +4,15 @@ use Rattle.std.specs.List.{flat_map}
 use Rattle.std.proofs.lemmas.Option.{same_Some}
 use Rattle.std.proofs.lemmas.List.Elements.{All-nil, All-cons, All-head, All-tail}
 use Rattle.milter_wire_options.specs.declared.symbol_lists.SymList.{SymList}
-use Rattle.milter_wire_stream.specs.Number.{IsBytes, number, number_at}
-use Rattle.milter_wire_fields.specs.Field.{string}
+use Rattle.milter_fields.specs.Number.{IsBytes, number, number_at}
+use Rattle.milter_fields.specs.Field.{string}
 use Rattle.milter_wire_options.specs.Payload.{sym_list, SymListFits, sym_list_at, sym_lists_within, sym_lists_in}
-use Rattle.milter_wire_fields.specs.Bind.{◌>>=◌}
-use Rattle.milter_wire_fields.specs.Decoders.{string_at}
-use Rattle.milter_wire_fields.proofs.Binds.{bind_some}
-use Rattle.milter_wire_stream.proofs.StreamLaws.{number_takes, number_at-number}
-use Rattle.milter_wire_fields.proofs.StringFields.{string_takes, string_at-string, string_at-shorter}
-use Rattle.milter_wire_fields.proofs.PortFields.{bytes_after}
+use Rattle.milter_fields.specs.Bind.{◌>>=◌}
+use Rattle.milter_fields.specs.Decoders.{string_at}
+use Rattle.milter_fields.proofs.Binds.{bind_some}
+use Rattle.milter_fields.proofs.StreamLaws.{number_takes, number_at-number}
+use Rattle.milter_fields.proofs.StringFields.{string_takes, string_at-string, string_at-shorter}
+use Rattle.milter_fields.proofs.PortFields.{bytes_after}
 
 -- ---- a list at the start
 

@@ -5,7 +5,7 @@ use Rattle.std.specs.List.{filter, join_with_byte, slice_split}
 use Rattle.std.specs.Cmp.Lexicographic.{pointwise}
 use Rattle.std.specs.Int.RustNames.{bit_and, bit_or}
 use Rattle.bitflags.specs.Sets.{Row, find_name}
-use Rattle.milter_wire_fields.specs.Bind.{◌>>=◌}
+use Rattle.milter_fields.specs.Bind.{◌>>=◌}
 
 -- ---- the names
 

@@ -1,10 +1,10 @@
 -- The payload of options: three numbers, and in a reply symbol lists after them.
 use Rattle.std.specs.Prelude.{ℕ, zero, suc, ◌<◌, ◌^◌, List, [], ◌∷◌, ◌++◌, length, All, Option, None, Some}
 use Rattle.std.specs.List.{flat_map}
-use Rattle.milter_wire_stream.specs.Number.{number, number_at}
-use Rattle.milter_wire_fields.specs.Field.{string, HasNoNul}
-use Rattle.milter_wire_fields.specs.Bind.{◌>>=◌}
-use Rattle.milter_wire_fields.specs.Decoders.{ended, string_at}
+use Rattle.milter_fields.specs.Number.{number, number_at}
+use Rattle.milter_fields.specs.Field.{string, HasNoNul}
+use Rattle.milter_fields.specs.Bind.{◌>>=◌}
+use Rattle.milter_fields.specs.Decoders.{ended, string_at}
 use Rattle.milter_wire_options.specs.declared.options.Options.{Options}
 use Rattle.milter_wire_options.specs.declared.symbol_lists.SymList.{SymList}
 

@@ -2,12 +2,12 @@
 
 ghost use Rattle.std.specs.Prelude.{◌≡◌, ◌==◌, ◌∷◌, ⊤, if◌then◌else◌, option_map};
 ghost use Rattle.std.specs.Int.RustNames.{bit_and};
-ghost use Rattle.milter_wire_stream.specs.AppendedBytes.{PutsBytes};
+ghost use Rattle.milter_fields.specs.AppendedBytes.{PutsBytes};
 ghost use Rattle.milter_wire_options.specs.Bits.{actions_table, bits_named, names_text, protocol_table};
 
-use crate::options::{Actions, Protocol};
 use bitflags::{Flag, Flags, bitflag_items};
-use milter_wire_stream::NoMemory;
+use crate::options::{Actions, Protocol};
+use milter_fields::NoMemory;
 
 bitflag_items! {
     impl Actions: u32 {

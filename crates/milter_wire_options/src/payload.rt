@@ -1,11 +1,11 @@
 //! Options as payloads: three numbers.
 
 ghost use Rattle.std.specs.Prelude.{◌≡◌, ◌++◌, ◌↔◌, IsTrue, OnOk, option_map};
-ghost use Rattle.milter_wire_stream.specs.AppendedBytes.{PutsBytes};
+ghost use Rattle.milter_fields.specs.AppendedBytes.{PutsBytes};
 ghost use Rattle.milter_wire_options.specs.Payload.{options, OptionsFit, options_at, options_in};
 
 use crate::options::{Actions, Options, Protocol};
-use milter_wire_stream::{NoMemory, put_number, take_number};
+use milter_fields::{NoMemory, put_number, take_number};
 
 /// The number of bytes that options have in a packet.
 pub const OPTIONS_LEN: usize = 12;

@@ -2,14 +2,15 @@
 
 ghost use Rattle.std.specs.Prelude.{◌≡◌, ◌-◌, ◌^◌, ◌↔◌, IfOk, IsTrue, is_some, length, min, option_map};
 ghost use Rattle.std.specs.List.{flat_map};
-ghost use Rattle.milter_wire_stream.specs.AppendedBytes.{PutsBytes};
+ghost use Rattle.milter_fields.specs.AppendedBytes.{PutsBytes};
 ghost use Rattle.milter_wire_options.specs.Payload.{options_with_lists, OptionsWithListsFit, sym_list, SymListFits, options_with_lists_in, sym_list_at, sym_lists_in};
-ghost use Rattle.milter_wire_fields.specs.Decoders.{DecodesOptional};
+ghost use Rattle.milter_fields.specs.Decoders.{DecodesOptional};
 
 use crate::options::Options;
 use crate::payload::{OPTIONS_LEN, options_fit, put_options, take_options_first};
-use milter_wire_fields::{List, Text, has_no_nul, put_string, string_len, take_string};
-use milter_wire_stream::{NoMemory, put_number, take_number};
+use milter_fields::{
+    List, NoMemory, Text, has_no_nul, put_number, put_string, string_len, take_number, take_string,
+};
 use std::alloc::Global;
 
 /// The number of bytes that a stage has in a packet.
@@ -51,7 +52,7 @@ fn sym_list_fits(list: &SymList) -> bool
 }
 
 /// The number of bytes of the list in a packet, or the greatest `usize` where there are more. Doesn't allocate.
-#[tactic(auto, unfolding(milter_wire_stream::specs::Number::number))]
+#[tactic(auto, unfolding(milter_fields::specs::Number::number))]
 pub fn sym_list_len(list: &SymList) -> usize
     ensures { result ≡ min (length (sym_list list.now)) (2 ^ 64 - 1) }
 {
@@ -140,7 +141,7 @@ pub fn options_with_lists_fit(options: &Options, lists: &SymLists) -> bool
 
 /// The number of bytes of the options and the lists in a packet, or the greatest `usize` where there are more. Doesn't
 /// allocate.
-#[tactic(auto, unfolding(milter_wire_stream::specs::Number::number))]
+#[tactic(auto, unfolding(milter_fields::specs::Number::number))]
 pub fn options_with_lists_len(options: &Options, lists: &SymLists) -> usize
     ensures { result ≡ min (length (options_with_lists options.now lists.now)) (2 ^ 64 - 1) }
 {

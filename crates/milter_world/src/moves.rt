@@ -8,7 +8,7 @@ ghost use Rattle.milter_mta.specs.Output.{advanced, pending};
 ghost use Rattle.milter_world_laws.specs.Ends.{mta_sent, sent_count};
 ghost use Rattle.milter_world.specs.Reached.{CanTake};
 
-use milter_byte_queue::ByteQueue;
+use milter_fields::ByteQueue;
 use milter_filter_core::{FilterCore, FilterFault, Policy};
 use milter_mta::{Loss, MtaCore};
 use milter_wire::NoMemory;

@@ -10,14 +10,14 @@ ghost use Rattle.milter_world.specs.Reached.{AreReached, StepsTo};
 
 use crate::moves::{feed_filter, feed_mta, send_bytes, take_replies};
 use crate::scenario::possible_session;
-use milter_byte_queue::ByteQueue;
+use milter_fields::ByteQueue;
 use milter_filter_core::{CommandOrder, FilterCore, Policy};
 use milter_mail::Session;
 use milter_mta::{Config, Loss, MtaCore, Reports, Want};
 use milter_wire::NoMemory;
 use milter_world_laws::{
-    answered_bytes_step, dialled_ends_step, events_without_effect, fresh_ends_begin,
-    lost_ends_step, received_bytes_step, sent_bytes_step, taken_bytes_step,
+    answered_bytes_step, dialled_ends_step, events_without_effect, fresh_ends_begin, lost_ends_step,
+    received_bytes_step, sent_bytes_step, taken_bytes_step,
 };
 use milter_world_schedule::{Counts, Event, State};
 use std::alloc::Global;

@@ -6,8 +6,8 @@ use Rattle.std.proofs.lemmas.Bool.{le-leb, lt-leb}
 use Rattle.std.proofs.lemmas.List.{take-append-le}
 use Rattle.std.proofs.lemmas.List.Concat.{flat_map-cons, flat_map-append}
 use Rattle.std.proofs.Math.Seq.{take-append-add}
-use Rattle.milter_wire_stream.specs.Stream.{Division, IsUnfinished, divide, length_fault}
-use Rattle.milter_wire_stream.proofs.StreamLaws.{divide-unfinished, length_fault-unfinished, prefix-unfinished}
+use Rattle.milter_fields.specs.Stream.{Division, IsUnfinished, divide, length_fault}
+use Rattle.milter_fields.proofs.StreamLaws.{divide-unfinished, length_fault-unfinished, prefix-unfinished}
 use Rattle.milter_wire.specs.declared.command.Command.{Command}
 use Rattle.milter_wire.specs.Command.{Fits, encoding}
 use Rattle.milter_wire.specs.Frames.{command_frame, frame_command, frames_and}

@@ -7,7 +7,7 @@ use Rattle.milter_mail.specs.Plan.{plan}
 use Rattle.milter_protocol.specs.Dialogue.{dialogue_with}
 use Rattle.milter_mta_outcome.specs.declared.loss.Loss.{Loss}
 use Rattle.milter_mta_outcome.specs.declared.report.Report.{Report}
-use Rattle.milter_wire_stream.specs.Number.{number}
+use Rattle.milter_fields.specs.Number.{number}
 use Rattle.milter_wire.specs.declared.reply.Reply.{Reply}
 use Rattle.milter_wire.specs.Reply.{code_of, encoding, payload_of}
 use Rattle.milter_protocol.specs.Replies.{options_reply}

@@ -1,6 +1,6 @@
 //! A splitter, fed with pieces.
 
-use milter_wire_stream::{Splitter, WireFault};
+use milter_fields::{Splitter, WireFault};
 
 /// Whether the splitter takes so many bytes of the piece.
 fn takes(splitter: &mut Splitter, piece: &[u8], count: usize) -> bool {

@@ -1,6 +1,6 @@
 use Rattle.std.proofs.Common.{◌≡◌, Some, arith, rules}
 use Rattle.std.proofs.lemmas.Grind.{common_steps}
-use Rattle.milter_wire_stream.specs.Stream.{length_fault}
+use Rattle.milter_fields.specs.Stream.{length_fault}
 use Rattle.milter_c.proofs.stream.deiruska_stream_next.Goals as goal
 
 pub returns-in-Err-clause-fault : goal.returns-in-Err-clause-fault

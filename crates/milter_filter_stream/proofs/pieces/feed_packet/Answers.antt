@@ -1,7 +1,7 @@
 use Rattle.std.proofs.Common.{◌≡◌, ◌+◌, ◌++◌, [], length, take, refl, sym, ◌∙◌, arith}
 use Rattle.std.proofs.lemmas.List.{nil_from_length}
-use Rattle.milter_wire_stream.specs.Splitter.{frame_of}
-use Rattle.milter_wire_stream.specs.Stream.{frame_bytes}
+use Rattle.milter_fields.specs.Splitter.{frame_of}
+use Rattle.milter_fields.specs.Stream.{frame_bytes}
 use Rattle.milter_filter_stream.proofs.PieceStreams.{one-packet, packet-gives_up, replied-packet, rest-packet}
 use Rattle.milter_filter_stream.proofs.pieces.feed_packet.Goals as goal
 

@@ -1,6 +1,6 @@
 use Rattle.std.proofs.Common.{◌++◌, take, Ok, sym, ◌∙◌, ap, subst, arith}
-use Rattle.milter_wire_stream.specs.Splitter.{frame_of}
-use Rattle.milter_wire_stream.specs.Stream.{IsUnfinished}
+use Rattle.milter_fields.specs.Splitter.{frame_of}
+use Rattle.milter_fields.specs.Stream.{IsUnfinished}
 use Rattle.milter_filter_stream.specs.Asking.{IsUnread}
 use Rattle.milter_filter_stream.proofs.FirstReplies.{serves}
 use Rattle.milter_filter_stream.proofs.LengthFaults.{fed-bytes, field-unread, no-bytes, piece-bytes}

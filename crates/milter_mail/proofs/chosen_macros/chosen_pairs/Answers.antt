@@ -3,7 +3,7 @@ use denote.Ref.{Bor}
 use Rattle.std.specs.Option.{option_copied, option_to_list}
 use Rattle.std.proofs.Math.Seq.{drop-cons}
 use Rattle.std.proofs.lemmas.Map.Text.{btree_map_updates_str}
-use Rattle.milter_wire_fields.specs.declared.pair.Pair.{Pair}
+use Rattle.milter_fields.specs.declared.pair.Pair.{Pair}
 use Rattle.milter_mail.specs.ChosenMacros.{names_of}
 use Rattle.milter_mail.proofs.MacroChoice.{Choosing, at_name, choosing_next, word_of_len}
 use Rattle.milter_mail.proofs.chosen_macros.chosen_pairs.Goals as goal

@@ -2,7 +2,7 @@ use Rattle.std.proofs.Common.{◌≡◌, ℕ, ◌+◌, ◌<◌, List, length, ta
 use Rattle.std.proofs.lemmas.List.Elements.{All-more}
 use Rattle.std.proofs.lemmas.List.Sums.{sum_by_more}
 use Rattle.milter_wire.specs.declared.command.Command.TheVariants as commands
-use Rattle.milter_wire_fields.specs.declared.header.Header.{Header}
+use Rattle.milter_fields.specs.declared.header.Header.{Header}
 use Rattle.milter_wire.specs.Command.{encoding}
 use Rattle.milter_message.specs.LeadingSpace.{WholeFieldFits}
 use Rattle.milter_mail.specs.WeightParts.{fields_weight}

@@ -1,5 +1,5 @@
 use Rattle.std.proofs.Common.{[], List, ℕ, Result, ap, refl, ◌∙◌}
-use Rattle.milter_wire_stream.specs.declared.fault.WireFault.{WireFault}
+use Rattle.milter_fields.specs.declared.fault.WireFault.{WireFault}
 use Rattle.milter_wire.specs.declared.reply.Reply.{Reply}
 use Rattle.milter_wire.specs.Frames.{frame_reply, reply_frame}
 use Rattle.milter_wire.specs.Reply.{encoding}

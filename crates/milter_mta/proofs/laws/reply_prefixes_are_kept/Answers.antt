@@ -1,7 +1,7 @@
 use Rattle.std.proofs.Common.{[], List, ℕ, ap, ◌∙◌}
 use Rattle.milter_wire.specs.Frames.{reply_frame}
 use Rattle.milter_mta.specs.Replies.{at, received}
-use Rattle.milter_wire_stream.proofs.StreamLaws.{prefix-unfinished}
+use Rattle.milter_fields.proofs.StreamLaws.{prefix-unfinished}
 use Rattle.milter_mta.proofs.ReceivedFrames.{received-unfinished}
 use Rattle.milter_mta.proofs.laws.reply_prefixes_are_kept.Goals as goal
 

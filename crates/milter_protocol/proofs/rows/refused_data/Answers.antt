@@ -1,5 +1,5 @@
 use Rattle.std.proofs.Common.{refl}
-use Rattle.milter_wire_stream.specs.Number.{number}
+use Rattle.milter_fields.specs.Number.{number}
 use Rattle.milter_protocol.proofs.TakenAlike.{in-turn, left-by}
 use Rattle.milter_protocol.proofs.rows.refused_data.Goals as goal
 

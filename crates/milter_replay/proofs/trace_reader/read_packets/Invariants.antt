@@ -1,5 +1,5 @@
 use Rattle.std.proofs.Common.{◌≡◌, ◌++◌, length}
-use Rattle.milter_wire_stream.specs.Stream.{IsUnfinished}
+use Rattle.milter_fields.specs.Stream.{IsUnfinished}
 use Rattle.milter_trace.specs.declared.direction.Direction.TheVariants.{ToFilter}
 use Rattle.milter_trace.specs.Trace.{bytes_if}
 use Rattle.milter_replay.specs.ReadExchanges.{HasFitting, read_bytes}

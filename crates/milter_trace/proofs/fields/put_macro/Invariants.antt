@@ -1,6 +1,6 @@
 use Rattle.std.proofs.Common.{◌≡◌, ◌++◌, ◌∷◌, take}
 use Rattle.std.specs.List.{flat_map}
-use Rattle.milter_wire_stream.specs.Code.{code_text}
+use Rattle.milter_fields.specs.Code.{code_text}
 use Rattle.milter_trace.specs.PacketText.{fields_text, pair_fields}
 use Rattle.milter_trace.proofs.fields.put_macro.Given as goal
 

@@ -1,9 +1,9 @@
 use Rattle.std.proofs.Common.{◌≢◌, ◌++◌, sym}
 use Rattle.std.proofs.lemmas.Bool.{eqb-true}
 use Rattle.std.proofs.lemmas.List.{take_rest}
-use Rattle.milter_wire_stream.specs.declared.fault.WireFault.TheVariants.{NoMemory}
-use Rattle.milter_wire_stream.specs.Splitter.{frame_of}
-use Rattle.milter_wire_stream.specs.Stream.{divide}
+use Rattle.milter_fields.specs.declared.fault.WireFault.TheVariants.{NoMemory}
+use Rattle.milter_fields.specs.Splitter.{frame_of}
+use Rattle.milter_fields.specs.Stream.{divide}
 use Rattle.milter_trace.specs.PacketText.{packet_text_in}
 use Rattle.milter_trace.specs.TraceState.{division_trace}
 use Rattle.milter_trace.proofs.PacketLaws.{PrintProgress-end, PrintProgress-fault, PrintProgress-handed, PrintProgress-fault_trace, AppendsTrace-whole, AppendsText-fault}

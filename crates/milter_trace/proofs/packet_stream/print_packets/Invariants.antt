@@ -1,5 +1,5 @@
 use Rattle.std.proofs.Common.{◌++◌, length}
-use Rattle.milter_wire_stream.specs.Stream.{IsUnfinished}
+use Rattle.milter_fields.specs.Stream.{IsUnfinished}
 use Rattle.milter_trace.proofs.PacketLaws.{PrintProgress}
 use Rattle.milter_trace.proofs.packet_stream.print_packets.Given as goal
 

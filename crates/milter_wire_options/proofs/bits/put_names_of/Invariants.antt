@@ -1,5 +1,5 @@
 use Rattle.std.proofs.Common.{◌≡◌, map, take}
-use Rattle.milter_wire_stream.specs.AppendedBytes.{Extends}
+use Rattle.milter_fields.specs.AppendedBytes.{Extends}
 use Rattle.milter_wire_options.proofs.NamesText.{Written}
 use Rattle.milter_wire_options.proofs.bits.put_names_of.Given as goal
 

@@ -1,6 +1,6 @@
 use Rattle.std.proofs.Common.{sym}
 use Rattle.std.proofs.lemmas.Bool.{eqb-true, eqb-false}
-use Rattle.milter_wire_fields.proofs.SequenceLaws.{is_some_step, is_some_none, is_some_end}
+use Rattle.milter_fields.proofs.SequenceLaws.{is_some_step, is_some_none, is_some_end}
 use Rattle.milter_wire_options.proofs.SymListLaws.{sym_list_at-shorter, sym_lists_in-first, sym_lists_in-unended, sym_lists_in-nil}
 use Rattle.milter_wire_options.proofs.symbol_lists.are_sym_lists.Goals as goal
 

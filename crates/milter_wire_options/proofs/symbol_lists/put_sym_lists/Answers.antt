@@ -1,5 +1,5 @@
 use Rattle.std.proofs.Common.{rules}
-use Rattle.milter_wire_fields.proofs.Written.{extends_more}
+use Rattle.milter_fields.proofs.Written.{extends_more}
 use Rattle.milter_wire_options.proofs.symbol_lists.put_sym_lists.Goals as goal
 
 pub returns-in_err-put_sym_list : goal.returns-in_err-put_sym_list

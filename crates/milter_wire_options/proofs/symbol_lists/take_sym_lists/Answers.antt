@@ -1,6 +1,6 @@
 use Rattle.std.proofs.Common.{sym}
 use Rattle.std.proofs.lemmas.Bool.{eqb-true, eqb-false}
-use Rattle.milter_wire_fields.proofs.SequenceLaws.{prefix_step, prefix_none, prefix_end}
+use Rattle.milter_fields.proofs.SequenceLaws.{prefix_step, prefix_none, prefix_end}
 use Rattle.milter_wire_options.proofs.SymListLaws.{sym_list_at-shorter, sym_lists_in-first, sym_lists_in-unended, sym_lists_in-nil}
 use Rattle.milter_wire_options.proofs.symbol_lists.take_sym_lists.Goals as goal
 

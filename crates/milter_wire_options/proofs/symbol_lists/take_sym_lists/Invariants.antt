@@ -1,6 +1,6 @@
 use Rattle.std.proofs.Common.{◌≡◌, length}
 use Rattle.milter_wire_options.specs.Payload.{sym_lists_in}
-use Rattle.milter_wire_fields.proofs.SequenceLaws.{after_prefix}
+use Rattle.milter_fields.proofs.SequenceLaws.{after_prefix}
 use Rattle.milter_wire_options.proofs.symbol_lists.take_sym_lists.Given as goal
 
 abbrev pub invariant-loop-rest : goal.invariant-loop-rest

@@ -1,6 +1,6 @@
 use Rattle.std.proofs.Common.{refl}
 use Rattle.milter_protocol.specs.Dialogue.{dialogue_with}
-use Rattle.milter_wire_stream.specs.Number.{number}
+use Rattle.milter_fields.specs.Number.{number}
 use Rattle.milter_world_schedule.proofs.rows.lost.Goals as goal
 
 pub returns-clause-accepted : goal.returns-clause-accepted

@@ -1,6 +1,6 @@
 use Rattle.std.proofs.Common.{refl}
 use Rattle.milter_protocol.specs.Dialogue.{dialogue_with}
-use Rattle.milter_wire_stream.specs.Number.{number}
+use Rattle.milter_fields.specs.Number.{number}
 use Rattle.milter_world_schedule.proofs.rows.settled_before.Goals as goal
 
 pub returns-clause-client : goal.returns-clause-client

@@ -1,7 +1,7 @@
 use Rattle.std.proofs.Common.{◌≡◌, ◌∙◌, Ok, ap, subst, sym}
 use Rattle.milter_protocol.specs.OrderStates.{order_state_before}
 use Rattle.milter_protocol.specs.Steps.{Step}
-use Rattle.milter_wire_stream.specs.Splitter.{frame_of}
+use Rattle.milter_fields.specs.Splitter.{frame_of}
 use Rattle.milter_wire.specs.Frames.{frame_command}
 use Rattle.milter_wire.specs.BorrowedCommand.{command_of}
 use Rattle.milter_filter_stream.specs.Asking.{Asking, FailsAt, asking_next, asking_step}

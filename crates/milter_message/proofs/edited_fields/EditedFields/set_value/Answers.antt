@@ -1,6 +1,6 @@
 use Rattle.std.proofs.Common.{◌≡◌, ◌<◌, List, ℕ, length, map, sym, ap, ◌∙◌, arith}
 use Rattle.std.proofs.lemmas.List.{length-map, map-set}
-use Rattle.milter_wire_fields.specs.declared.header.Header.{Header}
+use Rattle.milter_fields.specs.declared.header.Header.{Header}
 use Rattle.milter_message.specs.declared.source.Source.{Source}
 use Rattle.milter_message.specs.EditedFields.{field_of, header_at, shown, with_value_at}
 use Rattle.milter_message.proofs.FieldValues.{id_within, value_at, value_past}

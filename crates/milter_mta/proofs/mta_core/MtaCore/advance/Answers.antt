@@ -1,5 +1,5 @@
 use Rattle.std.proofs.Common.{◌≡◌, [], Option, Some, Result, Ok, Err, OnErr, OnOk, ap, subst, sym, ◌∙◌}
-use Rattle.milter_wire_stream.specs.declared.fault.NoMemory.{NoMemory}
+use Rattle.milter_fields.specs.declared.fault.NoMemory.{NoMemory}
 use Rattle.milter_mta.specs.declared.state.FilterConnection.{FilterConnection as Connected}
 use Rattle.milter_mta.specs.CoreParts.{mta_of, position_of}
 use Rattle.milter_mta.specs.Cores.{IsCore}

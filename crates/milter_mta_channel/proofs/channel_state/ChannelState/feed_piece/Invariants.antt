@@ -1,5 +1,5 @@
 use Rattle.std.proofs.Common.{◌≡◌, ◌≤◌, ◌-◌, [], length, take}
-use Rattle.milter_wire_stream.specs.Stream.{IsUnfinished}
+use Rattle.milter_fields.specs.Stream.{IsUnfinished}
 use Rattle.milter_mta_channel.specs.ChannelParts.{channel_of}
 use Rattle.milter_mta_channel.specs.Received.{goes_on, received}
 use Rattle.milter_mta_channel.proofs.channel_state.ChannelState.feed_piece.Given as goal

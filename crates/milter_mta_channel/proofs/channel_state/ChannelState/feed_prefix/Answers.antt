@@ -1,7 +1,7 @@
 use Rattle.std.proofs.Common.{◌≡◌, ◌+◌, ◌++◌, ℕ, List, [], Ok, Err, length, take, refl, sym, ◌∙◌, ap, subst, arith, rules}
 use Rattle.std.proofs.lemmas.List.{nil_from_length}
-use Rattle.milter_wire_stream.specs.Splitter.{frame_of}
-use Rattle.milter_wire_stream.specs.Stream.{IsUnfinished, frame_bytes}
+use Rattle.milter_fields.specs.Splitter.{frame_of}
+use Rattle.milter_fields.specs.Stream.{IsUnfinished, frame_bytes}
 use Rattle.milter_mta_channel.specs.ChannelParts.{LeavesPrefix, channel_of}
 use Rattle.milter_mta_channel.specs.Received.{goes_on}
 use Rattle.milter_mta_channel.proofs.FedPieces.{leaves-fault, leaves-kept, leaves-lost, leaves-reply}

@@ -1,0 +1,14 @@
+pub mod WireFault
+pub mod Code
+pub mod AppendedBytes
+pub mod Number
+pub mod Packet
+pub mod Stream
+pub mod FirstPacket
+pub mod Splitter
+pub mod Bind
+pub mod Field
+pub mod Layout
+pub mod Decoders
+pub mod Lists
+pub mod Borrowed

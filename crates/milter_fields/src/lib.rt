@@ -1,0 +1,62 @@
+//! Packets on a stream: how a stream of bytes is divided into the packets of the Sendmail milter protocol, wherever it
+//! is cut into pieces.
+//!
+//! A packet is a length of four bytes, the highest first, a code of one byte and a payload of at most 65,535 bytes. A
+//! [`Splitter`] takes a stream in any pieces and hands out its packets. What the packets mean is none of this crate's
+//! business. Nothing here reads, writes or waits.
+//!
+//! Queues of bytes: those that wait to be sent or to be taken, the first ones first.
+//!
+//! The fields of the packets of the Sendmail milter protocol, version 6: texts, clients, addresses, header fields,
+//! macros and reply codes, each with its encoding, owned and borrowed.
+//!
+//! What a packet has as a whole stands in the crates above. A function that takes no allocator and no output takes no
+//! memory. One that appends to an output leaves what it had there after `NoMemory`, and perhaps some of the bytes after
+//! it. Nothing here reads, writes or waits.
+#![tactic(auto)]
+
+mod arguments;
+mod borrowed_lists;
+mod byte_queue;
+mod client;
+mod code_name;
+pub mod families;
+mod fault;
+mod first_packet;
+mod header;
+mod laws;
+mod lists;
+mod nuls;
+mod number;
+mod pair;
+mod path;
+mod port;
+mod reply_code;
+mod sequences;
+mod splitter;
+mod strings;
+mod text;
+
+pub use arguments::{arguments_fit, arguments_len, put_addressed, take_addressed};
+pub use borrowed_lists::{PairsRef, ParamsRef};
+pub use byte_queue::ByteQueue;
+pub use client::{Client, ClientRef, Origin, OriginRef};
+pub use code_name::{CodeName, hex_digit};
+pub use fault::{NoMemory, RefusedMemory, WireFault};
+pub use header::{
+    Header, HeaderRef, header_fits, header_len, put_header, put_indexed, take_header, take_indexed,
+};
+pub use laws::{
+    fed_stream, four_byte_numbers, one_division, packet_limits, packets_apart, stream_divides,
+    stream_goes_on,
+};
+pub use lists::{List, Pairs, Params};
+pub use number::{HEAD_LEN, PAYLOAD_MAX, put_head, put_number, take_number};
+pub use pair::{Pair, PairRef, pair_len, pairs_fit, pairs_len};
+pub use path::{Path, PathRef};
+pub use reply_code::{is_reply_code, take_reply_code};
+pub use splitter::{Packet, Splitter};
+pub use strings::{
+    has_no_nul, one_string, put_bytes, put_string, string_len, take_string, take_text,
+};
+pub use text::Text;

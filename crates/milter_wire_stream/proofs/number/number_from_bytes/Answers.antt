@@ -1,8 +1,0 @@
-use Rattle.std.proofs.Common.{arith}
-use Rattle.std.proofs.lemmas.Grind.{common_steps}
-use Rattle.milter_wire_stream.specs.Number.{number_from_bytes}
-use Rattle.milter_wire_stream.proofs.number.number_from_bytes.Goals as goal
-
-pub returns : goal.returns
-unfolding number_from_bytes
-returns c = grind (arith, common_steps)
