@@ -3,8 +3,8 @@ use Rattle.std.specs.Prelude.{ℕ, ◌+◌, nat_lt, Bool, List, [], ◌∷◌, c
 use Rattle.std.specs.List.{filter}
 use Rattle.std.specs.Str.{str_eq_ignore_ascii_case}
 use Rattle.milter_fields.specs.declared.header.Header.{Header}
-use Rattle.milter_wire_options.specs.declared.options.TheConstants.Actions.{ADDHDRS}
-use Rattle.milter_wire_options.specs.declared.options.TheConstants.Protocol.{NOBODY, NOCONNECT, NODATA, NOEOH, NOHELO, NOMAIL, NORCPT, NOUNKNOWN, NR_HDR}
+use Rattle.milter_wire.specs.declared.options.TheConstants.Actions.{ADDHDRS}
+use Rattle.milter_wire.specs.declared.options.TheConstants.Protocol.{NOBODY, NOCONNECT, NODATA, NOEOH, NOHELO, NOMAIL, NORCPT, NOUNKNOWN, NR_HDR}
 use Rattle.milter_wire.specs.declared.stage.Stage.{Stage}
 use Rattle.milter_wire.specs.declared.stage.Stage.TheVariants.{Eob}
 use Rattle.milter_wire.specs.declared.verdict.Verdict.TheVariants.{Code, Continue}

@@ -1,6 +1,6 @@
 -- The macros that a filter asks for.
 use Rattle.std.specs.Prelude.{ℕ, nat_eq, List, [], ◌∷◌, ◌++◌, Option, None, Some, if◌then◌else◌}
-use Rattle.milter_wire_options.specs.declared.macro_stage.TheConstants as lists
+use Rattle.milter_wire.specs.declared.macro_stage.TheConstants as lists
 use Rattle.milter_protocol.specs.Questions.{Wanted}
 use Rattle.milter_c_objects.specs.declared.status.TheConstants as status
 

@@ -1,6 +1,6 @@
 -- A mail server's end, in the terms of what a caller in C passes and reads.
 use Rattle.std.specs.Prelude.{◌≡◌, ℕ, ℤ, List, [], IsSomeAnd, Result}
-use Rattle.milter_wire_options.specs.declared.options.Options.{Options}
+use Rattle.milter_wire.specs.declared.options.Options.{Options}
 use Rattle.milter_message.specs.declared.edit.Edit.{Edit}
 use Rattle.milter_mta_channel.specs.ChannelParts.{Receives}
 use Rattle.milter_mta_connection.specs.declared.call_outcome.CallFault.{CallFault}

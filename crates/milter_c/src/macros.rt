@@ -9,17 +9,16 @@ ghost use Rattle.milter_c.specs.Filters.{BreaksWants};
 
 use crate::let_object::let_object;
 use milter_c_handle::{Handle, Object};
+use milter_c_objects::wants_fault_number;
 use milter_c_objects::status::{
     BAD_ARGUMENT, NO_MEMORY, OK, STAGE_CONNECT, STAGE_DATA, STAGE_EOB, STAGE_EOH, STAGE_HELO,
     STAGE_MAIL, STAGE_RCPT, WRONG_KIND,
 };
-use milter_c_objects::wants_fault_number;
 use milter_filter_answer::Wants;
 use milter_protocol::CommandOrder;
-use milter_wire::{NoMemory, SymList, SymLists, Text};
-use milter_wire_options::{
-    SMFIM_CONNECT, SMFIM_DATA, SMFIM_ENVFROM, SMFIM_ENVRCPT, SMFIM_EOH, SMFIM_EOM, SMFIM_HELO,
-    copy_sym_lists,
+use milter_wire::{
+    NoMemory, SMFIM_CONNECT, SMFIM_DATA, SMFIM_ENVFROM, SMFIM_ENVRCPT, SMFIM_EOH, SMFIM_EOM,
+    SMFIM_HELO, SymList, SymLists, Text, copy_sym_lists,
 };
 use std::alloc::Global;
 

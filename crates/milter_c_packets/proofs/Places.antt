@@ -2,7 +2,7 @@
 use Rattle.std.specs.Prelude.{◌≡◌, ◌≤◌, ℕ, List, ◌∷◌, ◌++◌, Option, map, option_map, refl, slice_get}
 use Rattle.std.proofs.Common.{◌-◌, ◌∙◌, ap, arith, suc, zero}
 use Rattle.std.proofs.lemmas.Option.{slice_get-map}
-use Rattle.milter_wire_options.specs.declared.options.Options.{Options}
+use Rattle.milter_wire.specs.declared.options.Options.{Options}
 use Rattle.milter_c_packets.specs.Parts.{PartValue, options_parts}
 
 pub after_first : {A B : Type 0} (f : A → B) (x : B) (xs : List A) (place : ℕ) → (place ≡ 0 → ⊥)

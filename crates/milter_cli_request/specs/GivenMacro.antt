@@ -1,6 +1,6 @@
 -- The macros of a command line, as they are written.
 use Rattle.std.specs.Prelude.{◌≡◌, ℕ, ◌<◌, List, ◌∷◌, ◌++◌, Some, length}
-use Rattle.milter_wire_options.specs.MacroStages.{macro_stage_named}
+use Rattle.milter_wire.specs.MacroStages.{macro_stage_named}
 use Rattle.milter_cli_request.specs.declared.given_macro.GivenMacro.{GivenMacro}
 
 -- the word of a stage, `:`, a name, `=` and a value

@@ -2,7 +2,7 @@
 use Rattle.std.specs.Prelude.{◌≡◌, ℕ, List, Option, None, Some, IsSome, Result, Ok, Err}
 use Rattle.bitflags.specs.Sets.{Row}
 use Rattle.clap.specs.Words.{Text}
-use Rattle.milter_wire_options.specs.Bits.{actions_table, bits_named, protocol_table}
+use Rattle.milter_wire.specs.Bits.{actions_table, bits_named, protocol_table}
 use Rattle.milter_protocol.specs.declared.limits.TheConstants.{ACTIONS_MAX, PROTOCOL_MAX}
 use Rattle.milter_cli_request.specs.Address.{IsAddress}
 use Rattle.milter_cli_request.specs.declared.address.Address.{Address}

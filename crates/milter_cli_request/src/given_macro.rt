@@ -3,7 +3,7 @@
 ghost use Rattle.std.specs.Prelude.{IfSome};
 ghost use Rattle.milter_cli_request.specs.GivenMacro.{IsMacro};
 
-use milter_wire_options::MacroStage;
+use milter_wire::MacroStage;
 
 /// A macro that a command line gives.
 #[derive(Clone, Copy)]

@@ -9,7 +9,7 @@ ghost use Rattle.milter_cli_request.specs.Target.{IsOffer, IsTarget, actions_giv
 use crate::address::Address;
 use crate::usage_error::UsageError;
 use milter_protocol::{ACTIONS_MAX, PROTOCOL_MAX};
-use milter_wire_options::{Actions, Protocol};
+use milter_wire::{Actions, Protocol};
 
 /// The bits that are offered to a filter.
 #[derive(Clone, Copy)]

@@ -2,8 +2,8 @@
 use Rattle.std.specs.Prelude.{◌≡◌, ◌≢◌, ◌<◌, ◌⊎◌, false, [], length}
 use Rattle.std.specs.Int.Bits.{bit_and}
 use Rattle.milter_fields.specs.declared.number.TheConstants.{PAYLOAD_MAX}
-use Rattle.milter_wire_options.specs.Payload.{OptionsWithListsFit, options_with_lists}
-use Rattle.milter_wire_options.specs.declared.options.TheConstants.Actions.{SETSYMLIST}
+use Rattle.milter_wire.specs.OptionsPayload.{OptionsWithListsFit, options_with_lists}
+use Rattle.milter_wire.specs.declared.options.TheConstants.Actions.{SETSYMLIST}
 use Rattle.milter_wire.specs.Negotiation.{has_bit}
 use Rattle.milter_protocol.specs.Questions.{Wanted}
 use Rattle.milter_protocol.specs.declared.limits.TheConstants.{ACTIONS_MAX, PROTOCOL_MAX, VERSION_MAX, VERSION_MIN}

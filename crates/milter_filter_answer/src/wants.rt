@@ -7,8 +7,10 @@ ghost use Rattle.milter_filter_answer.specs.WantsFaults.{WantsBreak};
 
 use crate::wants_fault::WantsFault;
 use milter_protocol::{ACTIONS_MAX, PROTOCOL_MAX, VERSION_MAX, VERSION_MIN};
-use milter_wire::{Actions, Options, PAYLOAD_MAX, SymList, SymLists};
-use milter_wire_options::{options_with_lists_fit, options_with_lists_len};
+use milter_wire::{
+    Actions, Options, PAYLOAD_MAX, SymList, SymLists, options_with_lists_fit,
+    options_with_lists_len,
+};
 use std::marker::Model;
 
 /// What a filter wants of a connection: a version from 2 to 6, actions and protocol bits that the library knows, and

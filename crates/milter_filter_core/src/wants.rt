@@ -5,8 +5,7 @@ ghost use Rattle.milter_protocol.specs.Questions.{wanted_of};
 
 use milter_filter_answer::Wants;
 use milter_filter_policy::Policy;
-use milter_wire::NoMemory;
-use milter_wire_options::copy_sym_lists;
+use milter_wire::{NoMemory, copy_sym_lists};
 use std::alloc::Global;
 
 /// What a policy wants of a connection, for a [`FilterConnection`](crate::FilterConnection) that is answered by it.

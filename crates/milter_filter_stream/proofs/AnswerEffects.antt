@@ -11,7 +11,7 @@ use Rattle.milter_wire.specs.declared.stage.Stage.{Stage}
 use Rattle.milter_wire.specs.declared.stage.Stage.TheVariants as stages
 use Rattle.milter_wire.specs.declared.verdict.Verdict.{Verdict}
 use Rattle.milter_wire.specs.declared.verdict.Verdict.TheVariants as verdicts
-use Rattle.milter_wire_options.specs.declared.options.TheConstants.Protocol.{SKIP}
+use Rattle.milter_wire.specs.declared.options.TheConstants.Protocol.{SKIP}
 use Rattle.milter_wire.specs.Command.{encoding}
 use Rattle.milter_wire.specs.Negotiation.{has, is_answered}
 use Rattle.milter_wire.specs.Stages.{stage_of}

@@ -7,7 +7,7 @@ ghost use Rattle.milter_fields.specs.Stream.{IsFrame};
 ghost use Rattle.milter_fields.specs.declared.number.TheConstants.{PAYLOAD_MAX};
 ghost use Rattle.milter_message.specs.declared.message.TheConstants.{WEIGHT_MAX};
 ghost use Rattle.milter_message.specs.EditReplies as asked_by;
-ghost use Rattle.milter_wire_options.specs.Payload.{OptionsFit};
+ghost use Rattle.milter_wire.specs.OptionsPayload.{OptionsFit};
 ghost use Rattle.milter_wire.specs.Command.{Fits, IsEncodedAs, encoding};
 ghost use Rattle.milter_wire.specs.Reply as wire_replies;
 ghost use Rattle.milter_wire.specs.Verdicts as given;
@@ -28,9 +28,8 @@ use milter_filter_policy::{Policy, Search, Seen};
 use milter_protocol::{Answer, CommandOrder, FilterFault, FilterState};
 use milter_wire::{
     CommandRef, HEAD_LEN, Negotiated, NoMemory, Options, Packet, Protocol, Reply, Stage, WireFault,
-    negotiate,
+    copy_sym_lists, negotiate,
 };
-use milter_wire_options::copy_sym_lists;
 use std::alloc::Global;
 use std::marker::Model;
 

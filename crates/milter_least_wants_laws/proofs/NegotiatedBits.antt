@@ -7,9 +7,9 @@ use Rattle.std.proofs.lemmas.Bool.{and_parts, not-false, not-true, not_from_true
 use Rattle.std.proofs.lemmas.Nat.{and_assoc, and_comm, and_le_l, and_le_r, and_or_apart}
 use Rattle.std.proofs.lemmas.Nat.Bits.{bit_at_and, bit_at_or, same_from_bits}
 use Rattle.std.specs.Int.{bit_at}
-use Rattle.milter_wire_options.specs.declared.options.Options.{Options}
-use Rattle.milter_wire_options.specs.declared.options.Protocol.{Protocol}
-use Rattle.milter_wire_options.specs.declared.options.TheConstants.Protocol.{HDR_LEADSPC, SKIP}
+use Rattle.milter_wire.specs.declared.options.Options.{Options}
+use Rattle.milter_wire.specs.declared.options.Protocol.{Protocol}
+use Rattle.milter_wire.specs.declared.options.TheConstants.Protocol.{HDR_LEADSPC, SKIP}
 use Rattle.milter_wire.specs.declared.negotiation.Negotiated.{Negotiated}
 use Rattle.milter_wire.specs.declared.stage.Stage.{Stage}
 use Rattle.milter_wire.specs.declared.stage.Stage.TheVariants.{Connect, Helo, Mail, Rcpt, DataCmd, Header, Eoh, Body, Eob}

@@ -1,6 +1,6 @@
 -- Whether messages come to the same by two filters, each asked by a mail server that makes both the same offer.
 use Rattle.std.specs.Prelude.{◌≡◌, List, map, Option, option_map}
-use Rattle.milter_wire_options.specs.declared.options.Options.{Options}
+use Rattle.milter_wire.specs.declared.options.Options.{Options}
 use Rattle.milter_wire.specs.declared.negotiation.Negotiated.{Negotiated}
 use Rattle.milter_wire.specs.declared.verdict.Verdict.{Verdict}
 use Rattle.milter_wire.specs.Negotiation.{negotiate}

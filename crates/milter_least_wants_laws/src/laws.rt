@@ -1,7 +1,7 @@
 //! The law of the least that rules want, as the contract of a function that does nothing.
 
 ghost use Rattle.std.specs.Prelude.{List};
-ghost use Rattle.milter_wire_options.specs.declared.options.Options.{Options};
+ghost use Rattle.milter_wire.specs.declared.options.Options.{Options};
 ghost use Rattle.milter_wire.specs.declared.stage.Stage.{Stage};
 ghost use Rattle.milter_message.specs.MailObject.{MailObject};
 ghost use Rattle.milter_mail.specs.MailSession.{MailSession};

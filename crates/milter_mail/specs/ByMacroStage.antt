@@ -2,10 +2,10 @@
 use Rattle.std.specs.Prelude.{Bool, if◌then◌else◌}
 use Rattle.std.specs.Borrow.{Fml, Lends, MutBor, RattleType}
 use Rattle.std.specs.Str.{bytes_eq}
-use Rattle.milter_wire_options.specs.declared.macro_stage.MacroStage.{MacroStage}
-use Rattle.milter_wire_options.specs.declared.macro_stage.MacroStage.TheVariants.{Connect, Helo, Mail, Rcpt, DataCmd, Eom}
-use Rattle.milter_wire_options.specs.declared.macro_stage.MacroStage.TheVariants.{Eoh}
-use Rattle.milter_wire_options.specs.MacroStages.{macro_stage_name}
+use Rattle.milter_wire.specs.declared.macro_stage.MacroStage.{MacroStage}
+use Rattle.milter_wire.specs.declared.macro_stage.MacroStage.TheVariants.{Connect, Helo, Mail, Rcpt, DataCmd, Eom}
+use Rattle.milter_wire.specs.declared.macro_stage.MacroStage.TheVariants.{Eoh}
+use Rattle.milter_wire.specs.MacroStages.{macro_stage_name}
 use Rattle.milter_mail.specs.declared.by_macro_stage.ByMacroStage.{ByMacroStage}
 use Rattle.milter_mail.specs.contracts.by_macro_stage.ByMacroStage.{the_row}
 

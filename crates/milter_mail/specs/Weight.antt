@@ -2,7 +2,7 @@
 use Rattle.std.specs.Prelude.{ℕ, List, [], ◌++◌}
 use Rattle.milter_wire.specs.declared.negotiation.Negotiated.{Negotiated}
 use Rattle.milter_fields.specs.declared.client.Client.{Client}
-use Rattle.milter_wire_options.specs.declared.options.TheConstants.Protocol.{HDR_LEADSPC}
+use Rattle.milter_wire.specs.declared.options.TheConstants.Protocol.{HDR_LEADSPC}
 use Rattle.milter_wire.specs.Command.{bytes_of}
 use Rattle.milter_mail.specs.Macros.{Macros}
 use Rattle.milter_message.specs.MailObject.{MailObject}

@@ -3,7 +3,7 @@
 ghost use Rattle.std.specs.Prelude.{◌≡◌, ◌≤◌, ◌+◌, All, List, ℕ};
 ghost use Rattle.milter_wire.specs.declared.negotiation.Negotiated.{Negotiated};
 ghost use Rattle.milter_fields.specs.declared.client.Client.{Client};
-ghost use Rattle.milter_wire_options.specs.declared.symbol_lists.SymList.{SymList};
+ghost use Rattle.milter_wire.specs.declared.symbol_lists.SymList.{SymList};
 ghost use Rattle.milter_wire.specs.Command.{bytes_of, Fits};
 ghost use Rattle.milter_wire.specs.declared.command.Command.TheVariants as commands;
 ghost use Rattle.milter_wire.specs.declared.codes.TheConstants.{SMFIC_RCPT};

@@ -13,9 +13,9 @@ use Rattle.milter_fields.specs.Layout.{PairFits, pair}
 use Rattle.milter_mail.specs.Macros.{Macros}
 use Rattle.milter_mail.specs.MailSession.{MacrosFit}
 use Rattle.milter_mail_file.specs.declared.session_macros.MacroLine.{MacroLine}
-use Rattle.milter_wire_options.specs.declared.macro_stage.MacroStage.{MacroStage}
-use Rattle.milter_wire_options.specs.declared.macro_stage.MacroStage.TheVariants.{Connect, Helo, Mail, Rcpt, DataCmd, Eom}
-use Rattle.milter_wire_options.specs.declared.macro_stage.MacroStage.TheVariants.{Eoh}
+use Rattle.milter_wire.specs.declared.macro_stage.MacroStage.{MacroStage}
+use Rattle.milter_wire.specs.declared.macro_stage.MacroStage.TheVariants.{Connect, Helo, Mail, Rcpt, DataCmd, Eom}
+use Rattle.milter_wire.specs.declared.macro_stage.MacroStage.TheVariants.{Eoh}
 use Rattle.milter_mail.specs.ByMacroStage.{at_stage, by_stage, changed_at, is_stage}
 use Rattle.milter_mail_file.specs.SessionFile.{macros_of_lines, of_stage}
 

@@ -10,8 +10,8 @@ use Rattle.milter_fields.specs.declared.client.Origin.{Origin}
 use Rattle.milter_fields.specs.declared.client.Origin.TheVariants.{Unknown, Unix, Inet, Inet6}
 use Rattle.milter_fields.specs.declared.header.Header.{Header}
 use Rattle.milter_fields.specs.declared.path.Path.{Path}
-use Rattle.milter_wire_options.specs.declared.macro_stage.MacroStage.{MacroStage}
-use Rattle.milter_wire_options.specs.MacroStages.{macro_stage_named}
+use Rattle.milter_wire.specs.declared.macro_stage.MacroStage.{MacroStage}
+use Rattle.milter_wire.specs.MacroStages.{macro_stage_named}
 use Rattle.milter_text.specs.declared.word.Word.{Word}
 use Rattle.milter_text.specs.WordValues.{is_keyword, is_number, keyword, text_of, texts_of}
 use Rattle.milter_mail_file.specs.declared.session_macros.MacroLine.{MacroLine}

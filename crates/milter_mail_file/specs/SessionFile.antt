@@ -9,7 +9,7 @@ use Rattle.milter_text.specs.Lines.{contents}
 use Rattle.milter_message.specs.MailObject.{MailObject}
 use Rattle.milter_mail.specs.MailSession.{IsSession, MailSession}
 use Rattle.milter_mail_file.specs.declared.session_macros.MacroLine.{MacroLine}
-use Rattle.milter_wire_options.specs.declared.macro_stage.MacroStage.{MacroStage}
+use Rattle.milter_wire.specs.declared.macro_stage.MacroStage.{MacroStage}
 use Rattle.milter_mail_file.specs.LineValues.{client_of, end_line, header_of, helo_of, macro_of, message_line, path_of}
 use Rattle.milter_mail_file.specs.LineValues.{chunk_of}
 use Rattle.milter_mail.specs.ByMacroStage.{by_stage, is_stage}

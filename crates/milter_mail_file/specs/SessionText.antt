@@ -6,8 +6,8 @@ use Rattle.milter_fields.specs.declared.client.Client.{Client}
 use Rattle.milter_fields.specs.declared.client.Origin.{Origin}
 use Rattle.milter_fields.specs.declared.client.Origin.TheVariants.{Unknown, Unix, Inet, Inet6}
 use Rattle.milter_fields.specs.declared.pair.Pair.{Pair}
-use Rattle.milter_wire_options.specs.declared.macro_stage.MacroStage.{MacroStage}
-use Rattle.milter_wire_options.specs.MacroStages.{macro_stage_name, macro_stages}
+use Rattle.milter_wire.specs.declared.macro_stage.MacroStage.{MacroStage}
+use Rattle.milter_wire.specs.MacroStages.{macro_stage_name, macro_stages}
 use Rattle.milter_mail.specs.Macros.{Macros}
 use Rattle.milter_mail.specs.HeldText.{line_of, message_lines, text_of}
 use Rattle.milter_message.specs.MailObject.{MailObject}

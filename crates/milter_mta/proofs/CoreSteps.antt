@@ -3,7 +3,7 @@ use Rattle.std.proofs.Common.{◌≡◌, ◌≤◌, ◌+◌, ◌==◌, inl, inr,
 use Rattle.std.specs.Prelude.{if◌then◌else◌}
 use Rattle.std.proofs.lemmas.Bool.Decides.{nat_tests}
 use Rattle.milter_fields.specs.Number.{number}
-use Rattle.milter_wire_options.specs.declared.options.Options.{Options}
+use Rattle.milter_wire.specs.declared.options.Options.{Options}
 use Rattle.milter_wire.specs.declared.command.Command.{Command}
 use Rattle.milter_wire.specs.declared.negotiation.Negotiated.{Negotiated}
 use Rattle.milter_wire.specs.declared.stage.Stage.{Stage}

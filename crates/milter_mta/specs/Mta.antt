@@ -1,6 +1,6 @@
 -- A mail server's end of a connection to a filter: what is known of it at any time.
 use Rattle.std.specs.Prelude.{ℕ, Bool, false, List, [], Option, None}
-use Rattle.milter_wire_options.specs.declared.options.Options.{Options}
+use Rattle.milter_wire.specs.declared.options.Options.{Options}
 use Rattle.milter_wire.specs.declared.negotiation.Negotiated.{Negotiated}
 use Rattle.milter_wire.specs.declared.command.Command.{Command}
 use Rattle.milter_wire.specs.declared.verdict.Verdict.{Verdict}

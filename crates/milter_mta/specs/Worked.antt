@@ -1,7 +1,7 @@
 -- A worked session of one message, and replies to it.
 use Rattle.std.specs.Prelude.{ℕ, List, map, [], ◌∷◌, ◌++◌, codes, Option, None, Some}
 use Rattle.std.specs.Option.{option_to_list}
-use Rattle.milter_wire_options.specs.declared.options.Options.{Options}
+use Rattle.milter_wire.specs.declared.options.Options.{Options}
 use Rattle.milter_fields.specs.declared.client.Origin.TheVariants.{Unknown}
 use Rattle.milter_fields.specs.declared.path.Path.{Path}
 use Rattle.milter_wire.specs.declared.command.Command.{Command}

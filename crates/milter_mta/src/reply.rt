@@ -22,8 +22,7 @@ use milter_mta_channel::{
 use milter_mta_outcome::{ActedVerdicts, Loss, received_replies};
 use milter_mta_transaction::{ClientInfo, Transaction};
 use milter_protocol::Answer;
-use milter_wire::{Negotiated, NoMemory, Stage};
-use milter_wire_options::copy_sym_lists;
+use milter_wire::{Negotiated, NoMemory, Stage, copy_sym_lists};
 use std::alloc::Global;
 
 /// A copy of what was negotiated, which a message under way keeps while the channel is changed.

@@ -1,8 +1,8 @@
 -- A channel to a filter: commands are queued on it and sent, and the reply to each that is answered comes before the
 -- next one.
 use Rattle.std.specs.Prelude.{ℕ, Bool, true, false, List, [], ◌∷◌, ◌++◌, drop, Option, None, Some, if◌then◌else◌}
-use Rattle.milter_wire_options.specs.declared.options.Options.{Options}
-use Rattle.milter_wire_options.specs.declared.options.TheConstants.Protocol.{NR_UNKN}
+use Rattle.milter_wire.specs.declared.options.Options.{Options}
+use Rattle.milter_wire.specs.declared.options.TheConstants.Protocol.{NR_UNKN}
 use Rattle.milter_wire.specs.declared.command.Command.{Command}
 use Rattle.milter_wire.specs.declared.command.Command.TheVariants as commands
 use Rattle.milter_wire.specs.declared.negotiation.Negotiated.{Negotiated}

@@ -4,7 +4,7 @@ ghost use Rattle.std.specs.Prelude.{◌≡◌, ◌≢◌, ◌++◌, List, None, 
 ghost use Rattle.std.specs.List.{fold};
 ghost use Rattle.milter_wire.specs.declared.command.Command.{Command};
 ghost use Rattle.milter_wire.specs.declared.verdict.Verdict.{Verdict};
-ghost use Rattle.milter_wire_options.specs.declared.options.Options.{Options};
+ghost use Rattle.milter_wire.specs.declared.options.Options.{Options};
 ghost use Rattle.milter_mta_outcome.specs.declared.loss.Loss.{Loss};
 ghost use Rattle.milter_mta_outcome.specs.declared.loss.MtaFault.TheVariants.{Early};
 ghost use Rattle.milter_mta_channel.specs.declared.filter_event.FilterEvent.TheVariants as events;

@@ -12,9 +12,9 @@ use Rattle.milter_wire.specs.Negotiation.{has, has_leading_space, is_answered, i
 use Rattle.milter_wire.specs.Stages.{macro_command_of, macro_stage_of}
 use Rattle.milter_fields.specs.declared.header.Header.{Header}
 use Rattle.milter_fields.specs.declared.pair.Pair.{Pair}
-use Rattle.milter_wire_options.specs.declared.macro_stage.MacroStage.{MacroStage}
-use Rattle.milter_wire_options.specs.declared.options.Options.{Options}
-use Rattle.milter_wire_options.specs.declared.options.TheConstants.Protocol.{NOUNKNOWN}
+use Rattle.milter_wire.specs.declared.macro_stage.MacroStage.{MacroStage}
+use Rattle.milter_wire.specs.declared.options.Options.{Options}
+use Rattle.milter_wire.specs.declared.options.TheConstants.Protocol.{NOUNKNOWN}
 use Rattle.milter_mail.specs.ChosenMacros.{chosen_at}
 use Rattle.milter_mail.specs.Steps.{macro_step}
 use Rattle.milter_message.specs.LeadingSpace.{sent_header}

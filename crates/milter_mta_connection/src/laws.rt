@@ -9,7 +9,7 @@ ghost use Rattle.milter_wire.specs.declared.verdict.Verdict.{Verdict};
 ghost use Rattle.milter_wire.specs.Command.{encoding};
 ghost use Rattle.milter_wire.specs.Stages.{stage_of};
 ghost use Rattle.milter_fields.specs.declared.pair.Pair.{Pair};
-ghost use Rattle.milter_wire_options.specs.declared.options.Options.{Options};
+ghost use Rattle.milter_wire.specs.declared.options.Options.{Options};
 ghost use Rattle.milter_protocol.specs.Commands.{is_end_by};
 ghost use Rattle.milter_protocol.specs.Transcripts.{rank_from};
 ghost use Rattle.milter_mta_channel.specs.Channel.{Channel, queue_all};

@@ -8,7 +8,7 @@ use Rattle.milter_wire.specs.declared.stage.Stage.{Stage}
 use Rattle.milter_wire.specs.Reply.{encoding}
 use Rattle.milter_wire.specs.Stages.{stage_of}
 use Rattle.milter_fields.specs.declared.pair.Pair.{Pair}
-use Rattle.milter_wire_options.specs.declared.options.Options.{Options}
+use Rattle.milter_wire.specs.declared.options.Options.{Options}
 use Rattle.milter_mail.specs.Macros.{Macros}
 use Rattle.milter_mail.specs.Steps.{macros_at}
 use Rattle.milter_protocol.specs.declared.answer.Answer.{Answer}

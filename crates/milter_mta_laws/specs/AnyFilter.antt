@@ -2,7 +2,7 @@
 -- dialogue.
 use Rattle.std.specs.Prelude.{◌≡◌, ◌≢◌, ◌⊎◌, Bool, true, false, List, [], ◌∷◌, ◌++◌, Option, None, Some, option_map}
 use Rattle.std.specs.List.{AllZip, filter}
-use Rattle.milter_wire_options.specs.declared.options.Options.{Options}
+use Rattle.milter_wire.specs.declared.options.Options.{Options}
 use Rattle.milter_wire.specs.declared.negotiation.Negotiated.{Negotiated}
 use Rattle.milter_wire.specs.declared.command.Command.{Command}
 use Rattle.milter_wire.specs.declared.verdict.Verdict.{Verdict}

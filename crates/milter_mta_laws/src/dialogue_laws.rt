@@ -5,7 +5,7 @@ ghost use Rattle.milter_wire.specs.declared.negotiation.Negotiated.{Negotiated};
 ghost use Rattle.milter_wire.specs.declared.command.Command.{Command};
 ghost use Rattle.milter_wire.specs.Negotiation.{negotiate};
 ghost use Rattle.milter_wire.specs.Reply.{Fits};
-ghost use Rattle.milter_wire_options.specs.declared.options.Options.{Options};
+ghost use Rattle.milter_wire.specs.declared.options.Options.{Options};
 ghost use Rattle.milter_message.specs.MailObject.{MailObject};
 ghost use Rattle.milter_mail.specs.MailSession.{MailSession};
 ghost use Rattle.milter_mail.specs.Plan.{macros_of, plan};

@@ -8,10 +8,10 @@ use Rattle.std.proofs.lemmas.Nat.{and_assoc}
 use lib.Bits.{and_le_r, and_self}
 use Rattle.milter_fields.specs.Number.{number}
 use Rattle.milter_fields.proofs.Numbers.{length-number}
-use Rattle.milter_wire_options.specs.declared.options.Options.{Options}
-use Rattle.milter_wire_options.specs.declared.options.TheConstants.Actions.{SETSYMLIST}
-use Rattle.milter_wire_options.specs.Negotiation.{common}
-use Rattle.milter_wire_options.specs.Payload.{OptionsFit, SymListFits, options, sym_list}
+use Rattle.milter_wire.specs.declared.options.Options.{Options}
+use Rattle.milter_wire.specs.declared.options.TheConstants.Actions.{SETSYMLIST}
+use Rattle.milter_wire.specs.SharedOptions.{common}
+use Rattle.milter_wire.specs.OptionsPayload.{OptionsFit, SymListFits, options, sym_list}
 use Rattle.milter_wire.specs.declared.negotiation.Negotiated.{Negotiated}
 use Rattle.milter_wire.specs.declared.reply.Reply.TheVariants as replies
 use Rattle.milter_wire.specs.Negotiation.{negotiate, has_bit}

@@ -6,7 +6,7 @@ use Rattle.std.proofs.Math.Bool.{and-true}
 use Rattle.std.proofs.lemmas.Bool.{le-ltb, true≢false}
 use Rattle.std.proofs.lemmas.List.Elements.{All-cons, All-filter, All-nil}
 use Rattle.std.proofs.lemmas.List.Sums.{sum_by-cons}
-use Rattle.milter_wire_options.specs.declared.options.TheConstants.Protocol.{SKIP}
+use Rattle.milter_wire.specs.declared.options.TheConstants.Protocol.{SKIP}
 use Rattle.milter_wire.specs.declared.negotiation.Negotiated.{Negotiated}
 use Rattle.milter_wire.specs.declared.stage.Stage.{Stage}
 use Rattle.milter_wire.specs.declared.stage.Stage.TheVariants as stages

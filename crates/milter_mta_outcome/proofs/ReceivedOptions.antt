@@ -3,10 +3,10 @@ use Rattle.std.specs.Prelude.{nat_le, if◌then◌else◌}
 use Rattle.std.proofs.Common.{◌≡◌, ◌≢◌, Bool, true, false, not, ◌&&◌, List, [], ◌∷◌, Ok, Err, Result, refl, ap, subst}
 use Rattle.std.specs.Int.Bits.{bit_and}
 use Rattle.std.proofs.lemmas.Bool.{and_from, and_parts, eq-eqb, eqb-true, le-leb, leb-true}
-use Rattle.milter_wire_options.specs.declared.options.Actions.{Actions}
-use Rattle.milter_wire_options.specs.declared.options.Options.{Options}
-use Rattle.milter_wire_options.specs.declared.options.TheConstants.Actions.{SETSYMLIST}
-use Rattle.milter_wire_options.specs.declared.symbol_lists.SymList.{SymList}
+use Rattle.milter_wire.specs.declared.options.Actions.{Actions}
+use Rattle.milter_wire.specs.declared.options.Options.{Options}
+use Rattle.milter_wire.specs.declared.options.TheConstants.Actions.{SETSYMLIST}
+use Rattle.milter_wire.specs.declared.symbol_lists.SymList.{SymList}
 use Rattle.milter_wire.specs.declared.negotiation.Negotiated.{Negotiated}
 use Rattle.milter_wire.specs.declared.reply.Reply.{Reply}
 use Rattle.milter_wire.specs.declared.reply.Reply.TheVariants as replies

@@ -1,7 +1,7 @@
 //! Laws of what replies are received as, each the contract of a function that does nothing.
 
 ghost use Rattle.std.specs.Prelude.{◌≡◌, ◌≤◌, ◌+◌, ℕ, Ok, true};
-ghost use Rattle.milter_wire_options.specs.declared.options.Options.{Options};
+ghost use Rattle.milter_wire.specs.declared.options.Options.{Options};
 ghost use Rattle.milter_wire.specs.declared.negotiation.Negotiated.{Negotiated};
 ghost use Rattle.milter_wire.specs.declared.reply.Reply.{Reply};
 ghost use Rattle.milter_wire.specs.declared.stage.Stage.{Stage as AnyStage};

@@ -1,11 +1,11 @@
 -- What a filter does, whatever its code: what it wants of a connection, and its answer at each stage to what it is
 -- shown.
 use Rattle.std.specs.Prelude.{Bool, true, false, List, ◌∷◌, Option, None, Some}
-use Rattle.milter_wire_options.specs.declared.options.Options.{Options}
+use Rattle.milter_wire.specs.declared.options.Options.{Options}
 use Rattle.milter_wire.specs.declared.negotiation.Negotiated.{Negotiated}
 use Rattle.milter_wire.specs.declared.command.Command.{Command}
 use Rattle.milter_wire.specs.declared.stage.Stage.{Stage}
-use Rattle.milter_wire_options.specs.declared.symbol_lists.SymList.{SymList}
+use Rattle.milter_wire.specs.declared.symbol_lists.SymList.{SymList}
 use Rattle.milter_wire.specs.Negotiation.{has_leading_space, is_asked}
 use Rattle.milter_wire.specs.Stages.{stage_of}
 use Rattle.milter_protocol.specs.declared.answer.Answer.{Answer}

@@ -2,7 +2,7 @@
 use Rattle.std.specs.Prelude.{◌≡◌, ◌≢◌, ◌≤◌, true, [], All}
 use Rattle.std.specs.Int.Bits.{bit_and}
 use Rattle.std.specs.List.{sum_by}
-use Rattle.milter_wire_options.specs.declared.options.TheConstants.Actions.{SETSYMLIST}
+use Rattle.milter_wire.specs.declared.options.TheConstants.Actions.{SETSYMLIST}
 use Rattle.milter_wire.specs.declared.reply.Reply.TheVariants as replies
 use Rattle.milter_wire.specs.declared.stage.Stage.{Stage}
 use Rattle.milter_wire.specs.declared.stage.Stage.TheVariants.{Eob}

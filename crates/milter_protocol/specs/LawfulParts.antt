@@ -4,8 +4,8 @@ use Rattle.std.proofs.Common.{arith}
 use Rattle.std.proofs.lemmas.List.Elements.{All-nil}
 use Rattle.milter_fields.specs.declared.number.TheConstants.{PAYLOAD_MAX}
 use Rattle.milter_fields.specs.Number.{number}
-use Rattle.milter_wire_options.specs.declared.options.Options.{Options}
-use Rattle.milter_wire_options.specs.Payload.{OptionsFit, SymListFits, options_with_lists}
+use Rattle.milter_wire.specs.declared.options.Options.{Options}
+use Rattle.milter_wire.specs.OptionsPayload.{OptionsFit, SymListFits, options_with_lists}
 use Rattle.milter_wire.specs.declared.reply.Reply.TheVariants as replies
 use Rattle.milter_wire.specs.declared.stage.Stage.{Stage}
 use Rattle.milter_wire.specs.declared.verdict.Verdict.TheVariants.{Continue}

@@ -2,7 +2,7 @@
 use Rattle.std.specs.Prelude.{◌==◌, Bool, Some, if◌then◌else◌}
 use Rattle.std.specs.List.{filter}
 use Rattle.std.specs.Int.Bits.{bit_and}
-use Rattle.milter_wire_options.specs.declared.options.TheConstants.Protocol.{SKIP}
+use Rattle.milter_wire.specs.declared.options.TheConstants.Protocol.{SKIP}
 use Rattle.milter_wire.specs.declared.negotiation.Negotiated.{Negotiated}
 use Rattle.milter_wire.specs.declared.verdict.Verdict.{Verdict}
 use Rattle.milter_wire.specs.declared.verdict.Verdict.TheVariants.{Continue, Skip}

@@ -1,6 +1,6 @@
 -- What a filter replies to a command.
 use Rattle.std.specs.Prelude.{List, [], ◌∷◌, ◌++◌, map, Option, None, Some, if◌then◌else◌}
-use Rattle.milter_wire_options.specs.declared.options.TheConstants.Protocol.{NR_UNKN}
+use Rattle.milter_wire.specs.declared.options.TheConstants.Protocol.{NR_UNKN}
 use Rattle.milter_wire.specs.declared.negotiation.Negotiated.{Negotiated}
 use Rattle.milter_wire.specs.declared.command.Command.{Command}
 use Rattle.milter_wire.specs.declared.command.Command.TheVariants as commands

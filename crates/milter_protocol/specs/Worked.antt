@@ -1,6 +1,6 @@
 -- Worked connections: what mail servers send, and filters that want more than to pass.
 use Rattle.std.specs.Prelude.{ℕ, List, [], ◌∷◌, codes, map, length, Ok, Option, None, Some, replicate}
-use Rattle.milter_wire_options.specs.declared.options.Options.{Options}
+use Rattle.milter_wire.specs.declared.options.Options.{Options}
 use Rattle.milter_fields.specs.declared.client.Client.{Client}
 use Rattle.milter_fields.specs.declared.client.Origin.TheVariants.{Unknown}
 use Rattle.milter_wire.specs.declared.codes.TheConstants.{SMFIC_MAIL}

@@ -4,11 +4,11 @@ use Rattle.std.specs.Option.{option_map}
 use Rattle.milter_fields.specs.Bind.{◌>>=◌}
 use Rattle.milter_text.specs.declared.word.Word.{Word}
 use Rattle.milter_text.specs.WordValues.{is_keyword, keyword, number_of, plain_text, text_of}
-use Rattle.milter_wire_options.specs.declared.macro_stage.MacroStage.{MacroStage}
-use Rattle.milter_wire_options.specs.declared.options.Actions.{Actions}
-use Rattle.milter_wire_options.specs.declared.options.Protocol.{Protocol}
-use Rattle.milter_wire_options.specs.Bits.{actions_table, bits_named, protocol_table}
-use Rattle.milter_wire_options.specs.MacroStages.{macro_stage_named, macro_stage_number}
+use Rattle.milter_wire.specs.declared.macro_stage.MacroStage.{MacroStage}
+use Rattle.milter_wire.specs.declared.options.Actions.{Actions}
+use Rattle.milter_wire.specs.declared.options.Protocol.{Protocol}
+use Rattle.milter_wire.specs.Bits.{actions_table, bits_named, protocol_table}
+use Rattle.milter_wire.specs.MacroStages.{macro_stage_named, macro_stage_number}
 use Rattle.milter_wire.specs.declared.stage.Stage.{Stage}
 use Rattle.milter_wire.specs.Stages.{name_of, stage_named}
 use Rattle.milter_protocol.specs.declared.limits.TheConstants.{VERSION_MAX, VERSION_MIN}

@@ -17,8 +17,10 @@ use crate::rule_line::{RuleLine, Setting};
 use milter_filter_rules::{Action, NamedLists, Rule, RuleAction, Rules, StageRules};
 use milter_message::WEIGHT_MAX;
 use milter_protocol::VERSION_MAX;
-use milter_wire::{Actions, Options, PAYLOAD_MAX, Protocol, Stage, SymList, SymLists, Verdict};
-use milter_wire_options::{OPTIONS_LEN, sym_list_len, sym_lists_len};
+use milter_wire::{
+    Actions, OPTIONS_LEN, Options, PAYLOAD_MAX, Protocol, Stage, SymList, SymLists, Verdict,
+    sym_list_len, sym_lists_len,
+};
 use std::alloc::Global;
 use std::marker::Model;
 

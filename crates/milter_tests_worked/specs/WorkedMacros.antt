@@ -3,7 +3,7 @@ use Rattle.std.specs.Prelude.{ℕ, List, [], ◌∷◌, codes}
 use Rattle.std.specs.List.{flat_map}
 use Rattle.milter_fields.specs.declared.header.Header.{Header}
 use Rattle.milter_fields.specs.declared.pair.Pair.{Pair}
-use Rattle.milter_wire_options.specs.declared.symbol_lists.SymList.{SymList}
+use Rattle.milter_wire.specs.declared.symbol_lists.SymList.{SymList}
 use Rattle.milter_wire.specs.Command.{encoding}
 use Rattle.milter_message.specs.MailObject.{MailObject}
 use Rattle.milter_mail.specs.MailSession.{MailSession}

@@ -3,7 +3,7 @@ use Rattle.std.specs.Prelude.{ℕ, List, [], ◌∷◌, ◌++◌, codes}
 use Rattle.milter_fields.specs.declared.client.Client.{Client}
 use Rattle.milter_fields.specs.declared.client.Origin.TheVariants.{Unknown}
 use Rattle.milter_fields.specs.declared.header.Header.{Header}
-use Rattle.milter_wire_options.specs.declared.options.Options.{Options}
+use Rattle.milter_wire.specs.declared.options.Options.{Options}
 use Rattle.milter_wire.specs.declared.negotiation.Negotiated.{Negotiated}
 use Rattle.milter_fields.specs.declared.pair.Pair.{Pair}
 use Rattle.milter_fields.specs.declared.path.Path.{Path}

@@ -4,7 +4,7 @@ use Rattle.milter_wire.specs.declared.negotiation.Negotiated.{Negotiated}
 use Rattle.milter_wire.specs.declared.command.Command.{Command}
 use Rattle.milter_wire.specs.declared.command.Command.TheVariants as commands
 use Rattle.milter_fields.specs.declared.pair.Pair.{Pair}
-use Rattle.milter_wire_options.specs.declared.symbol_lists.SymList.{SymList}
+use Rattle.milter_wire.specs.declared.symbol_lists.SymList.{SymList}
 use Rattle.milter_mail.specs.Macros.{Macros}
 use Rattle.milter_message.specs.MailObject.{MailObject}
 use Rattle.milter_mail.specs.MailSession.{MailSession}

@@ -3,8 +3,8 @@
 ghost use Rattle.std.specs.Prelude.{◌≡◌, [], ◌∷◌, ◌++◌, codes, false, drop, length, List, ℕ, None, Some, take, true};
 ghost use Rattle.milter_wire.specs.declared.command.Command.TheVariants as commands;
 ghost use Rattle.milter_message.specs.declared.edit.Edit.TheVariants.{AddHeader, AddRcpt, AddRcptPar, ChangeFrom, ChangeHeader, DelRcpt, Quarantine, ReplaceBody};
-ghost use Rattle.milter_wire_options.specs.Negotiation.{common};
-ghost use Rattle.milter_wire_options.specs.Bits.{actions_table, bits_named, protocol_table};
+ghost use Rattle.milter_wire.specs.SharedOptions.{common};
+ghost use Rattle.milter_wire.specs.Bits.{actions_table, bits_named, protocol_table};
 ghost use Rattle.milter_message.specs.EditedMessage.{edited_message, headers_after, recipients_after};
 ghost use Rattle.milter_mail.specs.HeldText.{held_text};
 ghost use Rattle.milter_message.specs.Chunks.{chunks_of};

@@ -8,11 +8,11 @@ use Rattle.milter_fields.specs.declared.client.Client.{Client}
 use Rattle.milter_fields.specs.declared.client.Origin.{Origin}
 use Rattle.milter_fields.specs.declared.client.Origin.TheVariants as origins
 use Rattle.milter_fields.specs.declared.header.Header.{Header}
-use Rattle.milter_wire_options.specs.Bits.{actions_table, names_text, protocol_table}
-use Rattle.milter_wire_options.specs.declared.options.Options.{Options}
+use Rattle.milter_wire.specs.Bits.{actions_table, names_text, protocol_table}
+use Rattle.milter_wire.specs.declared.options.Options.{Options}
 use Rattle.milter_fields.specs.declared.pair.Pair.{Pair}
 use Rattle.milter_fields.specs.declared.path.Path.{Path}
-use Rattle.milter_wire_options.specs.declared.symbol_lists.SymList.{SymList}
+use Rattle.milter_wire.specs.declared.symbol_lists.SymList.{SymList}
 use Rattle.milter_wire.specs.declared.command.Command.{Command}
 use Rattle.milter_wire.specs.declared.command.Command.TheVariants as commands
 use Rattle.milter_wire.specs.declared.reply.Reply.{Reply}

@@ -6,7 +6,7 @@ ghost use Rattle.milter_fields.specs.Code.{code_text};
 ghost use Rattle.milter_text.specs.QuotedText.{quoted};
 ghost use Rattle.milter_trace.specs.PacketText.{arguments_fields, body_fields, client_fields, command_fields, fields_text, header_fields, hex8, names_fields};
 ghost use Rattle.milter_trace.specs.PacketText.{options_fields, origin_fields, pair_fields, path_fields, reply_fields, sym_list_fields};
-ghost use Rattle.milter_wire_options.specs.Bits.{actions_table, names_text, protocol_table};
+ghost use Rattle.milter_wire.specs.Bits.{actions_table, names_text, protocol_table};
 
 use crate::form::TraceForm;
 use itoa::Buffer;

@@ -9,10 +9,10 @@ use Rattle.milter_fields.specs.declared.path.Path.{Path}
 use Rattle.milter_fields.specs.Layout.{path, PathFits}
 use Rattle.milter_fields.specs.Packet.{packet, IsPayload}
 use Rattle.milter_fields.specs.Decoders.{client_in, header_in, macro_in, path_in, string_in}
-use Rattle.milter_wire_options.specs.Payload.{options_in}
+use Rattle.milter_wire.specs.OptionsPayload.{options_in}
 use Rattle.milter_wire.specs.Command.{code_of, payload_of, is_code, FieldsFit, IsEncodedAs, command_in, rows}
 use Rattle.milter_fields.specs.Number.{IsBytes}
-use Rattle.milter_wire_options.proofs.PayloadLaws.{options_in-options, options_take}
+use Rattle.milter_wire.proofs.PayloadLaws.{options_in-options, options_take}
 use Rattle.milter_wire.proofs.Grammar.{◌⨾◌, EachRow, Reads, bytes_row, field_row, empty_row, row_relates}
 use Rattle.milter_fields.proofs.StreamLaws.{packet-same, packet-whole}
 use Rattle.milter_fields.proofs.StringFields.{one_string_takes, string_in-string}

@@ -5,7 +5,7 @@ use Rattle.std.proofs.lemmas.List.Elements.{All-nil}
 use Rattle.milter_fields.specs.declared.client.Client.{Client}
 use Rattle.milter_fields.specs.declared.client.Origin.TheVariants as origins
 use Rattle.milter_fields.specs.declared.header.Header.{Header}
-use Rattle.milter_wire_options.specs.declared.options.Options.{Options}
+use Rattle.milter_wire.specs.declared.options.Options.{Options}
 use Rattle.milter_fields.specs.declared.path.Path.{Path}
 use Rattle.milter_wire.specs.declared.command.Command.TheVariants as commands
 use Rattle.milter_wire.specs.declared.reply.Reply.TheVariants as replies
@@ -13,7 +13,7 @@ use Rattle.milter_fields.specs.Number.{number}
 use Rattle.milter_wire.specs.Command as of_commands
 use Rattle.milter_wire.specs.Reply as of_replies
 use Rattle.milter_fields.specs.Field.{HasNoNul}
-use Rattle.milter_wire_options.specs.Payload.{OptionsFit, SymListFits}
+use Rattle.milter_wire.specs.OptionsPayload.{OptionsFit, SymListFits}
 use Rattle.milter_fields.specs.Layout.{PairFits, ReplyCodeFits}
 use Rattle.milter_wire.proofs.CommandGrammar.{command_known}
 use Rattle.milter_wire.proofs.ReplyGrammar.{reply_known}

@@ -6,13 +6,13 @@ use Rattle.milter_wire.specs.declared.reply.Reply.{Reply}
 use Rattle.milter_wire.specs.declared.reply.Reply.TheVariants.{Options, AddRcpt, DelRcpt, AddRcptPar, Accept, ReplaceBody, Continue, Discard, ChangeFrom, AddHeader, InsertHeader, ChangeHeader, Progress, Quarantine, Reject, Skip, Tempfail, Code}
 use Rattle.milter_fields.specs.Packet.{packet, IsPayload}
 use Rattle.milter_fields.specs.Decoders.{addressed_in, header_in, indexed_in, reply_code_in, string_in}
-use Rattle.milter_wire_options.specs.Payload.{options_with_lists_in}
+use Rattle.milter_wire.specs.OptionsPayload.{options_with_lists_in}
 use Rattle.milter_wire.specs.Reply.{code_of, payload_of, is_code, FieldsFit, IsEncodedAs, reply_in, rows}
 use Rattle.milter_fields.specs.Number.{IsBytes}
 use Rattle.milter_wire.proofs.Grammar.{◌⨾◌, EachRow, Reads, bytes_row, field_row, empty_row, row_relates}
 use Rattle.milter_fields.proofs.StreamLaws.{packet-same, packet-whole}
 use Rattle.milter_fields.proofs.StringFields.{one_string_takes, string_in-string}
-use Rattle.milter_wire_options.proofs.PayloadLaws.{options_with_lists_take, options_with_lists_in-encoded}
+use Rattle.milter_wire.proofs.PayloadLaws.{options_with_lists_take, options_with_lists_in-encoded}
 use Rattle.milter_fields.proofs.Values.{addressed_takes, addressed_in-addressed, header_takes, header_in-header, indexed_takes, indexed_in-indexed, reply_code_takes, reply_code_in-string}
 
 -- a code and a payload that are a reply's row of the table

@@ -6,7 +6,7 @@ use Rattle.milter_wire.specs.declared.codes.TheConstants.{SMFIC_ABORT, SMFIC_BOD
 use Rattle.milter_wire.specs.declared.command.Command.{Command}
 use Rattle.milter_wire.specs.declared.command.Command.TheVariants.{Options, Macro, Connect, Helo, Mail, Rcpt, DataCmd, Header, Eoh, Body, Eob, Unknown, Abort, Quit, QuitNew}
 use Rattle.milter_fields.specs.Field.{string, HasNoNul}
-use Rattle.milter_wire_options.specs.Payload.{options, OptionsFit, options_in}
+use Rattle.milter_wire.specs.OptionsPayload.{options, OptionsFit, options_in}
 use Rattle.milter_fields.specs.Layout.{pair, PairFits, client, ClientFits, path, PathFits, header, HeaderFits}
 use Rattle.milter_fields.specs.Packet.{packet, IsPayload}
 use Rattle.milter_wire.specs.Tables.{Row, has_row, read_by}

@@ -1,3 +1,7 @@
+pub mod Bits
+pub mod SharedOptions
+pub mod OptionsPayload
+pub mod MacroStages
 pub mod Tables
 pub mod Command
 pub mod Stages

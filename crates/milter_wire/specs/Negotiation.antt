@@ -1,16 +1,16 @@
 -- What two ends negotiated, and what follows of it for each stage.
 use Rattle.std.specs.Prelude.{ℕ, ◌==◌, nat_lt, Bool, true, false, not, List, [], Option, None, Some, if◌then◌else◌}
 use Rattle.std.specs.Int.Bits.{bit_and}
-use Rattle.milter_wire_options.specs.declared.options.Options.{Options}
-use Rattle.milter_wire_options.specs.declared.options.Protocol.{Protocol}
-use Rattle.milter_wire_options.specs.declared.options.TheConstants.Actions.{SETSYMLIST}
-use Rattle.milter_wire_options.specs.declared.options.TheConstants.Protocol.{HDR_LEADSPC}
-use Rattle.milter_wire_options.specs.Negotiation.{common}
+use Rattle.milter_wire.specs.declared.options.Options.{Options}
+use Rattle.milter_wire.specs.declared.options.Protocol.{Protocol}
+use Rattle.milter_wire.specs.declared.options.TheConstants.Actions.{SETSYMLIST}
+use Rattle.milter_wire.specs.declared.options.TheConstants.Protocol.{HDR_LEADSPC}
+use Rattle.milter_wire.specs.SharedOptions.{common}
 use Rattle.milter_wire.specs.declared.negotiation.Negotiated.{Negotiated}
 use Rattle.milter_wire.specs.declared.command.Command.{Command}
 use Rattle.milter_wire.specs.declared.stage.Stage.{Stage}
 use Rattle.milter_wire.specs.declared.stage.Stage.TheVariants.{DataCmd}
-use Rattle.milter_wire_options.specs.declared.symbol_lists.SymList.{SymList}
+use Rattle.milter_wire.specs.declared.symbol_lists.SymList.{SymList}
 use Rattle.milter_wire.specs.Stages.{not_answered_of, not_sent_of, stage_of}
 
 -- whether a set has one of these bits

@@ -3,7 +3,7 @@ use Rattle.std.specs.Prelude.{ℕ, List, [], ◌++◌}
 use Rattle.milter_fields.specs.Number.{number}
 use Rattle.milter_fields.specs.Field.{string, HasNoNul}
 use Rattle.milter_fields.specs.Layout.{header, HeaderFits, IndexedFits, arguments, AddressedFits, ReplyCodeFits}
-use Rattle.milter_wire_options.specs.Payload.{options_with_lists, OptionsWithListsFit}
+use Rattle.milter_wire.specs.OptionsPayload.{options_with_lists, OptionsWithListsFit}
 use Rattle.milter_wire.specs.declared.payload.PayloadRef.{PayloadRef}
 use Rattle.milter_wire.specs.declared.payload.PayloadRef.TheVariants.{Empty, Bytes, String, Code, Addressed, Header, Indexed, Options}
 

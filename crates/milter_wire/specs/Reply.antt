@@ -7,7 +7,7 @@ use Rattle.milter_wire.specs.declared.reply.Reply.{Reply}
 use Rattle.milter_wire.specs.declared.reply.Reply.TheVariants.{Options, AddRcpt, DelRcpt, AddRcptPar, Accept, ReplaceBody, Continue, Discard, ChangeFrom, AddHeader, InsertHeader, ChangeHeader, Progress, Quarantine, Reject, Skip, Tempfail, Code}
 use Rattle.milter_fields.specs.Number.{number}
 use Rattle.milter_fields.specs.Field.{string, HasNoNul}
-use Rattle.milter_wire_options.specs.Payload.{options_with_lists, OptionsWithListsFit, options_with_lists_in}
+use Rattle.milter_wire.specs.OptionsPayload.{options_with_lists, OptionsWithListsFit, options_with_lists_in}
 use Rattle.milter_fields.specs.Layout.{header, HeaderFits, IndexedFits, arguments, AddressedFits, ReplyCodeFits}
 use Rattle.milter_fields.specs.Packet.{packet, IsPayload}
 use Rattle.milter_wire.specs.Tables.{Row, has_row, read_by}

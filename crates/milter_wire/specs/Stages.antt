@@ -1,9 +1,9 @@
 -- What the protocol knows of the stages of a connection and of its messages.
 use Rattle.std.specs.Prelude.{ℕ, List, [], ◌∷◌, codes, find, Option, None, Some}
 use Rattle.std.specs.Str.{bytes_eq}
-use Rattle.milter_wire_options.specs.declared.macro_stage.MacroStage.{MacroStage}
-use Rattle.milter_wire_options.specs.declared.macro_stage.MacroStage.TheVariants as macro_stages
-use Rattle.milter_wire_options.specs.declared.options.Protocol.{Protocol}
+use Rattle.milter_wire.specs.declared.macro_stage.MacroStage.{MacroStage}
+use Rattle.milter_wire.specs.declared.macro_stage.MacroStage.TheVariants as macro_stages
+use Rattle.milter_wire.specs.declared.options.Protocol.{Protocol}
 use Rattle.milter_wire.specs.declared.codes.TheConstants.{SMFIC_BODYEOB, SMFIC_CONNECT, SMFIC_DATA, SMFIC_EOH, SMFIC_HELO, SMFIC_MAIL, SMFIC_RCPT}
 use Rattle.milter_wire.specs.declared.command.Command.{Command}
 use Rattle.milter_wire.specs.declared.command.Command.TheVariants as commands

@@ -1,10 +1,10 @@
 //! The codes of packets, by their names in mfdef.h: SMFIC for commands, SMFIR for replies; SMFIA, the families of
 //! clients; and SMFIM of mfapi.h, the stages of symbol lists.
 
-pub use milter_fields::families::{SMFIA_INET, SMFIA_INET6, SMFIA_UNIX, SMFIA_UNKNOWN};
-pub use milter_wire_options::{
+pub use crate::macro_stage::{
     SMFIM_CONNECT, SMFIM_DATA, SMFIM_ENVFROM, SMFIM_ENVRCPT, SMFIM_EOH, SMFIM_EOM, SMFIM_HELO,
 };
+pub use milter_fields::families::{SMFIA_INET, SMFIA_INET6, SMFIA_UNIX, SMFIA_UNKNOWN};
 
 /// The message is given up. Source: mfdef.h.
 pub const SMFIC_ABORT: u8 = b'A';

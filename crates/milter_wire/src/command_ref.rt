@@ -19,12 +19,13 @@ use crate::codes::{
     SMFIC_UNKNOWN,
 };
 use crate::command::Command;
+use crate::options::Options;
+use crate::options_payload::{OPTIONS_LEN, options_fit, put_options, take_options};
 use crate::stage::Stage;
 use milter_fields::{
     ClientRef, HeaderRef, NoMemory, PAYLOAD_MAX, PairsRef, PathRef, Text, WireFault, has_no_nul,
     one_string, put_bytes, put_head, put_string, string_len,
 };
-use milter_wire_options::{OPTIONS_LEN, Options, options_fit, put_options, take_options};
 use std::alloc::Global;
 
 /// A command that is borrowed: from a packet, from a [`Command`], or from the parts of a session. Each variant is that

@@ -4,18 +4,31 @@
 //! A mail server (MTA) sends [`Command`]s to a filter, and the filter answers with [`Reply`]s. Both go over a stream as
 //! packets: a [`Splitter`] takes a stream in any pieces and hands out its packets, and `decode` reads a packet. Nothing
 //! here reads, writes or waits.
+//!
+//! What the two ends of the Sendmail milter protocol negotiate before the first stage: the version, the changes that
+//! the filter may ask for, the steps that are left out or left unanswered, and the macros that it asks for.
+//!
+//! [`Options`] is what one end offers or the other wants, [`common_options`] is what both have, [`SymLists`] is what a
+//! filter's reply has beside them, and [`MacroStage`] is a stage of such a list. Nothing here reads, writes or waits.
 #![tactic(auto)]
 
+mod bits;
 mod buffer;
 pub mod codes;
 mod command;
 mod command_ref;
 mod laws;
 mod lengths;
+mod macro_stage;
 mod negotiation;
+mod options;
+mod options_laws;
+mod options_payload;
 mod payload;
 mod reply;
+mod shared_options;
 mod stage;
+mod symbol_lists;
 mod verdict;
 
 pub use buffer::{READ_LEN_MAX, read_buffer};
@@ -28,14 +41,25 @@ pub use laws::{
 pub use lengths::{
     connect_packet_len, header_packet_len, helo_packet_len, macro_packet_len, path_packet_len,
 };
+pub use macro_stage::{
+    MacroStage, SMFIM_CONNECT, SMFIM_DATA, SMFIM_ENVFROM, SMFIM_ENVRCPT, SMFIM_EOH, SMFIM_EOM,
+    SMFIM_HELO,
+};
 pub use milter_fields::{
     Client, ClientRef, CodeName, HEAD_LEN, Header, HeaderRef, List, NoMemory, Origin, OriginRef,
     PAYLOAD_MAX, Packet, Pair, PairRef, Pairs, PairsRef, Params, ParamsRef, Path, PathRef,
     RefusedMemory, Splitter, Text, WireFault, has_no_nul, pair_len, string_len,
 };
-pub use milter_wire_options::{Actions, MacroStage, Options, Protocol, SymList, SymLists};
 pub use negotiation::{Negotiated, negotiate};
+pub use options::{Actions, Options, Protocol};
+pub use options_laws::{names_of_bits, texts_of_known_bits};
+pub use options_payload::{OPTIONS_LEN, options_fit, put_options, take_options, take_options_first};
 pub use payload::PayloadRef;
 pub use reply::Reply;
+pub use shared_options::common_options;
 pub use stage::Stage;
+pub use symbol_lists::{
+    SymList, SymLists, copy_sym_lists, options_with_lists_fit, options_with_lists_len,
+    put_options_with_lists, sym_list_len, sym_lists_len, take_options_with_lists,
+};
 pub use verdict::Verdict;

@@ -3,8 +3,10 @@
 ghost use Rattle.std.specs.Prelude.{◌≡◌};
 ghost use Rattle.milter_wire.specs.Negotiation.{negotiate, has, has_leading_space, is_answered, is_of_version, is_sent};
 
+use crate::options::{Actions, Options, Protocol};
+use crate::shared_options::common_options;
 use crate::stage::Stage;
-use milter_wire_options::{Actions, Options, Protocol, SymLists, common_options};
+use crate::symbol_lists::SymLists;
 
 /// The first version of the protocol that has the stage of DATA. Source: mfdef.h (SMFIC_DATA).
 const DATA_VERSION: u32 = 4;

@@ -4,12 +4,13 @@ ghost use Rattle.std.specs.Prelude.{◌≡◌, ◌-◌, ◌^◌, ◌↔◌, IsTr
 ghost use Rattle.milter_fields.specs.AppendedBytes.{PutsBytes};
 ghost use Rattle.milter_wire.specs.Payload.{PayloadFits, payload_bytes};
 
+use crate::options::Options;
+use crate::symbol_lists::{
+    SymLists, options_with_lists_fit, options_with_lists_len, put_options_with_lists,
+};
 use milter_fields::{
     Header, NoMemory, Text, arguments_fit, arguments_len, has_no_nul, header_fits, header_len,
     is_reply_code, put_addressed, put_bytes, put_header, put_indexed, put_string, string_len,
-};
-use milter_wire_options::{
-    Options, SymLists, options_with_lists_fit, options_with_lists_len, put_options_with_lists,
 };
 
 /// The bytes of the index of a header field.

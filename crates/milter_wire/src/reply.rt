@@ -14,12 +14,13 @@ use crate::codes::{
     SMFIR_CHGHEADER, SMFIR_CONTINUE, SMFIR_DELRCPT, SMFIR_DISCARD, SMFIR_INSHEADER, SMFIR_PROGRESS,
     SMFIR_QUARANTINE, SMFIR_REJECT, SMFIR_REPLBODY, SMFIR_REPLYCODE, SMFIR_SKIP, SMFIR_TEMPFAIL,
 };
+use crate::options::Options;
 use crate::payload::PayloadRef;
+use crate::symbol_lists::{SymLists, take_options_with_lists};
 use milter_fields::{
     Header, NoMemory, PAYLOAD_MAX, Text, WireFault, put_head, take_addressed, take_header,
     take_indexed, take_reply_code, take_text,
 };
-use milter_wire_options::{Options, SymLists, take_options_with_lists};
 use std::alloc::Global;
 
 /// A packet that a filter sends to an MTA. Source: mfdef.h (the codes SMFIR_), and the layouts that libmilter writes.

@@ -6,7 +6,8 @@ ghost use Rattle.milter_wire.specs.Stages.{macro_command_of, macro_stage_of, nam
 use crate::codes::{
     SMFIC_BODYEOB, SMFIC_CONNECT, SMFIC_DATA, SMFIC_EOH, SMFIC_HELO, SMFIC_MAIL, SMFIC_RCPT,
 };
-use milter_wire_options::{MacroStage, Protocol};
+use crate::macro_stage::MacroStage;
+use crate::options::Protocol;
 
 /// A stage at which a filter is asked, in the order of a connection and of each of its messages. Source: the libmilter
 /// callback documentation (order of callbacks).

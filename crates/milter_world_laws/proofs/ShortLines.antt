@@ -12,8 +12,8 @@ use Rattle.milter_wire.specs.declared.reply.Reply.{Reply}
 use Rattle.milter_wire.specs.declared.stage.Stage.{Stage}
 use Rattle.milter_wire.specs.declared.verdict.Verdict.{Verdict}
 use Rattle.milter_wire.specs.declared.verdict.Verdict.TheVariants.{Skip}
-use Rattle.milter_wire_options.specs.declared.options.Options.{Options}
-use Rattle.milter_wire_options.specs.declared.options.TheConstants.Protocol.{SKIP}
+use Rattle.milter_wire.specs.declared.options.Options.{Options}
+use Rattle.milter_wire.specs.declared.options.TheConstants.Protocol.{SKIP}
 use Rattle.milter_wire.specs.Negotiation.{negotiate, has, has_leading_space, is_asked}
 use Rattle.milter_wire.specs.Command as sent_to
 use Rattle.milter_wire.specs.Command.{bytes_of}

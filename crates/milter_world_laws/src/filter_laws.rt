@@ -1,7 +1,7 @@
 //! Laws of what a filter's end answers to a session, each the contract of a function that does nothing.
 
 ghost use Rattle.std.specs.Prelude.{◌≡◌, ◌≤◌, All, List, map, take, true, ℕ};
-ghost use Rattle.milter_wire_options.specs.declared.options.Options.{Options};
+ghost use Rattle.milter_wire.specs.declared.options.Options.{Options};
 ghost use Rattle.milter_wire.specs.declared.negotiation.Negotiated.{Negotiated};
 ghost use Rattle.milter_wire.specs.declared.command.Command.{Command};
 ghost use Rattle.milter_wire.specs.declared.command.Command.TheVariants as commands;

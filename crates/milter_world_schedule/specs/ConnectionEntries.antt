@@ -4,7 +4,7 @@ use Rattle.std.specs.Prelude.{ℕ, ◌-◌, nat_le, List, [], ◌∷◌, ◌++�
 use Rattle.std.specs.List.{filter_map}
 use Rattle.milter_wire.specs.declared.negotiation.Negotiated.{Negotiated}
 use Rattle.milter_wire.specs.declared.command.Command.{Command}
-use Rattle.milter_wire_options.specs.declared.options.Options.{Options}
+use Rattle.milter_wire.specs.declared.options.Options.{Options}
 use Rattle.milter_wire.specs.Negotiation.{negotiate}
 use Rattle.milter_message.specs.MailObject.{MailObject}
 use Rattle.milter_mail.specs.MailSession.{MailSession}

@@ -13,7 +13,7 @@ use Rattle.milter_protocol.specs.Worked.{deciding, edits_at_end}
 use Rattle.milter_mta_outcome.specs.declared.fallback.OnLoss.{OnLoss}
 use Rattle.milter_mta_outcome.specs.declared.loss.By.{By}
 use Rattle.milter_mta_outcome.specs.declared.outcome.Outcome.{Outcome}
-use Rattle.milter_wire_options.specs.declared.options.TheConstants.Protocol.{SKIP}
+use Rattle.milter_wire.specs.declared.options.TheConstants.Protocol.{SKIP}
 use Rattle.milter_mta.specs.Worked.{greatest, message, session}
 use Rattle.milter_world_schedule.specs.declared.event.Event.{Event}
 use Rattle.milter_world_schedule.specs.Schedule.{Scenario, run_reports}

@@ -1,7 +1,7 @@
 //! Laws of the entries of a session, each the contract of a function that does nothing.
 
 ghost use Rattle.std.specs.Prelude.{◌≡◌, ◌≤◌, ◌<◌, List, length, ℕ};
-ghost use Rattle.milter_wire_options.specs.declared.options.Options.{Options};
+ghost use Rattle.milter_wire.specs.declared.options.Options.{Options};
 ghost use Rattle.milter_message.specs.MailObject.{MailObject};
 ghost use Rattle.milter_mail.specs.MailSession.{MailSession};
 ghost use Rattle.milter_protocol.specs.Behavior.{Behavior};

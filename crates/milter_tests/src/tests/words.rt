@@ -1,7 +1,7 @@
 //! The words of lines that no session file has, and texts that name sets of bits.
 
 use milter_text::{Word, WordFault, words};
-use milter_wire_options::{Actions, Protocol};
+use milter_wire::{Actions, Protocol};
 use std::alloc::Global;
 
 /// Whether these are the words, each plain.

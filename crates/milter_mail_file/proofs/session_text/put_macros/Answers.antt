@@ -2,9 +2,9 @@ use Rattle.std.proofs.Common.{◌≡◌, ℕ, ◌+◌, ◌<◌, List, ◌++◌, 
 use Rattle.std.specs.List.{flat_map}
 use Rattle.milter_mail.specs.Macros.{Macros}
 use Rattle.milter_mail_file.specs.SessionText.{macro_lines}
-use Rattle.milter_wire_options.specs.declared.macro_stage.MacroStage.{MacroStage}
-use Rattle.milter_wire_options.specs.declared.macro_stage.MacroStage.TheVariants.{Connect}
-use Rattle.milter_wire_options.specs.MacroStages.{macro_stages}
+use Rattle.milter_wire.specs.declared.macro_stage.MacroStage.{MacroStage}
+use Rattle.milter_wire.specs.declared.macro_stage.MacroStage.TheVariants.{Connect}
+use Rattle.milter_wire.specs.MacroStages.{macro_stages}
 use Rattle.milter_text.proofs.TextWriters.{Progress-fail, Progress-next, Progress-none}
 use Rattle.milter_mail_file.proofs.session_text.put_macros.Goals as goal
 

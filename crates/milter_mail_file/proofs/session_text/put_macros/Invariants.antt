@@ -1,7 +1,7 @@
 use Rattle.std.proofs.Common.{drop}
 use Rattle.std.specs.List.{flat_map}
 use Rattle.milter_mail_file.specs.SessionText.{all_macro_lines, macro_lines}
-use Rattle.milter_wire_options.specs.MacroStages.{macro_stages}
+use Rattle.milter_wire.specs.MacroStages.{macro_stages}
 use Rattle.milter_text.proofs.TextWriters.{Progress}
 use Rattle.milter_mail_file.proofs.session_text.put_macros.Given as goal
 

@@ -1,7 +1,7 @@
 use Rattle.std.proofs.Common.{◌≤◌, [], List, ap, refl, ◌∙◌}
 use Rattle.std.specs.List.{list_any}
 use Rattle.milter_wire.specs.Negotiation.{negotiate}
-use Rattle.milter_wire_options.specs.declared.options.Options.{Options}
+use Rattle.milter_wire.specs.declared.options.Options.{Options}
 use Rattle.milter_message.specs.MailObject.{MailObject}
 use Rattle.milter_mail.specs.MailSession.{MailSession}
 use Rattle.milter_mail.specs.Plan.{plan}

@@ -1,6 +1,6 @@
 use Rattle.std.specs.Prelude.{refl}
 use Rattle.bitflags.specs.Sets.{find_row}
-use Rattle.milter_wire_options.specs.Bits.{each_found, with_bits}
+use Rattle.milter_wire.specs.Bits.{each_found, with_bits}
 use Rattle.milter_tests_worked.proofs.definitions.named_bits.Goals as goal
 
 pub returns-clause-none : goal.returns-clause-none

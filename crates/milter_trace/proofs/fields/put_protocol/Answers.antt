@@ -1,4 +1,4 @@
-use Rattle.milter_wire_options.specs.Bits.{names_text, protocol_table}
+use Rattle.milter_wire.specs.Bits.{names_text, protocol_table}
 use Rattle.milter_trace.proofs.FieldLaws.{named}
 use Rattle.milter_trace.proofs.fields.put_protocol.Goals as goal
 

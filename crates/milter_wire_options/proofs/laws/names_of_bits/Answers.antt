@@ -1,8 +1,0 @@
-use Rattle.milter_wire_options.proofs.SetLaws.{names_known, names_set}
-use Rattle.milter_wire_options.proofs.laws.names_of_bits.Goals as goal
-
-pub returns-clause-names : goal.returns-clause-names
-returns-clause-names c = names_set
-
-pub returns-clause-unknown : goal.returns-clause-unknown
-returns-clause-unknown c = names_known

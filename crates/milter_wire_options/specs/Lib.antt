@@ -1,4 +1,0 @@
-pub mod Bits
-pub mod Negotiation
-pub mod Payload
-pub mod MacroStages
