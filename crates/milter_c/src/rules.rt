@@ -7,7 +7,7 @@ ghost use Rattle.milter_protocol.specs.Questions.{wanted_of};
 ghost use Rattle.milter_filter_stream.specs.Conversations.{answered, fresh_conversation};
 ghost use Rattle.milter_filter_rules.specs.RulesValue.{case_of, matching_of, rule_set};
 ghost use Rattle.milter_filter_rules.specs.RuleSet.{RuleSet, behavior_of};
-ghost use Rattle.milter_glob.specs.declared.text_case.TextCase.TheVariants.{Exact};
+ghost use Rattle.milter_text.specs.declared.text_case.TextCase.TheVariants.{Exact};
 ghost use Rattle.milter_rules.specs.RuleFile.{IsRuleFile};
 ghost use Rattle.milter_c_handle.specs.Objects.{IsKept, filter_of, rules_of};
 ghost use Rattle.milter_c.specs.RuleFaults.{IsLineOf, rule_fault_number};

@@ -3,12 +3,12 @@ use Rattle.std.specs.Prelude.{◌≡◌, ◌++◌, ◌-◌, ℕ, Bool, ◌||◌,
 use Rattle.std.specs.List.{filter, list_any}
 use Rattle.std.specs.Str.{bytes_eq, str_eq_ignore_ascii_case, str_to_ascii_lowercase}
 use Rattle.milter_address.specs.Domain.{is_under}
-use Rattle.milter_glob.specs.Globs.{is_like}
+use Rattle.milter_text.specs.Globs.{is_like}
 use Rattle.milter_fields.specs.declared.header.Header.{Header}
 use Rattle.milter_filter_search.specs.declared.pattern.Test.{Test}
 use Rattle.milter_filter_search.specs.declared.pattern.Test.TheVariants.{Is, Has, Lacks, Begins, Ends, Like, Under}
-use Rattle.milter_glob.specs.declared.text_case.TextCase.{TextCase}
-use Rattle.milter_glob.specs.declared.text_case.TextCase.TheVariants.{Exact, Ignored}
+use Rattle.milter_text.specs.declared.text_case.TextCase.{TextCase}
+use Rattle.milter_text.specs.declared.text_case.TextCase.TheVariants.{Exact, Ignored}
 
 -- a text as it is compared: where the case of ASCII letters doesn't count, each of them in lower case
 abbrev pub folded : TextCase → List ℕ → List ℕ

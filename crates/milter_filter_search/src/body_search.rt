@@ -7,7 +7,7 @@ ghost use Rattle.milter_filter_search.specs.Searches.{HasRead, IsUnread, occurs_
 use crate::pattern::Pattern;
 use crate::text_case::contains;
 use milter_fields::{NoMemory, Text};
-use milter_glob::TextCase;
+use milter_text::TextCase;
 use std::alloc::Global;
 use std::marker::Model;
 

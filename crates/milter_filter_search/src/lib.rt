@@ -17,7 +17,7 @@ mod text_case;
 
 pub use body::Body;
 pub use headers::Headers;
-pub use milter_glob::TextCase;
+pub use milter_text::TextCase;
 pub use needle::Needle;
 pub use path_key::finds_in_path;
 pub use path_part::PathPart;

@@ -6,8 +6,8 @@ ghost use Rattle.milter_filter_search.specs.Needles.{key_matches, matches};
 use crate::pattern::{Pattern, Test};
 use milter_address::canonical_domain;
 use milter_fields::{NoMemory, Text};
-use milter_glob::TextCase;
 use milter_lists::SharedList;
+use milter_text::TextCase;
 use std::alloc::Global;
 
 /// How many entries of two lists are compared in the time of a lookup.

@@ -5,7 +5,7 @@ ghost use Rattle.milter_filter_search.specs.Texts.{Around, contains, finds, test
 
 use crate::text_case::{begins_with, contains, ends_with, is_text};
 use milter_address::is_under;
-use milter_glob::{TextCase, is_like};
+use milter_text::{TextCase, is_like};
 
 /// How values are compared with a text.
 #[derive(Clone, Copy, Debug, PartialEq, Eq)]

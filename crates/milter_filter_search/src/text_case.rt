@@ -6,7 +6,7 @@ ghost use Rattle.milter_filter_search.specs.Texts.{begins_with, contains, ends_w
 
 use bstr::ByteSlice;
 use memchr::memchr;
-use milter_glob::TextCase;
+use milter_text::TextCase;
 
 /// The most bytes of a value in which a text is looked for by its first byte.
 const SHORT_LEN: usize = 64;

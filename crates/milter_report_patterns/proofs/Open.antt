@@ -6,10 +6,10 @@ use Rattle.std.specs.List.{filter, list_any}
 use Rattle.std.specs.Cmp.{nat_eq_equiv}
 use Rattle.std.specs.Cmp.Lexicographic.{nat_list_eq_equiv}
 use Rattle.std.specs.Str.{bytes_eq}
-use Rattle.milter_glob.specs.Globs.{is_like}
-use Rattle.milter_glob.specs.Globs as glob
-use Rattle.milter_glob.specs.declared.text_case.TextCase.TheVariants.{Exact}
-use Rattle.milter_glob.specs.declared.wildcards.TheConstants.{ANY_BYTE, ANY_RUN}
+use Rattle.milter_text.specs.Globs.{is_like}
+use Rattle.milter_text.specs.Globs as glob
+use Rattle.milter_text.specs.declared.text_case.TextCase.TheVariants.{Exact}
+use Rattle.milter_text.specs.declared.wildcards.TheConstants.{ANY_BYTE, ANY_RUN}
 use Rattle.milter_report_patterns.specs.Patterns.{is_gap, like, some_suffix, stand_for, stands_for}
 use Rattle.milter_report_patterns.specs.Places.{any_open, is_any_open}
 use Rattle.milter_report_patterns.proofs.Advance.{or_none}

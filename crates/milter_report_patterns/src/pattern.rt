@@ -3,7 +3,7 @@
 ghost use Rattle.std.specs.Prelude.{◌≡◌};
 ghost use Rattle.milter_report_patterns.specs.Patterns.{is_gap, stands_for};
 
-use milter_glob::{TextCase, is_like};
+use milter_text::{TextCase, is_like};
 
 /// A line that stands for any lines, none too: without its LF, which it may have.
 pub const GAP: &[u8] = b"...";

@@ -14,7 +14,7 @@ ghost use Rattle.milter_rules.specs.RuleFile.{AllGive, CanBeFile, FoundAll, IsRu
 ghost use Rattle.milter_rules.specs.RuleForms.{HasForm};
 ghost use Rattle.milter_filter_rules.specs.RuleSet.{RuleSet};
 ghost use Rattle.milter_filter_rules.specs.RulesValue.{case_of, named_of, rule_set, states_protocol};
-ghost use Rattle.milter_glob.specs.declared.text_case.TextCase.TheVariants.{Exact};
+ghost use Rattle.milter_text.specs.declared.text_case.TextCase.TheVariants.{Exact};
 
 use crate::form::{Form, is_header};
 use crate::list_lines::read_lists;

@@ -1,3 +1,5 @@
+pub mod Globs
+pub mod Segments
 pub mod Lines
 pub mod Words
 pub mod WordValues

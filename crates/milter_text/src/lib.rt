@@ -3,9 +3,13 @@
 //! Session files, rule files and traces are lines. A line of the first two is words: a word is plain or in
 //! quotes, and in quotes it may have any byte. [`words`] reads the words of a line, a [`LineCursor`] those of one line
 //! of a file after the other, and [`quote`] writes a text so that it is read back as it was.
+//!
+//! Patterns of bytes in which `*` stands for any bytes and `?` for any one byte, against whole values.
 #![tactic(auto)]
 
 mod escapes;
+mod glob;
+mod glob_laws;
 mod laws;
 mod line_cursor;
 mod line_fault;
@@ -13,10 +17,15 @@ mod line_words;
 mod lines;
 mod quotes;
 mod runs;
+mod segment;
+mod text_case;
 mod text_fault;
 mod text_writer;
+mod wildcards;
 mod word;
 
+pub use glob::is_like;
+pub use glob_laws::{joined_patterns, plain_patterns, short_patterns};
 pub use laws::{
     first_line_feeds, first_lines, lines_of_texts, lines_of_words, quoted_texts, written_numbers,
 };
@@ -25,6 +34,8 @@ pub use line_fault::LineFault;
 pub use line_words::words;
 pub use lines::{is_skipped, line_content};
 pub use quotes::{put_escaped, quote};
+pub use text_case::TextCase;
 pub use text_fault::TextFault;
 pub use text_writer::{TextWriter, write_text};
+pub use wildcards::{ANY_BYTE, ANY_RUN};
 pub use word::{Word, WordFault};

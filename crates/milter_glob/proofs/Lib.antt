@@ -1,4 +1,0 @@
-pub mod Segments
-pub mod Leftmost
-pub mod Joins
-mod Rows

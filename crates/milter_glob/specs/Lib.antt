@@ -1,2 +1,0 @@
-pub mod Globs
-pub mod Segments
