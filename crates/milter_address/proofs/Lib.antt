@@ -8,3 +8,13 @@ pub mod ReadMailboxes
 pub mod WrittenMailboxes
 pub mod CanonicalAddresses
 pub mod AddressDomains
+pub mod AddressRows
+pub mod Families
+pub mod Memberships
+pub mod NetworkRows
+pub mod Numbers
+pub mod Positions
+pub mod Prefixes
+pub mod ReadTexts
+pub mod Shifts
+pub mod Zones

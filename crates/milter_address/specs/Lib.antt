@@ -6,3 +6,6 @@ pub mod QuotedString
 pub mod Mailbox
 pub mod Address
 pub mod Domain
+pub mod Addresses
+pub mod Networks
+pub mod ReadTexts

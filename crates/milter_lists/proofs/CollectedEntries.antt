@@ -3,9 +3,9 @@ use Rattle.std.proofs.Common.{◌≡◌, ℕ, ◌+◌, ◌≤◌, true, List, []
 use Rattle.std.specs.Prelude.{is_some}
 use Rattle.std.proofs.lemmas.Bool.{and_parts}
 use Rattle.std.proofs.lemmas.List.{append-nil}
-use Rattle.milter_network.specs.declared.address.Address.{Address}
-use Rattle.milter_network.specs.declared.address.Address.TheVariants.{V4, V6}
-use Rattle.milter_network.specs.ReadTexts.{network_in}
+use Rattle.milter_address.specs.declared.ip_address.Address.{Address}
+use Rattle.milter_address.specs.declared.ip_address.Address.TheVariants.{V4, V6}
+use Rattle.milter_address.specs.ReadTexts.{network_in}
 use Rattle.milter_lists.specs.declared.list_kind.ListKind.{ListKind}
 use Rattle.milter_lists.specs.declared.list_kind.ListKind.TheVariants.{Addresses, Domains, Networks, Texts}
 use Rattle.milter_lists.specs.Collected.{Collected, IsWithin, collected, joined, len_by, nothing, of_entry, of_network}

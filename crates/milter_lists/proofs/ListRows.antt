@@ -4,7 +4,7 @@ use Rattle.std.proofs.Common.{◌≡◌, ℕ, ◌+◌, ◌*◌, ◌-◌, ◌^◌
 use Rattle.std.specs.Prelude.{codes}
 use Rattle.std.specs.List.{list_any}
 use Rattle.milter_address.specs.Address.{canonical_address}
-use Rattle.milter_network.specs.declared.address.Address.TheVariants.{V4, V6}
+use Rattle.milter_address.specs.declared.ip_address.Address.TheVariants.{V4, V6}
 use Rattle.milter_lists.specs.declared.list_kind.ListKind.{ListKind}
 use Rattle.milter_lists.specs.declared.list_kind.ListKind.TheVariants.{Addresses, Domains, Texts}
 use Rattle.milter_lists.specs.ListFaults.{has_good_entries, numbered_entries}

@@ -3,11 +3,11 @@ use Rattle.std.proofs.Common.{◌≡◌, ℕ, ◌-◌, ◌/◌, ◌^◌, Bool, f
 use Rattle.std.specs.Prelude.{◌==◌, ◌||◌}
 use Rattle.std.specs.List.{list_any}
 use Rattle.std.proofs.lemmas.List.Folds.{list_any-append}
-use Rattle.milter_network.specs.declared.address.Address.{Address}
-use Rattle.milter_network.specs.declared.address.Address.TheVariants.{V4, V6}
-use Rattle.milter_network.specs.Addresses.{ipv4_mapped}
-use Rattle.milter_network.specs.Networks.{mapped_shares_prefix, shares_prefix}
-use Rattle.milter_network.specs.ReadTexts.{address_in, holds_address, is_text_within, network_in}
+use Rattle.milter_address.specs.declared.ip_address.Address.{Address}
+use Rattle.milter_address.specs.declared.ip_address.Address.TheVariants.{V4, V6}
+use Rattle.milter_address.specs.Addresses.{ipv4_mapped}
+use Rattle.milter_address.specs.Networks.{mapped_shares_prefix, shares_prefix}
+use Rattle.milter_address.specs.ReadTexts.{address_in, holds_address, is_text_within, network_in}
 use Rattle.milter_range_set.specs.declared.number_range.NumberRange.{NumberRange}
 use Rattle.milter_range_set.specs.Ranges.{is_in}
 use Rattle.milter_lists.specs.Collected.{collected, of_network}

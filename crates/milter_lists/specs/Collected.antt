@@ -4,9 +4,9 @@ use Rattle.std.specs.List.{list_any}
 use Rattle.std.specs.Str.{str_to_ascii_lowercase}
 use Rattle.milter_address.specs.Address.{canonical_address}
 use Rattle.milter_address.specs.Domain.{canonical_domain}
-use Rattle.milter_network.specs.declared.address.Address.{Address}
-use Rattle.milter_network.specs.declared.address.Address.TheVariants.{V4, V6}
-use Rattle.milter_network.specs.ReadTexts.{address_in, network_in}
+use Rattle.milter_address.specs.declared.ip_address.Address.{Address}
+use Rattle.milter_address.specs.declared.ip_address.Address.TheVariants.{V4, V6}
+use Rattle.milter_address.specs.ReadTexts.{address_in, network_in}
 use Rattle.milter_text_set.specs.Entries.{bytes_of}
 use Rattle.milter_text_set.specs.declared.limits.TheConstants.{BYTES_MAX, ENTRIES_MAX}
 use Rattle.milter_range_set.specs.declared.number_range.NumberRange.{NumberRange}

@@ -6,7 +6,7 @@ use Rattle.milter_address.specs.Address.{canonical_address}
 use Rattle.milter_address.specs.Bytes.{is_at, is_dot}
 use Rattle.milter_address.specs.Domain.{canonical_domain}
 use Rattle.milter_address.specs.Trimmed.{trimmed_end, trimmed_start}
-use Rattle.milter_network.specs.ReadTexts.{is_text_within, network_in}
+use Rattle.milter_address.specs.ReadTexts.{is_text_within, network_in}
 use Rattle.milter_text.specs.Lines.{contents}
 use Rattle.milter_lists.specs.declared.list_kind.ListKind.{ListKind}
 use Rattle.milter_lists.specs.declared.list_kind.ListKind.TheVariants.{Addresses, Domains, Networks, Texts}

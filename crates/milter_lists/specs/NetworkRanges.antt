@@ -2,9 +2,9 @@
 use Rattle.std.specs.Prelude.{ℕ, ◌+◌, ◌-◌, ◌*◌, ◌/◌, ◌^◌, Bool, false, ◌||◌, List, Option, None, Some}
 use Rattle.milter_range_set.specs.declared.number_range.NumberRange.{NumberRange}
 use Rattle.milter_range_set.specs.Ranges.{has_number}
-use Rattle.milter_network.specs.declared.address.Address.{Address}
-use Rattle.milter_network.specs.declared.address.Address.TheVariants.{V4, V6}
-use Rattle.milter_network.specs.Addresses.{ipv4_mapped}
+use Rattle.milter_address.specs.declared.ip_address.Address.{Address}
+use Rattle.milter_address.specs.declared.ip_address.Address.TheVariants.{V4, V6}
+use Rattle.milter_address.specs.Addresses.{ipv4_mapped}
 
 -- the least of the numbers that differ from this one in the last bits alone
 abbrev pub first_of : ℕ → ℕ → ℕ

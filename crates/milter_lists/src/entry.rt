@@ -8,9 +8,8 @@ ghost use Rattle.milter_lists.specs.ParsedEntries.{IsParsed};
 ghost use Rattle.milter_lists.specs.declared.list_kind.ListKind.TheVariants as kinds;
 
 use crate::list_kind::ListKind;
-use milter_address::{canonical_address, canonical_domain};
+use milter_address::{Network, canonical_address, canonical_domain};
 use milter_fields::NoMemory;
-use milter_network::Network;
 use std::alloc::Global;
 
 /// An entry of a list.

@@ -11,7 +11,7 @@ use crate::list_fault::ListFault;
 use crate::list_kind::ListKind;
 use crate::network_range::range_of;
 use crate::network_set::NetworkSet;
-use milter_network::{Address, Network};
+use milter_address::{Address, Network};
 use milter_range_set::RangeSetBuilder;
 use milter_text_set::{ENTRIES_MAX, EntryFault, TextSetBuilder};
 use std::alloc::Global;

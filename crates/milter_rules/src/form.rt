@@ -10,13 +10,13 @@ ghost use Rattle.milter_filter_rules.specs.Conditions.{has_form};
 ghost use Rattle.milter_filter_rules.specs.RulesValue.{rule_set};
 ghost use Rattle.std.specs.List.{list_all};
 
+use milter_address::Network;
 use milter_filter_rules::{
     Check, Condition, Field, Joint, ListKind, ListSource, ListSources, Measure, PathPart, Rule,
     RuleAction, Rules, Test, Texts,
 };
 use milter_list_lines::{is_list_name, source_named};
 use milter_message::WEIGHT_MAX;
-use milter_network::Network;
 use milter_text::Word;
 use milter_wire::{Stage, Text};
 use std::alloc::Global;

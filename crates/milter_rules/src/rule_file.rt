@@ -42,7 +42,7 @@ use std::alloc::Global;
 /// are `begins`, `ends`, `like`, but not of `body`, and `under`, of `host`, `helo` and domains, with texts that don't
 /// begin with a dot. `any-case` may stand after a test but `under`, and not with an address or a domain. Other
 /// conditions there are `address within TEXT ..`, whose texts write networks as
-/// [`Network::parse`](milter_network::Network::parse) reads them, `size over NUMBER`, of the bytes of the body, with a
+/// [`Network::parse`](milter_address::Network::parse) reads them, `size over NUMBER`, of the bytes of the body, with a
 /// number of at most 16,777,216, and `rcpts over NUMBER`, of the recipients, with one of 32 bits. These numbers have no
 /// superfluous zeros.
 ///

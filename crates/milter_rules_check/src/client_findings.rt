@@ -3,8 +3,8 @@
 use crate::advice::{advice_end, within_instead};
 use crate::compared::{outcome_unfound, say_empty};
 use crate::networks_meant::network_meant;
+use milter_address::{Address, Network};
 use milter_filter_rules::Test;
-use milter_network::{Address, Network};
 use milter_rules::{Compared, FileForm, Notes, Span};
 use milter_wire::NoMemory;
 

@@ -1,6 +1,6 @@
 //! The networks that are meant by texts with the beginning of an address.
 
-use milter_network::Network;
+use milter_address::Network;
 use milter_wire::NoMemory;
 use std::alloc::Global;
 

@@ -8,7 +8,7 @@ use crate::known_words::{
     CANONICAL_FIELDS, DOMAIN_FIELDS, NUMBER_FIELDS, WIDE_FIELDS, WIDE_TESTS, is_one_of,
 };
 use crate::reference_faults::say_bad_reference;
-use milter_network::Network;
+use milter_address::Network;
 use milter_rules::{FileForm, Notes, Span};
 use milter_text::Word;
 use milter_wire::NoMemory;

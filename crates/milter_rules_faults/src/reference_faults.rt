@@ -6,7 +6,7 @@ use crate::flag_faults::say_no_case;
 use crate::known_words::{Kind, is_joint, is_one_of, say_unknown_name};
 use crate::list_words::fields_of;
 use crate::nearest::name_meant;
-use milter_network::Network;
+use milter_address::Network;
 use milter_rules::{ListSource, Notes, Span};
 use milter_text::Word;
 use milter_wire::NoMemory;

@@ -1,5 +1,0 @@
-use Rattle.milter_network.proofs.address.parse_v4.Goals as goal
-use Rattle.milter_network.proofs.Numbers.{v4_none}
-
-pub returns-in-Err-clause-none : goal.returns-in-Err-clause-none
-returns-in-Err-clause-none c = v4_none _ c.in-Err.ensures
