@@ -27,8 +27,7 @@ mod values;
 pub use action_fits::{fields_fit, has_room, is_allowed_at, is_string};
 pub use laws::{answers_of_actions, deleted_headers};
 pub use milter_filter_policy::{PathPart, Test, TextCase};
-pub use milter_list_lines::{ListSource, ListSources};
-pub use milter_lists::{ListFault, ListKind, SharedList, TextList};
+pub use milter_lists::{ListFault, ListKind, ListSource, ListSources, SharedList, TextList};
 pub use milter_protocol::Action;
 pub use named_list::{NamedList, NamedLists};
 pub use rule::{

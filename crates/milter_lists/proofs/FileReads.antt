@@ -8,7 +8,7 @@ use Rattle.std.proofs.lemmas.List.Folds.{list_all-append}
 use Rattle.std.proofs.lemmas.List.Sums.{sum_by-append}
 use Rattle.milter_text.specs.LineCursor.{all_contents}
 use Rattle.milter_text.specs.Lines.{is_skipped}
-use Rattle.milter_text_set.specs.Entries.{bytes_of}
+use Rattle.milter_lists.specs.Entries.{bytes_of}
 use Rattle.milter_lists.specs.declared.list_fault.ListFault.{ListFault}
 use Rattle.milter_lists.specs.declared.list_fault.ListFault.TheVariants.{BadEntry, TooLarge, NoMemory}
 use Rattle.milter_lists.specs.declared.list_kind.ListKind.{ListKind}

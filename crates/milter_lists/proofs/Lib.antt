@@ -1,3 +1,13 @@
+pub mod EntryRows
+pub mod TextSetLookups
+pub mod Pushes
+pub mod EqualSpans
+pub mod Keys
+pub mod Sorting
+pub mod RaisedRanges
+pub mod RangeLookups
+pub mod RangeRows
+pub mod EqualRanges
 pub mod KeySets
 pub mod DomainLookups
 pub mod NetworkBlocks
@@ -7,3 +17,5 @@ pub mod CollectedEntries
 pub mod FileReads
 pub mod ListAnswers
 pub mod ListRows
+pub mod ListGrammar
+pub mod SourceLines

@@ -3,7 +3,7 @@ use Rattle.std.proofs.Common.{◌≡◌, ℕ, ◌+◌, ◌-◌, ◌*◌, ◌/◌
 use Rattle.std.specs.Prelude.{nat_eq, nat_le}
 use Rattle.std.proofs.lemmas.Bool.{and_from, and_parts, eq-eqb, eqb-true, le-leb, leb-true}
 use Rattle.std.proofs.lemmas.Nat.{div-add-mod', div-mul-add, mod_below, mul-add-lt, one_shl, pow-add, pow_pos, shr_below}
-use Rattle.milter_range_set.specs.Ranges.{is_in}
+use Rattle.milter_lists.specs.Ranges.{is_in}
 use Rattle.milter_lists.specs.NetworkRanges.{first_of, range_of}
 use Rattle.milter_lists.proofs.KeySets.{same_test}
 

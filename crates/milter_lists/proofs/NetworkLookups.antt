@@ -8,8 +8,8 @@ use Rattle.milter_address.specs.declared.ip_address.Address.TheVariants.{V4, V6}
 use Rattle.milter_address.specs.Addresses.{ipv4_mapped}
 use Rattle.milter_address.specs.Networks.{mapped_shares_prefix, shares_prefix}
 use Rattle.milter_address.specs.ReadTexts.{address_in, holds_address, is_text_within, network_in}
-use Rattle.milter_range_set.specs.declared.number_range.NumberRange.{NumberRange}
-use Rattle.milter_range_set.specs.Ranges.{is_in}
+use Rattle.milter_lists.specs.declared.number_range.NumberRange.{NumberRange}
+use Rattle.milter_lists.specs.Ranges.{is_in}
 use Rattle.milter_lists.specs.Collected.{collected, of_network}
 use Rattle.milter_lists.specs.declared.list_kind.ListKind.TheVariants.{Networks}
 use Rattle.milter_lists.specs.NetworkRanges.{have_address, is_in_ranges, mapped_is_in_ranges, range_of}

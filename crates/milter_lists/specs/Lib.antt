@@ -1,3 +1,6 @@
+pub mod Entries
+pub mod Keys
+pub mod Ranges
 pub mod ListKinds
 pub mod Listed
 pub mod NetworkRanges
@@ -6,3 +9,5 @@ pub mod Collected
 pub mod ParsedEntries
 pub mod ListFaults
 pub mod ListValues
+pub mod ListLines
+pub mod SourceFault

@@ -1,7 +1,7 @@
 -- The ranges of networks: the numbers of their addresses, those of each family for themselves.
 use Rattle.std.specs.Prelude.{ℕ, ◌+◌, ◌-◌, ◌*◌, ◌/◌, ◌^◌, Bool, false, ◌||◌, List, Option, None, Some}
-use Rattle.milter_range_set.specs.declared.number_range.NumberRange.{NumberRange}
-use Rattle.milter_range_set.specs.Ranges.{has_number}
+use Rattle.milter_lists.specs.declared.number_range.NumberRange.{NumberRange}
+use Rattle.milter_lists.specs.Ranges.{has_number}
 use Rattle.milter_address.specs.declared.ip_address.Address.{Address}
 use Rattle.milter_address.specs.declared.ip_address.Address.TheVariants.{V4, V6}
 use Rattle.milter_address.specs.Addresses.{ipv4_mapped}

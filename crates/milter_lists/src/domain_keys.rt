@@ -5,7 +5,7 @@ ghost use Rattle.std.specs.List.{list_any};
 ghost use Rattle.milter_lists.specs.ListKeys.{dot_suffixes, is_key};
 
 use crate::key_set::is_key;
-use milter_text_set::TextSet;
+use crate::text_set::TextSet;
 
 /// Whether a canonical domain, or what it ends with that begins with a dot, is one of the keys. Doesn't allocate.
 pub(crate) fn has_domain(keys: &TextSet, domain: &[u8]) -> bool

@@ -6,7 +6,7 @@ ghost use Rattle.milter_lists.specs.ListValues.{collected_in, kind_in};
 
 use crate::list_kind::ListKind;
 use crate::network_set::NetworkSet;
-use milter_text_set::TextSet;
+use crate::text_set::TextSet;
 
 /// The entries of a list of each kind: the keys of addresses, domains and texts, and the addresses of networks.
 #[derive(Debug, Drop)]

@@ -4,8 +4,8 @@ ghost use Rattle.std.specs.Prelude.{◌≡◌, IfOk};
 ghost use Rattle.std.specs.Str.{str_to_ascii_lowercase};
 ghost use Rattle.milter_lists.specs.ListKeys.{is_key};
 
+use crate::text_set::TextSet;
 use milter_fields::NoMemory;
-use milter_text_set::TextSet;
 use std::alloc::Global;
 
 /// Whether it is one of the keys. Doesn't allocate.

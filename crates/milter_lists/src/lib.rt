@@ -4,26 +4,65 @@
 //! domain, or a text in lower case. A list of them is the set of the keys, and a value is looked up by the keys of the
 //! entries that would have it. A list of networks is the set of the numbers of their addresses. So a lookup takes about
 //! as long in a list of a million entries as in a short one.
+//!
+//! Sets of texts: many texts, in one buffer, and a search among them.
+//!
+//! Sets of numbers of 128 bits: those of many ranges, and a search among them.
+//!
+//! The lines `list NAME KIND FILE` of a rule file, by which its conditions refer to lists.
 #![tactic(auto)]
 
+mod builder;
 mod domain_keys;
 mod entries;
 mod entry;
+mod entry_fault;
 mod file_entries;
+mod key;
 mod key_set;
+mod laws;
 mod list_builder;
 mod list_fault;
 mod list_kind;
+mod list_limits;
 mod list_reader;
+mod list_source;
 mod network_range;
 mod network_set;
+mod number_range;
+#[cfg(test)]
+mod range_set_tests;
+mod set;
 mod shared_list;
+mod sort;
+mod source_fault;
+mod source_words;
+mod sources;
+mod span;
 #[cfg(test)]
 mod tests;
 mod text_list;
+mod text_set;
+mod text_set_builder;
+mod text_set_limits;
+#[cfg(test)]
+mod text_set_tests;
 mod trimmed;
 
+pub use builder::RangeSetBuilder;
+pub use entry_fault::EntryFault;
+pub use laws::list_lines;
 pub use list_fault::ListFault;
 pub use list_kind::ListKind;
+pub use list_limits::LISTS_MAX;
+pub use list_source::{ListSource, ListSources};
+pub use number_range::NumberRange;
+pub use set::RangeSet;
 pub use shared_list::SharedList;
+pub use source_fault::SourceFault;
+pub use source_words::is_list_name;
+pub use sources::{source_named, sources_in};
 pub use text_list::TextList;
+pub use text_set::TextSet;
+pub use text_set_builder::TextSetBuilder;
+pub use text_set_limits::{BYTES_MAX, ENTRIES_MAX};

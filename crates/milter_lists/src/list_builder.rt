@@ -5,15 +5,17 @@ ghost use Rattle.milter_lists.specs.Collected.{IsWithin, has, joined, len_by, no
 ghost use Rattle.milter_lists.specs.ListValues.{collected_in, kind_in};
 ghost use Rattle.milter_lists.specs.ParsedEntries.{IsTooMuchAt, of_parsed};
 
+use crate::builder::RangeSetBuilder;
 use crate::entries::Entries;
 use crate::entry::Entry;
+use crate::entry_fault::EntryFault;
 use crate::list_fault::ListFault;
 use crate::list_kind::ListKind;
 use crate::network_range::range_of;
 use crate::network_set::NetworkSet;
+use crate::text_set_builder::TextSetBuilder;
+use crate::text_set_limits::ENTRIES_MAX;
 use milter_address::{Address, Network};
-use milter_range_set::RangeSetBuilder;
-use milter_text_set::{ENTRIES_MAX, EntryFault, TextSetBuilder};
 use std::alloc::Global;
 use std::marker::Model;
 

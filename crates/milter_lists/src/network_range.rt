@@ -3,7 +3,7 @@
 ghost use Rattle.std.specs.Prelude.{◌≡◌, ◌≤◌};
 ghost use Rattle.milter_lists.specs.NetworkRanges.{range_of};
 
-use milter_range_set::NumberRange;
+use crate::number_range::NumberRange;
 
 /// The numbers that differ from this one in the last bits alone.
 pub(crate) fn range_of(number: u128, last_bits: u32) -> NumberRange

@@ -4,8 +4,8 @@ ghost use Rattle.std.specs.Prelude.{◌≡◌, Some};
 ghost use Rattle.milter_address.specs.ReadTexts.{address_in};
 ghost use Rattle.milter_lists.specs.NetworkRanges.{have_address, is_in_ranges, mapped_is_in_ranges};
 
+use crate::set::RangeSet;
 use milter_address::Address;
-use milter_range_set::RangeSet;
 
 /// The addresses of some networks, as the numbers that their bits are.
 #[derive(Debug, Drop)]

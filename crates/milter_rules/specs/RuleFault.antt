@@ -2,8 +2,8 @@
 use Rattle.std.specs.Prelude.{◌≡◌, ℕ, ◌≤◌, ◌<◌, IfSome, Option, None, Some}
 use Rattle.milter_text.specs.declared.line_fault.LineFault.{LineFault}
 use Rattle.milter_text.specs.declared.line_fault.LineFault.TheVariants as line_faults
-use Rattle.milter_list_lines.specs.declared.source_fault.SourceFault.{SourceFault}
-use Rattle.milter_list_lines.specs.declared.source_fault.SourceFault.TheVariants as source_faults
+use Rattle.milter_lists.specs.declared.source_fault.SourceFault.{SourceFault}
+use Rattle.milter_lists.specs.declared.source_fault.SourceFault.TheVariants as source_faults
 use Rattle.milter_rules.specs.declared.rule_fault.RuleFault.{RuleFault}
 use Rattle.milter_rules.specs.declared.rule_fault.RuleFault.TheVariants.{UnknownWord, BadStage, BadCondition, BadAction}
 use Rattle.milter_rules.specs.declared.rule_fault.RuleFault.TheVariants.{ActionNotHere, TooLarge, NoMemory, BadList}

@@ -4,7 +4,7 @@ ghost use Rattle.std.specs.Prelude.{◌≡◌, not};
 ghost use Rattle.milter_rules.specs.RuleForms.{all_fit, are_conditions, begins_with_and, begins_with_dot, case_fits, check_fits, fits_first};
 ghost use Rattle.milter_rules.specs.RuleForms.{fits_second, is_domain, is_first_check, is_first_field, is_header, is_network, is_of_first};
 ghost use Rattle.milter_rules.specs.RuleForms.{form_sources, has_action, has_rule, kind_fits, limit_max, source_fits, test_fits};
-ghost use Rattle.milter_list_lines.specs.ListLines.{is_list_name, source_named};
+ghost use Rattle.milter_lists.specs.ListLines.{is_list_name, source_named};
 ghost use Rattle.milter_rules.specs.declared.form.Form.TheVariants.{First};
 ghost use Rattle.milter_filter_rules.specs.Conditions.{has_form};
 ghost use Rattle.milter_filter_rules.specs.RulesValue.{rule_set};
@@ -15,7 +15,7 @@ use milter_filter_rules::{
     Check, Condition, Field, Joint, ListKind, ListSource, ListSources, Measure, PathPart, Rule,
     RuleAction, Rules, Test, Texts,
 };
-use milter_list_lines::{is_list_name, source_named};
+use milter_lists::{is_list_name, source_named};
 use milter_message::WEIGHT_MAX;
 use milter_text::Word;
 use milter_wire::{Stage, Text};

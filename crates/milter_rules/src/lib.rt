@@ -28,7 +28,7 @@ pub use milter_filter_rules::{
     Texts,
 };
 pub use milter_list_files::ListFile;
-pub use milter_list_lines::LISTS_MAX;
+pub use milter_lists::LISTS_MAX;
 pub use notes::{Notes, Severity, Span};
 pub use rule_builder::RULES_MAX;
 pub use rule_fault::RuleFault;

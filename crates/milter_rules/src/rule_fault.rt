@@ -4,7 +4,7 @@ ghost use Rattle.std.specs.Prelude.{◌≡◌};
 ghost use Rattle.milter_text.specs.declared.line_fault.LineFault.{LineFault};
 ghost use Rattle.milter_rules.specs.RuleFault.{of_line_fault, of_source_fault, rule_fault_line, rule_fault_number};
 
-use milter_list_lines::SourceFault;
+use milter_lists::SourceFault;
 use milter_text::LineFault;
 use thiserror::Error;
 

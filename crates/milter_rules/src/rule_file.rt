@@ -4,8 +4,8 @@ ghost use Rattle.std.specs.Prelude.{◌≡◌, ◌≤◌, [], IfErr, IfOk, List,
 ghost use Rattle.milter_text.specs.LineCursor.{HasNoNext, NextHasWords};
 ghost use Rattle.milter_text.specs.Lines.{lines_of};
 ghost use Rattle.milter_list_files.specs.ListFiles.{AreRead, CanBeRead};
-ghost use Rattle.milter_list_lines.specs.ListLines.{HasSources};
-ghost use Rattle.milter_list_lines.specs.declared.list_source.ListSource.{ListSource};
+ghost use Rattle.milter_lists.specs.ListLines.{HasSources};
+ghost use Rattle.milter_lists.specs.declared.list_source.ListSource.{ListSource};
 ghost use Rattle.milter_rules.specs.declared.rule_fault.RuleFault.TheVariants as RuleFault;
 ghost use Rattle.milter_rules.specs.declared.rule_line.RuleLine.{RuleLine};
 ghost use Rattle.milter_rules.specs.RuleFault.{IsBefore, IsWithin};
@@ -23,7 +23,7 @@ use crate::rule_fault::{RuleFault, of_source_fault};
 use crate::rule_line::line_in;
 use milter_filter_rules::{ListSources, Rules};
 use milter_list_files::{ListFile, lists_without_entries};
-use milter_list_lines::sources_in;
+use milter_lists::sources_in;
 use milter_text::LineCursor;
 use std::alloc::Global;
 

@@ -4,7 +4,7 @@ use crate::file_head::FileHead;
 use crate::form_faults::say_needs_form;
 use crate::known_words::{is_one_of, say_missing, say_unknown, say_unquoted};
 use crate::list_words::LIST_KIND;
-use milter_list_lines::is_list_name;
+use milter_lists::is_list_name;
 use milter_rules::{FileForm, Notes, Span};
 use milter_text::Word;
 use milter_wire::NoMemory;

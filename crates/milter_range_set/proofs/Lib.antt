@@ -1,4 +1,0 @@
-pub mod RaisedRanges
-pub mod RangeLookups
-pub mod RangeRows
-pub mod EqualRanges

@@ -1,6 +1,0 @@
-use Rattle.std.proofs.Common.{arith}
-use Rattle.milter_text_set.proofs.Keys.{eight_bytes}
-use Rattle.milter_text_set.proofs.key.key_of.Goals as goal
-
-pub returns : goal.returns
-returns c = omega (arith, eight_bytes c.args.text.now)
