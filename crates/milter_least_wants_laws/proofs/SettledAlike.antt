@@ -23,7 +23,7 @@ use Rattle.milter_mta_outcome.specs.declared.loss.By.TheVariants.{Connection, Fi
 use Rattle.milter_mta_outcome.specs.declared.outcome.Outcome.{Outcome}
 use Rattle.milter_mta_outcome.specs.ActedVerdicts.{kept}
 use Rattle.milter_mta_outcome.specs.Dialogues.{acted, acted_at, ruled, ruled_at, ruled_by}
-use Rattle.milter_mta_transaction.specs.TransactionVerdicts.{last_verdict}
+use Rattle.milter_mta_outcome.specs.TransactionVerdicts.{last_verdict}
 use Rattle.milter_mta.specs.Dispositions.{report}
 use Rattle.milter_mta_laws.specs.Sessions.{connection_after, dialogue_of, report_by, reports_by, settled_through}
 use Rattle.milter_mta_laws.specs.Settled.{dialogue_verdict, ends_with_client}

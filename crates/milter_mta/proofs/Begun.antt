@@ -6,8 +6,8 @@ use Rattle.milter_wire.specs.declared.command.Command.{Command}
 use Rattle.milter_wire.specs.declared.stage.Stage.TheVariants.{Connect, Mail}
 use Rattle.milter_mta_outcome.specs.declared.acted.Acted.{Acted}
 use Rattle.milter_mail.specs.MailSession.{MailSession}
-use Rattle.milter_mta_transaction.specs.PlanCursor.{outgoing_of}
-use Rattle.milter_mta_transaction.proofs.PlanLaws.{message_by_stages, plan_by_stages}
+use Rattle.milter_mta_outcome.specs.PlanCursor.{outgoing_of}
+use Rattle.milter_mta_outcome.proofs.PlanLaws.{message_by_stages, plan_by_stages}
 use Rattle.milter_mta.specs.declared.state.Position.{Position as PositionParts}
 use Rattle.milter_mta.specs.declared.state.SessionState.{SessionState}
 use Rattle.milter_mta.specs.CoreParts.{begun_position, messages_at, mta_at, position_of, session_of, unconnected}

@@ -22,8 +22,8 @@ use Rattle.milter_mta_outcome.specs.declared.loss.MtaFault.{MtaFault}
 use Rattle.milter_mta_outcome.specs.declared.loss.MtaFault.TheVariants.{Early, Wire}
 use Rattle.milter_mta_outcome.specs.ReceivedReplies.{options_received, reply_received}
 use Rattle.milter_mta_outcome.specs.EditWeights.{weight_of_all}
-use Rattle.milter_mta_transaction.specs.Transactions.{stage_first}
-use Rattle.milter_mta_transaction.specs.TransactionVerdicts.{ends_dialogue, is_of_connection, left_after, with_verdict}
+use Rattle.milter_mta_outcome.specs.Transactions.{stage_first}
+use Rattle.milter_mta_outcome.specs.TransactionVerdicts.{ends_dialogue, is_of_connection, left_after, with_verdict}
 use Rattle.milter_mta_channel.specs.declared.expected_reply.ExpectedReply.{ExpectedReply}
 use Rattle.milter_mta_channel.specs.declared.expected_reply.ExpectedReply.TheVariants as expects
 use Rattle.milter_mta_channel.specs.declared.filter_event.Fed.{Fed}

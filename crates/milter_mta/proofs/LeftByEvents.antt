@@ -16,8 +16,8 @@ use Rattle.milter_mta_channel.specs.Channel.{Channel, is_owed, is_owed_by}
 use Rattle.milter_mta_channel.specs.ReplyRules.{IsLeftBy, IsWaiting}
 use Rattle.milter_mta_outcome.specs.declared.acted.Acted.{Acted}
 use Rattle.milter_mta_outcome.specs.declared.loss.Loss.{Loss}
-use Rattle.milter_mta_transaction.specs.Transactions.{left_of, stage_first}
-use Rattle.milter_mta_transaction.specs.TransactionVerdicts.{ends_dialogue, is_of_connection, left_after, on_connection, with_verdict}
+use Rattle.milter_mta_outcome.specs.Transactions.{left_of, stage_first}
+use Rattle.milter_mta_outcome.specs.TransactionVerdicts.{ends_dialogue, is_of_connection, left_after, on_connection, with_verdict}
 use Rattle.milter_mta.specs.declared.state.Position.{Position as PositionParts}
 use Rattle.milter_mta.specs.declared.state.Position.TheVariants as parts
 use Rattle.milter_mta.specs.declared.state.FilterConnection.{FilterConnection as Connected}

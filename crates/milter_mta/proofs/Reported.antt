@@ -10,7 +10,7 @@ use Rattle.milter_mta_outcome.specs.declared.report.Report.{Report}
 use Rattle.milter_mta_outcome.specs.Outcomes.{at_connection}
 use Rattle.milter_mta.specs.declared.state.SessionState.{SessionState}
 use Rattle.milter_mail.specs.MailSession.{IsSendable}
-use Rattle.milter_mta_transaction.specs.declared.transaction.Transaction.{Transaction}
+use Rattle.milter_mta_outcome.specs.declared.transaction.Transaction.{Transaction}
 use Rattle.milter_mta.specs.declared.state.FilterConnection.{FilterConnection as Connected}
 use Rattle.milter_mta.specs.declared.state.Position.TheVariants as parts
 use Rattle.milter_mta.specs.Mta.{Mta}

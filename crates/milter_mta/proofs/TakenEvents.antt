@@ -20,7 +20,7 @@ use Rattle.milter_mta_channel.specs.Received.{ended, goes_on, received as receiv
 use Rattle.milter_mta_channel.specs.ReplyRules.{IsAnswered, IsLeftBy, IsWaiting}
 use Rattle.milter_mta_outcome.specs.declared.loss.Loss.{Loss}
 use Rattle.milter_mta_outcome.specs.declared.loss.Loss.TheVariants.{Fault, Memory, Reset, Timeout}
-use Rattle.milter_mta_transaction.specs.Transactions.{left_of, stage_first}
+use Rattle.milter_mta_outcome.specs.Transactions.{left_of, stage_first}
 use Rattle.milter_mta.specs.declared.state.Position.{Position as PositionParts}
 use Rattle.milter_mta.specs.declared.state.Position.TheVariants as parts
 use Rattle.milter_mta.specs.declared.state.FilterConnection.{FilterConnection as Connected}

@@ -13,17 +13,17 @@ use Rattle.milter_mta_outcome.specs.declared.acted.Acted.{Acted}
 use Rattle.milter_mta_outcome.specs.declared.loss.By.TheVariants.{Connection}
 use Rattle.milter_mta_outcome.specs.declared.loss.Loss.{Loss}
 use Rattle.milter_mta_outcome.specs.declared.loss.Loss.TheVariants.{Memory}
-use Rattle.milter_mta_transaction.specs.declared.cursor.ClientInfo.{ClientInfo}
-use Rattle.milter_mta_transaction.specs.declared.transaction.Transaction.{Transaction}
+use Rattle.milter_mta_outcome.specs.declared.cursor.ClientInfo.{ClientInfo}
+use Rattle.milter_mta_outcome.specs.declared.transaction.Transaction.{Transaction}
 use Rattle.milter_mta_outcome.specs.declared.report.Report.{Report}
 use Rattle.milter_wire.specs.declared.negotiation.Negotiated.{Negotiated}
 use Rattle.milter_wire.specs.declared.stage.Stage.{Stage}
 use Rattle.milter_wire.specs.declared.verdict.Verdict.{Verdict}
 use Rattle.milter_wire.specs.Verdicts.{given_at}
 use Rattle.milter_mta_outcome.specs.Outcomes.{at_connection}
-use Rattle.milter_mta_transaction.specs.PlanCursor.{outgoing_of, steps_from}
-use Rattle.milter_mta_transaction.specs.TransactionVerdicts.{with_verdict}
-use Rattle.milter_mta_transaction.specs.Transactions.{Sends, left_of, stage_first}
+use Rattle.milter_mta_outcome.specs.PlanCursor.{outgoing_of, steps_from}
+use Rattle.milter_mta_outcome.specs.TransactionVerdicts.{with_verdict}
+use Rattle.milter_mta_outcome.specs.Transactions.{Sends, left_of, stage_first}
 use Rattle.milter_mta.specs.declared.state.Position.{Position as PositionParts}
 use Rattle.milter_mta.specs.declared.state.Position.TheVariants as parts
 use Rattle.milter_mta.specs.declared.state.FilterConnection.{FilterConnection as Connected}

@@ -20,7 +20,7 @@ use Rattle.milter_mta_outcome.specs.declared.report.Report.{Report}
 use Rattle.milter_mta_outcome.specs.ActedVerdicts.{kept}
 use Rattle.milter_mta_outcome.specs.ReceivedReplies.{is_end}
 use Rattle.milter_mta_outcome.specs.Outcomes.{at_connection, fallback, outcome}
-use Rattle.milter_mta_transaction.specs.TransactionVerdicts.{is_of_connection, on_connection}
+use Rattle.milter_mta_outcome.specs.TransactionVerdicts.{is_of_connection, on_connection}
 use Rattle.milter_mta.specs.Mta.{FilterConnection, Mta, Position, at_packet, connection_at}
 use Rattle.milter_mta.specs.Mta.Position.{Sending, Quitting}
 

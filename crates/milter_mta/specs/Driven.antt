@@ -8,8 +8,8 @@ use Rattle.milter_wire.specs.declared.verdict.Verdict.{Verdict}
 use Rattle.milter_message.specs.declared.edit.Edit.{Edit}
 use Rattle.milter_mta_outcome.specs.declared.acted.Acted.{Acted}
 use Rattle.milter_mta_outcome.specs.declared.loss.Loss.{Loss}
-use Rattle.milter_mta_transaction.specs.Transactions.{stage_first}
-use Rattle.milter_mta_transaction.specs.TransactionVerdicts.{with_verdict}
+use Rattle.milter_mta_outcome.specs.Transactions.{stage_first}
+use Rattle.milter_mta_outcome.specs.TransactionVerdicts.{with_verdict}
 use Rattle.milter_mta_channel.specs.declared.expected_reply.ExpectedReply.{ExpectedReply}
 use Rattle.milter_mta_channel.specs.declared.expected_reply.ExpectedReply.TheVariants as expects
 use Rattle.milter_mta_channel.specs.declared.filter_event.FilterEvent.{FilterEvent}

@@ -6,7 +6,7 @@ ghost use Rattle.milter_wire.specs.Verdicts.{given_at};
 ghost use Rattle.milter_mail.specs.ChosenMacros.{chosen_macros};
 ghost use Rattle.milter_message.specs.EditReplies.{reply_of};
 ghost use Rattle.milter_mta_channel.specs.Channel.{is_owed};
-ghost use Rattle.milter_mta_transaction.specs.Transactions.{stage_first, left_of};
+ghost use Rattle.milter_mta_outcome.specs.Transactions.{stage_first, left_of};
 ghost use Rattle.milter_mta.specs.declared.state.Position.TheVariants as parts;
 ghost use Rattle.milter_mta.specs.ActedReplies.{ActsOn};
 ghost use Rattle.milter_mta.specs.CoreParts.{Follows, IsCommand, IsConsistent, IsConsistentAfter, IsTaken, IsUnderWay, mta_at, mta_of, only, position_of, unconnected};
@@ -19,8 +19,7 @@ use milter_mail::Macros;
 use milter_mta_channel::{
     ExpectedReply, Fed, FilterEvent, MtaChannel, events_leave_channels, verdicts_follow_commands,
 };
-use milter_mta_outcome::{ActedVerdicts, Loss, received_replies};
-use milter_mta_transaction::{ClientInfo, Transaction};
+use milter_mta_outcome::{ActedVerdicts, ClientInfo, Loss, Transaction, received_replies};
 use milter_protocol::Answer;
 use milter_wire::{Negotiated, NoMemory, Stage, copy_sym_lists};
 use std::alloc::Global;

@@ -7,7 +7,7 @@ ghost use Rattle.milter_mta_outcome.specs.ReceivedReplies.{is_end};
 ghost use Rattle.milter_message.specs.EditReplies.{reply_of};
 ghost use Rattle.milter_wire.specs.declared.stage.Stage.{Stage as StageValue};
 ghost use Rattle.milter_wire.specs.Reply.{Fits};
-ghost use Rattle.milter_mta_transaction.specs.TransactionVerdicts.{on_connection};
+ghost use Rattle.milter_mta_outcome.specs.TransactionVerdicts.{on_connection};
 ghost use Rattle.milter_mail.specs.ChosenMacros.{chosen_macros};
 ghost use Rattle.milter_mta.specs.declared.state.Position.TheVariants as parts;
 ghost use Rattle.milter_mta.specs.CoreParts.{IsConsistent, IsConsistentAfter, IsLostBeforeLast, begun_position, messages_at, mta_at, only, position_of, session_of, unconnected, with_all_reports, with_state_report};
@@ -16,9 +16,9 @@ ghost use Rattle.milter_mta.specs.Dispositions.{after_message, default_report, r
 use crate::state::{FilterConnection, Position, SessionState};
 use milter_mail::{Macros, Message};
 use milter_mta_outcome::{
-    ActedVerdicts, By, Loss, Report, fall_back, kept_message, outcome_at_connection, outcome_of,
+    ActedVerdicts, By, Loss, Report, Transaction, begin_acted, copy_acted, fall_back, kept_message,
+    outcome_at_connection, outcome_of, without_last,
 };
-use milter_mta_transaction::{Transaction, begin_acted, copy_acted, without_last};
 use milter_protocol::Answer;
 use milter_wire::{Negotiated, NoMemory, Stage, Verdict};
 

@@ -3,7 +3,7 @@
 ghost use Rattle.std.specs.Prelude.{◌≡◌, ◌<◌, [], List, None, Some, drop, false, option_map, true};
 ghost use Rattle.milter_wire.specs.BorrowedCommand.{command_of};
 ghost use Rattle.milter_message.specs.declared.edit.Edit.{Edit as EditValue};
-ghost use Rattle.milter_mta_transaction.specs.Transactions.{left_of, stage_first};
+ghost use Rattle.milter_mta_outcome.specs.Transactions.{left_of, stage_first};
 ghost use Rattle.milter_mta.specs.declared.state.Position.TheVariants as parts;
 ghost use Rattle.milter_mta.specs.CoreParts.{CanSend, IsConsistent, IsSamePlace, IsUnderWay, messages_at, mta_at, only, position_of, unconnected, with_state_report};
 ghost use Rattle.milter_mta.specs.Dispositions.{default_report, lost};
@@ -15,8 +15,7 @@ use crate::queue::Queue;
 use crate::want::Want;
 use milter_mail::Message;
 use milter_mta_channel::ExpectedReply;
-use milter_mta_outcome::{ActedVerdicts, By, Loss, Report, fall_back};
-use milter_mta_transaction::{ClientInfo, Transaction};
+use milter_mta_outcome::{ActedVerdicts, By, ClientInfo, Loss, Report, Transaction, fall_back};
 use milter_wire::{CommandRef, Options, Verdict};
 use std::alloc::Global;
 use std::mem::replace;

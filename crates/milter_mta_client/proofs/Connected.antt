@@ -21,8 +21,8 @@ use Rattle.milter_mta_outcome.specs.declared.loss.MtaFault.{MtaFault}
 use Rattle.milter_mta_outcome.specs.declared.loss.MtaFault.TheVariants.{Early, NotAtThisStage, Wire}
 use Rattle.milter_mta_outcome.specs.ReceivedReplies.{options_received, reply_received}
 use Rattle.milter_mta_outcome.specs.EditWeights.{weight_of_all}
-use Rattle.milter_mta_transaction.specs.Transactions.{stage_first}
-use Rattle.milter_mta_transaction.specs.TransactionVerdicts.{ends_dialogue, is_of_connection, left_after}
+use Rattle.milter_mta_outcome.specs.Transactions.{stage_first}
+use Rattle.milter_mta_outcome.specs.TransactionVerdicts.{ends_dialogue, is_of_connection, left_after}
 use Rattle.milter_mta.specs.declared.want.Want.{Want}
 use Rattle.milter_mta.specs.declared.want.Want.TheVariants as wants
 use Rattle.milter_mta.specs.Cores.{ReceivesBytes}

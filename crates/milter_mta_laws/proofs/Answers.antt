@@ -30,8 +30,8 @@ use Rattle.milter_mta_outcome.specs.declared.loss.MtaFault.{MtaFault}
 use Rattle.milter_mta_outcome.specs.ReceivedReplies.{is_end, is_given, reply_received}
 use Rattle.milter_mta_outcome.specs.EditWeights.{weight_of_all}
 use Rattle.milter_mta_outcome.proofs.ReceivedAnswers.{IsReceived, receives_edit, receives_verdict}
-use Rattle.milter_mta_transaction.specs.Transactions.{stage_first}
-use Rattle.milter_mta_transaction.specs.TransactionVerdicts.{ends_dialogue, is_of_connection, left_after, with_verdict}
+use Rattle.milter_mta_outcome.specs.Transactions.{stage_first}
+use Rattle.milter_mta_outcome.specs.TransactionVerdicts.{ends_dialogue, is_of_connection, left_after, with_verdict}
 use Rattle.milter_mta.specs.Mta.{FilterConnection, Mta, Position, at_packet}
 use Rattle.milter_mta.specs.Mta.Position.{Sending}
 use Rattle.milter_mta.specs.Replies.{After, at, goes_on, received, received_at, received_byte, replied, replied_at, ruled_on}

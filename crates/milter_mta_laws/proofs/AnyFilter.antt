@@ -42,8 +42,8 @@ use Rattle.milter_mta_outcome.specs.declared.loss.MtaFault.TheVariants.{Early, N
 use Rattle.milter_mta_outcome.specs.ReceivedReplies.{IsWithinOffer, is_end, is_given, options_received, reply_received}
 use Rattle.milter_mta_outcome.specs.Dialogues.{acted}
 use Rattle.milter_mta_outcome.specs.EditWeights.{weight_of_all}
-use Rattle.milter_mta_transaction.specs.Transactions.{asks_first, stage_first}
-use Rattle.milter_mta_transaction.specs.TransactionVerdicts.{with_verdict}
+use Rattle.milter_mta_outcome.specs.Transactions.{asks_first, stage_first}
+use Rattle.milter_mta_outcome.specs.TransactionVerdicts.{with_verdict}
 use Rattle.milter_mta.specs.declared.want.Want.{Want}
 use Rattle.milter_mta.specs.declared.want.Want.TheVariants as wants
 use Rattle.milter_mta.specs.Mta.{FilterConnection, Mta, Position, at_packet}

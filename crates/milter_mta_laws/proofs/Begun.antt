@@ -10,7 +10,7 @@ use Rattle.milter_wire.specs.declared.command.Command.{Command}
 use Rattle.milter_protocol.specs.Behavior.{Behavior, exchange_of}
 use Rattle.milter_protocol.specs.Exchanges.{Exchange, commands_of}
 use Rattle.milter_protocol.specs.Dialogue.{is_body, is_closed, is_left_out, is_skipping, dialogue_with}
-use Rattle.milter_mta_transaction.specs.PlanCursor.{without_body}
+use Rattle.milter_mta_outcome.specs.PlanCursor.{without_body}
 use Rattle.milter_mta_laws.specs.Beginnings.{IsBeginning}
 
 by_skips : (a b c : Bool) → b ≡ c → (a && b) ≡ (a && c)

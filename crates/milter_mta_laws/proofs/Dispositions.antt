@@ -29,7 +29,7 @@ use Rattle.milter_mta_outcome.specs.ActedVerdicts.{kept}
 use Rattle.milter_mta_outcome.specs.Outcomes.{fallback}
 use Rattle.milter_mta_outcome.specs.Dialogues.{acted, ruled}
 use Rattle.milter_mta_outcome.specs.ReceivedReplies.{IsWithinOffer}
-use Rattle.milter_mta_transaction.specs.TransactionVerdicts as plan_stages
+use Rattle.milter_mta_outcome.specs.TransactionVerdicts as plan_stages
 use Rattle.milter_mta.specs.Mta.{Configuration, FilterConnection, Mta, Position}
 use Rattle.milter_mta.specs.Mta.Position.{Ended, Offering, Quitting, Sending}
 use Rattle.milter_mta.specs.Dispositions.{acted_at, acted_in, default_report, defaulted, lost, report, settled_all, settled_in}

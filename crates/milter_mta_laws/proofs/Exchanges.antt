@@ -25,8 +25,8 @@ use Rattle.milter_mta_outcome.specs.declared.acted.Acted.{Acted}
 use Rattle.milter_mta_outcome.specs.ActedVerdicts.{rcpt_verdicts}
 use Rattle.milter_mta_outcome.specs.Dialogues.{acted, acted_at, count_at, is_at}
 use Rattle.milter_mta_outcome.specs.EditWeights.{weight_of_all}
-use Rattle.milter_mta_transaction.specs.TransactionVerdicts as plan
-use Rattle.milter_mta_transaction.specs.TransactionVerdicts.{ends_dialogue, left_after, with_verdict}
+use Rattle.milter_mta_outcome.specs.TransactionVerdicts as plan
+use Rattle.milter_mta_outcome.specs.TransactionVerdicts.{ends_dialogue, left_after, with_verdict}
 use Rattle.milter_mta.specs.Mta.{FilterConnection, Mta, Position, at_packet}
 use Rattle.milter_mta.specs.Mta.Position.{Sending}
 use Rattle.milter_mta.specs.Replies.{at, goes_on, received, ruled_on}

@@ -14,7 +14,7 @@ use Rattle.milter_protocol.specs.Transcripts.{rank_at}
 use Rattle.milter_protocol.specs.StageOrder.{rank_of}
 use Rattle.milter_mta_outcome.specs.declared.acted.Acted.{Acted}
 use Rattle.milter_mta_outcome.specs.Dialogues.{acted, acted_at, count_at, is_at}
-use Rattle.milter_mta_transaction.specs.TransactionVerdicts.{last_verdict, number_after}
+use Rattle.milter_mta_outcome.specs.TransactionVerdicts.{last_verdict, number_after}
 use Rattle.milter_mta_laws.specs.Order.{AreProper, AreInOrder, ComeBefore, ReachAtMost}
 
 -- ---- the last verdict

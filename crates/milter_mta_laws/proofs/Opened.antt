@@ -21,7 +21,7 @@ use Rattle.milter_mail.specs.Plan.{macros_of, opening}
 use Rattle.milter_mail.specs.Steps.{macro_step, macros_at, message_steps, step}
 use Rattle.milter_protocol.specs.Behavior.{Behavior, exchange_of}
 use Rattle.milter_protocol.specs.Commands.{is_of_connection}
-use Rattle.milter_mta_transaction.specs.TransactionVerdicts as stages
+use Rattle.milter_mta_outcome.specs.TransactionVerdicts as stages
 use Rattle.milter_protocol.specs.Exchanges.{Exchange, commands_of, onto}
 use Rattle.milter_protocol.specs.Dialogue.{are_all_refused, has_end, is_closed, is_final, is_kept_rcpt, is_left_out, is_rcpt, is_skipping, dialogue_with}
 use Rattle.milter_protocol.proofs.Sendable.{end_left, no_end}

@@ -16,8 +16,8 @@ use Rattle.milter_protocol.specs.StageOrder.{rank_of}
 use Rattle.milter_protocol.specs.Dialogue.{is_body, is_skipping, sendable}
 use Rattle.milter_mta_outcome.specs.declared.acted.Acted.{Acted}
 use Rattle.milter_mta_outcome.specs.Dialogues.{acted, acted_at, count_at, is_at}
-use Rattle.milter_mta_transaction.specs.TransactionVerdicts as plan
-use Rattle.milter_mta_transaction.specs.TransactionVerdicts.{on_connection}
+use Rattle.milter_mta_outcome.specs.TransactionVerdicts as plan
+use Rattle.milter_mta_outcome.specs.TransactionVerdicts.{on_connection}
 use Rattle.milter_mta_laws.specs.Order.{AreInOrder, AreProper, ComeBefore, ReachAtMost}
 use Rattle.milter_mta_laws.specs.Dialogues.{opening_of}
 use Rattle.milter_mta_laws.proofs.Numbers.{same_stage, some_rank}

@@ -21,8 +21,8 @@ use Rattle.milter_protocol.specs.Exchanges.{onto}
 use Rattle.milter_protocol.specs.Dialogue.{has_end, is_end_command}
 use Rattle.milter_protocol.specs.Transcripts.{rank_at}
 use Rattle.milter_protocol.specs.StageOrder.{rank_of}
-use Rattle.milter_mta_transaction.specs.PlanCursor.{Outgoing, commands_of, outgoing_of, stages_after, steps_at}
-use Rattle.milter_mta_transaction.proofs.PlanLaws.{message_by_stages, plan_by_stages}
+use Rattle.milter_mta_outcome.specs.PlanCursor.{Outgoing, commands_of, outgoing_of, stages_after, steps_at}
+use Rattle.milter_mta_outcome.proofs.PlanLaws.{message_by_stages, plan_by_stages}
 use Rattle.milter_mta_laws.specs.Order.{AreInOrder, ComeBefore, ReachAtMost}
 
 -- ---- parts of what is in order

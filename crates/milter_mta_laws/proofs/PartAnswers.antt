@@ -21,7 +21,7 @@ use Rattle.milter_protocol.proofs.Lists.{same-head, same-tail}
 use Rattle.milter_mta_outcome.specs.declared.acted.Acted.{Acted}
 use Rattle.milter_mta_outcome.specs.ReceivedReplies.{is_end}
 use Rattle.milter_mta_outcome.specs.EditWeights.{weight_of_all}
-use Rattle.milter_mta_transaction.specs.Transactions.{stage_first}
+use Rattle.milter_mta_outcome.specs.Transactions.{stage_first}
 use Rattle.milter_mta.specs.Mta.{FilterConnection, Mta, at_packet}
 use Rattle.milter_mta.specs.Mta.Position.{Sending}
 use Rattle.milter_mta.specs.Replies.{After, at, goes_on, received, received_byte}

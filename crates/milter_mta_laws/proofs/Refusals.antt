@@ -19,8 +19,8 @@ use Rattle.milter_protocol.specs.Dialogue.{is_body, is_kept_rcpt, is_rcpt, is_re
 use Rattle.milter_protocol.specs.Verdicts.{has_verdict, is_refusal, is_skip}
 use Rattle.milter_mta_outcome.specs.ActedVerdicts.{rcpt_verdict, rcpt_verdicts}
 use Rattle.milter_mta_outcome.specs.Dialogues.{acted, acted_at}
-use Rattle.milter_mta_transaction.specs.PlanCursor.{without_body}
-use Rattle.milter_mta_transaction.specs.TransactionVerdicts.{is_rcpt_stage, left_after}
+use Rattle.milter_mta_outcome.specs.PlanCursor.{without_body}
+use Rattle.milter_mta_outcome.specs.TransactionVerdicts.{is_rcpt_stage, left_after}
 use Rattle.milter_mta_laws.specs.Order.{AreProper}
 
 -- ---- truth values

@@ -13,7 +13,7 @@ use Rattle.milter_protocol.specs.Commands.{is_of_connection}
 use Rattle.milter_protocol.specs.Exchanges.{Exchange, commands_of, onto}
 use Rattle.milter_protocol.specs.Dialogue.{is_body, is_skipping, sendable}
 use Rattle.milter_protocol.proofs.Lists.{same-head, same-tail}
-use Rattle.milter_mta_transaction.specs.PlanCursor.{without_body}
+use Rattle.milter_mta_outcome.specs.PlanCursor.{without_body}
 use Rattle.milter_mta_laws.specs.Beginnings.{IsSentOf}
 use Rattle.milter_mta_laws.specs.Order.{AreProper}
 use Rattle.milter_mta_laws.specs.Settled.{ends_with_client}

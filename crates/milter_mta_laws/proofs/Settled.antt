@@ -29,8 +29,8 @@ use Rattle.milter_mta_outcome.specs.ActedVerdicts.{kept, kept_recipients, rcpt_v
 use Rattle.milter_mta_outcome.specs.ReceivedReplies.{is_end}
 use Rattle.milter_mta_outcome.specs.Outcomes.{at_connection, outcome}
 use Rattle.milter_mta_outcome.specs.Dialogues.{acted, acted_at, count_at, ruled, ruled_by}
-use Rattle.milter_mta_transaction.specs.TransactionVerdicts as plan
-use Rattle.milter_mta_transaction.specs.TransactionVerdicts.{last_verdict, on_connection}
+use Rattle.milter_mta_outcome.specs.TransactionVerdicts as plan
+use Rattle.milter_mta_outcome.specs.TransactionVerdicts.{last_verdict, on_connection}
 use Rattle.milter_mta.specs.Mta.{FilterConnection, Mta, Position, connection_at}
 use Rattle.milter_mta.specs.Mta.Position.{Sending}
 use Rattle.milter_mta.specs.Dispositions.{next_message, report, settled_all, settled_first, settled_in}

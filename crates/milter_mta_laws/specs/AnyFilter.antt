@@ -20,7 +20,7 @@ use Rattle.milter_mta_outcome.specs.declared.report.Report.{Report}
 use Rattle.milter_mta_outcome.specs.ReceivedReplies.{IsWithinOffer}
 use Rattle.milter_mta_outcome.specs.Dialogues.{acted, given_up, ruled}
 use Rattle.milter_mta_outcome.specs.Losses.{is_by_client}
-use Rattle.milter_mta_transaction.specs.TransactionVerdicts.{last_verdict}
+use Rattle.milter_mta_outcome.specs.TransactionVerdicts.{last_verdict}
 use Rattle.milter_mta.specs.Mta.{Configuration, FilterConnection, Mta, Position}
 use Rattle.milter_mta.specs.Mta.Position.{Offering, Sending, Quitting, Ended}
 use Rattle.milter_mta.specs.Output.{asks_at}

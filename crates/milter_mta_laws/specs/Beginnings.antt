@@ -4,7 +4,7 @@ use Rattle.std.specs.List.{list_any}
 use Rattle.milter_wire.specs.declared.command.Command.{Command}
 use Rattle.milter_protocol.specs.Exchanges.{Exchange, commands_of, onto}
 use Rattle.milter_protocol.specs.Dialogue.{is_skipping}
-use Rattle.milter_mta_transaction.specs.PlanCursor.{without_body}
+use Rattle.milter_mta_outcome.specs.PlanCursor.{without_body}
 
 -- the commands of these exchanges, in order, are a beginning of the plan without the chunks of the body after its first
 -- commands; and chunks are left out only where the filter answered Skip

@@ -12,7 +12,7 @@ use Rattle.milter_protocol.specs.Dialogue.{is_end_command}
 use Rattle.milter_mta_outcome.specs.declared.loss.By.TheVariants.{Connection}
 use Rattle.milter_mta_outcome.specs.declared.outcome.Outcome.{Outcome}
 use Rattle.milter_mta_outcome.specs.Dialogues.{acted}
-use Rattle.milter_mta_transaction.specs.TransactionVerdicts.{last_verdict}
+use Rattle.milter_mta_outcome.specs.TransactionVerdicts.{last_verdict}
 use Rattle.milter_mta.specs.Mta.{FilterConnection, Mta, Position, at_packet, connection_at}
 use Rattle.milter_mta.specs.Mta.Position.{Quitting}
 use Rattle.milter_mta.specs.Dispositions.{report}

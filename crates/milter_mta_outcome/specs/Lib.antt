@@ -5,3 +5,8 @@ pub mod Losses
 pub mod Outcomes
 pub mod Refusals
 pub mod Dialogues
+pub mod PlanCursor
+pub mod OutgoingValue
+pub mod TransactionVerdicts
+pub mod Transactions
+pub mod PlanOrder

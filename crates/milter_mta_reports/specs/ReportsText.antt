@@ -17,7 +17,7 @@ use Rattle.milter_mta_outcome.specs.declared.outcome.Outcome.TheVariants.{Releas
 use Rattle.milter_mta_outcome.specs.declared.report.Report.{Report}
 use Rattle.milter_mta_outcome.specs.Losses.{is_by_client, mta_fault_number}
 use Rattle.milter_mta_outcome.specs.Refusals.{refusal_text}
-use Rattle.milter_mta_transaction.specs.TransactionVerdicts.{last_verdict}
+use Rattle.milter_mta_outcome.specs.TransactionVerdicts.{last_verdict}
 use Rattle.milter_mta.specs.Accounts.{Disposition}
 
 -- a word and a number in decimal, and a blank after each

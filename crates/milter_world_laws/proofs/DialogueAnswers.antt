@@ -38,8 +38,8 @@ use Rattle.milter_protocol.proofs.TranscriptParts.{negotiated_in-cons, connectio
 use Rattle.milter_mta_laws.specs.Lines.{line_of}
 use Rattle.milter_mta_laws.specs.Settled.{ends_with_message}
 use Rattle.milter_mta_laws.specs.Dialogues.{opening_of}
-use Rattle.milter_mta_transaction.specs.PlanOrder.{AreInTurn}
-use Rattle.milter_mta_transaction.proofs.PlanOrders.{turn-higher}
+use Rattle.milter_mta_outcome.specs.PlanOrder.{AreInTurn}
+use Rattle.milter_mta_outcome.proofs.PlanOrders.{turn-higher}
 use Rattle.milter_world_laws.specs.FilterTranscript.{IsAt, IsOver, NoneWithin}
 use Rattle.milter_world_laws.specs.Answered.{IsReplied, Replies}
 use Rattle.milter_world_laws.proofs.PlanAborts.{none-higher}

@@ -21,7 +21,7 @@ use Rattle.milter_mail.specs.Steps.{macro_step, macros_at, message_steps, step}
 use Rattle.milter_protocol.specs.Aborts.{is_greeting_or_sender, is_in_message}
 use Rattle.milter_protocol.specs.OrderStates.{rank_by}
 use Rattle.milter_protocol.specs.StageOrder.{rank_of}
-use Rattle.milter_mta_transaction.proofs.PlanOrders.{rank_by-higher}
+use Rattle.milter_mta_outcome.proofs.PlanOrders.{rank_by-higher}
 use Rattle.milter_world_laws.specs.FilterTranscript.{NoneWithin}
 
 -- ---- lower ranks

@@ -40,7 +40,7 @@ use Rattle.milter_mta_laws.specs.Settled.{ends_with_client, ends_with_message}
 use Rattle.milter_mta_laws.specs.Dialogues.{opening_of}
 use Rattle.milter_world_laws.specs.FilterTranscript.{IsAt, IsOver}
 use Rattle.milter_world_laws.specs.Answered.{IsReplied, Replies}
-use Rattle.milter_mta_transaction.proofs.PlanOrders.{message-of, plan-bytes, plan-of, plan-within, turn-higher, within-message}
+use Rattle.milter_mta_outcome.proofs.PlanOrders.{message-of, plan-bytes, plan-of, plan-within, turn-higher, within-message}
 use Rattle.milter_world_laws.proofs.DialogueAnswers.{joined}
 use Rattle.milter_world_laws.proofs.PlanAborts.{none-higher, none-message, none-plan}
 

@@ -15,7 +15,7 @@ use Rattle.milter_protocol.specs.Commands.{is_of_connection}
 use Rattle.milter_protocol.specs.Exchanges.{Exchange, commands_of}
 use Rattle.milter_protocol.specs.OrderStates.{rank_by}
 use Rattle.milter_protocol.specs.Transcripts.{negotiated_in, last_rank, of_connection, shown}
-use Rattle.milter_mta_transaction.specs.PlanOrder.{AreInTurn}
+use Rattle.milter_mta_outcome.specs.PlanOrder.{AreInTurn}
 use Rattle.milter_mta_laws.specs.Settled.{ends_with_message}
 use Rattle.milter_mta_laws.specs.Dialogues.{opening_of}
 

@@ -1,6 +1,6 @@
 use Rattle.std.proofs.Common.{ap, sym, ◌∙◌}
 use Rattle.milter_mail.specs.ChosenMacros.{chosen_macros}
-use Rattle.milter_mta_transaction.specs.declared.transaction.Transaction.{Transaction}
+use Rattle.milter_mta_outcome.specs.declared.transaction.Transaction.{Transaction}
 use Rattle.milter_mta.specs.Accounts.{Accounts}
 use Rattle.milter_mta.proofs.Consistency.{begun_stands}
 use Rattle.milter_mta.proofs.state.SessionState.begin.Goals as goal

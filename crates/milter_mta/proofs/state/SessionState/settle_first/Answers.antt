@@ -9,7 +9,7 @@ use Rattle.milter_mta_outcome.specs.declared.outcome.Outcome.{Outcome}
 use Rattle.milter_mta_outcome.specs.ActedVerdicts.{kept}
 use Rattle.milter_mta_outcome.specs.ReceivedReplies.{is_end}
 use Rattle.milter_mta_outcome.specs.Outcomes.{fallback, outcome}
-use Rattle.milter_mta_transaction.specs.TransactionVerdicts.{last_verdict, number_after, on_connection}
+use Rattle.milter_mta_outcome.specs.TransactionVerdicts.{last_verdict, number_after, on_connection}
 use Rattle.milter_mta.specs.declared.state.SessionState.{SessionState}
 use Rattle.milter_mta.specs.Accounts.{Accounts}
 use Rattle.milter_mta.specs.CoreParts.{session_of, unconnected, with_state_report}

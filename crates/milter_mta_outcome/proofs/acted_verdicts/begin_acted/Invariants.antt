@@ -1,0 +1,6 @@
+use Rattle.std.proofs.Common.{◌≡◌, take}
+use Rattle.milter_mta_outcome.specs.TransactionVerdicts.{on_connection}
+use Rattle.milter_mta_outcome.proofs.acted_verdicts.begin_acted.Given as goal
+
+abbrev pub invariant-loop-last : goal.invariant-loop-last
+invariant-loop-last l = l.room.items ≡ on_connection (take l.last-index l.acted)

@@ -1,5 +1,0 @@
-use Rattle.std.proofs.Common.{◌≡◌, take}
-use Rattle.milter_mta_transaction.proofs.acted_verdicts.copy_acted.Given as goal
-
-abbrev pub invariant-loop-last : goal.invariant-loop-last
-invariant-loop-last l = l.room.items ≡ take l.last-index l.acted
