@@ -2,7 +2,7 @@
 use Rattle.std.specs.Prelude.{◌≡◌, ℕ, ℤ, List, [], IsSomeAnd, Result}
 use Rattle.milter_wire.specs.declared.options.Options.{Options}
 use Rattle.milter_message.specs.declared.edit.Edit.{Edit}
-use Rattle.milter_mta_channel.specs.ChannelParts.{Receives}
+use Rattle.milter_mta_connection.specs.ChannelParts.{Receives}
 use Rattle.milter_mta_connection.specs.declared.call_outcome.CallFault.{CallFault}
 use Rattle.milter_mta_connection.specs.declared.call_outcome.CallOutcome.{CallOutcome}
 use Rattle.milter_mta_connection.specs.Connection.{after_fed, fresh}

@@ -6,9 +6,9 @@ use Rattle.milter_wire.specs.declared.stage.Stage.{Stage}
 use Rattle.milter_wire.specs.declared.stage.Stage.TheVariants as stages
 use Rattle.milter_fields.specs.declared.header.Header.{Header}
 use Rattle.milter_fields.specs.declared.path.Path.{Path}
-use Rattle.milter_mta_channel.specs.declared.filter_event.Fed.{Fed}
-use Rattle.milter_mta_channel.specs.declared.filter_event.FilterEvent.TheVariants.{Nothing}
-use Rattle.milter_mta_channel.specs.Channel.{sent}
+use Rattle.milter_mta_connection.specs.declared.filter_event.Fed.{Fed}
+use Rattle.milter_mta_connection.specs.declared.filter_event.FilterEvent.TheVariants.{Nothing}
+use Rattle.milter_mta_connection.specs.Channel.{sent}
 use Rattle.milter_mta_connection.specs.declared.call_outcome.CallFault.{CallFault}
 use Rattle.milter_mta_connection.specs.declared.call_outcome.CallOutcome.{CallOutcome}
 use Rattle.milter_mta_connection.specs.Connection.{CallLeaves, CommandLeaves, Connection, UnknownLeaves, after_abort, after_quit, any_fault, header_command}

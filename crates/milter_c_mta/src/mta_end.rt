@@ -3,7 +3,7 @@
 ghost use Rattle.std.specs.Prelude.{◌≡◌, ◌≤◌, ◌++◌, [], ◌∷◌, IfOk, OnErr, OnOk, length};
 ghost use Rattle.milter_wire.specs.declared.command.Command.TheVariants as commands;
 ghost use Rattle.milter_fields.specs.Borrowed.{client_of, header_of, path_of};
-ghost use Rattle.milter_mta_channel.specs.ChannelParts.{Receives};
+ghost use Rattle.milter_mta_connection.specs.ChannelParts.{Receives};
 ghost use Rattle.milter_mta_connection.specs.Connection.{after_fed, fresh, lost};
 
 use milter_mta_connection::{CallFault, CallOutcome, Fed, FilterEvent, MtaConnection};

@@ -12,9 +12,9 @@ use Rattle.milter_wire.specs.Negotiation.{is_answered, is_asked_at}
 use Rattle.milter_wire.specs.Stages.{stage_of}
 use Rattle.milter_message.specs.declared.edit.Edit.{Edit}
 use Rattle.milter_message.specs.MailObject.{MailObject}
-use Rattle.milter_mta_channel.specs.declared.expected_reply.ExpectedReply.{ExpectedReply}
-use Rattle.milter_mta_channel.specs.declared.expected_reply.ExpectedReply.TheVariants as expects
-use Rattle.milter_mta_channel.specs.Channel.{Channel, is_expecting, is_owed, is_owed_by, sent}
+use Rattle.milter_mta_connection.specs.declared.expected_reply.ExpectedReply.{ExpectedReply}
+use Rattle.milter_mta_connection.specs.declared.expected_reply.ExpectedReply.TheVariants as expects
+use Rattle.milter_mta_connection.specs.Channel.{Channel, is_expecting, is_owed, is_owed_by, sent}
 use Rattle.milter_mta_outcome.specs.Transactions.{asks_first, stage_first}
 use denote.Enum.Bare.{sameb}
 use Rattle.milter_mta.specs.declared.want.Want.{Want}

@@ -24,16 +24,16 @@ use Rattle.milter_mta_outcome.specs.ReceivedReplies.{options_received, reply_rec
 use Rattle.milter_mta_outcome.specs.EditWeights.{weight_of_all}
 use Rattle.milter_mta_outcome.specs.Transactions.{stage_first}
 use Rattle.milter_mta_outcome.specs.TransactionVerdicts.{ends_dialogue, is_of_connection, left_after, with_verdict}
-use Rattle.milter_mta_channel.specs.declared.expected_reply.ExpectedReply.{ExpectedReply}
-use Rattle.milter_mta_channel.specs.declared.expected_reply.ExpectedReply.TheVariants as expects
-use Rattle.milter_mta_channel.specs.declared.filter_event.Fed.{Fed}
-use Rattle.milter_mta_channel.specs.declared.filter_event.FilterEvent.{FilterEvent}
-use Rattle.milter_mta_channel.specs.declared.filter_event.FilterEvent.TheVariants as events
-use Rattle.milter_mta_channel.specs.Channel.{Channel, is_expecting, is_owed}
-use Rattle.milter_mta_channel.specs.ChannelParts.{IsLostAfter as IsLostAfterChannel, Receives, ReceivesBy}
-use Rattle.milter_mta_channel.specs.Received as on_channel
-use Rattle.milter_mta_channel.specs.ReplyRules.{IsWaiting}
-use Rattle.milter_mta_channel.proofs.ReceivedFrames.{lost-stays}
+use Rattle.milter_mta_connection.specs.declared.expected_reply.ExpectedReply.{ExpectedReply}
+use Rattle.milter_mta_connection.specs.declared.expected_reply.ExpectedReply.TheVariants as expects
+use Rattle.milter_mta_connection.specs.declared.filter_event.Fed.{Fed}
+use Rattle.milter_mta_connection.specs.declared.filter_event.FilterEvent.{FilterEvent}
+use Rattle.milter_mta_connection.specs.declared.filter_event.FilterEvent.TheVariants as events
+use Rattle.milter_mta_connection.specs.Channel.{Channel, is_expecting, is_owed}
+use Rattle.milter_mta_connection.specs.ChannelParts.{IsLostAfter as IsLostAfterChannel, Receives, ReceivesBy}
+use Rattle.milter_mta_connection.specs.Received as on_channel
+use Rattle.milter_mta_connection.specs.ReplyRules.{IsWaiting}
+use Rattle.milter_mta_connection.proofs.ReceivedFrames.{lost-stays}
 use Rattle.milter_mta.specs.Cores.{IsLostAfter, ReceivesBytes, is_owed_in}
 use Rattle.milter_mta.specs.Driven.{IsWithMessage, driven, driven_by, expected_by, expected_first, lost_by, opened_by, owed_channel, owing, result_of, ruled_at, with_edits}
 use Rattle.milter_mta.specs.Dispositions.{acted_at, lost, settled_all, settled_in}

@@ -1,7 +1,7 @@
 -- What comes while no reply is owed.
 use Rattle.std.proofs.Common.{◌≡◌, false, List, [], ◌∷◌, ℕ, None, Some, refl, sym, ap, ◌∙◌, arith}
 use Rattle.milter_message.specs.declared.edit.Edit.{Edit}
-use Rattle.milter_mta_channel.specs.Channel.{Channel, is_owed}
+use Rattle.milter_mta_connection.specs.Channel.{Channel, is_owed}
 use Rattle.milter_mta_outcome.specs.declared.loss.Loss.TheVariants.{Fault}
 use Rattle.milter_mta_outcome.specs.declared.loss.MtaFault.TheVariants.{Early}
 use Rattle.milter_mta_outcome.specs.declared.cursor.ClientInfo.{ClientInfo}

@@ -7,7 +7,7 @@ use Rattle.milter_fields.proofs.StreamLaws.{length_fault-unfinished, prefix-unfi
 use Rattle.milter_wire.specs.Frames.{frame_reply}
 use Rattle.milter_mta_outcome.specs.declared.loss.Loss.{Loss}
 use Rattle.milter_mta_outcome.specs.declared.loss.MtaFault.TheVariants.{Wire}
-use Rattle.milter_mta_channel.proofs.UnfinishedBytes.{first-packet, no_fault-packet, no_fault_there, no_frame-unfinished, unfinished-before, unfinished-no_packet}
+use Rattle.milter_mta_connection.proofs.UnfinishedBytes.{first-packet, no_fault-packet, no_fault_there, no_frame-unfinished, unfinished-before, unfinished-no_packet}
 use Rattle.milter_mta.specs.Mta.{FilterConnection, Mta}
 use Rattle.milter_mta.specs.Replies.{After, at, fails, framed, goes_on, received, received_byte, unread_is}
 

@@ -2,12 +2,12 @@
 use Rattle.std.proofs.Common.{◌≡◌, ℕ, true, List, [], ◌∷◌, Option, None, Some, Ok, Err, refl, sym, ap, subst, ◌∙◌}
 use Rattle.milter_wire.specs.declared.verdict.Verdict.{Verdict}
 use Rattle.milter_message.specs.MailObject.{MailObject}
-use Rattle.milter_mta_channel.specs.declared.filter_event.FilterEvent.{FilterEvent}
-use Rattle.milter_mta_channel.specs.declared.filter_event.FilterEvent.TheVariants as events
-use Rattle.milter_mta_channel.specs.Channel.{Channel, is_owed}
-use Rattle.milter_mta_channel.specs.ChannelParts.{ReceivesBy}
-use Rattle.milter_mta_channel.specs.Received.{ended, received as received_on_channel}
-use Rattle.milter_mta_channel.specs.ReplyRules.{IsAnswered, IsLeftBy, IsWaiting}
+use Rattle.milter_mta_connection.specs.declared.filter_event.FilterEvent.{FilterEvent}
+use Rattle.milter_mta_connection.specs.declared.filter_event.FilterEvent.TheVariants as events
+use Rattle.milter_mta_connection.specs.Channel.{Channel, is_owed}
+use Rattle.milter_mta_connection.specs.ChannelParts.{ReceivesBy}
+use Rattle.milter_mta_connection.specs.Received.{ended, received as received_on_channel}
+use Rattle.milter_mta_connection.specs.ReplyRules.{IsAnswered, IsLeftBy, IsWaiting}
 use Rattle.milter_mta_outcome.specs.declared.acted.Acted.{Acted}
 use Rattle.milter_mta_outcome.specs.declared.loss.Loss.{Loss}
 use Rattle.milter_mta.specs.declared.state.FilterConnection.{FilterConnection as Connected}

@@ -9,15 +9,15 @@ use Rattle.milter_wire.specs.declared.verdict.Verdict.{Verdict}
 use Rattle.milter_wire.specs.Negotiation.{is_answered}
 use Rattle.milter_wire.specs.Verdicts.{given_at}
 use Rattle.milter_message.specs.declared.edit.Edit.{Edit}
-use Rattle.milter_mta_channel.specs.declared.expected_reply.ExpectedReply.{ExpectedReply}
-use Rattle.milter_mta_channel.specs.declared.expected_reply.ExpectedReply.TheVariants as expects
-use Rattle.milter_mta_channel.specs.declared.filter_event.Fed.{Fed}
-use Rattle.milter_mta_channel.specs.declared.filter_event.FilterEvent.{FilterEvent}
-use Rattle.milter_mta_channel.specs.declared.filter_event.FilterEvent.TheVariants as events
-use Rattle.milter_mta_channel.specs.Channel.{Channel, is_expecting, is_owed, is_owed_by, verdict_stage}
-use Rattle.milter_mta_channel.specs.ChannelParts.{IsLostAfter as IsLostAfterChannel, Receives, ReceivesBy}
-use Rattle.milter_mta_channel.specs.Received.{ended, goes_on, received as received_on_channel}
-use Rattle.milter_mta_channel.specs.ReplyRules.{IsAnswered, IsLeftBy, IsWaiting}
+use Rattle.milter_mta_connection.specs.declared.expected_reply.ExpectedReply.{ExpectedReply}
+use Rattle.milter_mta_connection.specs.declared.expected_reply.ExpectedReply.TheVariants as expects
+use Rattle.milter_mta_connection.specs.declared.filter_event.Fed.{Fed}
+use Rattle.milter_mta_connection.specs.declared.filter_event.FilterEvent.{FilterEvent}
+use Rattle.milter_mta_connection.specs.declared.filter_event.FilterEvent.TheVariants as events
+use Rattle.milter_mta_connection.specs.Channel.{Channel, is_expecting, is_owed, is_owed_by, verdict_stage}
+use Rattle.milter_mta_connection.specs.ChannelParts.{IsLostAfter as IsLostAfterChannel, Receives, ReceivesBy}
+use Rattle.milter_mta_connection.specs.Received.{ended, goes_on, received as received_on_channel}
+use Rattle.milter_mta_connection.specs.ReplyRules.{IsAnswered, IsLeftBy, IsWaiting}
 use Rattle.milter_mta_outcome.specs.declared.loss.Loss.{Loss}
 use Rattle.milter_mta_outcome.specs.declared.loss.Loss.TheVariants.{Fault, Memory, Reset, Timeout}
 use Rattle.milter_mta_outcome.specs.Transactions.{left_of, stage_first}

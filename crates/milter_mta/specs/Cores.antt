@@ -1,6 +1,6 @@
 -- What always holds of a mail server's end, and how it goes on by pieces.
 use Rattle.std.specs.Prelude.{◌≡◌, ◌<◌, ℕ, Bool, true, false, List, [], length, take, Option, None, Some, Result, Ok, Err}
-use Rattle.milter_mta_channel.specs.Channel.{Channel}
+use Rattle.milter_mta_connection.specs.Channel.{Channel}
 use Rattle.milter_mta_outcome.specs.declared.loss.Loss.{Loss}
 use Rattle.milter_mta_outcome.specs.declared.loss.Loss.TheVariants.{Memory}
 use Rattle.milter_mta_outcome.specs.declared.cursor.ClientInfo.{ClientInfo}

@@ -10,12 +10,12 @@ use Rattle.milter_mta_outcome.specs.declared.acted.Acted.{Acted}
 use Rattle.milter_mta_outcome.specs.declared.loss.Loss.{Loss}
 use Rattle.milter_mta_outcome.specs.Transactions.{stage_first}
 use Rattle.milter_mta_outcome.specs.TransactionVerdicts.{with_verdict}
-use Rattle.milter_mta_channel.specs.declared.expected_reply.ExpectedReply.{ExpectedReply}
-use Rattle.milter_mta_channel.specs.declared.expected_reply.ExpectedReply.TheVariants as expects
-use Rattle.milter_mta_channel.specs.declared.filter_event.FilterEvent.{FilterEvent}
-use Rattle.milter_mta_channel.specs.declared.filter_event.FilterEvent.TheVariants as events
-use Rattle.milter_mta_channel.specs.Channel.{Channel, expected_at, queue_expecting}
-use Rattle.milter_mta_channel.specs.Received.{After as ChannelAfter}
+use Rattle.milter_mta_connection.specs.declared.expected_reply.ExpectedReply.{ExpectedReply}
+use Rattle.milter_mta_connection.specs.declared.expected_reply.ExpectedReply.TheVariants as expects
+use Rattle.milter_mta_connection.specs.declared.filter_event.FilterEvent.{FilterEvent}
+use Rattle.milter_mta_connection.specs.declared.filter_event.FilterEvent.TheVariants as events
+use Rattle.milter_mta_connection.specs.Channel.{Channel, expected_at, queue_expecting}
+use Rattle.milter_mta_connection.specs.Received.{After as ChannelAfter}
 use Rattle.milter_mta.specs.Mta.{FilterConnection, Mta, Position, at_packet}
 use Rattle.milter_mta.specs.Mta.Position.{Offering, Sending}
 use Rattle.milter_mta.specs.Replies.{After, at, opening_position, ruled_on}

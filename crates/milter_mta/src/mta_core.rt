@@ -16,7 +16,7 @@ use crate::reports::Reports;
 use crate::state::{FilterConnection, Position, SessionState};
 use crate::want::Want;
 use milter_mail::{Session, SessionParts};
-use milter_mta_channel::MtaChannel;
+use milter_mta_connection::MtaChannel;
 use milter_mta_outcome::{ClientInfo, Loss, MtaFault, Report};
 use milter_wire::NoMemory;
 use std::alloc::Global;

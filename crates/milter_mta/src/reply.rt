@@ -5,7 +5,7 @@ ghost use Rattle.milter_wire.specs.Reply.{Fits};
 ghost use Rattle.milter_wire.specs.Verdicts.{given_at};
 ghost use Rattle.milter_mail.specs.ChosenMacros.{chosen_macros};
 ghost use Rattle.milter_message.specs.EditReplies.{reply_of};
-ghost use Rattle.milter_mta_channel.specs.Channel.{is_owed};
+ghost use Rattle.milter_mta_connection.specs.Channel.{is_owed};
 ghost use Rattle.milter_mta_outcome.specs.Transactions.{stage_first, left_of};
 ghost use Rattle.milter_mta.specs.declared.state.Position.TheVariants as parts;
 ghost use Rattle.milter_mta.specs.ActedReplies.{ActsOn};
@@ -16,7 +16,7 @@ ghost use Rattle.milter_mta.specs.Driven.{opened_by, ruled_in};
 
 use crate::state::{FilterConnection, Position, SessionState};
 use milter_mail::Macros;
-use milter_mta_channel::{
+use milter_mta_connection::{
     ExpectedReply, Fed, FilterEvent, MtaChannel, events_leave_channels, verdicts_follow_commands,
 };
 use milter_mta_outcome::{ActedVerdicts, ClientInfo, Loss, Transaction, received_replies};

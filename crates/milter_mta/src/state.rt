@@ -14,7 +14,7 @@ use crate::config::Config;
 use crate::queue::Queue;
 use crate::want::Want;
 use milter_mail::Message;
-use milter_mta_channel::ExpectedReply;
+use milter_mta_connection::ExpectedReply;
 use milter_mta_outcome::{ActedVerdicts, By, ClientInfo, Loss, Report, Transaction, fall_back};
 use milter_wire::{CommandRef, Options, Verdict};
 use std::alloc::Global;

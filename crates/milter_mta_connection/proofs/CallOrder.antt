@@ -6,14 +6,14 @@ use Rattle.milter_wire.specs.declared.stage.Stage.{Stage}
 use Rattle.milter_wire.specs.Stages.{stage_of}
 use Rattle.milter_fields.specs.declared.pair.Pair.{Pair}
 use Rattle.milter_mta_outcome.specs.declared.loss.Loss.{Loss}
-use Rattle.milter_mta_channel.specs.declared.expected_reply.ExpectedReply.{ExpectedReply}
-use Rattle.milter_mta_channel.specs.declared.expected_reply.ExpectedReply.TheVariants as expects
-use Rattle.milter_mta_channel.specs.declared.filter_event.FilterEvent.{FilterEvent}
-use Rattle.milter_mta_channel.specs.declared.filter_event.FilterEvent.TheVariants as events
+use Rattle.milter_mta_connection.specs.declared.expected_reply.ExpectedReply.{ExpectedReply}
+use Rattle.milter_mta_connection.specs.declared.expected_reply.ExpectedReply.TheVariants as expects
+use Rattle.milter_mta_connection.specs.declared.filter_event.FilterEvent.{FilterEvent}
+use Rattle.milter_mta_connection.specs.declared.filter_event.FilterEvent.TheVariants as events
 use Rattle.milter_mta_connection.specs.declared.call_outcome.CallFault.{CallFault}
 use Rattle.milter_mta_connection.specs.declared.phase.Phase.{Phase}
 use Rattle.milter_mta_connection.specs.declared.phase.Phase.TheVariants.{NoMessage, InMessage, Skipping, MessageOver, ClientOver, Closed}
-use Rattle.milter_mta_channel.specs.Received.{received}
+use Rattle.milter_mta_connection.specs.Received.{received}
 use Rattle.milter_mta_connection.specs.Connection.{Connection, after_abort, after_command, after_event, after_quit, after_unknown, aborts, any_fault, closed_by, fault_at, packets_for, pairs_for, unknown_packets}
 use Rattle.milter_mta_connection.specs.CommandOrder.{ComeInOrder, rank_with_all}
 use Rattle.milter_mta_connection.specs.Calls.{AllComeInOrder, Call, after, called_at, queued_at, queued_by, queued_unless, rank_after_event, rank_by_call, unless}

@@ -18,7 +18,7 @@ use Rattle.milter_protocol.specs.Transcripts.{rank_from}
 use Rattle.milter_mta_connection.specs.declared.call_outcome.CallFault.{CallFault}
 use Rattle.milter_mta_connection.specs.declared.phase.Phase.{Phase}
 use Rattle.milter_mta_connection.specs.declared.phase.Phase.TheVariants.{NoMessage, InMessage, Skipping, MessageOver, ClientOver, Closed}
-use Rattle.milter_mta_channel.specs.Channel.{is_idle}
+use Rattle.milter_mta_connection.specs.Channel.{is_idle}
 use Rattle.milter_mta_connection.specs.Connection.{Connection, abort_before, after_abort, after_command, after_verdict, aborts, begins, packets_for, fault_at, fault_in, is_in_order, is_left_out, is_over, is_unknown_left_out, or_out_of_order, packets_of, rank_aborted, rank_without_message, rank_after, unknown_packets}
 use Rattle.milter_mta_connection.specs.CommandOrder.{ComeInOrder, rank_with_all}
 

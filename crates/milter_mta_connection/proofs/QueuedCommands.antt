@@ -13,13 +13,13 @@ use Rattle.milter_wire.specs.Command.{code_of, encoding, payload_of}
 use Rattle.milter_wire.specs.Stages.{macro_command_of, stage_of}
 use Rattle.milter_fields.specs.declared.pair.Pair.{Pair}
 use Rattle.milter_mail.specs.Steps.{macro_step}
-use Rattle.milter_mta_channel.specs.declared.expected_reply.ExpectedReply.{ExpectedReply}
-use Rattle.milter_mta_channel.specs.declared.expected_reply.ExpectedReply.TheVariants as expects
+use Rattle.milter_mta_connection.specs.declared.expected_reply.ExpectedReply.{ExpectedReply}
+use Rattle.milter_mta_connection.specs.declared.expected_reply.ExpectedReply.TheVariants as expects
 use Rattle.milter_mta_connection.specs.declared.call_outcome.CallFault.{CallFault}
 use Rattle.milter_mta_connection.specs.declared.call_outcome.CallFault.TheVariants as call_faults
 use Rattle.milter_mta_connection.specs.declared.phase.Phase.{Phase}
 use Rattle.milter_mta_connection.specs.declared.phase.Phase.TheVariants.{NoMessage, InMessage, Skipping, MessageOver, ClientOver, Closed}
-use Rattle.milter_mta_channel.specs.Channel.{Channel, expected_by, expected_of, is_idle, is_idle_by, is_unknown, queue, queue_all}
+use Rattle.milter_mta_connection.specs.Channel.{Channel, expected_by, expected_of, is_idle, is_idle_by, is_unknown, queue, queue_all}
 use Rattle.milter_mta_connection.specs.Connection.{CallLeaves, Connection, abort_before, after_command, any_fault, fault_at, fault_in, is_left_out, or_out_of_order, outcome_at, outcome_by, outcome_if, outcome_of, packets_for, packets_of, with_command, with_packets}
 
 -- ---- nothing is pending or expected where a call is taken

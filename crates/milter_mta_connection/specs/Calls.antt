@@ -7,12 +7,12 @@ use Rattle.milter_wire.specs.Stages.{stage_of}
 use Rattle.milter_fields.specs.declared.pair.Pair.{Pair}
 use Rattle.milter_protocol.specs.Commands.{is_end_by}
 use Rattle.milter_protocol.specs.Transcripts.{rank_from}
-use Rattle.milter_mta_channel.specs.declared.expected_reply.ExpectedReply.{ExpectedReply}
-use Rattle.milter_mta_channel.specs.declared.expected_reply.ExpectedReply.TheVariants as expects
-use Rattle.milter_mta_channel.specs.declared.filter_event.FilterEvent.{FilterEvent}
-use Rattle.milter_mta_channel.specs.declared.filter_event.FilterEvent.TheVariants as events
-use Rattle.milter_mta_channel.specs.Channel.{sent}
-use Rattle.milter_mta_channel.specs.Received.{After, received}
+use Rattle.milter_mta_connection.specs.declared.expected_reply.ExpectedReply.{ExpectedReply}
+use Rattle.milter_mta_connection.specs.declared.expected_reply.ExpectedReply.TheVariants as expects
+use Rattle.milter_mta_connection.specs.declared.filter_event.FilterEvent.{FilterEvent}
+use Rattle.milter_mta_connection.specs.declared.filter_event.FilterEvent.TheVariants as events
+use Rattle.milter_mta_connection.specs.Channel.{sent}
+use Rattle.milter_mta_connection.specs.Received.{After, received}
 use Rattle.milter_mta_connection.specs.declared.call_outcome.CallFault.{CallFault}
 use Rattle.milter_mta_connection.specs.CommandOrder.{ComeInOrder, rank_with_all}
 use Rattle.milter_mta_connection.specs.Connection.{Connection, after_abort, after_command, after_event, after_quit, after_unknown, aborts, any_fault, closed_by, fault_at, lost, packets_for, pairs_for, unknown_packets}

@@ -22,12 +22,12 @@ use Rattle.milter_protocol.specs.Commands.{is_end_by}
 use Rattle.milter_protocol.specs.StageOrder.{may_follow, rank_of}
 use Rattle.milter_protocol.specs.Verdicts.{is_final_at, is_skip}
 use Rattle.milter_mta_outcome.specs.declared.loss.Loss.{Loss}
-use Rattle.milter_mta_channel.specs.declared.expected_reply.ExpectedReply.{ExpectedReply}
-use Rattle.milter_mta_channel.specs.declared.expected_reply.ExpectedReply.TheVariants as expects
-use Rattle.milter_mta_channel.specs.declared.filter_event.Fed.{Fed}
-use Rattle.milter_mta_channel.specs.declared.filter_event.FilterEvent.{FilterEvent}
-use Rattle.milter_mta_channel.specs.declared.filter_event.FilterEvent.TheVariants as events
-use Rattle.milter_mta_channel.specs.Channel.{Channel, cleared, fresh as fresh_channel, is_idle, queue, queue_all, without_edits}
+use Rattle.milter_mta_connection.specs.declared.expected_reply.ExpectedReply.{ExpectedReply}
+use Rattle.milter_mta_connection.specs.declared.expected_reply.ExpectedReply.TheVariants as expects
+use Rattle.milter_mta_connection.specs.declared.filter_event.Fed.{Fed}
+use Rattle.milter_mta_connection.specs.declared.filter_event.FilterEvent.{FilterEvent}
+use Rattle.milter_mta_connection.specs.declared.filter_event.FilterEvent.TheVariants as events
+use Rattle.milter_mta_connection.specs.Channel.{Channel, cleared, fresh as fresh_channel, is_idle, queue, queue_all, without_edits}
 use Rattle.milter_mta_connection.specs.declared.call_outcome.CallFault.{CallFault}
 use Rattle.milter_mta_connection.specs.declared.call_outcome.CallFault.TheVariants as call_faults
 use Rattle.milter_mta_connection.specs.declared.call_outcome.CallOutcome.{CallOutcome}

@@ -1,3 +1,11 @@
+pub mod Channel
+pub mod Received
+pub mod ChannelParts
+pub mod ReplyRules
 pub mod Connection
 pub mod CommandOrder
 pub mod Calls
+pub mod Conversations
+pub mod SessionCalls
+pub mod Messages
+pub mod Losses

@@ -12,7 +12,7 @@ ghost use Rattle.milter_fields.specs.declared.pair.Pair.{Pair};
 ghost use Rattle.milter_wire.specs.declared.options.Options.{Options};
 ghost use Rattle.milter_protocol.specs.Commands.{is_end_by};
 ghost use Rattle.milter_protocol.specs.Transcripts.{rank_from};
-ghost use Rattle.milter_mta_channel.specs.Channel.{Channel, queue_all};
+ghost use Rattle.milter_mta_connection.specs.Channel.{Channel, queue_all};
 ghost use Rattle.milter_mta_connection.specs.Calls.{AllComeInOrder, Call};
 ghost use Rattle.milter_mta_connection.specs.CommandOrder.{ComeInOrder, rank_with_all};
 ghost use Rattle.milter_mta_connection.specs.Connection.{Connection, after_abort, after_command, after_verdict, aborts, fault_at, fresh, outcome_at, outcome_of, packets_for, with_command};

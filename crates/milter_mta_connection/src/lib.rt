@@ -3,18 +3,54 @@
 //! A mail server calls an [`MtaConnection`] with what its client does, as it does it, and has the filter's verdict on
 //! each stage before it answers its client. Each call says whether a verdict is due; what it queues is written by the
 //! caller, and what the filter sends is handed to [`MtaConnection::feed`]. Nothing here reads, writes or waits.
+//!
+//! A channel from a mail server to one filter: the commands that are sent on it, and the replies that come.
+//!
+//! A [`MtaChannel`] encodes commands and decodes replies, and knows nothing of the order of commands. A mail server
+//! that learns its messages as its client speaks uses it by way of `MtaConnection`, in `milter_mta_connection`.
+//!
+//! Nothing here reads, writes or waits: write what is [`MtaChannel::pending`], note with [`MtaChannel::sent`] how much
+//! was written, and hand what was read to [`MtaChannel::feed`].
+//!
+//! Laws of a mail server's end that is fed stage by stage. Against a lawful filter what is sent, and what a caller is
+//! given of it, is the dialogue with that filter; after a loss nothing comes any more.
+//!
+//! Nothing here is run: each law is the contract of a function that does nothing.
 #![tactic(auto)]
 
+mod answer_laws;
 mod call_outcome;
+mod channel_laws;
+mod channel_state;
+mod dialogue_laws;
+mod expected_reply;
+mod filter_event;
 mod laws;
+mod loss_laws;
+mod method_laws;
+mod mta_channel;
 mod mta_connection;
 mod packets;
+mod pending;
 mod phase;
+mod piece_laws;
 mod want;
 
+pub use answer_laws::{answers_are_received, replies_are_received};
 pub use call_outcome::{CallFault, CallOutcome};
+pub use channel_laws::{
+    edits_were_negotiated, events_leave_channels, pieces_go_on, verdicts_follow_commands,
+};
+pub use dialogue_laws::{
+    aborts_end_messages, calls_are_exchanges, messages_are_dialogues, sessions_are_dialogues,
+};
+pub use expected_reply::ExpectedReply;
+pub use filter_event::{Fed, FilterEvent};
 pub use laws::{commands_come_in_order, connections_keep_order, verdicts_are_due};
-pub use milter_mta_channel::{Fed, FilterEvent};
+pub use loss_laws::losses_end_connections;
+pub use method_laws::methods_are_calls;
+pub use mta_channel::MtaChannel;
 pub use mta_connection::MtaConnection;
 pub use phase::Phase;
+pub use piece_laws::pieces_are_fed;
 pub use want::Want;

@@ -9,23 +9,25 @@ ghost use Rattle.milter_wire.specs.Stages.{macro_command_of};
 ghost use Rattle.milter_fields.specs.Borrowed.{client_of, header_of, path_of};
 ghost use Rattle.milter_message.specs.EditReplies.{reply_of};
 ghost use Rattle.milter_message.specs.EditedMessage.{edited_message};
-ghost use Rattle.milter_mta_channel.specs.Channel.{sent, without_edits};
-ghost use Rattle.milter_mta_channel.specs.ChannelParts.{Receives};
+ghost use Rattle.milter_mta_connection.specs.Channel.{sent, without_edits};
+ghost use Rattle.milter_mta_connection.specs.ChannelParts.{Receives};
 ghost use Rattle.milter_mta_connection.specs.Connection.{CallLeaves, CanBeQueued, CommandLeaves, FitPackets, QueuesSome, UnknownLeaves, after_abort, after_command, after_event, after_fed, after_quit, after_verdict, any_fault, closed_by, fault_at, fresh, has_leading_space_in, header_command, is_left_out, is_under_way, lost, outcome_of, pairs_for, want, with_command};
 
 use crate::call_outcome::{CallFault, CallOutcome};
+use crate::expected_reply::ExpectedReply;
+use crate::filter_event::{Fed, FilterEvent};
+use crate::mta_channel::MtaChannel;
 use crate::packets::{packets_fit, queue_abort, queue_abort_before, queue_packets, queue_quit};
 use crate::phase::{Phase, rank_aborted, rank_after, rank_after_verdict};
 use crate::want::Want;
 use milter_mail::pairs_asked_for;
 use milter_message::{Edit, Held, Message, apply, sent_header};
-use milter_mta_channel::{ExpectedReply, Fed, FilterEvent, MtaChannel};
 use milter_protocol::{Edits, is_final_at};
-use milter_wire::codes::SMFIC_UNKNOWN;
 use milter_wire::{
     ClientRef, CommandRef, HeaderRef, Negotiated, NoMemory, Options, Pair, Pairs, PathRef, Stage,
     Verdict,
 };
+use milter_wire::codes::SMFIC_UNKNOWN;
 use std::alloc::Global;
 use std::marker::Model;
 

@@ -6,11 +6,11 @@ ghost use Rattle.milter_wire.specs.declared.command.Command.TheVariants as comma
 ghost use Rattle.milter_wire.specs.BorrowedCommand.{command_of};
 ghost use Rattle.milter_wire.specs.Command.{Fits};
 ghost use Rattle.milter_mail.specs.Steps.{macro_step};
-ghost use Rattle.milter_mta_channel.specs.Channel.{queue, queue_all};
+ghost use Rattle.milter_mta_connection.specs.Channel.{queue, queue_all};
 ghost use Rattle.milter_mta_connection.specs.Connection.{FitPackets, HasQueuedSome, abort_before, aborts, with_packets};
 
+use crate::mta_channel::MtaChannel;
 use crate::phase::Phase;
-use milter_mta_channel::MtaChannel;
 use milter_wire::{CommandRef, NoMemory, Pair, PairsRef, Stage};
 
 /// The packet with the macros for the command of this code, where there are some.

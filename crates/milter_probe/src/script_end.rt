@@ -2,7 +2,7 @@
 
 use crate::breakage::Broken;
 use crate::link_read::read_some;
-use milter_mta_channel::{ExpectedReply, FilterEvent, MtaChannel};
+use milter_mta_connection::{ExpectedReply, FilterEvent, MtaChannel};
 use milter_mta_outcome::{Loss, MtaFault};
 use milter_probe_trials::{Cut, Difference, Exchange, Given, Place, Script, Step};
 use milter_text::write_text;

@@ -3,7 +3,7 @@
 ghost use Rattle.std.specs.Prelude.{◌≡◌, [], OnOk};
 ghost use Rattle.milter_wire.specs.Command.{Fits, encoding};
 
-use milter_mta_channel::{ExpectedReply, MtaChannel};
+use milter_mta_connection::{ExpectedReply, MtaChannel};
 use milter_wire::{Command, CommandRef, NoMemory};
 
 /// Queues a command on a channel on which nothing is pending: the reply to an offer are options, and to another command

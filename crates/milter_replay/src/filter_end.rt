@@ -8,7 +8,7 @@ ghost use Rattle.milter_replay.specs.Sending.{Sends, is_due};
 use crate::command_queue::queue_command;
 use crate::conversation::ReplyPacket;
 use crate::packets::keep_replies;
-use milter_mta_channel::{ExpectedReply, MtaChannel};
+use milter_mta_connection::{ExpectedReply, MtaChannel};
 use milter_mta_outcome::Loss;
 use milter_text::write_text;
 use milter_wire::{Command, Negotiated, NoMemory, Options, Splitter, read_buffer};

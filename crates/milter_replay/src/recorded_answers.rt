@@ -8,7 +8,7 @@ ghost use Rattle.milter_replay.specs.Recordings.{AllFit};
 use crate::command_queue::queue_command;
 use crate::conversation::Exchange;
 use milter_fields::put_head;
-use milter_mta_channel::{ExpectedReply, MtaChannel};
+use milter_mta_connection::{ExpectedReply, MtaChannel};
 use milter_wire::{Command, NoMemory, Options, Packet, Verdict};
 use milter_wire::codes::SMFIR_REPLYCODE;
 use std::alloc::Global;

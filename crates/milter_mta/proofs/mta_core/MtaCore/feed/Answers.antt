@@ -1,5 +1,5 @@
 use Rattle.std.proofs.Common.{◌≡◌, Option, Some, false, ap, sym, ◌∙◌}
-use Rattle.milter_mta_channel.specs.Channel.{is_owed}
+use Rattle.milter_mta_connection.specs.Channel.{is_owed}
 use Rattle.milter_mta_outcome.specs.declared.loss.Loss.TheVariants.{Fault}
 use Rattle.milter_mta_outcome.specs.declared.loss.MtaFault.TheVariants.{Early}
 use Rattle.milter_mta.specs.declared.state.FilterConnection.{FilterConnection as Connected}

@@ -1,5 +1,5 @@
 use Rattle.std.proofs.Common.{◌≡◌, [], drop, Option, Some, ap, subst, sym, ◌∙◌}
-use Rattle.milter_mta_channel.specs.Channel.{Channel, is_owed}
+use Rattle.milter_mta_connection.specs.Channel.{Channel, is_owed}
 use Rattle.milter_mta.specs.declared.state.FilterConnection.{FilterConnection as Connected}
 use Rattle.milter_mta.specs.CoreParts.{mta_of}
 use Rattle.milter_mta.specs.Cores.{IsCore}

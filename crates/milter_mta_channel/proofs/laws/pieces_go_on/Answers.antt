@@ -1,7 +1,0 @@
-use Rattle.std.proofs.lemmas.List.Sums.{fold-append}
-use Rattle.milter_mta_channel.specs.declared.filter_event.FilterEvent.TheVariants as events
-use Rattle.milter_mta_channel.specs.Received.{goes_on, received_byte}
-use Rattle.milter_mta_channel.proofs.laws.pieces_go_on.Goals as goal
-
-pub returns : goal.returns
-returns c channel first second = fold-append received_byte (goes_on events.Nothing channel) first second

@@ -1,4 +1,0 @@
-pub mod Channel
-pub mod Received
-pub mod ChannelParts
-pub mod ReplyRules

@@ -1,4 +1,0 @@
-pub mod Conversations
-pub mod Calls
-pub mod Messages
-pub mod Losses
