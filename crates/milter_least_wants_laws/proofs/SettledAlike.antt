@@ -25,8 +25,8 @@ use Rattle.milter_mta_outcome.specs.ActedVerdicts.{kept}
 use Rattle.milter_mta_outcome.specs.Dialogues.{acted, acted_at, ruled, ruled_at, ruled_by}
 use Rattle.milter_mta_outcome.specs.TransactionVerdicts.{last_verdict}
 use Rattle.milter_mta.specs.Dispositions.{report}
-use Rattle.milter_mta_laws.specs.Sessions.{connection_after, dialogue_of, report_by, reports_by, settled_through}
-use Rattle.milter_mta_laws.specs.Settled.{dialogue_verdict, ends_with_client}
+use Rattle.milter_mta.specs.Sessions.{connection_after, dialogue_of, report_by, reports_by, settled_through}
+use Rattle.milter_mta.specs.Settled.{dialogue_verdict, ends_with_client}
 use Rattle.milter_least_wants_laws.specs.SettledAlike.{Disposition, disposition_of}
 use Rattle.milter_least_wants_laws.proofs.RuledAlike.{kept-alike, last-alike}
 use Rattle.milter_least_wants_laws.proofs.Thinned.{AreQuiet, thinned, thinned-onto}

@@ -10,7 +10,7 @@ ghost use Rattle.milter_filter_rules.specs.LeastWants.{with_least_wants};
 ghost use Rattle.milter_filter_rules.specs.RuleSet.{RuleSet, behavior_of};
 ghost use Rattle.milter_least_wants_laws.specs.SettledAlike.{SettlesAlike};
 
-use milter_mta_laws::{closed_dialogues_rule, plans_are_sent};
+use milter_mta::{closed_dialogues_rule, plans_are_sent};
 
 /// Where a filter of rules wants no more than its rules need, and any stages besides to be sent, each message of a
 /// session comes to the same, by the same cause, and so does the connection. Only the verdicts that were acted on are

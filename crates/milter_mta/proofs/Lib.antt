@@ -11,3 +11,26 @@ mod EarlyPieces
 mod KeptRecipients
 mod Reported
 pub mod NextPackets
+mod TruthValues
+mod Lists
+mod Numbers
+mod Refusals
+mod Answers
+mod Exchanges
+mod Played
+mod Ordered
+mod Openings
+mod Closed
+mod Settled
+pub mod Losses
+mod PartAnswers
+mod ReceivedParts
+mod Bare
+mod BegunPlans
+mod Opened
+mod SettledSessions
+mod SentParts
+mod LeftToSend
+mod Dispositions
+mod AnyFilter
+mod Connections

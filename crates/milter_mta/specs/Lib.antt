@@ -8,3 +8,12 @@ pub mod CoreParts
 pub mod ActedReplies
 pub mod Cores
 pub mod Worked
+pub mod Lines
+pub mod Order
+pub mod Dialogues
+pub mod Settled
+pub mod PartAnswers
+pub mod Beginnings
+pub mod Sessions
+pub mod AnyFilter
+pub mod WorkedFilters

@@ -10,10 +10,22 @@
 //!
 //! Where a connection can't be made, breaks, or takes too long, call [`MtaCore::lost`]: a message is settled by
 //! default, and where others are left a new connection is wanted.
+//!
+//! Laws of a mail server's end over whole dialogues. Whatever a filter sends, a message is settled at most once, by a
+//! dialogue through its plan or by default after one; against a lawful filter what is sent and what a message comes to
+//! is the dialogue with that filter.
+//!
+//! Nothing here is run: each law is the contract of a function that does nothing.
 #![tactic(auto)]
 
+mod any_filter;
 mod config;
+mod dialogue_laws;
+mod dialogue_rows;
+mod disposition_laws;
+mod exchange_laws;
 mod laws;
+mod loss_laws;
 mod mta_core;
 mod queue;
 mod reply;
@@ -23,10 +35,25 @@ mod settle;
 mod state;
 mod want;
 
+pub use any_filter::{connections_are_reported, messages_are_settled_by_dialogues};
 pub use config::Config;
+pub use dialogue_laws::{
+    dialogues_are_played, dialogues_begin_plans, lawful_filters_negotiate, lines_without_answers,
+    offers_open_sessions, plans_are_sent,
+};
+pub use disposition_laws::{
+    dialogues_settle_all, dialogues_settle_one, lost_dialogues_give_up, sessions_are_settled,
+};
+pub use exchange_laws::{
+    closed_dialogues_rule, dialogues_go_on, dialogues_of_messages, exchanges_are_played,
+};
 pub use laws::{
     faults_are_received, losses_settle_one, pieces_go_on, replies_are_received,
     reply_prefixes_are_kept,
+};
+pub use loss_laws::{
+    losses_depend_on_verdicts, part_answers_are_received, part_answers_settle_nothing,
+    sending_settles_nothing, sent_bytes_add_up,
 };
 pub use milter_mta_outcome::{
     Acted, ActedVerdicts, By, Loss, MtaFault, OnLoss, Outcome, Refusal, Report,

@@ -11,7 +11,7 @@ use Rattle.milter_mta.specs.Accounts.{Disposition}
 use Rattle.milter_mta.specs.Mta.{Mta}
 use Rattle.milter_mta.specs.Output.{want}
 use Rattle.milter_mta.specs.Dispositions.{lost}
-use Rattle.milter_mta_laws.specs.AnyFilter.{ConnectionIsReported, GoesOnDialogues, IsOnDialogue, IsReportByDialogue, without_messages}
+use Rattle.milter_mta.specs.AnyFilter.{ConnectionIsReported, GoesOnDialogues, IsOnDialogue, IsReportByDialogue, without_messages}
 use Rattle.milter_mta_client.specs.ClientRuns.{Converses, ReportsEach, first_events}
 use Rattle.milter_mta_client.specs.ConnectionRuns.{IsBetween, IsOver, Moves, Steps, dials_left}
 use Rattle.milter_mta_client.specs.Events.{Event, IsOutside, Runs}

@@ -6,7 +6,7 @@ use Rattle.milter_mta_outcome.specs.declared.report.Report.{Report}
 use Rattle.milter_mta_outcome.specs.declared.loss.Loss.{Loss}
 use Rattle.milter_mta.specs.Mta.{Mta}
 use Rattle.milter_mta.specs.Dispositions.{lost}
-use Rattle.milter_mta_laws.specs.AnyFilter.{GoesOnDialogues, IsOnDialogue}
+use Rattle.milter_mta.specs.AnyFilter.{GoesOnDialogues, IsOnDialogue}
 use Rattle.milter_mta_client.specs.ConnectionRuns.{Steps}
 use Rattle.milter_mta_client.specs.Events.{Event, IsOutside, Runs}
 use Rattle.milter_mta_client.specs.Events.Event.{GaveUp}

@@ -8,7 +8,7 @@ use Rattle.milter_mta.specs.declared.want.Want.TheVariants as wants
 use Rattle.milter_mta.specs.Accounts.{Disposition}
 use Rattle.milter_mta.specs.Mta.{Mta}
 use Rattle.milter_mta.specs.Output.{want}
-use Rattle.milter_mta_laws.specs.AnyFilter.{ConnectionIsReported, IsOnDialogue, IsReportByDialogue, without_messages}
+use Rattle.milter_mta.specs.AnyFilter.{ConnectionIsReported, IsOnDialogue, IsReportByDialogue, without_messages}
 use Rattle.milter_mta_client.specs.Events.{Event, Runs}
 use Rattle.milter_mta_client.specs.Events.Event.{GaveUp}
 

@@ -2,7 +2,7 @@
 use Rattle.std.specs.Prelude.{◌≡◌, ◌+◌, ℕ, suc, List, [], ◌∷◌, drop, length}
 use Rattle.milter_mta_outcome.specs.declared.report.Report.{Report}
 use Rattle.milter_mta.specs.Mta.{Mta}
-use Rattle.milter_mta_laws.specs.AnyFilter.{IsOnDialogue}
+use Rattle.milter_mta.specs.AnyFilter.{IsOnDialogue}
 
 -- the reports of messages that are numbered from this number on were noted one after the other, and nothing else
 abbrev pub NotesEach : {O : Type 0} → (O → ℕ → Report → O → Type 0) → ℕ → List Report → O → O → Type 0

@@ -5,7 +5,7 @@ ghost use Rattle.milter_mta.specs.declared.want.Want.TheVariants as wants;
 ghost use Rattle.milter_mta.specs.Output.{want};
 ghost use Rattle.milter_mta_client.specs.ClientRuns.{Converses, first_events};
 ghost use Rattle.milter_mta_client.specs.ConnectionRuns.{IsBetween, Steps};
-ghost use Rattle.milter_mta_laws.specs.AnyFilter.{IsOnDialogue};
+ghost use Rattle.milter_mta.specs.AnyFilter.{IsOnDialogue};
 ghost use Rattle.milter_mta_client.specs.Events.{Runs};
 ghost use Rattle.milter_mta_client.specs.Observations.{Notes, NotesAdded, NotesEach};
 
@@ -13,8 +13,7 @@ use crate::connection::{drive, lose};
 use crate::laws::{events_keep_to_dialogues, events_report_connections};
 use crate::observer::{NoObserver, Observer};
 use milter_dial::Dial;
-use milter_mta::{MtaCore, Reports, Want};
-use milter_mta_laws::messages_are_settled_by_dialogues;
+use milter_mta::{MtaCore, Reports, Want, messages_are_settled_by_dialogues};
 use milter_mta_outcome::Loss;
 use milter_wire::read_buffer;
 use std::alloc::Global;

@@ -2,11 +2,11 @@
 
 ghost use Rattle.std.specs.Prelude.{◌≡◌, ◌^◌, List};
 ghost use Rattle.milter_mta.specs.Mta.{Mta};
-ghost use Rattle.milter_mta_laws.specs.AnyFilter.{ConnectionIsReported, GoesOnDialogues, IsOnDialogue};
+ghost use Rattle.milter_mta.specs.AnyFilter.{ConnectionIsReported, GoesOnDialogues, IsOnDialogue};
 ghost use Rattle.milter_mta_client.specs.Events.{Event, Runs};
 ghost use Rattle.milter_mta_client.specs.declared.connection.TheConstants.{CALLS_MAX, RETRIES_MAX};
 
-use milter_mta_laws::{connections_are_reported, messages_are_settled_by_dialogues};
+use milter_mta::{connections_are_reported, messages_are_settled_by_dialogues};
 
 /// Whatever happens to it, the verdicts that a mail server's end acts on are those of a dialogue through the plan of
 /// the message that is sent, and each report is by a dialogue through its message's plan.

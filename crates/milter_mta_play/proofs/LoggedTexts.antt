@@ -5,7 +5,7 @@ use Rattle.std.proofs.KnownBytes.{Appends-nil, Appends-trans}
 use Rattle.milter_mta_outcome.specs.declared.report.Report.{Report}
 use Rattle.milter_mta_outcome.specs.Losses.{is_by_client}
 use Rattle.milter_mta.specs.Mta.{Mta}
-use Rattle.milter_mta_laws.specs.AnyFilter.{IsOnDialogue}
+use Rattle.milter_mta.specs.AnyFilter.{IsOnDialogue}
 use Rattle.milter_mta_client.specs.Observations.{NotesEach}
 use Rattle.milter_mta_reports.specs.ReportsText.{report_text, texts_from}
 use Rattle.milter_mta_play.specs.declared.report_log.ReportLog.{ReportLog}

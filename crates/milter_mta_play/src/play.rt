@@ -5,9 +5,8 @@ ghost use Rattle.milter_mta_play.specs.MtaRuns.{PlaysSession};
 
 use crate::report_log::ReportLog;
 use milter_mail::Session;
-use milter_mta::{Config, MtaCore};
+use milter_mta::{Config, MtaCore, messages_are_settled_by_dialogues};
 use milter_mta_client::{Dial, converse_observed};
-use milter_mta_laws::messages_are_settled_by_dialogues;
 use milter_mta_reports::PlayFault;
 use std::alloc::Global;
 use std::io::Write;

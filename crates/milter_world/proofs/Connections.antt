@@ -3,7 +3,7 @@ use Rattle.std.proofs.Common.{◌≡◌, ◌≢◌, List, [], sym, ap, subst, �
 use Rattle.milter_mta_outcome.specs.declared.report.Report.{Report}
 use Rattle.milter_mta.specs.Accounts.{Disposition}
 use Rattle.milter_mta.specs.Mta.{Mta}
-use Rattle.milter_mta_laws.specs.AnyFilter.{ConnectionIsReported, HaveLastVerdict, client_reports}
+use Rattle.milter_mta.specs.AnyFilter.{ConnectionIsReported, HaveLastVerdict, client_reports}
 use Rattle.milter_world.specs.Outcomes.{ConnectionIsGiven}
 
 pub connection-given : (m : Mta) (s : Disposition) → s.connection ≡ m.connection → s.messages ≡ m.reports → ConnectionIsReported m → ConnectionIsGiven s

@@ -5,7 +5,7 @@ use Rattle.milter_wire.specs.declared.verdict.Verdict.{Verdict}
 use Rattle.milter_message.specs.MailObject.{MailObject}
 use Rattle.milter_mta_outcome.specs.declared.report.Report.{Report}
 use Rattle.milter_mta.specs.Accounts.{Disposition}
-use Rattle.milter_mta_laws.specs.AnyFilter.{HaveLastVerdict, client_reports}
+use Rattle.milter_mta.specs.AnyFilter.{HaveLastVerdict, client_reports}
 use Rattle.milter_world_schedule.specs.Schedule.{Scenario}
 use Rattle.milter_world_schedule.specs.DialogueReports.{WasGiven}
 

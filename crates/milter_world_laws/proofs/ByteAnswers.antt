@@ -19,7 +19,7 @@ use Rattle.milter_protocol.specs.FilterEnds.{FilterEnd, Received, after, next, r
 use Rattle.milter_protocol.specs.declared.filter_state.FilterState.{FilterState}
 use Rattle.milter_protocol.specs.declared.filter_state.FilterState.TheVariants.{Failed, Quit, Serving}
 use Rattle.milter_protocol.specs.OrderStates.{OrderState, fresh, fresh_in, order_state_after, order_state_at, order_state_of, order_state_replies}
-use Rattle.milter_mta_laws.specs.Lines.{Line}
+use Rattle.milter_mta.specs.Lines.{Line}
 use Rattle.milter_filter_stream.specs.Streams.{fault_after, received_in}
 use Rattle.milter_world_schedule.specs.ByteCounts.{owed, to_filter, to_mta}
 use Rattle.milter_world_schedule.proofs.CountedBytes.{by_lt}

@@ -35,9 +35,9 @@ use Rattle.milter_protocol.specs.Dialogue.{has_end, is_body, is_closed, is_end_c
 use Rattle.milter_protocol.specs.Verdicts.{is_final_at, is_refusal}
 use Rattle.milter_protocol.proofs.Sendable.{end_left}
 use Rattle.milter_protocol.proofs.TranscriptParts.{negotiated_in-cons, connection-cons, last_rank-cons, shown-cons}
-use Rattle.milter_mta_laws.specs.Lines.{line_of}
-use Rattle.milter_mta_laws.specs.Settled.{ends_with_message}
-use Rattle.milter_mta_laws.specs.Dialogues.{opening_of}
+use Rattle.milter_mta.specs.Lines.{line_of}
+use Rattle.milter_mta.specs.Settled.{ends_with_message}
+use Rattle.milter_mta.specs.Dialogues.{opening_of}
 use Rattle.milter_mta_outcome.specs.PlanOrder.{AreInTurn}
 use Rattle.milter_mta_outcome.proofs.PlanOrders.{turn-higher}
 use Rattle.milter_world_laws.specs.FilterTranscript.{IsAt, IsOver, NoneWithin}

@@ -30,12 +30,12 @@ use Rattle.milter_mta.specs.Mta.Position.{Ended, Quitting}
 use Rattle.milter_mta.specs.Replies.{After, at, goes_on}
 use Rattle.milter_mta.specs.Output.{want}
 use Rattle.milter_mta.specs.Dispositions.{acted_at, defaulted, report}
-use Rattle.milter_mta_laws.specs.Lines.{Plays, abort_line, after_line, answer_bytes, line_of, next_packet, quit_line}
-use Rattle.milter_mta_laws.specs.Order.{AreProper, IsDialogue, IsDialogueSoFar}
-use Rattle.milter_mta_laws.specs.PartAnswers.{IsPartReceived}
-use Rattle.milter_mta_laws.specs.Sessions.{report_by, settled_through}
-use Rattle.milter_mta_laws.specs.Settled.{AreAllSettled, ends_with_client, ends_with_message, next_connection, next_position}
-use Rattle.milter_mta_laws.specs.Dialogues.{after_dialogue, at_dialogue, opening_of, settled_by}
+use Rattle.milter_mta.specs.Lines.{Plays, abort_line, after_line, answer_bytes, line_of, next_packet, quit_line}
+use Rattle.milter_mta.specs.Order.{AreProper, IsDialogue, IsDialogueSoFar}
+use Rattle.milter_mta.specs.PartAnswers.{IsPartReceived}
+use Rattle.milter_mta.specs.Sessions.{report_by, settled_through}
+use Rattle.milter_mta.specs.Settled.{AreAllSettled, ends_with_client, ends_with_message, next_connection, next_position}
+use Rattle.milter_mta.specs.Dialogues.{after_dialogue, at_dialogue, opening_of, settled_by}
 use Rattle.milter_world_schedule.specs.ConnectionEntries as connection_entries_of
 use Rattle.milter_world_schedule.specs.ConnectionEntries.{Entry, default_reports, entries_after, entries_from, entry_of, exchange_entries}
 use Rattle.milter_world_schedule.proofs.EntryLines.{some_bytes}

@@ -13,8 +13,8 @@ use Rattle.milter_mta.specs.Mta.{FilterConnection, Mta, fresh}
 use Rattle.milter_mta.specs.Replies.{After as ReceivedReply, received}
 use Rattle.milter_mta.specs.Output.{advanced, dialled, dialled_if, sent, want, want_in, want_unconnected}
 use Rattle.milter_mta.specs.Dispositions.{lost}
-use Rattle.milter_mta_laws.specs.AnyFilter.{ConnectionIsReported, GoesOnDialogues, IsOnDialogue, IsReportByDialogue, without_messages}
-use Rattle.milter_mta_laws.specs.Lines.{Line}
+use Rattle.milter_mta.specs.AnyFilter.{ConnectionIsReported, GoesOnDialogues, IsOnDialogue, IsReportByDialogue, without_messages}
+use Rattle.milter_mta.specs.Lines.{Line}
 use Rattle.milter_protocol.specs.declared.command_order.CommandOrder.{CommandOrder}
 use Rattle.milter_protocol.specs.Behavior.{Behavior}
 use Rattle.milter_filter_core.specs.Cores.{Core, GoesOn, fresh_core_in}

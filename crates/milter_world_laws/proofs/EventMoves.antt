@@ -8,7 +8,7 @@ use Rattle.milter_mta.specs.declared.want.Want.TheVariants as wants
 use Rattle.milter_mta.specs.Mta.{Configuration, FilterConnection, Mta}
 use Rattle.milter_mta.specs.Output.{advanced, pending, sent, want}
 use Rattle.milter_mta.specs.Dispositions.{acted_in, defaulted, lost}
-use Rattle.milter_mta_laws.specs.Lines.{Line}
+use Rattle.milter_mta.specs.Lines.{Line}
 use Rattle.milter_protocol.specs.declared.filter_fault.FilterFault.{FilterFault as Fault}
 use Rattle.milter_protocol.specs.declared.filter_state.FilterState.TheVariants.{Serving}
 use Rattle.milter_filter_stream.specs.Streams.{received_in}

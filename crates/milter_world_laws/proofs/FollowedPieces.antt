@@ -11,7 +11,7 @@ use Rattle.milter_mta.specs.declared.want.Want.TheVariants as wants
 use Rattle.milter_mta.specs.Mta.{Mta}
 use Rattle.milter_mta.specs.Replies.{After, goes_on, received, received_byte}
 use Rattle.milter_mta.specs.Output.{advanced, pending, sent, want}
-use Rattle.milter_mta_laws.specs.Lines.{Line, after_line, next_packet, sent_whole}
+use Rattle.milter_mta.specs.Lines.{Line, after_line, next_packet, sent_whole}
 use Rattle.milter_world_schedule.specs.ByteCounts.{due, owed, packet_end, to_filter, to_mta}
 use Rattle.milter_world_laws.specs.FollowedLines.{IsWaiting, SendsLine, SendsLines, after_at, begun}
 use Rattle.milter_world_schedule.proofs.CountedBytes.{by_lt, due-past, due-wait, lt-ltb, owed-part, owed-whole, packet_end-part, packet_end-past, positive}

@@ -20,9 +20,9 @@ use Rattle.milter_mta.specs.Mta.Position.{Offering}
 use Rattle.milter_mta.specs.Replies.{After, at, goes_on}
 use Rattle.milter_mta.specs.Output.{dialled}
 use Rattle.milter_mta.specs.Dispositions.{acted_at, defaulted, lost, report}
-use Rattle.milter_mta_laws.specs.Lines.{Plays, after_line, offer_line}
-use Rattle.milter_mta_laws.specs.Order.{IsDialogue}
-use Rattle.milter_mta_laws.specs.Dialogues.{at_dialogue}
+use Rattle.milter_mta.specs.Lines.{Plays, after_line, offer_line}
+use Rattle.milter_mta.specs.Order.{IsDialogue}
+use Rattle.milter_mta.specs.Dialogues.{at_dialogue}
 use Rattle.milter_world_schedule.specs.ConnectionEntries.{entries_from, connection_entries}
 use Rattle.milter_world_schedule.proofs.EntryLines.{some_bytes}
 use Rattle.milter_world_laws.specs.FollowedLines.{Follows, IsWaiting}

@@ -12,7 +12,7 @@ use Rattle.milter_mta.specs.Mta.{FilterConnection, Mta}
 use Rattle.milter_mta.specs.Replies.{After}
 use Rattle.milter_mta.specs.Output.{advanced, advanced_in, sent, sent_in, want}
 use Rattle.milter_mta.specs.Dispositions.{acted_in, defaulted, lost}
-use Rattle.milter_mta_laws.specs.Lines.{after_line, next_packet, sent_whole}
+use Rattle.milter_mta.specs.Lines.{after_line, next_packet, sent_whole}
 use Rattle.milter_world_schedule.specs.ByteCounts.{owed}
 use Rattle.milter_world_laws.specs.FollowedLines.{Follows, SendsLines, TakesEntry, after_at, begun}
 use Rattle.milter_world_laws.specs.FollowedLines.{IsMtaAt}

@@ -34,10 +34,10 @@ use Rattle.milter_protocol.specs.Replies.{options_reply, replies_to}
 use Rattle.milter_protocol.specs.Dialogue.{has_end, is_end_command, dialogue_with}
 use Rattle.milter_protocol.proofs.TakenAlike.{in-turn, left-by}
 use Rattle.milter_protocol.proofs.TranscriptParts.{negotiated_in-cons, connection-cons, last_rank-cons, shown-cons}
-use Rattle.milter_mta_laws.specs.Lines.{Line, abort_line, line_of, offer_line, quit_line}
-use Rattle.milter_mta_laws.specs.Sessions.{lines_after, lines_from, session_lines}
-use Rattle.milter_mta_laws.specs.Settled.{ends_with_client, ends_with_message}
-use Rattle.milter_mta_laws.specs.Dialogues.{opening_of}
+use Rattle.milter_mta.specs.Lines.{Line, abort_line, line_of, offer_line, quit_line}
+use Rattle.milter_mta.specs.Sessions.{lines_after, lines_from, session_lines}
+use Rattle.milter_mta.specs.Settled.{ends_with_client, ends_with_message}
+use Rattle.milter_mta.specs.Dialogues.{opening_of}
 use Rattle.milter_world_laws.specs.FilterTranscript.{IsAt, IsOver}
 use Rattle.milter_world_laws.specs.Answered.{IsReplied, Replies}
 use Rattle.milter_mta_outcome.proofs.PlanOrders.{message-of, plan-bytes, plan-of, plan-within, turn-higher, within-message}

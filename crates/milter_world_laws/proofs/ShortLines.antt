@@ -36,10 +36,10 @@ use Rattle.milter_protocol.specs.Permitted.{is_permitted, permitted_verdict}
 use Rattle.milter_protocol.specs.Replies.{options_reply}
 use Rattle.milter_protocol.specs.Seen.{Seen, seen}
 use Rattle.milter_protocol.specs.Dialogue.{is_closed, is_left_out, dialogue_with}
-use Rattle.milter_mta_laws.specs.Lines.{Line, abort_line, answer_bytes, line_of, quit_line}
-use Rattle.milter_mta_laws.specs.Sessions.{lines_after, lines_from, session_lines}
-use Rattle.milter_mta_laws.specs.Settled.{ends_with_client, ends_with_message}
-use Rattle.milter_mta_laws.specs.Dialogues.{opening_of}
+use Rattle.milter_mta.specs.Lines.{Line, abort_line, answer_bytes, line_of, quit_line}
+use Rattle.milter_mta.specs.Sessions.{lines_after, lines_from, session_lines}
+use Rattle.milter_mta.specs.Settled.{ends_with_client, ends_with_message}
+use Rattle.milter_mta.specs.Dialogues.{opening_of}
 use Rattle.milter_world_schedule.specs.ByteCounts.{to_filter, to_mta}
 
 abbrev pub Each : {A : Type 0} → (A → Type 0) → List A → Type 0

@@ -5,7 +5,7 @@ use Rattle.milter_mta.specs.declared.want.Want.{Want}
 use Rattle.milter_mta.specs.declared.want.Want.TheVariants as wants
 use Rattle.milter_mta.specs.Mta.{FilterConnection, Mta}
 use Rattle.milter_mta.specs.Output.{advanced, advanced_in, bytes_at, made, pending, pending_in, pending_or, sent, sent_from, sent_in, sent_of, want}
-use Rattle.milter_mta_laws.proofs.Losses.{drop_none, none_pending}
+use Rattle.milter_mta.proofs.Losses.{drop_none, none_pending}
 
 abbrev with_connection : Option FilterConnection → Mta → Mta
 with_connection filter_connection m = record m { filter_connection = filter_connection }

@@ -10,7 +10,7 @@ use Rattle.milter_protocol.specs.Behavior.{Behavior}
 use Rattle.milter_protocol.specs.FilterEnds.{FilterEnd, fault_at, next, replies_at}
 use Rattle.milter_protocol.specs.declared.filter_state.FilterState.TheVariants.{Serving}
 use Rattle.milter_protocol.specs.OrderStates.{fresh_in, order_state_after, order_state_replies}
-use Rattle.milter_mta_laws.specs.Lines.{Line}
+use Rattle.milter_mta.specs.Lines.{Line}
 use Rattle.milter_filter_stream.specs.Streams.{received_in}
 use Rattle.milter_world_schedule.specs.ByteCounts.{owed, to_filter, to_mta}
 

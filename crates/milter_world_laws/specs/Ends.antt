@@ -8,8 +8,8 @@ use Rattle.milter_mta_outcome.specs.declared.loss.Loss.TheVariants.{Reset}
 use Rattle.milter_mta.specs.Mta.{Mta, fresh}
 use Rattle.milter_mta.specs.Output.{advanced, dialled, pending, sent}
 use Rattle.milter_mta.specs.Dispositions.{lost}
-use Rattle.milter_mta_laws.specs.AnyFilter.{ConnectionIsReported, GoesOnDialogues}
-use Rattle.milter_mta_laws.specs.Lines.{Line}
+use Rattle.milter_mta.specs.AnyFilter.{ConnectionIsReported, GoesOnDialogues}
+use Rattle.milter_mta.specs.Lines.{Line}
 use Rattle.milter_filter_core.specs.Cores.{Core, GoesOn, fresh_core_in}
 use Rattle.milter_world_laws.specs.Answered.{AnswersLines}
 use Rattle.milter_world_schedule.specs.ByteCounts.{due, to_filter, to_mta}

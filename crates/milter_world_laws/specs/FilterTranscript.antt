@@ -16,8 +16,8 @@ use Rattle.milter_protocol.specs.Exchanges.{Exchange, commands_of}
 use Rattle.milter_protocol.specs.OrderStates.{rank_by}
 use Rattle.milter_protocol.specs.Transcripts.{negotiated_in, last_rank, of_connection, shown}
 use Rattle.milter_mta_outcome.specs.PlanOrder.{AreInTurn}
-use Rattle.milter_mta_laws.specs.Settled.{ends_with_message}
-use Rattle.milter_mta_laws.specs.Dialogues.{opening_of}
+use Rattle.milter_mta.specs.Settled.{ends_with_message}
+use Rattle.milter_mta.specs.Dialogues.{opening_of}
 
 -- after a last stage of this rank, no greeting and no sender of these commands, nor macros of one, comes within a
 -- message

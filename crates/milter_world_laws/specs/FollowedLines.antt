@@ -7,7 +7,7 @@ use Rattle.milter_mta.specs.Mta.{Mta}
 use Rattle.milter_mta.specs.Replies.{After, goes_on}
 use Rattle.milter_mta.specs.Output.{advanced, pending, sent, want}
 use Rattle.milter_mta.specs.Dispositions.{lost}
-use Rattle.milter_mta_laws.specs.Lines.{Line, after_line, next_packet}
+use Rattle.milter_mta.specs.Lines.{Line, after_line, next_packet}
 use Rattle.milter_world_schedule.specs.ByteCounts.{due}
 use Rattle.milter_world_schedule.specs.ConnectionEntries.{Entry, default_reports}
 use Rattle.milter_world_schedule.specs.declared.state.Counts.{Counts}

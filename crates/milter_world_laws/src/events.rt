@@ -21,10 +21,9 @@ ghost use Rattle.milter_world_schedule.specs.Schedule.{Scenario, first, fresh, h
 ghost use Rattle.milter_world_laws.specs.Ends.{AreEndsOf, Ends, IsLossBy, IsOfConnection, IsOfFilter, IsPossible, Steps, fresh_ends, lost_ends, mta_sent, sent_count};
 
 use milter_filter_core::{Policy, cores_go_on};
-use milter_mta::losses_settle_one;
-use milter_mta_laws::{
-    connections_are_reported, messages_are_settled_by_dialogues, sending_settles_nothing,
-    sent_bytes_add_up,
+use milter_mta::{
+    connections_are_reported, losses_settle_one, messages_are_settled_by_dialogues,
+    sending_settles_nothing, sent_bytes_add_up,
 };
 
 /// Before their first connection both ends of a scenario that is possible are where the schedule begins; a connection

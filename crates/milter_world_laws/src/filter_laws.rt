@@ -18,14 +18,14 @@ ghost use Rattle.milter_protocol.specs.declared.limits.TheConstants.{VERSION_MIN
 ghost use Rattle.milter_protocol.specs.Exchanges.{Exchange, onto};
 ghost use Rattle.milter_protocol.specs.Dialogue.{has_end, dialogue_with};
 ghost use Rattle.milter_filter_stream.specs.Streams.{filter_end_of, received_in, reply_bytes};
-ghost use Rattle.milter_mta_laws.specs.Lines.{Line, line_of};
-ghost use Rattle.milter_mta_laws.specs.Sessions.{session_lines};
+ghost use Rattle.milter_mta.specs.Lines.{Line, line_of};
+ghost use Rattle.milter_mta.specs.Sessions.{session_lines};
 ghost use Rattle.milter_world_laws.specs.Answered.{AnswersLines, Replies};
 ghost use Rattle.milter_world_schedule.specs.ByteCounts.{to_filter};
 ghost use Rattle.milter_world_laws.specs.FilterTranscript.{IsAt};
 
 use milter_filter_core::orders_reply_the_same_bytes;
-use milter_mta_laws::plans_are_sent;
+use milter_mta::plans_are_sent;
 use milter_protocol::{order_states_of_filter_ends, orders_reply_the_same};
 use milter_wire::command_frames;
 

@@ -17,15 +17,15 @@ ghost use Rattle.milter_mta.specs.Mta.{Configuration, Mta};
 ghost use Rattle.milter_mta.specs.Replies.{goes_on, received_byte};
 ghost use Rattle.milter_mta.specs.Output.{advanced, dialled, pending, sent, want};
 ghost use Rattle.milter_mta.specs.Dispositions.{lost};
-ghost use Rattle.milter_mta_laws.specs.Lines.{Line};
-ghost use Rattle.milter_mta_laws.specs.Order.{IsDialogue};
-ghost use Rattle.milter_mta_laws.specs.Dialogues.{at_dialogue};
+ghost use Rattle.milter_mta.specs.Lines.{Line};
+ghost use Rattle.milter_mta.specs.Order.{IsDialogue};
+ghost use Rattle.milter_mta.specs.Dialogues.{at_dialogue};
 ghost use Rattle.milter_world_schedule.specs.ByteCounts.{due, owed, packet_end, to_filter, to_mta};
 ghost use Rattle.milter_world_schedule.specs.ConnectionEntries.{Entry, default_within, entries_from, lines_of, reports_within, connection_entries};
 ghost use Rattle.milter_world_schedule.specs.declared.state.Counts.{Counts};
 ghost use Rattle.milter_world_laws.specs.FollowedLines.{Follows, IsMtaAt, SendsLines, after_at};
 
-use milter_mta_laws::{
+use milter_mta::{
     closed_dialogues_rule, dialogues_are_played, dialogues_go_on, dialogues_settle_all,
     dialogues_settle_one, exchanges_are_played, lawful_filters_negotiate, lines_without_answers,
     losses_depend_on_verdicts, offers_open_sessions, part_answers_are_received,

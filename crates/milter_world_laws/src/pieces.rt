@@ -9,7 +9,7 @@ ghost use Rattle.milter_filter_stream.specs.Streams.{received_in};
 ghost use Rattle.milter_mta.specs.Mta.{Mta};
 ghost use Rattle.milter_mta.specs.Replies.{received};
 ghost use Rattle.milter_mta.specs.Output.{advanced, pending, sent};
-ghost use Rattle.milter_mta_laws.specs.Lines.{Line};
+ghost use Rattle.milter_mta.specs.Lines.{Line};
 ghost use Rattle.milter_world_laws.specs.Answered.{AnswersLines};
 ghost use Rattle.milter_world_schedule.specs.ByteCounts.{due, to_mta};
 ghost use Rattle.milter_world_schedule.specs.declared.state.Counts.{Counts};
@@ -18,7 +18,7 @@ ghost use Rattle.milter_world_laws.specs.FollowedLines.{IsMtaAt, SendsLines};
 ghost use Rattle.milter_world_laws.specs.Ends.{IsFilterAt};
 
 use milter_filter_core::{Policy, cores_go_on};
-use milter_mta_laws::sent_bytes_add_up;
+use milter_mta::sent_bytes_add_up;
 
 /// A piece of the bytes that are on their way to the filter's end is taken whole and without a fault, and nothing is on
 /// its way there while it has bytes to answer. A piece that it answers, one that reaches the mail server's end, and one

@@ -11,7 +11,7 @@ ghost use Rattle.milter_world_laws.specs.Ends.{IsPossible};
 
 use crate::filter_laws::sessions_are_answered;
 use crate::mta_laws::entries_are_followed;
-use milter_mta_laws::lawful_filters_negotiate;
+use milter_mta::lawful_filters_negotiate;
 use milter_world_schedule::entries_of_sessions;
 
 /// A lawful filter, a session and an offer of a known version that fits a packet are all that is asked of a scenario,

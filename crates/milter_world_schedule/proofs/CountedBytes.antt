@@ -2,7 +2,7 @@
 use Rattle.std.proofs.Common.{◌≡◌, ◌≢◌, ℕ, suc, ◌+◌, ◌-◌, ◌≤◌, ◌<◌, Bool, true, false, if◌then◌else◌, nat_le, ltb, List, [], ◌∷◌, refl, sym, ap, subst, arith, length, length-append}
 use Rattle.std.proofs.lemmas.Bool.{le-ltb, le-leb, lt-leb, leb-true, leb-false, ltb-false}
 use Rattle.std.proofs.lemmas.List.Concat.{flat_map-cons}
-use Rattle.milter_mta_laws.specs.Lines.{Line}
+use Rattle.milter_mta.specs.Lines.{Line}
 use Rattle.milter_world_schedule.specs.ByteCounts.{due, owed, packet_end, to_filter, to_mta}
 
 pub lt-ltb : (a b : ℕ) → a < b → ltb a b ≡ true

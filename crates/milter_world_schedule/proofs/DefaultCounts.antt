@@ -14,8 +14,8 @@ use Rattle.milter_mta_outcome.specs.declared.outcome.Outcome.{Outcome}
 use Rattle.milter_mta_outcome.specs.declared.report.Report.{Report}
 use Rattle.milter_mta_outcome.specs.Dialogues.{acted, ruled}
 use Rattle.milter_mta.specs.Dispositions.{report}
-use Rattle.milter_mta_laws.specs.Sessions.{settled_through}
-use Rattle.milter_mta_laws.specs.Settled.{ends_with_client}
+use Rattle.milter_mta.specs.Sessions.{settled_through}
+use Rattle.milter_mta.specs.Settled.{ends_with_client}
 use Rattle.milter_world_schedule.specs.declared.event.Event.{Event}
 use Rattle.milter_world_schedule.specs.declared.event.Event.TheVariants.{Dial, Send, ToFilter, Answer, ToMta, Die, Lose, Timeout}
 use Rattle.milter_world_schedule.specs.declared.state.Counts.{Counts}

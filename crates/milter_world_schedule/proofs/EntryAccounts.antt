@@ -16,11 +16,11 @@ use Rattle.milter_wire.specs.Negotiation.{has_leading_space}
 use Rattle.milter_mta_outcome.specs.declared.outcome.Outcome.{Outcome}
 use Rattle.milter_mta_outcome.specs.Dialogues.{acted, ruled}
 use Rattle.milter_mta.specs.Dispositions.{report}
-use Rattle.milter_mta_laws.specs.Order.{IsDialogue}
-use Rattle.milter_mta_laws.specs.Lines.{Line, abort_line, quit_line}
-use Rattle.milter_mta_laws.specs.Sessions.{report_by, settled_through}
-use Rattle.milter_mta_laws.specs.Settled.{ends_with_client, ends_with_message}
-use Rattle.milter_mta_laws.specs.Dialogues.{opening_of}
+use Rattle.milter_mta.specs.Order.{IsDialogue}
+use Rattle.milter_mta.specs.Lines.{Line, abort_line, quit_line}
+use Rattle.milter_mta.specs.Sessions.{report_by, settled_through}
+use Rattle.milter_mta.specs.Settled.{ends_with_client, ends_with_message}
+use Rattle.milter_mta.specs.Dialogues.{opening_of}
 use Rattle.milter_world_schedule.specs.DialogueReports.{Begins, IsDefaultAfter, IsRuledBy, negotiated_of, dialogue_about}
 use Rattle.milter_world_schedule.specs.ByteCounts.{to_mta}
 use Rattle.milter_protocol.proofs.WholeDialogues.{dialogue_with-some}

@@ -16,10 +16,10 @@ use Rattle.milter_protocol.specs.Behavior.{Behavior}
 use Rattle.milter_protocol.specs.Exchanges.{Exchange, onto}
 use Rattle.milter_protocol.specs.Dialogue.{dialogue_with}
 use Rattle.milter_mta_outcome.specs.declared.report.Report.{Report}
-use Rattle.milter_mta_laws.specs.Lines.{Line, abort_line, line_of, offer_line, quit_line}
-use Rattle.milter_mta_laws.specs.Sessions.{lines_after, lines_from, session_lines}
-use Rattle.milter_mta_laws.specs.Settled.{ends_with_client, ends_with_message}
-use Rattle.milter_mta_laws.specs.Dialogues.{opening_of}
+use Rattle.milter_mta.specs.Lines.{Line, abort_line, line_of, offer_line, quit_line}
+use Rattle.milter_mta.specs.Sessions.{lines_after, lines_from, session_lines}
+use Rattle.milter_mta.specs.Settled.{ends_with_client, ends_with_message}
+use Rattle.milter_mta.specs.Dialogues.{opening_of}
 use Rattle.milter_world_schedule.specs.ByteCounts.{due, to_filter, to_mta}
 use Rattle.milter_world_schedule.specs.ConnectionEntries.{Entry, entries_after, entries_from, entry_of, exchange_entries, lines_of, reports_of, connection_entries}
 use Rattle.milter_world_schedule.proofs.CountedBytes.{by_lt, due-past, due-wait, positive}

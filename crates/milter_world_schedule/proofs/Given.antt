@@ -17,7 +17,7 @@ use Rattle.milter_mta_outcome.specs.declared.outcome.Outcome.{Outcome}
 use Rattle.milter_mta_outcome.specs.declared.report.Report.{Report}
 use Rattle.milter_mta_outcome.specs.Dialogues.{acted, acted_at, ruled}
 use Rattle.milter_mta.specs.Dispositions.{report}
-use Rattle.milter_mta_laws.specs.Sessions.{settled_through}
+use Rattle.milter_mta.specs.Sessions.{settled_through}
 use Rattle.milter_world_schedule.specs.Schedule.{Scenario}
 use Rattle.milter_world_schedule.specs.DialogueReports.{AreNegotiated, IsRuledBy, WasGiven, negotiated_of, asked_after, dialogue_about}
 

@@ -1,6 +1,6 @@
 -- Undisturbed, a connection comes to its end.
 use Rattle.std.proofs.Common.{◌≡◌, ℕ, ◌+◌, ◌-◌, ◌≤◌, ◌<◌, min, List, length, sym, ap, subst, arith}
-use Rattle.milter_mta_laws.specs.Lines.{Line}
+use Rattle.milter_mta.specs.Lines.{Line}
 use Rattle.milter_world_schedule.specs.ByteCounts.{due, owed, packet_end, to_filter, to_mta}
 use Rattle.milter_world_schedule.specs.declared.state.Counts.{Counts}
 use Rattle.milter_world_schedule.specs.Rounds.{AreCounts}

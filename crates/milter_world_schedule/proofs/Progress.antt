@@ -6,7 +6,7 @@ use Rattle.milter_mta_outcome.specs.declared.loss.Loss.{Loss}
 use Rattle.milter_mta_outcome.specs.declared.loss.Loss.TheVariants as losses
 use Rattle.milter_mta_outcome.specs.declared.report.Report.{Report}
 use Rattle.milter_protocol.specs.Exchanges.{Exchange}
-use Rattle.milter_mta_laws.specs.Lines.{Line}
+use Rattle.milter_mta.specs.Lines.{Line}
 use Rattle.milter_world_schedule.specs.ByteCounts.{due, packet_end, to_filter, to_mta}
 use Rattle.milter_world_schedule.specs.ConnectionEntries.{Entry, default_reports, default_within, reports_within}
 use Rattle.milter_world_schedule.proofs.CountedBytes.{by_lt, due-le, owed-mono, packet_end-due}

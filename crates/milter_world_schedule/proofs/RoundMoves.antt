@@ -1,7 +1,7 @@
 -- A round of moves.
 use Rattle.std.proofs.Common.{◌≡◌, ◌⊎◌, inl, inr, ℕ, ◌+◌, ◌<◌, ◌≤◌, ◌==◌, min, Bool, true, false, if◌then◌else◌, List, [], ◌∷◌, ◌++◌, length, refl, sym, ◌∙◌, ap, arith}
 use Rattle.std.proofs.lemmas.Bool.{eq-eqb, le-ltb, true≢false}
-use Rattle.milter_mta_laws.specs.Lines.{Line}
+use Rattle.milter_mta.specs.Lines.{Line}
 use Rattle.milter_mta_outcome.specs.declared.report.Report.{Report}
 use Rattle.milter_world_schedule.specs.ByteCounts.{due, owed, packet_end, to_filter}
 use Rattle.milter_world_schedule.specs.declared.event.Event.TheVariants.{ToFilter, Answer, ToMta}

@@ -12,8 +12,8 @@ use Rattle.milter_mta_outcome.specs.declared.outcome.Outcome.{Outcome}
 use Rattle.milter_mta_outcome.specs.declared.report.Report.{Report}
 use Rattle.milter_mta_outcome.specs.Dialogues.{acted, ruled}
 use Rattle.milter_mta.specs.Dispositions.{report}
-use Rattle.milter_mta_laws.specs.Sessions.{settled_through}
-use Rattle.milter_mta_laws.specs.Settled.{ends_with_client}
+use Rattle.milter_mta.specs.Sessions.{settled_through}
+use Rattle.milter_mta.specs.Settled.{ends_with_client}
 use Rattle.milter_world_schedule.specs.Schedule.{Scenario}
 use Rattle.milter_world_schedule.specs.DialogueReports.{AreReported, HasAllVerdicts, IsReportOf, IsRuledBy, negotiated_of, by_reset, by_timeout, count_reports, is_by_verdict, is_known, dialogue_about}
 use Rattle.milter_world_schedule.proofs.RunReports.{zip-length}

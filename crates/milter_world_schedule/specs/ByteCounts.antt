@@ -1,7 +1,7 @@
 -- How far a connection has come, by counts of bytes over its lines.
 use Rattle.std.specs.Prelude.{ℕ, ◌+◌, ◌-◌, nat_le, nat_lt, List, [], ◌∷◌, length, if◌then◌else◌}
 use Rattle.std.specs.List.{flat_map}
-use Rattle.milter_mta_laws.specs.Lines.{Line}
+use Rattle.milter_mta.specs.Lines.{Line}
 
 -- the bytes to the filter, and those to the mail server
 abbrev pub to_filter : List Line → List ℕ

@@ -19,10 +19,10 @@ use Rattle.milter_mta_outcome.specs.declared.loss.Loss.{Loss}
 use Rattle.milter_mta_outcome.specs.declared.report.Report.{Report}
 use Rattle.milter_mta_outcome.specs.Dialogues.{acted, given_up}
 use Rattle.milter_mta.specs.Dispositions.{report}
-use Rattle.milter_mta_laws.specs.Lines.{Line, abort_line, line_of, offer_line, quit_line}
-use Rattle.milter_mta_laws.specs.Sessions.{report_by}
-use Rattle.milter_mta_laws.specs.Settled.{ends_with_client, ends_with_message}
-use Rattle.milter_mta_laws.specs.Dialogues.{opening_of}
+use Rattle.milter_mta.specs.Lines.{Line, abort_line, line_of, offer_line, quit_line}
+use Rattle.milter_mta.specs.Sessions.{report_by}
+use Rattle.milter_mta.specs.Settled.{ends_with_client, ends_with_message}
+use Rattle.milter_mta.specs.Dialogues.{opening_of}
 
 -- A packet and the bytes of its answer. Before it these messages are not settled, and these exchanges were about the
 -- first of them; with its answer these reports are added.

@@ -23,7 +23,7 @@ use Rattle.milter_mta_outcome.specs.declared.loss.Loss.{Loss}
 use Rattle.milter_mta_outcome.specs.declared.report.Report.{Report}
 use Rattle.milter_mta_outcome.specs.Dialogues.{acted, count_at, given_up}
 use Rattle.milter_mta.specs.Dispositions.{report}
-use Rattle.milter_mta_laws.specs.Sessions.{report_by, dialogue_of}
+use Rattle.milter_mta.specs.Sessions.{report_by, dialogue_of}
 use Rattle.milter_world_schedule.specs.declared.state.State.TheVariants.{Done}
 use Rattle.milter_world_schedule.specs.Schedule.{Scenario, after_all, first, stays}
 

@@ -1,6 +1,6 @@
 -- Rounds in which all moves that can.
 use Rattle.std.specs.Prelude.{◌≡◌, ◌≤◌, ◌<◌, ℕ, zero, suc, ◌+◌, ◌-◌, min, true, List, [], ◌∷◌, ◌++◌, length}
-use Rattle.milter_mta_laws.specs.Lines.{Line}
+use Rattle.milter_mta.specs.Lines.{Line}
 use Rattle.milter_world_schedule.specs.ByteCounts.{due, owed, to_filter, to_mta}
 use Rattle.milter_world_schedule.specs.declared.event.Event.{Event}
 use Rattle.milter_world_schedule.specs.declared.event.Event.TheVariants.{Send, ToFilter, Answer, ToMta}

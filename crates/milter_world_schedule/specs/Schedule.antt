@@ -7,7 +7,7 @@ use Rattle.milter_mta_outcome.specs.declared.loss.Loss.{Loss}
 use Rattle.milter_mta_outcome.specs.declared.loss.Loss.TheVariants as losses
 use Rattle.milter_mta_outcome.specs.declared.report.Report.{Report}
 use Rattle.milter_mta.specs.Mta.{Configuration}
-use Rattle.milter_mta_laws.specs.Lines.{Line}
+use Rattle.milter_mta.specs.Lines.{Line}
 use Rattle.milter_world_schedule.specs.declared.event.Event.{Event}
 use Rattle.milter_world_schedule.specs.declared.event.Event.TheVariants.{Dial, Send, ToFilter, Answer, ToMta, Die, Lose, Timeout}
 use Rattle.milter_world_schedule.specs.declared.state.Counts.{Counts}

@@ -5,8 +5,8 @@ ghost use Rattle.milter_wire.specs.declared.options.Options.{Options};
 ghost use Rattle.milter_message.specs.MailObject.{MailObject};
 ghost use Rattle.milter_mail.specs.MailSession.{MailSession};
 ghost use Rattle.milter_protocol.specs.Behavior.{Behavior};
-ghost use Rattle.milter_mta_laws.specs.Lines.{Line};
-ghost use Rattle.milter_mta_laws.specs.Sessions.{session_lines};
+ghost use Rattle.milter_mta.specs.Lines.{Line};
+ghost use Rattle.milter_mta.specs.Sessions.{session_lines};
 ghost use Rattle.milter_world_schedule.specs.ByteCounts.{due, owed, to_filter, to_mta};
 ghost use Rattle.milter_world_schedule.specs.ConnectionEntries.{lines_of, connection_entries};
 

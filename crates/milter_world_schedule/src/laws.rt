@@ -5,7 +5,7 @@ ghost use Rattle.std.specs.List.{AllZip};
 ghost use Rattle.milter_message.specs.MailObject.{MailObject};
 ghost use Rattle.milter_mta_outcome.specs.declared.report.Report.{Report};
 ghost use Rattle.milter_mta_outcome.specs.Dialogues.{acted};
-ghost use Rattle.milter_mta_laws.specs.Lines.{Line};
+ghost use Rattle.milter_mta.specs.Lines.{Line};
 ghost use Rattle.milter_world_schedule.specs.ByteCounts.{due, packet_end, to_filter, to_mta};
 ghost use Rattle.milter_world_schedule.specs.ConnectionEntries.{reports_within};
 ghost use Rattle.milter_world_schedule.specs.declared.event.Event.{Event};
@@ -15,7 +15,7 @@ ghost use Rattle.milter_world_schedule.specs.Rounds.{AreCounts, MovesOn, after_r
 ghost use Rattle.milter_world_schedule.specs.Schedule.{Scenario, after_all, entries_at, first, lines_at, run_reports, stays};
 ghost use Rattle.milter_world_schedule.specs.DialogueReports.{AreNegotiated, AreReported, HasAllVerdicts, IsDefaultAfter, IsReportOf, IsRuledBy, IsUndisturbed, StartsWith, WasGiven, negotiated_of, by_reset, by_timeout, count_events, count_reports, is_by_verdict, is_known, is_lose, is_timeout, dialogue_about};
 
-use milter_mta_laws::{closed_dialogues_rule, dialogues_of_messages, plans_are_sent};
+use milter_mta::{closed_dialogues_rule, dialogues_of_messages, plans_are_sent};
 use milter_protocol::{dialogues, permitted_answers};
 
 /// Whatever happens, the first messages of the session are reported, in order, each as its own dialogue with the filter

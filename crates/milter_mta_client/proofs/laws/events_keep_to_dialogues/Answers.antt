@@ -1,4 +1,4 @@
-use Rattle.milter_mta_laws.specs.AnyFilter.{GoesOnDialogues, IsOnDialogue}
+use Rattle.milter_mta.specs.AnyFilter.{GoesOnDialogues, IsOnDialogue}
 use Rattle.milter_mta_client.proofs.OnDialogue.{Keeps, runs-keeps}
 use Rattle.milter_mta_client.proofs.laws.events_keep_to_dialogues.Goals as goal
 

@@ -1,5 +1,5 @@
 use Rattle.milter_mta.specs.Mta.{Mta}
-use Rattle.milter_mta_laws.specs.AnyFilter.{ConnectionIsReported, GoesOnDialogues, IsOnDialogue}
+use Rattle.milter_mta.specs.AnyFilter.{ConnectionIsReported, GoesOnDialogues, IsOnDialogue}
 use Rattle.milter_mta_client.proofs.OnDialogue.{Keeps, runs-keeps}
 use Rattle.milter_mta_client.proofs.laws.events_report_connections.Goals as goal
 

@@ -1,4 +1,4 @@
-use Rattle.milter_mta_laws.specs.Sessions.{session_lines}
+use Rattle.milter_mta.specs.Sessions.{session_lines}
 use Rattle.milter_world_laws.proofs.filter_laws.sessions_are_answered.Goals as goal
 
 pub returns : goal.returns

@@ -1,13 +1,13 @@
 use Rattle.std.proofs.Common.{◌≡◌, ◌≢◌, ℕ, ◌<◌, ◌≤◌, ◌^◌, List, [], ◌∷◌, None, drop, length, refl, sym, ap, subst, arith, length-drop, All}
 use Rattle.std.proofs.lemmas.List.Elements.{All-drop, All-head, All-tail}
-use Rattle.milter_mta_laws.specs.Sessions.{session_lines}
+use Rattle.milter_mta.specs.Sessions.{session_lines}
 use Rattle.milter_world_schedule.specs.ByteCounts.{due, to_filter, to_mta}
 use Rattle.milter_world_laws.proofs.ShortLines.{AreShort, Each, short}
 use Rattle.milter_message.specs.MailObject.{MailObject}
 use Rattle.milter_mail.specs.MailSession.{IsSendable}
 use Rattle.milter_mta.specs.Mta.{Mta}
 use Rattle.milter_mta.specs.Output.{dialled}
-use Rattle.milter_mta_laws.specs.Lines.{Line}
+use Rattle.milter_mta.specs.Lines.{Line}
 use Rattle.milter_world_laws.specs.Answered.{AnswersLines}
 use Rattle.milter_world_laws.specs.FollowedLines.{Follows}
 use Rattle.milter_world_schedule.specs.ConnectionEntries.{connection_entries}

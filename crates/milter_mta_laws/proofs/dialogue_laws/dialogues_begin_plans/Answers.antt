@@ -1,6 +1,0 @@
-use Rattle.std.proofs.Common.{[], refl}
-use Rattle.milter_mta_laws.proofs.Begun.{begins}
-use Rattle.milter_mta_laws.proofs.dialogue_laws.dialogues_begin_plans.Goals as goal
-
-pub returns : goal.returns
-returns c b negotiated plan = begins b negotiated plan [] refl

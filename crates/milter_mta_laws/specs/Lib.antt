@@ -1,9 +1,0 @@
-pub mod Lines
-pub mod Order
-pub mod Dialogues
-pub mod Settled
-pub mod PartAnswers
-pub mod Beginnings
-pub mod Sessions
-pub mod AnyFilter
-pub mod Worked
