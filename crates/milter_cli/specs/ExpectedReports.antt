@@ -3,7 +3,7 @@ use Rattle.std.specs.Prelude.{◌≡◌, ◌+◌, ℕ, List, Option, true}
 use Rattle.std.specs.Io.KnownBytes.{Appends}
 use Rattle.milter_text.specs.WrittenText.{WritesPrefix}
 use Rattle.bstr.specs.Text.{lines_of}
-use Rattle.milter_report_patterns.specs.Patterns.{IsFirstDifference, stand_for}
+use Rattle.milter_mta_client.specs.Patterns.{IsFirstDifference, stand_for}
 use Rattle.milter_cli_io.specs.declared.tool_error.ToolError.{ToolError}
 use Rattle.milter_cli_io.specs.declared.tool_error.ToolError.TheVariants.{Differs, NoMemory}
 

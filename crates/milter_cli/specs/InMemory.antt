@@ -4,7 +4,7 @@ use Rattle.std.specs.Io.KnownBytes.{Appends}
 use Rattle.std.specs.List.{AllZip}
 use Rattle.milter_text.specs.WrittenText.{WritesPrefix}
 use Rattle.milter_mta.specs.Accounts.{Disposition}
-use Rattle.milter_mta_reports.specs.ReportsText.{reports_text}
+use Rattle.milter_mta_client.specs.ReportsText.{reports_text}
 use Rattle.milter_world_schedule.specs.declared.event.Event.{Event}
 use Rattle.milter_world_schedule.specs.Schedule.{Scenario, run_reports}
 use Rattle.milter_world_schedule.specs.DialogueReports.{AreNegotiated, AreReported, HasAllVerdicts, IsRuledBy, negotiated_of, by_reset, by_timeout}

@@ -11,7 +11,7 @@ use milter_cli_io::{FileError, InputFile, fault_error, read_file};
 use milter_filter::Policy;
 use milter_mail::Session;
 use milter_mta::Config;
-use milter_mta_reports::{PlayFault, write_reports};
+use milter_mta_client::{PlayFault, write_reports};
 use milter_world::{Event, run};
 use milter_world_events::read_events;
 use std::alloc::Global;

@@ -6,7 +6,7 @@ ghost use Rattle.milter_cli_io.specs.FileRun.{IsFileFault, IsOf};
 
 use milter_cli_io::{FileError, InputFile, ToolError, output_error, read_file};
 use milter_fields::NoMemory;
-use milter_report_patterns::{first_difference, lines_of};
+use milter_mta_client::{first_difference, lines_of};
 use milter_text::write_text;
 use std::alloc::Global;
 use std::io::{Read, Write};

@@ -7,7 +7,7 @@ ghost use Rattle.milter_cli.specs.InMemory.{IsPlayed, WritesAtMost, WritesReport
 use milter_filter::Policy;
 use milter_mail::Session;
 use milter_mta::Config;
-use milter_mta_reports::{PlayFault, write_reports};
+use milter_mta_client::{PlayFault, write_reports};
 use milter_world::play;
 use std::alloc::Global;
 use std::io::Write;

@@ -4,7 +4,7 @@ ghost use Rattle.std.specs.Prelude.{◌≤◌, IfOk, length};
 ghost use Rattle.std.specs.Io.KnownBytes.{WriteAppends};
 ghost use Rattle.milter_cli.specs.LimitedLinks.{IsAllowed, Spends};
 
-use milter_dial::{Dial, DialFault};
+use milter_mta_client::{Dial, DialFault};
 use std::cmp::min;
 use std::io::{self, ErrorKind, Read, Write};
 

@@ -1,6 +1,6 @@
 //! What is negotiated on a connection to a filter, as its bytes are seen.
 
-use milter_dial::{Dial, DialFault};
+use milter_mta_client::{Dial, DialFault};
 use milter_trace::{Direction, TraceForm, put_packet_as};
 use milter_wire::{NoMemory, Splitter, WireFault};
 use std::alloc::Global;

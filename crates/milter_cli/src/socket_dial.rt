@@ -1,6 +1,6 @@
 //! Connections to filters over sockets.
 
-use milter_dial::{Dial, DialFault};
+use milter_mta_client::{Dial, DialFault};
 use std::io;
 use std::net::{Net, TcpStream};
 use std::os::unix::net::UnixStream;

@@ -1,9 +1,9 @@
 //! Connections to a filter that may not listen yet.
 
 use crate::socket_dial::Connect;
-use milter_dial::{Dial, DialFault};
-use std::io::ErrorKind;
+use milter_mta_client::{Dial, DialFault};
 use std::thread;
+use std::io::ErrorKind;
 use std::time::{Duration, Instant};
 
 /// How many milliseconds pass between two tries.

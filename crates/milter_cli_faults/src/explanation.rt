@@ -20,7 +20,7 @@ use crate::trace_words::{say_recording, say_trace};
 use milter_capture_file::CaptureFault;
 use milter_cli_io::{AnswerError, FileError, InputFile, ToolError};
 use milter_cli_request::{Address, Request, UsageError};
-use milter_report_patterns::{difference_text, lines_of};
+use milter_mta_client::{difference_text, lines_of};
 use milter_rules::{Notes, Span};
 use milter_trace::TraceFault;
 use milter_wire::NoMemory;

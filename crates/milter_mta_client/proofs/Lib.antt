@@ -1,3 +1,4 @@
+pub mod WrittenParts
 mod OnDialogue
 mod EventRuns
 mod Connected
@@ -5,3 +6,8 @@ mod ConnectionTurns
 mod Noted
 mod Dialled
 mod Conversed
+mod LoggedTexts
+pub mod Advance
+pub mod Differences
+pub mod Ends
+pub mod Open

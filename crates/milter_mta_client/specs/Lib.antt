@@ -1,5 +1,12 @@
+pub mod ReportsText
+pub mod Worked
 pub mod Events
 pub mod LinkCalls
 pub mod ConnectionRuns
 pub mod Observations
 pub mod ClientRuns
+pub mod LoggedReports
+pub mod MtaRuns
+pub mod Patterns
+pub mod Places
+pub mod Steps

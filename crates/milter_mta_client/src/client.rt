@@ -10,9 +10,9 @@ ghost use Rattle.milter_mta_client.specs.Events.{Runs};
 ghost use Rattle.milter_mta_client.specs.Observations.{Notes, NotesAdded, NotesEach};
 
 use crate::connection::{drive, lose};
+use crate::dialer::Dial;
 use crate::laws::{events_keep_to_dialogues, events_report_connections};
 use crate::observer::{NoObserver, Observer};
-use milter_dial::Dial;
 use milter_mta::{MtaCore, Reports, Want, messages_are_settled_by_dialogues};
 use milter_mta_outcome::Loss;
 use milter_wire::read_buffer;

@@ -1,7 +1,7 @@
 //! How robust a filter is: a session is sent to it plainly, then trials are made as `milter_probe_trials` lists them,
 //! and after each the session is sent plainly again.
 //!
-//! [`probe`] does that over the connections that a [`Dial`](milter_dial::Dial) makes, and writes what broke.
+//! [`probe`] does that over the connections that a [`Dial`](milter_mta_client::Dial) makes, and writes what broke.
 #![tactic(auto)]
 
 mod breakage;

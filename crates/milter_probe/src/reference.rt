@@ -3,15 +3,15 @@
 use crate::breakage::Broken;
 use crate::script_end::play_script;
 use crate::session_end::{SentSession, send_session};
-use milter_dial::Dial;
 use milter_mail::Session;
+use milter_mta_client::Dial;
 use milter_mta_outcome::{Loss, MtaFault};
 use milter_probe_trials::{Exchange, Place, Play, Script, Trial, first_difference, plain, play_of};
 use milter_protocol::{ACTIONS_MAX, PROTOCOL_MAX, VERSION_MAX};
 use milter_wire::{Actions, NoMemory, Options, Protocol};
+use std::thread;
 use std::alloc::Global;
 use std::rt::Clock;
-use std::thread;
 use std::time::{Duration, Instant};
 
 /// What is offered, but for the trials of other offers: all that the protocol has.

@@ -11,7 +11,7 @@ use milter_cli_io::{ToolError, output_error};
 use milter_cli_request::{Address, GivenMacro, MtaRequest, Target};
 use milter_mail::Session;
 use milter_mta::Config;
-use milter_mta_play::mta_run;
+use milter_mta_client::mta_run;
 use milter_text::write_text;
 use std::io;
 use std::time::Duration;

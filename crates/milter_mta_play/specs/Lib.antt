@@ -1,2 +1,0 @@
-pub mod LoggedReports
-pub mod MtaRuns

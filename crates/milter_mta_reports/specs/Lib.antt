@@ -1,2 +1,0 @@
-pub mod ReportsText
-pub mod Worked

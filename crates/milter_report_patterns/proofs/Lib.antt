@@ -1,4 +1,0 @@
-pub mod Advance
-pub mod Differences
-pub mod Ends
-pub mod Open

@@ -1,6 +1,0 @@
-use Rattle.std.proofs.Common.{◌∙◌}
-use Rattle.milter_report_patterns.proofs.Open.{any_is_open}
-use Rattle.milter_report_patterns.proofs.places.is_any_open.Goals as goal
-
-pub returns : goal.returns
-returns c = c.contains.ensures.value ∙ any_is_open c.args.places.now
