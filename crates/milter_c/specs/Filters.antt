@@ -6,11 +6,11 @@ use Rattle.milter_protocol.specs.declared.filter_fault.FilterFault.TheVariants.{
 use Rattle.milter_protocol.specs.Questions.{IsTaking, Wanted}
 use Rattle.milter_protocol.specs.Seen.{Seen}
 use Rattle.milter_wire.specs.declared.stage.Stage.{Stage}
-use Rattle.milter_filter_answer.specs.declared.answer_fault.AnswerFault.{AnswerFault}
-use Rattle.milter_filter_answer.specs.declared.answer_fault.AnswerFault.TheVariants as refusals
-use Rattle.milter_filter_answer.specs.declared.wants_fault.WantsFault.{WantsFault}
-use Rattle.milter_filter_answer.specs.AnswerFaults.{Breaks}
-use Rattle.milter_filter_answer.specs.WantsFaults.{WantsBreak}
+use Rattle.milter_filter_stream.specs.declared.answer_fault.AnswerFault.{AnswerFault}
+use Rattle.milter_filter_stream.specs.declared.answer_fault.AnswerFault.TheVariants as refusals
+use Rattle.milter_filter_stream.specs.declared.wants_fault.WantsFault.{WantsFault}
+use Rattle.milter_filter_stream.specs.AnswerFaults.{Breaks}
+use Rattle.milter_filter_stream.specs.WantsFaults.{WantsBreak}
 use Rattle.milter_filter_stream.specs.Conversations.{Conversation, GivesUpIn, given_up_in}
 use Rattle.milter_filter_stream.specs.Streams.{received_in}
 use Rattle.milter_c_objects.specs.Faults.{answer_fault_number, filter_fault_number, wants_fault_number}

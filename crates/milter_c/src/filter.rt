@@ -19,16 +19,16 @@ ghost use Rattle.milter_c.specs.Statuses.{kind_status};
 use crate::let_object::let_object;
 use crate::view::View;
 use milter_c_handle::{Handle, Object};
-use milter_c_objects::status::{
-    ANSWER_NO_MEMORY, ANSWER_NOT_ASKED, ANSWER_NOT_AT_END, BAD_ARGUMENT, NO_MEMORY, NOTHING, OK,
-    WRONG_KIND,
-};
 use milter_c_objects::{
     answer_fault_number, answer_status, filter_fault_number, memory_status, stage_number,
     state_status, step_number, wants_fault_number,
 };
-use milter_filter_answer::Wants;
+use milter_c_objects::status::{
+    ANSWER_NOT_ASKED, ANSWER_NOT_AT_END, ANSWER_NO_MEMORY, BAD_ARGUMENT, NOTHING, NO_MEMORY, OK,
+    WRONG_KIND,
+};
 use milter_filter_core::FilterConnection;
+use milter_filter_stream::Wants;
 use milter_protocol::{Answer, CommandOrder};
 use milter_wire::{Actions, Options, Protocol, SymLists, Verdict};
 use std::alloc::Global;

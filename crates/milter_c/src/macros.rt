@@ -14,7 +14,7 @@ use milter_c_objects::status::{
     BAD_ARGUMENT, NO_MEMORY, OK, STAGE_CONNECT, STAGE_DATA, STAGE_EOB, STAGE_EOH, STAGE_HELO,
     STAGE_MAIL, STAGE_RCPT, WRONG_KIND,
 };
-use milter_filter_answer::Wants;
+use milter_filter_stream::Wants;
 use milter_protocol::CommandOrder;
 use milter_wire::{
     NoMemory, SMFIM_CONNECT, SMFIM_DATA, SMFIM_ENVFROM, SMFIM_ENVRCPT, SMFIM_EOH, SMFIM_EOM,

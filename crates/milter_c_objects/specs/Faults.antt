@@ -5,10 +5,10 @@ use Rattle.milter_fields.specs.declared.fault.WireFault.{WireFault}
 use Rattle.milter_fields.specs.declared.fault.WireFault.TheVariants as wire
 use Rattle.milter_protocol.specs.declared.filter_fault.FilterFault.{FilterFault}
 use Rattle.milter_protocol.specs.declared.filter_fault.FilterFault.TheVariants as filter
-use Rattle.milter_filter_answer.specs.declared.answer_fault.AnswerFault.{AnswerFault}
-use Rattle.milter_filter_answer.specs.declared.answer_fault.AnswerFault.TheVariants as answer
-use Rattle.milter_filter_answer.specs.declared.wants_fault.WantsFault.{WantsFault}
-use Rattle.milter_filter_answer.specs.declared.wants_fault.WantsFault.TheVariants as wants
+use Rattle.milter_filter_stream.specs.declared.answer_fault.AnswerFault.{AnswerFault}
+use Rattle.milter_filter_stream.specs.declared.answer_fault.AnswerFault.TheVariants as answer
+use Rattle.milter_filter_stream.specs.declared.wants_fault.WantsFault.{WantsFault}
+use Rattle.milter_filter_stream.specs.declared.wants_fault.WantsFault.TheVariants as wants
 use Rattle.milter_c_objects.specs.declared.status.TheConstants as status
 
 abbrev pub wire_fault_number : WireFault → ℤ

@@ -12,7 +12,7 @@ use crate::status::{
     WIRE_TOO_LONG, WIRE_TRUNCATED, WIRE_UNKNOWN_CODE, WIRE_ZERO_LENGTH,
 };
 use milter_fields::{NoMemory, WireFault};
-use milter_filter_answer::{AnswerFault, WantsFault};
+use milter_filter_stream::{AnswerFault, WantsFault};
 use milter_protocol::FilterFault;
 
 /// The number of a fault of a packet. Doesn't allocate.

@@ -4,7 +4,7 @@ ghost use Rattle.std.specs.Prelude.{◌≡◌, option_map};
 ghost use Rattle.milter_c_objects.specs.Shown.{client_endpoint, endpoint_of, header_name_at, header_value_at, host_in, origin_endpoint, recipient_at, sender_address_in};
 
 use crate::status::{FAMILY_INET, FAMILY_INET6, FAMILY_UNIX};
-use milter_filter_policy::Seen;
+use milter_filter_stream::Seen;
 use milter_wire::Origin;
 
 /// Where a client connects from.

@@ -4,8 +4,8 @@ ghost use Rattle.std.specs.Prelude.{◌≡◌, ◌≢◌, ◌<◌, Err, IfErr, I
 ghost use Rattle.milter_wire.specs.declared.stage.Stage.{Stage as At};
 ghost use Rattle.milter_wire.specs.declared.stage.Stage.TheVariants.{Eob};
 ghost use Rattle.milter_protocol.specs.Lawful.{AnswerFits};
-ghost use Rattle.milter_filter_answer.specs.declared.answer_fault.AnswerFault.TheVariants as refusals;
-ghost use Rattle.milter_filter_answer.specs.AnswerFaults.{Breaks};
+ghost use Rattle.milter_filter_stream.specs.declared.answer_fault.AnswerFault.TheVariants as refusals;
+ghost use Rattle.milter_filter_stream.specs.AnswerFaults.{Breaks};
 ghost use Rattle.milter_filter.specs.declared.turn.Turn.TheVariants as turns;
 
 use crate::served::Served;

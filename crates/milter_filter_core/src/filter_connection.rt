@@ -8,14 +8,14 @@ ghost use Rattle.milter_protocol.specs.declared.filter_fault.FilterFault.{Filter
 ghost use Rattle.milter_protocol.specs.declared.filter_fault.FilterFault.TheVariants as faults;
 ghost use Rattle.milter_protocol.specs.declared.filter_state.FilterState.TheVariants.{Failed, Quit, Serving};
 ghost use Rattle.milter_protocol.specs.Questions.{IsTaking, ProgressReported, event_step};
-ghost use Rattle.milter_filter_answer.specs.declared.answer_fault.AnswerFault.TheVariants as refusals;
-ghost use Rattle.milter_filter_answer.specs.AnswerFaults.{Breaks};
+ghost use Rattle.milter_filter_stream.specs.declared.answer_fault.AnswerFault.TheVariants as refusals;
+ghost use Rattle.milter_filter_stream.specs.AnswerFaults.{Breaks};
 ghost use Rattle.milter_filter_stream.specs.Streams.{received_in};
 
 use crate::policy_answer::answer_at_once;
-use milter_filter_answer::{AnswerFault, Wants, check_answer};
-use milter_filter_policy::{Policy, Search, Seen};
-use milter_filter_stream::{FilterStream, NextStep};
+use milter_filter_stream::{
+    AnswerFault, FilterStream, NextStep, Policy, Search, Seen, Wants, check_answer,
+};
 use milter_protocol::{Answer, CommandOrder, FilterFault, FilterState};
 use milter_wire::{NoMemory, Stage};
 use std::alloc::Global;

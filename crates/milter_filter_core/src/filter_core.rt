@@ -9,9 +9,7 @@ ghost use Rattle.milter_filter_stream.specs.Conversations.{failed_stream, stream
 ghost use Rattle.milter_filter_stream.specs.Streams.{received_in};
 
 use crate::policy_answer::answer_at_once;
-use milter_filter_answer::WantsRef;
-use milter_filter_policy::Policy;
-use milter_filter_stream::FilterStream;
+use milter_filter_stream::{FilterStream, Policy, WantsRef};
 use milter_protocol::{CommandOrder, FilterFault, FilterState};
 use milter_wire::{NoMemory, Stage};
 use std::alloc::Global;

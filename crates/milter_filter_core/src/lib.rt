@@ -15,11 +15,10 @@ pub use conversation_laws::{conversations_go_on, conversations_reply};
 pub use cutting_laws::{cores_go_on, cores_reply, orders_reply_the_same_bytes};
 pub use filter_connection::FilterConnection;
 pub use filter_core::FilterCore;
-pub use milter_filter_answer::{AnswerFault, Wants, WantsFault};
-pub use milter_filter_policy::{
-    Needle, Pass, PathPart, Pattern, Policy, Search, Seen, Test, TextCase,
+pub use milter_filter_stream::{
+    AnswerFault, Needle, NextStep, Pass, PathPart, Pattern, Policy, Search, Seen, Test, TextCase,
+    Wants, WantsFault,
 };
-pub use milter_filter_stream::NextStep;
 pub use milter_protocol::{
     ACTIONS_MAX, Answer, CommandOrder, Edits, FilterFault, FilterState, PROTOCOL_MAX, VERSION_MAX,
 };

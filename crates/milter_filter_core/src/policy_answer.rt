@@ -4,8 +4,7 @@ ghost use Rattle.std.specs.Prelude.{◌≡◌, OnErr, OnOk, Some};
 ghost use Rattle.milter_protocol.specs.Questions.{answer_step};
 ghost use Rattle.milter_filter_stream.specs.Conversations.{stream_by};
 
-use milter_filter_policy::Policy;
-use milter_filter_stream::FilterStream;
+use milter_filter_stream::{FilterStream, Policy};
 use milter_wire::{NoMemory, Stage};
 use std::alloc::Global;
 

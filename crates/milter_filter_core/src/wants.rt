@@ -3,8 +3,7 @@
 ghost use Rattle.std.specs.Prelude.{◌≡◌, IfOk};
 ghost use Rattle.milter_protocol.specs.Questions.{wanted_of};
 
-use milter_filter_answer::Wants;
-use milter_filter_policy::Policy;
+use milter_filter_stream::{Policy, Wants};
 use milter_wire::{NoMemory, copy_sym_lists};
 use std::alloc::Global;
 

@@ -9,7 +9,7 @@ ghost use Rattle.milter_filter_rules.specs.declared.edit_list.EditFault.TheVaria
 use crate::header_values::{prefix_edit, value_after};
 use crate::named_headers::count_named;
 use crate::rule::RuleAction;
-use milter_filter_policy::Seen;
+use milter_filter_stream::Seen;
 use milter_message::{Edit, WEIGHT_MAX};
 use milter_protocol::{Action, Answer, Edits};
 use milter_wire::{Header, RefusedMemory, Text, Verdict};

@@ -1,5 +1,5 @@
 //! Rules: a filter's policy as conditions on what the filter is shown, and what is done where they are met. [`Rules`]
-//! is a [`Policy`](milter_filter_policy::Policy).
+//! is a [`Policy`](milter_filter_stream::Policy).
 #![tactic(auto)]
 
 mod action_fits;
@@ -26,7 +26,7 @@ mod values;
 
 pub use action_fits::{fields_fit, has_room, is_allowed_at, is_string};
 pub use laws::{answers_of_actions, deleted_headers};
-pub use milter_filter_policy::{PathPart, Test, TextCase};
+pub use milter_filter_stream::{PathPart, Test, TextCase};
 pub use milter_lists::{ListFault, ListKind, ListSource, ListSources, SharedList, TextList};
 pub use milter_protocol::Action;
 pub use named_list::{NamedList, NamedLists};

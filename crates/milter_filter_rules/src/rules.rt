@@ -11,7 +11,7 @@ use crate::named_list::{NamedList, NamedLists};
 use crate::rule::Rule;
 use crate::rule_list::StageRules;
 use crate::searches::{search_by, some_is_searched};
-use milter_filter_policy::{Policy, Seen, TextCase};
+use milter_filter_stream::{Policy, Seen, TextCase};
 use milter_protocol::{Answer, VERSION_MAX};
 use milter_wire::{Actions, NoMemory, Options, Protocol, Stage, SymList, SymLists};
 use std::alloc::Global;
@@ -48,7 +48,7 @@ impl Rules {
     ghost use Rattle.milter_filter_rules.specs.StageRules.{rules_at};
 
     /// No rules: the filter wants version 6 without any bit, and answers `Continue` to all, as
-    /// [`Pass`](milter_filter_policy::Pass) does. Doesn't allocate.
+    /// [`Pass`](milter_filter_stream::Pass) does. Doesn't allocate.
     pub fn new(alloc: Global) -> Self
         ensures set { rule_set result ≡ no_rule_set }
         ensures named { named_of result ≡ [] }

@@ -3,8 +3,8 @@
 ghost use Rattle.std.specs.Prelude.{◌≡◌, ◌≢◌, Err, IfErr, None, OnErr, OnOk, Some};
 ghost use Rattle.milter_wire.specs.declared.stage.Stage.{Stage as At};
 ghost use Rattle.milter_protocol.specs.Lawful.{AnswerFits};
-ghost use Rattle.milter_filter_answer.specs.declared.answer_fault.AnswerFault.TheVariants as refusals;
-ghost use Rattle.milter_filter_answer.specs.AnswerFaults.{Breaks};
+ghost use Rattle.milter_filter_stream.specs.declared.answer_fault.AnswerFault.TheVariants as refusals;
+ghost use Rattle.milter_filter_stream.specs.AnswerFaults.{Breaks};
 
 use milter_filter::{Answer, AnswerFault, Connection, Policy, Search, Seen, Wants};
 use milter_wire::{NoMemory, Stage};

@@ -26,7 +26,7 @@ use Rattle.milter_protocol.specs.OrderStates.{OrderState, after_message, with_sh
 use Rattle.milter_protocol.specs.Permitted.{permitted, permitted_verdict}
 use Rattle.milter_protocol.specs.Questions.{answered_at, counted_with, counts_late, question_at, shown_after_answer}
 use Rattle.milter_protocol.specs.Verdicts.{is_final_at, is_refusal}
-use Rattle.milter_filter_answer.proofs.PacketLengths.{packet-len}
+use Rattle.milter_filter_stream.proofs.PacketLengths.{packet-len}
 use Rattle.milter_filter_stream.specs.Asking.{IsAsked, effect_at, late_effect, with_effect}
 use Rattle.milter_filter_stream.specs.declared.answer_effect.AnswerEffect.TheVariants.{EndsMessage, Nothing}
 

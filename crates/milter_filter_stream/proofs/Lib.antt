@@ -1,3 +1,8 @@
+pub mod MacroLists
+pub mod MacroSearches
+pub mod EditPackets
+pub mod NegotiatedOptions
+pub mod PacketLengths
 pub mod UndoneData
 pub mod AnswerEffects
 pub mod PacketCommands

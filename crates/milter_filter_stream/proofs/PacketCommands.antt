@@ -24,7 +24,7 @@ use Rattle.milter_protocol.specs.OrderStates.{OrderState, after_message, nothing
 use Rattle.milter_protocol.specs.Questions.{AskState, Wanted, ask_step, ask_step_by, ask_step_from, ask_step_in, asked_step, question_at, unasked, unquestioned}
 use Rattle.milter_wire.specs.declared.stage.Stage.{Stage}
 use Rattle.milter_wire.specs.Stages.{stage_of}
-use Rattle.milter_filter_answer.proofs.PacketLengths.{packet-len}
+use Rattle.milter_filter_stream.proofs.PacketLengths.{packet-len}
 use Rattle.milter_filter_stream.proofs.UndoneData.{asked-state, command-going, not-undone}
 use Rattle.milter_protocol.specs.Steps.{Step, silent}
 

@@ -1,3 +1,9 @@
+pub mod MacroLists
+pub mod MacroSearches
+pub mod SeenParts
+pub mod PassLaw
+pub mod AnswerFaults
+pub mod WantsFaults
 pub mod Streams
 pub mod Conversations
 pub mod Asking

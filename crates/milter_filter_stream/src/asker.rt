@@ -22,9 +22,12 @@ ghost use Rattle.milter_protocol.specs.Commands.{is_shown};
 ghost use Rattle.milter_protocol.specs.Replies.{options_reply};
 ghost use Rattle.milter_protocol.specs.OrderStates.{order_state_fault};
 
+use crate::answer_packets::{put_answer, put_continue, put_progress};
 use crate::connection::{Connection, KEPT_MAX};
-use milter_filter_answer::{WantsRef, put_answer, put_continue, put_progress};
-use milter_filter_policy::{Policy, Search, Seen};
+use crate::policy::Policy;
+use crate::search::Search;
+use crate::seen::Seen;
+use crate::wants::WantsRef;
 use milter_protocol::{Answer, CommandOrder, FilterFault, FilterState};
 use milter_wire::{
     CommandRef, HEAD_LEN, Negotiated, NoMemory, Options, Packet, Protocol, Reply, Stage, WireFault,

@@ -14,7 +14,9 @@ ghost use Rattle.milter_protocol.specs.OrderStates.{after_client, after_message,
 
 use crate::answer_effect::AnswerEffect;
 use crate::commands::{is_greeting_or_sender, is_of_connection, is_shown};
-use milter_filter_policy::{Policy, Search, Seen};
+use crate::policy::Policy;
+use crate::search::Search;
+use crate::seen::Seen;
 use milter_message::WEIGHT_MAX;
 use milter_protocol::{
     CommandOrder, FilterFault, FilterState, VERSION_MIN, is_final_at, may_follow, rank_of,

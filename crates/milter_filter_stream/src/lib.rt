@@ -1,15 +1,44 @@
 //! The bytes of a filter's end, apart from what the filter wants and who decides: a [`FilterStream`] takes the bytes of
 //! a mail server up to a stage that is to be answered, keeps what is shown, and has the packets of the replies.
 //! `milter_filter_core` has the two ends that stand on it.
+//!
+//! What a filter says: what it wants of a connection, and its answers to the stages, each checked against the rules of
+//! the protocol, and the packets of both.
+//!
+//! What a filter's author writes, and what it decides by: a [`Policy`] answers at each stage of a connection by what is
+//! [`Seen`] there, which a filter's end fills command by command. What was searched for once isn't searched for again.
 #![tactic(auto)]
 
+mod answer_check;
 mod answer_effect;
+mod answer_fault;
+mod answer_packets;
 mod asker;
 mod commands;
 mod connection;
 mod filter_stream;
+mod macro_group;
+mod macro_list;
+mod macro_search;
+mod macro_values;
 mod next_step;
+mod pass;
 mod pieces;
+mod policy;
+mod search;
+mod seen;
+mod wants;
+mod wants_fault;
 
+pub use answer_check::check_answer;
+pub use answer_fault::AnswerFault;
+pub use answer_packets::{put_answer, put_continue, put_progress};
 pub use filter_stream::FilterStream;
+pub use milter_filter_search::{Needle, PathPart, Pattern, Test, TextCase};
 pub use next_step::NextStep;
+pub use pass::Pass;
+pub use policy::Policy;
+pub use search::Search;
+pub use seen::Seen;
+pub use wants::{Wants, WantsRef};
+pub use wants_fault::WantsFault;

@@ -6,7 +6,7 @@ ghost use Rattle.milter_fields.specs.Stream.{IsUnfinished};
 ghost use Rattle.milter_filter_stream.specs.Asking.{FailsIn, IsReady, StopsAt, TakesBytes, TakesPacket};
 
 use crate::asker::Asker;
-use milter_filter_answer::WantsRef;
+use crate::wants::WantsRef;
 use milter_protocol::FilterFault;
 use milter_wire::{HEAD_LEN, NoMemory, Packet, Splitter};
 

@@ -1,5 +1,5 @@
 //! Rule files: a filter's policy in lines of words. [`read_rules`] reads the rules of a file, which are a
-//! [`Policy`](milter_filter_policy::Policy), and [`write_rules`] writes rules in canonical form.
+//! [`Policy`](milter_filter_stream::Policy), and [`write_rules`] writes rules in canonical form.
 #![tactic(auto)]
 
 mod action_words;

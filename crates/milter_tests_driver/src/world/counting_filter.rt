@@ -1,7 +1,7 @@
 //! A filter that counts how often it is asked.
 
 ghost use Rattle.milter_protocol.specs.Pass.{pass};
-ghost use Rattle.milter_filter_policy.specs.PassLaw.{pass_is_lawful};
+ghost use Rattle.milter_filter_stream.specs.PassLaw.{pass_is_lawful};
 
 use milter_filter::{Answer, Pass, Policy, Seen};
 use milter_wire::{NoMemory, Options, Stage, SymList};

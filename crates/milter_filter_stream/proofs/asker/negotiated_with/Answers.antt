@@ -3,7 +3,7 @@ use Rattle.milter_wire.specs.declared.negotiation.Negotiated.{Negotiated}
 use Rattle.milter_wire.specs.Negotiation.{negotiate}
 use Rattle.milter_wire.specs.Reply.{Fits}
 use Rattle.milter_protocol.specs.Replies.{options_reply}
-use Rattle.milter_filter_answer.proofs.NegotiatedOptions.{negotiated_fits}
+use Rattle.milter_filter_stream.proofs.NegotiatedOptions.{negotiated_fits}
 use Rattle.milter_filter_stream.proofs.asker.negotiated_with.Goals as goal
 
 pub returns-clause-fits : goal.returns-clause-fits

@@ -1,3 +1,0 @@
-pub mod EditPackets
-pub mod NegotiatedOptions
-pub mod PacketLengths

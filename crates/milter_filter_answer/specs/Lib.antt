@@ -1,2 +1,0 @@
-pub mod AnswerFaults
-pub mod WantsFaults

@@ -1,2 +1,0 @@
-pub mod MacroLists
-pub mod MacroSearches

@@ -1,4 +1,0 @@
-pub mod MacroLists
-pub mod MacroSearches
-pub mod SeenParts
-pub mod PassLaw
