@@ -27,7 +27,7 @@ use milter_c_objects::status::{
     ANSWER_NOT_ASKED, ANSWER_NOT_AT_END, ANSWER_NO_MEMORY, BAD_ARGUMENT, NOTHING, NO_MEMORY, OK,
     WRONG_KIND,
 };
-use milter_filter_core::FilterConnection;
+use milter_filter::FilterConnection;
 use milter_filter_stream::Wants;
 use milter_protocol::{Answer, CommandOrder};
 use milter_wire::{Actions, Options, Protocol, SymLists, Verdict};

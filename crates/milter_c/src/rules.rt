@@ -19,7 +19,7 @@ use milter_c_objects::status::{
     NO_MEMORY, OK, RULES_ACTION_NOT_HERE, RULES_BAD_ACTION, RULES_BAD_CONDITION, RULES_BAD_LIST,
     RULES_BAD_STAGE, RULES_NO_MEMORY, RULES_TOO_LARGE, RULES_UNKNOWN_WORD, WRONG_KIND,
 };
-use milter_filter_core::{CommandOrder, FilterConnection, policy_wants};
+use milter_filter::{CommandOrder, FilterConnection, policy_wants};
 use milter_rules::{RuleFault, read_rules};
 use std::alloc::Global;
 

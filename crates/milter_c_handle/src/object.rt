@@ -3,7 +3,7 @@
 use milter_c_mta::MtaEnd;
 use milter_c_packets::Decoded;
 use milter_fields::Splitter;
-use milter_filter_core::FilterConnection;
+use milter_filter::FilterConnection;
 use milter_message::Held;
 use milter_protocol::Answer;
 use milter_rules::Rules;

@@ -12,11 +12,11 @@ use Rattle.milter_protocol.specs.OrderStates.{OrderState}
 use Rattle.milter_protocol.proofs.FilterStates.{quit_serving}
 use Rattle.milter_filter.specs.declared.served.Served.{Served}
 use Rattle.milter_filter.specs.declared.served.Served.TheVariants as ends
-use Rattle.milter_filter_core.specs.Cores.{Core, GivesUp, GoesOn, Takes, fresh_core_in, given_up}
+use Rattle.milter_filter.specs.Cores.{Core, GivesUp, GoesOn, Takes, fresh_core_in, given_up}
 use Rattle.milter_filter.specs.ServedPieces.{CutOff, Goes, PieceCut, PieceServed, Writes}
 use Rattle.milter_filter.specs.ServedConnections.{RepliedAs, RepliedInPart, RepliedToPart, Serves}
 use Rattle.milter_filter_stream.specs.Streams.{filter_end_of, received_in, reply_bytes}
-use Rattle.milter_filter_core.proofs.CutInputs.{goes_on-gives_up, goes_on-joins, goes_on-takes, replies-add, replies-from, state-from, stays}
+use Rattle.milter_filter.proofs.CutInputs.{goes_on-gives_up, goes_on-joins, goes_on-takes, replies-add, replies-from, state-from, stays}
 
 -- ---- the states of a connection
 

@@ -18,7 +18,7 @@ use Rattle.milter_filter.specs.declared.turn.Turn.TheVariants as turns
 use Rattle.milter_filter.specs.ServedPieces.{Writes}
 use Rattle.milter_filter.specs.Connections.{Connected, EndsBy, GoesBy, GoesFrom, GoesIn, IsOpen, IsOver, IsServing, StandsAt, Stops, TurnsBy, connected}
 use Rattle.milter_protocol.proofs.FilterStates.{failed_serving, quit_serving}
-use Rattle.milter_filter_core.proofs.ConversationInputs.{goes_on-gives_up, goes_on-stays, goes_on-takes}
+use Rattle.milter_filter.proofs.ConversationInputs.{goes_on-gives_up, goes_on-stays, goes_on-takes}
 use Rattle.milter_filter.proofs.Turns.{goes_on-written, nothing-goes, serving-goes, serving-opens}
 
 -- ---- what comes next

@@ -13,7 +13,7 @@ use Rattle.milter_filter.specs.declared.turn.Turn.{Turn}
 use Rattle.milter_filter.specs.declared.turn.Turn.TheVariants as turns
 use Rattle.milter_filter.specs.ServedPieces.{Writes}
 use Rattle.milter_filter.specs.Connections.{Completes, CompletesAs, Connected, EndsAs, EndsBy, GoesBy, GoesIn, GoesFrom, IsDone, IsOpen, IsServing, Turns, TurnsBy, connected}
-use Rattle.milter_filter_core.proofs.ConversationInputs.{goes_on-joins, goes_on-stays}
+use Rattle.milter_filter.proofs.ConversationInputs.{goes_on-joins, goes_on-stays}
 
 -- ---- a conversation
 

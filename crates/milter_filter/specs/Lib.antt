@@ -1,3 +1,4 @@
+pub mod Cores
 pub mod ServedConnections
 pub mod ServedPieces
 pub mod Connections

@@ -7,7 +7,7 @@ use Rattle.milter_protocol.specs.declared.filter_fault.FilterFault.TheVariants.{
 use Rattle.milter_protocol.specs.declared.filter_state.FilterState.TheVariants as states
 use Rattle.milter_filter.specs.declared.served.Served.{Served}
 use Rattle.milter_filter.specs.declared.served.Served.TheVariants.{Failed, WriteFault}
-use Rattle.milter_filter_core.specs.Cores.{Core, GoesOn, given_up}
+use Rattle.milter_filter.specs.Cores.{Core, GoesOn, given_up}
 
 -- the first of the bytes that were pending were written, and these are left
 pub record Writes (pending left : List ℕ) (written all : Option (List ℕ)) : Type 0 where

@@ -8,13 +8,13 @@ ghost use Rattle.milter_filter_stream.specs.declared.answer_fault.AnswerFault.Th
 ghost use Rattle.milter_filter_stream.specs.AnswerFaults.{Breaks};
 ghost use Rattle.milter_filter.specs.declared.turn.Turn.TheVariants as turns;
 
+use crate::filter_connection::FilterConnection;
 use crate::served::Served;
 use crate::steps::run_turn;
 use crate::turn::Turn;
 use milter_fields::ByteQueue;
-use milter_filter_core::{
-    Answer, AnswerFault, CommandOrder, FilterConnection, Policy, Search, Seen, Wants,
-};
+use milter_filter_stream::{AnswerFault, Policy, Search, Seen, Wants};
+use milter_protocol::{Answer, CommandOrder};
 use milter_wire::{NoMemory, Stage};
 use std::alloc::Global;
 use std::io::{Read, Write};

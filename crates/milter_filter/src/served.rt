@@ -1,6 +1,6 @@
 //! How serving a connection ended.
 
-use milter_filter_core::FilterFault;
+use milter_protocol::FilterFault;
 
 /// How serving a connection ended.
 #[derive(Clone, Copy, Debug, PartialEq, Eq)]

@@ -9,11 +9,13 @@ ghost use Rattle.milter_filter.specs.declared.turn.Turn.TheVariants as turns;
 ghost use Rattle.milter_filter.specs.ServedPieces.{Writes};
 ghost use Rattle.milter_filter.specs.Connections.{EndsBy, GoesBy, IsDone, IsOver, IsServing, ReadsWhereDone, StandsAt, Stops, TurnsBy, connected};
 
+use crate::filter_connection::FilterConnection;
 use crate::output::write_now;
 use crate::served::Served;
 use crate::turn::Turn;
 use milter_fields::ByteQueue;
-use milter_filter_core::{FilterConnection, FilterFault, NextStep};
+use milter_filter_stream::NextStep;
+use milter_protocol::FilterFault;
 use std::io::{ErrorKind, Read, Write};
 
 /// Writes what is pending, as much as is written now.

@@ -4,13 +4,15 @@ ghost use Rattle.std.specs.Prelude.{◌≡◌, ◌<◌, ◌↔◌, [], IfErr, If
 ghost use Rattle.milter_fields.specs.Stream.{IsUnfinished};
 ghost use Rattle.milter_protocol.specs.declared.filter_state.FilterState.TheVariants.{Quit, Serving};
 ghost use Rattle.milter_protocol.specs.declared.command_order.CommandOrder.TheVariants.{Strict};
-ghost use Rattle.milter_filter_core.specs.Cores.{fresh_core_in};
+ghost use Rattle.milter_filter.specs.Cores.{fresh_core_in};
 ghost use Rattle.milter_filter.specs.ServedConnections.{Serves};
 ghost use Rattle.milter_filter.specs.ServedPieces.{CutOff, PieceServed, Writes};
 
+use crate::filter_core::FilterCore;
 use crate::output::write_now;
 use crate::served::Served;
-use milter_filter_core::{CommandOrder, FilterCore, FilterFault, FilterState, Policy};
+use milter_filter_stream::Policy;
+use milter_protocol::{CommandOrder, FilterFault, FilterState};
 use milter_wire::{NoMemory, READ_LEN_MAX, read_buffer};
 use std::alloc::Global;
 use std::io::{Read, Write};
@@ -123,7 +125,7 @@ struct BufferedCore<'p, P: Policy> {
 
 impl<'p, P: Policy> Model for BufferedCore<'p, P> {
     ghost use Rattle.std.specs.Prelude.{◌<◌, length};
-    ghost use Rattle.milter_filter_core.specs.Cores.{Core};
+    ghost use Rattle.milter_filter.specs.Cores.{Core};
 
     ghost Value = { Core P };
 

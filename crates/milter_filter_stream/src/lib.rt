@@ -1,6 +1,6 @@
 //! The bytes of a filter's end, apart from what the filter wants and who decides: a [`FilterStream`] takes the bytes of
 //! a mail server up to a stage that is to be answered, keeps what is shown, and has the packets of the replies.
-//! `milter_filter_core` has the two ends that stand on it.
+//! `milter_filter` has the two ends that stand on it.
 //!
 //! What a filter says: what it wants of a connection, and its answers to the stages, each checked against the rules of
 //! the protocol, and the packets of both.

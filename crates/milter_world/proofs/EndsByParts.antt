@@ -2,7 +2,7 @@
 use Rattle.std.proofs.Common.{◌≡◌, ℕ, List, Option, refl}
 use Rattle.milter_protocol.specs.declared.command_order.CommandOrder.{CommandOrder}
 use Rattle.milter_mta.specs.Mta.{Mta}
-use Rattle.milter_filter_core.specs.Cores.{Core}
+use Rattle.milter_filter.specs.Cores.{Core}
 use Rattle.milter_world_schedule.specs.declared.event.Event.{Event}
 use Rattle.milter_world_schedule.specs.declared.state.State.{State}
 use Rattle.milter_world_schedule.specs.Schedule.{Scenario}

@@ -4,7 +4,7 @@ use Rattle.std.proofs.lemmas.List.{drop_min, length-take}
 use Rattle.milter_protocol.specs.Behavior.{Behavior}
 use Rattle.milter_protocol.specs.declared.filter_fault.FilterFault.{FilterFault}
 use Rattle.milter_protocol.specs.declared.filter_fault.FilterFault.TheVariants as faults
-use Rattle.milter_filter_core.specs.Cores.{Core, GivesUp, Takes}
+use Rattle.milter_filter.specs.Cores.{Core, GivesUp, Takes}
 use Rattle.milter_filter_stream.specs.Streams.{received_in}
 use Rattle.milter_world.specs.Reached.{CanTake}
 

@@ -4,7 +4,7 @@ use Rattle.milter_mail.specs.MailSession.{MailSession}
 use Rattle.milter_protocol.specs.Behavior.{Behavior}
 use Rattle.milter_protocol.specs.declared.filter_fault.FilterFault.{FilterFault}
 use Rattle.milter_mta.specs.Mta.{Configuration}
-use Rattle.milter_filter_core.specs.Cores.{Core, GivesUp, Takes}
+use Rattle.milter_filter.specs.Cores.{Core, GivesUp, Takes}
 use Rattle.milter_filter_stream.specs.Streams.{received_in}
 use Rattle.milter_world_schedule.specs.declared.event.Event.{Event}
 use Rattle.milter_world_schedule.specs.Schedule.{After, Scenario, after_all}

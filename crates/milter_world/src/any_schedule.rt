@@ -7,7 +7,7 @@ ghost use Rattle.milter_world.specs.Outcomes.{ConnectionIsGiven, WereGiven};
 ghost use Rattle.milter_world.specs.Reached.{scenario_of};
 
 use crate::world::World;
-use milter_filter_core::{CommandOrder, Policy};
+use milter_filter::{CommandOrder, Policy};
 use milter_mail::Session;
 use milter_mta::{Config, Reports};
 use milter_wire::NoMemory;

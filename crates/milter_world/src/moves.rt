@@ -2,14 +2,14 @@
 
 ghost use Rattle.std.specs.Prelude.{◌≡◌, ◌≢◌, ◌++◌, [], IfOk, None, OnOk, drop, length, take, if◌then◌else◌};
 ghost use Rattle.milter_protocol.specs.declared.filter_state.FilterState.TheVariants.{Serving};
-ghost use Rattle.milter_filter_core.specs.Cores.{Takes};
+ghost use Rattle.milter_filter.specs.Cores.{Takes};
 ghost use Rattle.milter_mta.specs.Replies.{received};
 ghost use Rattle.milter_mta.specs.Output.{advanced, pending};
 ghost use Rattle.milter_world_laws.specs.Ends.{mta_sent, sent_count};
 ghost use Rattle.milter_world.specs.Reached.{CanTake};
 
 use milter_fields::ByteQueue;
-use milter_filter_core::{FilterCore, FilterFault, Policy};
+use milter_filter::{FilterCore, FilterFault, Policy};
 use milter_mta::{Loss, MtaCore};
 use milter_wire::NoMemory;
 

@@ -10,7 +10,7 @@ ghost use Rattle.milter_world.specs.Outcomes.{ConnectionIsGiven};
 ghost use Rattle.milter_world.specs.Reached.{AreReached, Leads, scenario_of};
 
 use crate::world::World;
-use milter_filter_core::Policy;
+use milter_filter::Policy;
 use milter_mail::Session;
 use milter_mta::{Config, Reports};
 use milter_wire::NoMemory;

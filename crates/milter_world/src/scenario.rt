@@ -3,7 +3,7 @@
 ghost use Rattle.std.specs.Prelude.{◌≡◌};
 ghost use Rattle.milter_world_laws.specs.Ends.{IsPossible};
 
-use milter_filter_core::Policy;
+use milter_filter::Policy;
 use milter_mail::{Session, SessionParts};
 use milter_mta::Config;
 use milter_world_laws::scenarios_are_possible;

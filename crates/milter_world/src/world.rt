@@ -11,7 +11,7 @@ ghost use Rattle.milter_world.specs.Reached.{AreReached, StepsTo};
 use crate::moves::{feed_filter, feed_mta, send_bytes, take_replies};
 use crate::scenario::possible_session;
 use milter_fields::ByteQueue;
-use milter_filter_core::{CommandOrder, FilterCore, Policy};
+use milter_filter::{CommandOrder, FilterCore, Policy};
 use milter_mail::Session;
 use milter_mta::{Config, Loss, MtaCore, Reports, Want};
 use milter_wire::NoMemory;

@@ -17,7 +17,7 @@ use Rattle.milter_mta.specs.AnyFilter.{ConnectionIsReported, GoesOnDialogues, Is
 use Rattle.milter_mta.specs.Lines.{Line}
 use Rattle.milter_protocol.specs.declared.command_order.CommandOrder.{CommandOrder}
 use Rattle.milter_protocol.specs.Behavior.{Behavior}
-use Rattle.milter_filter_core.specs.Cores.{Core, GoesOn, fresh_core_in}
+use Rattle.milter_filter.specs.Cores.{Core, GoesOn, fresh_core_in}
 use Rattle.milter_world_schedule.specs.declared.event.Event.{Event}
 use Rattle.milter_world_schedule.specs.declared.event.Event.TheVariants.{Dial, ToMta}
 use Rattle.milter_world_schedule.specs.ByteCounts.{owed, to_filter, to_mta}

@@ -12,7 +12,7 @@ use Rattle.milter_mta.specs.Lines.{Line}
 use Rattle.milter_protocol.specs.declared.filter_fault.FilterFault.{FilterFault as Fault}
 use Rattle.milter_protocol.specs.declared.filter_state.FilterState.TheVariants.{Serving}
 use Rattle.milter_filter_stream.specs.Streams.{received_in}
-use Rattle.milter_filter_core.specs.Cores.{Core, GivesUp, Takes}
+use Rattle.milter_filter.specs.Cores.{Core, GivesUp, Takes}
 use Rattle.milter_world_schedule.specs.declared.event.Event.{Event}
 use Rattle.milter_world_schedule.specs.declared.event.Event.TheVariants.{Send, ToFilter, Answer, Die}
 use Rattle.milter_world_schedule.specs.ByteCounts.{due, owed, packet_end, to_filter, to_mta}

@@ -13,7 +13,7 @@ use Rattle.milter_mta.specs.Mta.{Mta}
 use Rattle.milter_mta.specs.Replies.{After, goes_on, received, received_byte}
 use Rattle.milter_mta.specs.Output.{advanced, pending, sent}
 use Rattle.milter_mta.specs.Lines.{Line}
-use Rattle.milter_filter_core.specs.Cores.{Core, GivesUp, GoesOn, Takes, fresh_core_in, given_up}
+use Rattle.milter_filter.specs.Cores.{Core, GivesUp, GoesOn, Takes, fresh_core_in, given_up}
 use Rattle.milter_filter_stream.specs.Streams.{received_in}
 use Rattle.milter_world_schedule.specs.ByteCounts.{due, owed, packet_end, to_filter, to_mta}
 use Rattle.milter_world_laws.specs.FollowedLines.{SendsLines, after_at}

@@ -10,7 +10,7 @@ use Rattle.milter_mta.specs.Output.{advanced, dialled, pending, sent}
 use Rattle.milter_mta.specs.Dispositions.{lost}
 use Rattle.milter_mta.specs.AnyFilter.{ConnectionIsReported, GoesOnDialogues}
 use Rattle.milter_mta.specs.Lines.{Line}
-use Rattle.milter_filter_core.specs.Cores.{Core, GoesOn, fresh_core_in}
+use Rattle.milter_filter.specs.Cores.{Core, GoesOn, fresh_core_in}
 use Rattle.milter_world_laws.specs.Answered.{AnswersLines}
 use Rattle.milter_world_schedule.specs.ByteCounts.{due, to_filter, to_mta}
 use Rattle.milter_world_schedule.specs.declared.event.Event.{Event}

@@ -5,7 +5,7 @@ ghost use Rattle.std.specs.Prelude.{◌≡◌, ◌≢◌, ◌<◌, ◌+◌, ◌^
 ghost use Rattle.milter_protocol.specs.declared.command_order.CommandOrder.{CommandOrder as Order};
 ghost use Rattle.milter_protocol.specs.declared.filter_fault.FilterFault.{FilterFault as Fault};
 ghost use Rattle.milter_protocol.specs.declared.filter_state.FilterState.TheVariants.{Serving};
-ghost use Rattle.milter_filter_core.specs.Cores.{Core, GivesUp, Takes, fresh_core_in};
+ghost use Rattle.milter_filter.specs.Cores.{Core, GivesUp, Takes, fresh_core_in};
 ghost use Rattle.milter_filter_stream.specs.Streams.{received_in};
 ghost use Rattle.milter_mta_outcome.specs.declared.loss.Loss.{Loss};
 ghost use Rattle.milter_mta.specs.declared.want.Want.TheVariants as wants;
@@ -20,7 +20,7 @@ ghost use Rattle.milter_world_schedule.specs.declared.state.State.TheVariants.{D
 ghost use Rattle.milter_world_schedule.specs.Schedule.{Scenario, first, fresh, happens};
 ghost use Rattle.milter_world_laws.specs.Ends.{AreEndsOf, Ends, IsLossBy, IsOfConnection, IsOfFilter, IsPossible, Steps, fresh_ends, lost_ends, mta_sent, sent_count};
 
-use milter_filter_core::{Policy, cores_go_on};
+use milter_filter::{Policy, cores_go_on};
 use milter_mta::{
     connections_are_reported, losses_settle_one, messages_are_settled_by_dialogues,
     sending_settles_nothing, sent_bytes_add_up,

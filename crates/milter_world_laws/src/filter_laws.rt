@@ -24,7 +24,7 @@ ghost use Rattle.milter_world_laws.specs.Answered.{AnswersLines, Replies};
 ghost use Rattle.milter_world_schedule.specs.ByteCounts.{to_filter};
 ghost use Rattle.milter_world_laws.specs.FilterTranscript.{IsAt};
 
-use milter_filter_core::orders_reply_the_same_bytes;
+use milter_filter::orders_reply_the_same_bytes;
 use milter_mta::plans_are_sent;
 use milter_protocol::{order_states_of_filter_ends, orders_reply_the_same};
 use milter_wire::command_frames;

@@ -4,7 +4,7 @@ ghost use Rattle.std.specs.Prelude.{◌≡◌, ◌≢◌, ◌≤◌, ◌<◌, �
 ghost use Rattle.milter_protocol.specs.Behavior.{Behavior};
 ghost use Rattle.milter_protocol.specs.declared.command_order.CommandOrder.{CommandOrder as Order};
 ghost use Rattle.milter_protocol.specs.declared.filter_fault.FilterFault.{FilterFault as Fault};
-ghost use Rattle.milter_filter_core.specs.Cores.{Core, GivesUp, Takes};
+ghost use Rattle.milter_filter.specs.Cores.{Core, GivesUp, Takes};
 ghost use Rattle.milter_filter_stream.specs.Streams.{received_in};
 ghost use Rattle.milter_mta.specs.Mta.{Mta};
 ghost use Rattle.milter_mta.specs.Replies.{received};
@@ -17,7 +17,7 @@ ghost use Rattle.milter_world_schedule.specs.Rounds.{AreCounts};
 ghost use Rattle.milter_world_laws.specs.FollowedLines.{IsMtaAt, SendsLines};
 ghost use Rattle.milter_world_laws.specs.Ends.{IsFilterAt};
 
-use milter_filter_core::{Policy, cores_go_on};
+use milter_filter::{Policy, cores_go_on};
 use milter_mta::sent_bytes_add_up;
 
 /// A piece of the bytes that are on their way to the filter's end is taken whole and without a fault, and nothing is on

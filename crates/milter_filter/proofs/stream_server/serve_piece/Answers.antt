@@ -2,7 +2,7 @@ use Rattle.std.proofs.Common.{◌++◌, ◌≢◌, append_assoc, take, drop, tak
 use Rattle.std.proofs.lemmas.List.{take_rest}
 use Rattle.milter_protocol.specs.declared.filter_fault.FilterFault.{FilterFault}
 use Rattle.milter_protocol.specs.declared.filter_state.FilterState.TheVariants.{Failed, Serving}
-use Rattle.milter_filter_core.specs.Cores.{Core, GivesUp, Takes, given_up}
+use Rattle.milter_filter.specs.Cores.{Core, GivesUp, Takes, given_up}
 use Rattle.milter_filter.specs.ServedPieces.{Goes}
 use Rattle.milter_filter_stream.specs.Streams.{received_in}
 use Rattle.milter_filter.proofs.ServedBytes.{goes-failed, goes-none, goes-step, still-serving}

@@ -1,6 +1,6 @@
 use Rattle.std.proofs.Common.{[], refl}
 use Rattle.std.proofs.KnownBytes.{Appends-nil, Consumes-nil}
-use Rattle.milter_filter_core.proofs.ConversationInputs.{fresh-begins, goes_on-answers, goes_on-reports}
+use Rattle.milter_filter.proofs.ConversationInputs.{fresh-begins, goes_on-answers, goes_on-reports}
 use Rattle.milter_filter.proofs.Turns.{turns-join}
 use Rattle.milter_filter.proofs.turn_laws.connections_go_on.Goals as goal
 

@@ -6,7 +6,7 @@ use Rattle.milter_world_schedule.specs.Schedule.{Scenario}
 use Rattle.milter_world.proofs.EndsByParts.{steps-as}
 use Rattle.milter_world.proofs.world.World.pass_to_filter.Goals as goal
 use Rattle.milter_protocol.specs.Behavior.{Behavior}
-use Rattle.milter_filter_core.specs.Cores.{Takes}
+use Rattle.milter_filter.specs.Cores.{Takes}
 use Rattle.milter_world.specs.Reached.{CanTake}
 use Rattle.milter_world.proofs.FedFilter.{same-drop}
 

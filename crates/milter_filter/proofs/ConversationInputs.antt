@@ -22,7 +22,7 @@ use Rattle.milter_filter_stream.specs.Conversations.{Conversation, EndsThere, Gi
 use Rattle.milter_filter_stream.specs.Conversations.{unread_after}
 use Rattle.milter_protocol.specs.Questions.{AskState, Event, Answered, Came, IsTaking, ProgressReported, Wanted, answer_step, ask_after, ask_replies, ask_step, commands_in, event_step, events_after, events_replies, sent_answer}
 use Rattle.milter_filter_stream.specs.Streams.{fault_after, read_in, received_in}
-use Rattle.milter_filter_core.proofs.CutInputs.{joined as received-joined, received-begin}
+use Rattle.milter_filter.proofs.CutInputs.{joined as received-joined, received-begin}
 use Rattle.milter_protocol.proofs.EndedQuestions.{ended-stays}
 use Rattle.milter_filter_stream.proofs.UndoneData.{answered-state}
 

@@ -1,9 +1,9 @@
 use Rattle.std.proofs.Common.{◌≡◌, ◌++◌, [], ◌∙◌, ap, sym, subst}
 use Rattle.milter_filter_stream.specs.Conversations.{conversation_of}
-use Rattle.milter_filter_core.specs.Cores.{Core, GivesUp, Takes}
+use Rattle.milter_filter.specs.Cores.{Core, GivesUp, Takes}
 use Rattle.milter_filter_stream.specs.Streams.{received_in}
-use Rattle.milter_filter_core.proofs.PolicyCores.{core-answers, core-gives-up, core-takes, core_of}
-use Rattle.milter_filter_core.proofs.filter_core.FilterCore.feed_serving.Goals as goal
+use Rattle.milter_filter.proofs.PolicyCores.{core-answers, core-gives-up, core-takes, core_of}
+use Rattle.milter_filter.proofs.filter_core.FilterCore.feed_serving.Goals as goal
 
 pub returns-in-Err-clause-cause : goal.returns-in-Err-clause-cause
 returns-in-Err-clause-cause g c = λ other.

@@ -1,7 +1,7 @@
 use Rattle.std.proofs.Common.{◌∙◌, ap}
 use Rattle.milter_protocol.specs.Questions.{ProgressReported, event_step}
 use Rattle.milter_filter_stream.specs.Conversations.{Conversation, conversation_by, conversation_of}
-use Rattle.milter_filter_core.proofs.filter_connection.FilterConnection.progress.Goals as goal
+use Rattle.milter_filter.proofs.filter_connection.FilterConnection.progress.Goals as goal
 
 pub returns-clause-ok : goal.returns-clause-ok
 returns-clause-ok c =

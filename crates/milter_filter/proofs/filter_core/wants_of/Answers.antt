@@ -4,7 +4,7 @@ use Rattle.milter_wire.specs.declared.symbol_lists.SymList.{SymList}
 use Rattle.milter_protocol.specs.Lawful.{WantsWithin}
 use Rattle.milter_protocol.specs.Behavior.{Behavior}
 use Rattle.milter_protocol.specs.Questions.{unasked, wanted_of}
-use Rattle.milter_filter_core.proofs.filter_core.wants_of.Goals as goal
+use Rattle.milter_filter.proofs.filter_core.wants_of.Goals as goal
 
 within-alike : (b : Behavior) → WantsWithin b → WantsWithin (unasked (wanted_of b))
 within-alike b w =

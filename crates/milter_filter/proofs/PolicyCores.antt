@@ -12,7 +12,7 @@ use Rattle.milter_protocol.specs.OrderStates.{OrderState, order_state_after, ord
 use Rattle.milter_protocol.specs.Steps.{Step}
 use Rattle.milter_protocol.proofs.StepSequences.{after-append, replies-append}
 use Rattle.milter_filter_stream.specs.Conversations.{Conversation, EndsThere, GivesUpIn, TakesIn, answered}
-use Rattle.milter_filter_core.specs.Cores.{Core, EndsAtReplies, GivesUp, Takes}
+use Rattle.milter_filter.specs.Cores.{Core, EndsAtReplies, GivesUp, Takes}
 use Rattle.milter_protocol.specs.Questions.{AskState, Wanted, answer_step, ask_after, ask_replies, ask_step, sent_answer, unquestioned, wanted_of}
 use Rattle.milter_filter_stream.specs.Streams.{read_in}
 use Rattle.milter_filter_stream.proofs.FirstReplies.{no_replies, serves}

@@ -2,7 +2,7 @@ use Rattle.std.proofs.Common.{◌∙◌, ap}
 use Rattle.milter_protocol.specs.GivenAnswers.{given_steps}
 use Rattle.milter_protocol.specs.OrderStates.{fresh_in}
 use Rattle.milter_protocol.specs.Questions.{answers_in}
-use Rattle.milter_filter_core.proofs.conversation_laws.conversations_reply.Goals as goal
+use Rattle.milter_filter.proofs.conversation_laws.conversations_reply.Goals as goal
 
 pub returns-clause-replies : goal.returns-clause-replies
 returns-clause-replies c = λ order wanted c events input sent p. p.replied

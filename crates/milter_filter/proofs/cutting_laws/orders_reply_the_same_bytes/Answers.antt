@@ -3,7 +3,7 @@ use Rattle.std.specs.List.{flat_map}
 use Rattle.milter_wire.specs.Reply.{encoding}
 use Rattle.milter_protocol.specs.declared.command_order.CommandOrder.TheVariants.{Strict}
 use Rattle.milter_filter_stream.specs.Streams.{received_in}
-use Rattle.milter_filter_core.proofs.cutting_laws.orders_reply_the_same_bytes.Goals as goal
+use Rattle.milter_filter.proofs.cutting_laws.orders_reply_the_same_bytes.Goals as goal
 
 pub returns-clause-state : goal.returns-clause-state
 returns-clause-state c = λ b order input alike.

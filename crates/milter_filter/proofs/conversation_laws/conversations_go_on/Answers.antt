@@ -1,5 +1,5 @@
-use Rattle.milter_filter_core.proofs.ConversationInputs.{fresh-begins, goes_on-answers, goes_on-ended, goes_on-gives_up, goes_on-joins, goes_on-reports, goes_on-sends, goes_on-stays, goes_on-takes}
-use Rattle.milter_filter_core.proofs.conversation_laws.conversations_go_on.Goals as goal
+use Rattle.milter_filter.proofs.ConversationInputs.{fresh-begins, goes_on-answers, goes_on-ended, goes_on-gives_up, goes_on-joins, goes_on-reports, goes_on-sends, goes_on-stays, goes_on-takes}
+use Rattle.milter_filter.proofs.conversation_laws.conversations_go_on.Goals as goal
 
 pub returns-clause-begins : goal.returns-clause-begins
 returns-clause-begins c = fresh-begins

@@ -27,7 +27,7 @@ pub struct FilterCore<'p, P: Policy> {
 
 impl<'p, P: Policy> Model for FilterCore<'p, P> {
     ghost use Rattle.std.specs.Prelude.{◌≡◌, None};
-    ghost use Rattle.milter_filter_core.specs.Cores.{Core};
+    ghost use Rattle.milter_filter.specs.Cores.{Core};
     ghost use Rattle.milter_protocol.specs.Questions.{wanted_of};
 
     ghost Value = { Core P };
@@ -44,7 +44,7 @@ impl<'p, P: Policy> Model for FilterCore<'p, P> {
 }
 
 impl<'p, P: Policy> FilterCore<'p, P> {
-    ghost use Rattle.milter_filter_core.specs.Cores.{GivesUp, Takes, fresh_core, fresh_core_in, given_up};
+    ghost use Rattle.milter_filter.specs.Cores.{GivesUp, Takes, fresh_core, fresh_core_in, given_up};
 
     /// A connection of which nothing has come, and which takes commands in the strict order. It always answers `Ok`,
     /// and doesn't allocate.

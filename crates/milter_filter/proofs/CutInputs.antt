@@ -16,10 +16,10 @@ use Rattle.milter_protocol.specs.OrderStates.{OrderState, fresh_in, order_state_
 use Rattle.milter_protocol.proofs.FilterStates.{failed_quit, failed_serving, quit_serving, same_fault}
 use Rattle.milter_protocol.proofs.Lenient.{orders-replies, orders-state}
 use Rattle.milter_protocol.proofs.StepSequences.{after-append, replies-append}
-use Rattle.milter_filter_core.specs.Cores.{Core, GivesUp, GoesOn, Takes, fresh_core_in, given_up}
+use Rattle.milter_filter.specs.Cores.{Core, GivesUp, GoesOn, Takes, fresh_core_in, given_up}
 use Rattle.milter_filter_stream.specs.Conversations.{unread_after}
 use Rattle.milter_filter_stream.specs.Streams.{filter_end_of, fault_after, read_in, received_in, reply_bytes}
-use Rattle.milter_filter_core.proofs.EndedStates.{ended-stays}
+use Rattle.milter_filter.proofs.EndedStates.{ended-stays}
 use Rattle.milter_filter_stream.proofs.Progress.{read-append}
 
 -- ---- the packets of a stream that goes on

@@ -1,4 +1,0 @@
-pub mod EndedStates
-pub mod CutInputs
-pub mod PolicyCores
-pub mod ConversationInputs
