@@ -26,7 +26,7 @@ from lib.programs import TOP
 EXAMPLES = {
     'README.md': ['example_loop_guard'],
     'docs/LIBRARY.md': ['example_mail'],
-    'docs/FILTERS.md': ['example_loop_guard', 'milter_tests_driver', 'milter_filter_service'],
+    'docs/FILTERS.md': ['example_loop_guard', 'milter_tests_driver', 'milter_service'],
     'docs/MAIL_SERVERS.md': ['milter_tests_driver']}
 # The documents with code in Python, and the file whose it is.
 IN_PYTHON = {'docs/MAIL_SERVERS.md': 'examples/python/asked_filters.py'}

@@ -1,4 +1,4 @@
-//! What the subcommand `serve` of `milter_tool` adds to `milter_filter_service`: rules that are read again where their
+//! What the subcommand `serve` of `milter_tool` adds to `milter_service`: rules that are read again where their
 //! file or a list of it changed, and the log of the service and of its decisions.
 #![tactic(auto)]
 

@@ -13,10 +13,8 @@ use crate::rule_source::{RuleSource, RuleText, lines_in};
 use crate::service_log::{ServiceEvent, ServiceLog};
 use milter_cli_io::{ConnectionReport, FileError};
 use milter_filter::{FilterFault, Served, Wants};
-use milter_filter_service::{
-    AskedConnection, Host, Key, QuestionKey, ServiceError, Shortage, policy_wants,
-};
 use milter_rules::Rules;
+use milter_service::{AskedConnection, Host, Key, QuestionKey, ServiceError, Shortage, policy_wants};
 use milter_wire::{NoMemory, Stage, Verdict};
 use std::alloc::Global;
 use std::io::Write;

@@ -10,7 +10,7 @@ mod look_up_host;
 use anyhow::bail;
 use look_up_host::LookUpHost;
 use milter_cli_request::Address;
-use milter_filter_service::{Limits, Listener, Service};
+use milter_service::{Limits, Listener, Service};
 
 /// The mode of a Unix socket.
 const MODE: u32 = 0o600;

@@ -9,8 +9,8 @@ use milter_cli_serve::{
     ServiceEvent, ServiceLog, ServiceStart, StandardStream, fill_standard, free_descriptors,
     lines_in,
 };
-use milter_filter_service::{Host, Limits, Listener, Service};
 use milter_rules::Rules;
+use milter_service::{Host, Limits, Listener, Service};
 use std::alloc::Global;
 use std::rc::Rc;
 

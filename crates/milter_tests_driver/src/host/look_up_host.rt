@@ -2,16 +2,16 @@
 
 use crate::texts::verdict_in;
 use milter_filter::{Answer, Pass, Served, Wants};
-use milter_filter_service::{
+use milter_service::{
     AskedConnection, Given, Host, Interest, Key, MailServers, QuestionKey, Registry, ServiceError,
     Token, policy_wants,
 };
 use milter_wire::{NoMemory, Stage, Verdict};
 use mio::net::UnixStream;
+use std::str;
 use std::alloc::Global;
 use std::io::{self, Read, Write};
 use std::ops::Range;
-use std::str;
 
 /// The most bytes that are read at once.
 const PIECE: usize = 512;

@@ -3,7 +3,7 @@
 ghost use Rattle.std.specs.Prelude.{◌≡◌, ◌≢◌, ◌<◌, ◌↔◌, IfSome, IsTrue, None, OnErr, OnOk, length};
 ghost use Rattle.milter_filter.specs.Connections.{TurnsBy};
 ghost use Rattle.milter_filter.specs.declared.turn.Turn.TheVariants as turns;
-ghost use Rattle.milter_filter_service.specs.declared.given.Given.TheVariants as givens;
+ghost use Rattle.milter_service.specs.declared.given.Given.TheVariants as givens;
 
 use crate::asked_connection::AskedConnection;
 use crate::given::Given;
@@ -78,7 +78,7 @@ pub(crate) struct MailServer<S: Drop> {
 
 impl<S: Drop> Model for MailServer<S> {
     ghost use Rattle.std.specs.Prelude.{option_map};
-    ghost use Rattle.milter_filter_service.specs.MailServerStates.{MailServerState};
+    ghost use Rattle.milter_service.specs.MailServerStates.{MailServerState};
 
     ghost Value = { MailServerState S };
 
@@ -91,7 +91,7 @@ impl<S: Drop> Model for MailServer<S> {
 }
 
 impl<S: Drop> MailServer<S> {
-    ghost use Rattle.milter_filter_service.specs.MailServerStates.{HasQuestion, answered_by};
+    ghost use Rattle.milter_service.specs.MailServerStates.{HasQuestion, answered_by};
 
     /// A mail server that has just connected.
     pub(crate) fn new(
@@ -287,7 +287,7 @@ impl<S: Drop> MailServer<S> {
 impl OpenQuestion {
     ghost use Rattle.std.specs.Prelude.{◌≤◌, ◌-◌, ◌⊎◌};
     ghost use Rattle.milter_wire.specs.declared.stage.Stage.TheVariants.{Eob};
-    ghost use Rattle.milter_filter_service.specs.declared.mail_server.Due.TheVariants as dues;
+    ghost use Rattle.milter_service.specs.declared.mail_server.Due.TheVariants as dues;
 
     /// What is to be done about this question, which is about this stage.
     fn due(&self, second: u64, stage: Stage, limits: &Limits) -> Due

@@ -2,7 +2,7 @@
 
 ghost use Rattle.std.specs.Prelude.{◌≡◌, ◌≤◌, ◌<◌, ◌⊎◌, ◌++◌, [], ◌∷◌, length};
 ghost use Rattle.milter_filter.specs.Connections.{fresh_connected};
-ghost use Rattle.milter_filter_service.specs.declared.service.TheConstants.{SPARE_MAX};
+ghost use Rattle.milter_service.specs.declared.service.TheConstants.{SPARE_MAX};
 
 use crate::host::Host;
 use crate::key::Key;

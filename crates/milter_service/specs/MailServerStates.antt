@@ -2,7 +2,7 @@
 use Rattle.std.specs.Prelude.{◌≡◌, ℕ, Option, None, Some}
 use Rattle.milter_protocol.specs.declared.answer.Answer.{Answer}
 use Rattle.milter_filter.specs.Connections.{Connected, connected_answered}
-use Rattle.milter_filter_service.specs.declared.key.QuestionKey.{QuestionKey}
+use Rattle.milter_service.specs.declared.key.QuestionKey.{QuestionKey}
 
 -- the number of its connection, the connection, what the host keeps of it, and the number of the question that the host
 -- has, if it has one

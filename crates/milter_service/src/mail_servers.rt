@@ -1,7 +1,7 @@
 //! The mail servers that are connected.
 
 ghost use Rattle.std.specs.Prelude.{◌≡◌, ◌≢◌, ◌↔◌, IfOk, None, Ok, Some, option_copied, option_map};
-ghost use Rattle.milter_filter_service.specs.declared.given.Given.TheVariants as givens;
+ghost use Rattle.milter_service.specs.declared.given.Given.TheVariants as givens;
 
 use crate::given::Given;
 use crate::key::{Key, QuestionKey};
@@ -23,7 +23,7 @@ pub struct MailServers<S: Drop> {
 
 impl<S: Drop> Model for MailServers<S> {
     ghost use Rattle.slab.specs.Slab.{Slab as Places};
-    ghost use Rattle.milter_filter_service.specs.MailServerStates.{MailServerState};
+    ghost use Rattle.milter_service.specs.MailServerStates.{MailServerState};
 
     // Who is connected, each in a place.
     ghost Value = { Places (MailServerState S) };
@@ -34,7 +34,7 @@ impl<S: Drop> Model for MailServers<S> {
 impl<S: Drop> MailServers<S> {
     ghost use Rattle.std.specs.Prelude.{ℕ};
     ghost use Rattle.slab.specs.Slab.{get};
-    ghost use Rattle.milter_filter_service.specs.MailServerStates.{HasQuestion, answered_by, MailServerState};
+    ghost use Rattle.milter_service.specs.MailServerStates.{HasQuestion, answered_by, MailServerState};
 
     /// No mail servers. Doesn't allocate.
     pub(crate) fn new(alloc: Global) -> Self {

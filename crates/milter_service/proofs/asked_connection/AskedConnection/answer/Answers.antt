@@ -1,4 +1,4 @@
-use Rattle.milter_filter_service.proofs.asked_connection.AskedConnection.answer.Goals as goal
+use Rattle.milter_service.proofs.asked_connection.AskedConnection.answer.Goals as goal
 
 pub returns-clause-fits : goal.returns-clause-fits
 returns-clause-fits c = rw (← c.self.view_is) c.answer.ensures.fits
