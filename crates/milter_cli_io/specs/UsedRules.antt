@@ -4,8 +4,8 @@ use Rattle.milter_wire.specs.declared.stage.Stage.{Stage}
 use Rattle.milter_wire.specs.declared.stage.Stage.TheVariants.{Connect, Mail, Rcpt, DataCmd}
 use Rattle.milter_filter_rules.specs.LeastWants.{with_least_wants}
 use Rattle.milter_filter_rules.specs.RuleSet.{RuleSet}
-use Rattle.milter_list_files.specs.declared.list_file.ListFile.{ListFile}
-use Rattle.milter_list_files.specs.ListFiles.{CanBeRead}
+use Rattle.milter_rules.specs.declared.list_file.ListFile.{ListFile}
+use Rattle.milter_rules.specs.ListFiles.{CanBeRead}
 use Rattle.milter_rules.specs.RuleFile.{IsRuleFile}
 use Rattle.milter_cli_io.specs.declared.rules_run.RuleUse.{RuleUse}
 

@@ -3,7 +3,7 @@
 ghost use Rattle.std.specs.Prelude.{◌≡◌, IfErr, IfOk, OnOk, false, true};
 ghost use Rattle.milter_rules.specs.RuleFile.{IsRuleFile, StatesProtocol};
 ghost use Rattle.milter_filter_rules.specs.RulesValue.{case_of, named_of, rule_set, states_protocol};
-ghost use Rattle.milter_list_files.specs.ListFiles.{AreRead};
+ghost use Rattle.milter_rules.specs.ListFiles.{AreRead};
 ghost use Rattle.milter_cli_io.specs.UsedRules.{IsFileWith, also_sent, used_set};
 ghost use Rattle.milter_text.specs.declared.text_case.TextCase.TheVariants.{Exact, Ignored};
 ghost use Rattle.milter_rules.specs.RulesText.{rules_text};

@@ -4,7 +4,7 @@ use Rattle.milter_text.specs.declared.text_case.TextCase.TheVariants.{Exact, Ign
 use Rattle.milter_filter_rules.specs.declared.named_list.NamedList.{NamedList}
 use Rattle.milter_filter_rules.specs.declared.rules.Rules.{Rules}
 use Rattle.milter_filter_rules.specs.RulesValue.{case_of, named_of, rule_set, states_protocol}
-use Rattle.milter_list_files.specs.ListFiles.{AreRead}
+use Rattle.milter_rules.specs.ListFiles.{AreRead}
 use Rattle.milter_rules.specs.RuleFile.{IsRuleFile, StatesProtocol}
 use Rattle.milter_cli_io.specs.declared.file_error.FileError.{FileError}
 use Rattle.milter_cli_io.specs.declared.file_error.FileError.TheVariants.{Read, Fault, Write, NoMemory}

@@ -8,7 +8,7 @@ use Rattle.std.specs.Str.{bytes_eq}
 use Rattle.std.proofs.lemmas.Bool.{true≢false}
 use Rattle.std.proofs.lemmas.Bool.Decides.{Decides-and, Decides-eqb, Decides-int_eq, Decides-like}
 use Rattle.std.proofs.lemmas.Slice.Eq.{bytes_eq-Decides}
-use Rattle.milter_list_files.specs.declared.list_file.ListFile.{ListFile}
+use Rattle.milter_rules.specs.declared.list_file.ListFile.{ListFile}
 use Rattle.milter_cli_serve.specs.declared.file_stamp.FileStamp.{FileStamp}
 use Rattle.milter_cli_serve.specs.declared.file_stamp.FileTime.{FileTime}
 

@@ -1,3 +1,4 @@
+pub mod ReadLists
 pub mod ConditionReads
 pub mod ConditionGrammar
 pub mod TextRuns

@@ -1,5 +1,7 @@
 //! Rule files: a filter's policy in lines of words. [`read_rules`] reads the rules of a file, which are a
 //! [`Policy`](milter_filter_stream::Policy), and [`write_rules`] writes rules in canonical form.
+//!
+//! The lists of a rule file, from the bytes of their files.
 #![tactic(auto)]
 
 mod action_words;
@@ -8,6 +10,7 @@ mod condition_words;
 mod file_form;
 mod form;
 mod laws;
+mod list_file;
 mod list_lines;
 mod notes;
 mod rule_builder;
@@ -22,12 +25,12 @@ pub use compared::Compared;
 pub use file_form::{FileForm, form_of_file, is_form_line};
 pub use form::{kind_fits, limit_max};
 pub use laws::{lines_of_written_words, rule_limit, words_of_actions, written_rules};
+pub use list_file::{ListFile, ListFileFault, lists_without_entries, read_list_files};
 pub use milter_filter_rules::{
     Action, Check, Condition, Conditions, Field, Joint, ListKind, ListSource, ListSources, Measure,
     NamedList, NamedLists, PathPart, Rule, RuleList, Rules, StageRules, Test, TextCheck, TextList,
     Texts,
 };
-pub use milter_list_files::ListFile;
 pub use milter_lists::LISTS_MAX;
 pub use notes::{Notes, Severity, Span};
 pub use rule_builder::RULES_MAX;

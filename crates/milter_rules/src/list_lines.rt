@@ -3,13 +3,13 @@
 ghost use Rattle.std.specs.Prelude.{◌≡◌, ◌≤◌, ◌<◌, IfErr, IfOk, length};
 ghost use Rattle.milter_text.specs.Lines.{lines_of};
 ghost use Rattle.milter_filter_rules.specs.ListedValues.{sources_of};
-ghost use Rattle.milter_list_files.specs.ListFiles.{AreRead, CanBeRead};
+ghost use Rattle.milter_rules.specs.ListFiles.{AreRead, CanBeRead};
 ghost use Rattle.milter_rules.specs.declared.rule_fault.RuleFault.TheVariants as faults;
 ghost use Rattle.milter_rules.specs.RuleFault.{IsWithin};
 
+use crate::list_file::{ListFile, ListFileFault, read_list_files};
 use crate::rule_fault::RuleFault;
 use milter_filter_rules::{NamedList, NamedLists};
-use milter_list_files::{ListFile, ListFileFault, read_list_files};
 use milter_text::LineCursor;
 use std::alloc::Global;
 

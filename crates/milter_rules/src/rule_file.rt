@@ -3,7 +3,7 @@
 ghost use Rattle.std.specs.Prelude.{◌≡◌, ◌≤◌, [], IfErr, IfOk, List, MatchResult, codes, length, ℕ};
 ghost use Rattle.milter_text.specs.LineCursor.{HasNoNext, NextHasWords};
 ghost use Rattle.milter_text.specs.Lines.{lines_of};
-ghost use Rattle.milter_list_files.specs.ListFiles.{AreRead, CanBeRead};
+ghost use Rattle.milter_rules.specs.ListFiles.{AreRead, CanBeRead};
 ghost use Rattle.milter_lists.specs.ListLines.{HasSources};
 ghost use Rattle.milter_lists.specs.declared.list_source.ListSource.{ListSource};
 ghost use Rattle.milter_rules.specs.declared.rule_fault.RuleFault.TheVariants as RuleFault;
@@ -17,12 +17,12 @@ ghost use Rattle.milter_filter_rules.specs.RulesValue.{case_of, named_of, rule_s
 ghost use Rattle.milter_text.specs.declared.text_case.TextCase.TheVariants.{Exact};
 
 use crate::form::{Form, is_header};
+use crate::list_file::{ListFile, lists_without_entries};
 use crate::list_lines::read_lists;
 use crate::rule_builder::Builder;
 use crate::rule_fault::{RuleFault, of_source_fault};
 use crate::rule_line::line_in;
 use milter_filter_rules::{ListSources, Rules};
-use milter_list_files::{ListFile, lists_without_entries};
 use milter_lists::sources_in;
 use milter_text::LineCursor;
 use std::alloc::Global;

@@ -1,5 +1,5 @@
 use Rattle.std.proofs.Common.{sym}
-use Rattle.milter_list_files.proofs.list_file.read_list.Goals as goal
+use Rattle.milter_rules.proofs.list_file.read_list.Goals as goal
 
 pub returns-clause-found : goal.returns-clause-found
 returns-clause-found c =

@@ -2,8 +2,8 @@
 
 ghost use Rattle.std.specs.Prelude.{◌≡◌, IfErr, IfOk, option_map};
 ghost use Rattle.milter_filter_rules.specs.ListedValues.{sources_of};
-ghost use Rattle.milter_list_files.specs.ListFiles.{AreRead, CanBeList, CanBeRead, IsAtIndex, IsOfList, IsRead, bytes_named};
-ghost use Rattle.milter_list_files.specs.declared.list_file.ListFileFault.TheVariants as faults;
+ghost use Rattle.milter_rules.specs.ListFiles.{AreRead, CanBeList, CanBeRead, IsAtIndex, IsOfList, IsRead, bytes_named};
+ghost use Rattle.milter_rules.specs.declared.list_file.ListFileFault.TheVariants as faults;
 
 use milter_filter_rules::{ListFault, ListSource, NamedList, NamedLists, SharedList, TextList};
 use milter_wire::{NoMemory, RefusedMemory, Text};

@@ -1,6 +1,6 @@
 use Rattle.std.proofs.Common.{◌≡◌, drop}
-use Rattle.milter_list_files.specs.ListFiles.{bytes_named}
-use Rattle.milter_list_files.proofs.list_file.bytes_named.Given as goal
+use Rattle.milter_rules.specs.ListFiles.{bytes_named}
+use Rattle.milter_rules.proofs.list_file.bytes_named.Given as goal
 
 -- the files that are left
 abbrev pub invariant-loop-file : goal.invariant-loop-file

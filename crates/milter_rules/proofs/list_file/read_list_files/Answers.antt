@@ -2,9 +2,9 @@ use Rattle.std.proofs.Common.{drop, subst, sym}
 use Rattle.std.proofs.lemmas.List.{drop_all}
 use Rattle.std.proofs.lemmas.Result.{err_from_is_err_and}
 use Rattle.milter_filter_rules.specs.ListedValues.{sources_of}
-use Rattle.milter_list_files.specs.ListFiles.{AreRead}
-use Rattle.milter_list_files.proofs.ReadLists.{can_read_item, can_read_more, read_all, read_more}
-use Rattle.milter_list_files.proofs.list_file.read_list_files.Goals as goal
+use Rattle.milter_rules.specs.ListFiles.{AreRead}
+use Rattle.milter_rules.proofs.ReadLists.{can_read_item, can_read_more, read_all, read_more}
+use Rattle.milter_rules.proofs.list_file.read_list_files.Goals as goal
 
 pub returns-in_err-read_list-clause-only : goal.returns-in_err-read_list-clause-only
 returns-in_err-read_list-clause-only c = λ can.

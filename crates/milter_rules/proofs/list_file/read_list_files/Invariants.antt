@@ -1,6 +1,6 @@
 use Rattle.std.proofs.Common.{drop}
-use Rattle.milter_list_files.proofs.ReadLists.{CanReadLeft, ReadSoFar}
-use Rattle.milter_list_files.proofs.list_file.read_list_files.Given as goal
+use Rattle.milter_rules.proofs.ReadLists.{CanReadLeft, ReadSoFar}
+use Rattle.milter_rules.proofs.list_file.read_list_files.Given as goal
 
 -- what was read so far
 abbrev pub invariant-loop-index : goal.invariant-loop-index

@@ -6,8 +6,8 @@ use Rattle.std.proofs.lemmas.List.{append-nil}
 use Rattle.std.proofs.lemmas.List.Elements.{All-head, All-tail}
 use Rattle.milter_filter_rules.specs.ListedValues.{sources_of}
 use Rattle.milter_filter_rules.specs.declared.named_list.NamedList.{NamedList}
-use Rattle.milter_list_files.specs.declared.list_file.ListFile.{ListFile}
-use Rattle.milter_list_files.specs.ListFiles.{AreRead, CanBeList, CanBeRead, IsRead}
+use Rattle.milter_rules.specs.declared.list_file.ListFile.{ListFile}
+use Rattle.milter_rules.specs.ListFiles.{AreRead, CanBeList, CanBeRead, IsRead}
 
 -- whatever is read of the lists that are left, after what was read it is what is read of all
 abbrev pub ReadSoFar : List ListFile → List NamedList → List NamedList → List NamedList → Type 0

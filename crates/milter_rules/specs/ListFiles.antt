@@ -7,9 +7,9 @@ use Rattle.milter_lists.specs.ListValues.{has_value}
 use Rattle.milter_lists.specs.Listed.{entries_in, entry_has}
 use Rattle.milter_lists.specs.declared.list_source.ListSource.{ListSource}
 use Rattle.milter_filter_rules.specs.declared.named_list.NamedList.{NamedList}
-use Rattle.milter_list_files.specs.declared.list_file.ListFile.{ListFile}
-use Rattle.milter_list_files.specs.declared.list_file.ListFileFault.{ListFileFault}
-use Rattle.milter_list_files.specs.declared.list_file.ListFileFault.TheVariants.{BadList, NoMemory}
+use Rattle.milter_rules.specs.declared.list_file.ListFile.{ListFile}
+use Rattle.milter_rules.specs.declared.list_file.ListFileFault.{ListFileFault}
+use Rattle.milter_rules.specs.declared.list_file.ListFileFault.TheVariants.{BadList, NoMemory}
 
 -- the bytes of the first file of this name
 abbrev pub bytes_named : List ListFile → List ℕ → Option (List ℕ)
