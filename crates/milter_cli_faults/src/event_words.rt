@@ -3,8 +3,8 @@
 use crate::faulty_line::{Content, first_word, line_at};
 use crate::known_names::{has_name, say_unknown};
 use crate::session_forms::beside;
+use milter_rule_words::say_fault;
 use milter_rules::{Notes, RuleFault, Span};
-use milter_rules_faults::say_fault;
 use milter_text::Word;
 use milter_wire::NoMemory;
 use milter_world_events::{EventFault, read_events};

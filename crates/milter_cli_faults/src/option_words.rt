@@ -1,8 +1,8 @@
 //! What is said of values of options.
 
 use milter_cli_request::GivenMacro;
+use milter_rule_words::say_fault;
 use milter_rules::{Notes, RuleFault, Span};
-use milter_rules_faults::say_fault;
 use milter_wire::NoMemory;
 use std::alloc::Global;
 

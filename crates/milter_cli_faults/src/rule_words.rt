@@ -3,11 +3,11 @@
 use crate::file_words::unread_reason;
 use crate::shown_name::shown_name;
 use milter_cli_io::{list_paths, say_lists};
+use milter_rule_words::say_fault;
 use milter_rules::{Notes, RuleFault, Span, read_rule_lines};
-use milter_rules_faults::say_fault;
 use milter_wire::NoMemory;
-use std::alloc::Global;
 use std::fs;
+use std::alloc::Global;
 use std::path::Path;
 
 /// Says why the rule file at this path, which has these bytes, can't be used: its first fault, or that of its lists,

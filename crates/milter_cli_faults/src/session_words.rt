@@ -6,8 +6,8 @@ use crate::session_forms::{
     FAMILIES, FIRST_WORDS, MACRO_STAGES, due_after, form_of, has_form, unquoted_text,
 };
 use milter_mail_file::{SessionFault, read_session};
+use milter_rule_words::say_fault;
 use milter_rules::{Notes, RuleFault, Span};
-use milter_rules_faults::say_fault;
 use milter_text::Word;
 use milter_wire::NoMemory;
 
