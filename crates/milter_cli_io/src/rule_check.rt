@@ -1,8 +1,8 @@
 //! The check of a rule file.
 
+use milter_rule_check::say_findings;
 use milter_rule_words::say_fault;
 use milter_rules::{Notes, Severity, read_rule_lines};
-use milter_rules_check::say_findings;
 use milter_text::{TextFault, write_text};
 use std::alloc::Global;
 use std::io::Write;
