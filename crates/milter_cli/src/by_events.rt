@@ -2,7 +2,7 @@
 //! memory while the events happen.
 
 ghost use Rattle.std.specs.Prelude.{IfErr, IfOk, OnErr, OnOk};
-ghost use Rattle.milter_world_events.specs.EventFile.{IsEventFile};
+ghost use Rattle.milter_world.specs.EventFile.{IsEventFile};
 ghost use Rattle.milter_world.specs.Reached.{scenario_of};
 ghost use Rattle.milter_cli_io.specs.FileRun.{Has, HasNone, IsFileFault, IsOf};
 ghost use Rattle.milter_cli.specs.InMemory.{IsRun, WritesAtMost, WritesReports};
@@ -12,8 +12,7 @@ use milter_filter::Policy;
 use milter_mail::Session;
 use milter_mta::Config;
 use milter_mta_client::{PlayFault, write_reports};
-use milter_world::{Event, run};
-use milter_world_events::read_events;
+use milter_world::{Event, read_events, run};
 use std::alloc::Global;
 use std::io::{Read, Write};
 

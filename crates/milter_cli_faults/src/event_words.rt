@@ -7,7 +7,7 @@ use milter_rule_words::say_fault;
 use milter_rules::{Notes, RuleFault, Span};
 use milter_text::Word;
 use milter_wire::NoMemory;
-use milter_world_events::{EventFault, read_events};
+use milter_world::{EventFault, read_events};
 
 /// The first words of lines.
 const FIRST_WORDS: &str = "dial|send|to-filter|answer|to-mta|die|lose|timeout|round|rounds";

@@ -2,14 +2,13 @@
 
 mod counting_filter;
 
-use crate::input::config_without_bits;
-use crate::printed::print_number;
 use anyhow::bail;
 use counting_filter::Counting;
+use crate::input::config_without_bits;
+use crate::printed::print_number;
 use milter_filter::{CommandOrder, Pass};
 use milter_mail_file::read_session;
-use milter_world::{play, run, run_in_order};
-use milter_world_schedule::Event;
+use milter_world::{Event, play, run, run_in_order};
 use std::alloc::Global;
 
 /// How often the filter, which takes commands in this order, is asked while the events happen.

@@ -3,10 +3,10 @@ use Rattle.std.proofs.Common.{◌≡◌, ℕ, List, Option, refl}
 use Rattle.milter_protocol.specs.declared.command_order.CommandOrder.{CommandOrder}
 use Rattle.milter_mta.specs.Mta.{Mta}
 use Rattle.milter_filter.specs.Cores.{Core}
-use Rattle.milter_world_schedule.specs.declared.event.Event.{Event}
-use Rattle.milter_world_schedule.specs.declared.state.State.{State}
-use Rattle.milter_world_schedule.specs.Schedule.{Scenario}
-use Rattle.milter_world_laws.specs.Ends.{AreEndsOf, Ends, Steps}
+use Rattle.milter_world.specs.declared.event.Event.{Event}
+use Rattle.milter_world.specs.declared.state.State.{State}
+use Rattle.milter_world.specs.Schedule.{Scenario}
+use Rattle.milter_world.specs.Ends.{AreEndsOf, Ends, Steps}
 
 pub steps-as : {P : Type 0} (p : Scenario) (old : Ends P) (event : Event) (new : Ends P) (policy : P) (order : CommandOrder) (mta : Mta) (filter : Option (Core P))
     (to_filter to_mta : List ℕ) (state : State) → policy ≡ new.policy → order ≡ new.order → mta ≡ new.mta → filter ≡ new.filter → to_filter ≡ new.to_filter → to_mta ≡ new.to_mta

@@ -1,10 +1,10 @@
 -- Events one after the other.
 use Rattle.std.proofs.Common.{◌≡◌, List, [], ◌∷◌, ◌++◌, refl, sym, ap, ◌∙◌}
 use Rattle.milter_mta_outcome.specs.declared.report.Report.{Report}
-use Rattle.milter_world_schedule.specs.declared.event.Event.{Event}
-use Rattle.milter_world_schedule.specs.declared.state.State.{State}
-use Rattle.milter_world_schedule.specs.Schedule.{After, Scenario, after_all, happens}
-use Rattle.milter_world_laws.specs.Ends.{Ends, Steps}
+use Rattle.milter_world.specs.declared.event.Event.{Event}
+use Rattle.milter_world.specs.declared.state.State.{State}
+use Rattle.milter_world.specs.Schedule.{After, Scenario, after_all, happens}
+use Rattle.milter_world.specs.Ends.{Ends, Steps}
 use Rattle.milter_world.specs.Reached.{Leads, after_of}
 
 abbrev pub at_after : State → List Report → After

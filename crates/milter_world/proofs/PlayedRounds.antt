@@ -1,15 +1,15 @@
 -- A round keeps what holds of a session that is played without a loss.
 use Rattle.std.proofs.Common.{◌≡◌, ◌≢◌, ◌⊎◌, inl, inr, nat_lt, length, ℕ, suc, ◌<◌, Bool, true, false, if◌then◌else◌, List, [], ◌∷◌, ◌++◌, refl, sym, ap, ◌∙◌, subst, arith}
 use Rattle.milter_protocol.specs.declared.command_order.CommandOrder.{CommandOrder}
-use Rattle.milter_world_schedule.specs.declared.event.Event.{Event}
-use Rattle.milter_world_schedule.specs.declared.event.Event.TheVariants.{Dial}
-use Rattle.milter_world_schedule.specs.declared.state.Counts.{Counts}
-use Rattle.milter_world_schedule.specs.declared.state.State.{State}
-use Rattle.milter_world_schedule.specs.declared.state.State.TheVariants.{Idle, Linked, Done}
-use Rattle.milter_world_schedule.specs.Rounds.{MovesOn, round}
-use Rattle.milter_world_schedule.specs.Schedule.{After, Scenario, after_all, first, happens, idle_at, lines_at, stays}
-use Rattle.milter_world_schedule.specs.DialogueReports.{IsUndisturbed, count_events, is_lose, is_timeout}
-use Rattle.milter_world_laws.specs.Ends.{Ends, Steps, fresh_ends}
+use Rattle.milter_world.specs.declared.event.Event.{Event}
+use Rattle.milter_world.specs.declared.event.Event.TheVariants.{Dial}
+use Rattle.milter_world.specs.declared.state.Counts.{Counts}
+use Rattle.milter_world.specs.declared.state.State.{State}
+use Rattle.milter_world.specs.declared.state.State.TheVariants.{Idle, Linked, Done}
+use Rattle.milter_world.specs.Rounds.{MovesOn, round}
+use Rattle.milter_world.specs.Schedule.{After, Scenario, after_all, first, happens, idle_at, lines_at, stays}
+use Rattle.milter_world.specs.DialogueReports.{IsUndisturbed, count_events, is_lose, is_timeout}
+use Rattle.milter_world.specs.Ends.{Ends, Steps, fresh_ends}
 use Rattle.milter_world.specs.PlayedSessions.{AreUndisturbed, Lives, left_to_move}
 use Rattle.milter_world.specs.Reached.{Leads, after_of}
 use Rattle.milter_world.proofs.EventRuns.{after-both, at_after, then-events}

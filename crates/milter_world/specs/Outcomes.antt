@@ -6,8 +6,8 @@ use Rattle.milter_message.specs.MailObject.{MailObject}
 use Rattle.milter_mta_outcome.specs.declared.report.Report.{Report}
 use Rattle.milter_mta.specs.Accounts.{Disposition}
 use Rattle.milter_mta.specs.AnyFilter.{HaveLastVerdict, client_reports}
-use Rattle.milter_world_schedule.specs.Schedule.{Scenario}
-use Rattle.milter_world_schedule.specs.DialogueReports.{WasGiven}
+use Rattle.milter_world.specs.Schedule.{Scenario}
+use Rattle.milter_world.specs.DialogueReports.{WasGiven}
 
 -- a verdict on the connection is there exactly where it settled messages, and is the last verdict of their reports
 pub record ConnectionIsGiven (s : Disposition) : Type 0 where

@@ -1,12 +1,12 @@
 -- One connection over which everything arrives.
 use Rattle.std.specs.Prelude.{◌≡◌, ℕ, suc, true, List}
-use Rattle.milter_world_schedule.specs.declared.event.Event.{Event}
-use Rattle.milter_world_schedule.specs.declared.state.State.{State}
-use Rattle.milter_world_schedule.specs.declared.state.State.TheVariants.{Idle, Linked, Done}
-use Rattle.milter_world_schedule.specs.Rounds.{to_move}
-use Rattle.milter_world_schedule.specs.Schedule.{Scenario, after_all, first, lines_at, stays}
-use Rattle.milter_world_schedule.specs.DialogueReports.{count_events, is_lose, is_timeout}
-use Rattle.milter_world_laws.specs.Ends.{AreEndsOf, Ends}
+use Rattle.milter_world.specs.declared.event.Event.{Event}
+use Rattle.milter_world.specs.declared.state.State.{State}
+use Rattle.milter_world.specs.declared.state.State.TheVariants.{Idle, Linked, Done}
+use Rattle.milter_world.specs.Rounds.{to_move}
+use Rattle.milter_world.specs.Schedule.{Scenario, after_all, first, lines_at, stays}
+use Rattle.milter_world.specs.DialogueReports.{count_events, is_lose, is_timeout}
+use Rattle.milter_world.specs.Ends.{AreEndsOf, Ends}
 use Rattle.milter_world.specs.Reached.{after_of}
 
 -- a connection with a filter that lives is there, or all is over

@@ -6,9 +6,9 @@ use Rattle.milter_protocol.specs.declared.filter_fault.FilterFault.{FilterFault}
 use Rattle.milter_mta.specs.Mta.{Configuration}
 use Rattle.milter_filter.specs.Cores.{Core, GivesUp, Takes}
 use Rattle.milter_filter_stream.specs.Streams.{received_in}
-use Rattle.milter_world_schedule.specs.declared.event.Event.{Event}
-use Rattle.milter_world_schedule.specs.Schedule.{After, Scenario, after_all}
-use Rattle.milter_world_laws.specs.Ends.{AreEndsOf, Ends, Steps}
+use Rattle.milter_world.specs.declared.event.Event.{Event}
+use Rattle.milter_world.specs.Schedule.{After, Scenario, after_all}
+use Rattle.milter_world.specs.Ends.{AreEndsOf, Ends, Steps}
 
 abbrev pub scenario_of : Behavior → Configuration → MailSession → Scenario
 scenario_of filter config session = record { filter = filter; config = config; session = session }

@@ -1,20 +1,20 @@
 //! A session that is played while any events happen.
 
 ghost use Rattle.std.specs.Prelude.{◌≡◌, ◌≤◌, ◌+◌, All, IfOk, length, min, true};
-ghost use Rattle.milter_world_schedule.specs.Schedule.{run_reports};
-ghost use Rattle.milter_world_schedule.specs.DialogueReports.{AreNegotiated, AreReported, negotiated_of, by_reset, by_timeout, count_events, count_reports, is_known, is_lose, is_timeout, dialogue_about};
+ghost use Rattle.milter_world.specs.Schedule.{run_reports};
+ghost use Rattle.milter_world.specs.DialogueReports.{AreNegotiated, AreReported, negotiated_of, by_reset, by_timeout, count_events, count_reports, is_known, is_lose, is_timeout, dialogue_about};
 ghost use Rattle.milter_world.specs.Outcomes.{ConnectionIsGiven, WereGiven};
 ghost use Rattle.milter_world.specs.Reached.{scenario_of};
 
+use crate::event::Event;
+use crate::laws::{
+    defaults_are_counted, losses_settle_messages, schedules_report_dialogues, verdicts_were_given,
+};
 use crate::world::World;
 use milter_filter::{CommandOrder, Policy};
 use milter_mail::Session;
 use milter_mta::{Config, Reports};
 use milter_wire::NoMemory;
-use milter_world_schedule::{
-    Event, defaults_are_counted, losses_settle_messages, schedules_report_dialogues,
-    verdicts_were_given,
-};
 use std::alloc::Global;
 
 /// Plays a session to the filter with this policy while the events happen, one after the other, and answers with a

@@ -5,15 +5,77 @@
 //! happens, [`run_in_order`] does so to a filter's end that takes commands in a given order, and [`play`] plays over
 //! one connection on which everything arrives. A world drives both ends by their public calls alone: only a filter's
 //! end asks the policy, and only a mail server's end makes reports.
+//!
+//! What becomes of a session over connections that fail: which messages any schedule of events settles, and how.
+//!
+//! The entries of a session are what passes over a connection that is never lost, packet by packet and byte by byte,
+//! and which reports each answer adds. A schedule is stated over whole lists of these bytes and counts, apart from any
+//! code. Nothing here is run: each law is the contract of a function that does nothing.
+//!
+//! Laws of both ends of a connection and of the bytes between them, at any byte: each event leaves both where the
+//! counts of the schedule say, and adds the schedule's reports.
+//!
+//! What a filter's end answers to the bytes of a session's entries is what the entries have; a mail server's end
+//! follows the same entries, however the bytes are cut. Nothing here is run: each law is the contract of a function
+//! that does nothing.
+//!
+//! Event files: [`read_events`] reads the events of a schedule that a file has, or finds the first line that is at
+//! fault.
+//!
+//! What becomes of messages where a filter of rules wants no more than its rules need: the same as where it wants all.
+//!
+//! Nothing here is run: the law is the contract of a function that does nothing.
 #![tactic(auto)]
 
 mod any_schedule;
+mod entries;
+mod event;
+mod event_fault;
+mod event_file;
+mod event_laws;
+mod event_line;
+mod event_rows;
+mod events;
+mod filter_laws;
+mod laws;
+mod least_wants_laws;
 mod moves;
+mod mta_laws;
 mod one_connection;
+mod pieces;
+mod rows;
 mod scenario;
+mod scenarios;
+mod state;
+#[cfg(test)]
+mod tests;
 mod world;
 
 pub use any_schedule::{run, run_in_order};
-pub use milter_world_schedule::{Counts, Event, State};
+pub use entries::{counts_of_bytes, entries_of_sessions};
+pub use event::Event;
+pub use event_fault::EventFault;
+pub use event_file::{EVENTS_MAX, read_events};
+pub use event_laws::{event_limit, events_of_files};
+pub use events::{
+    answered_bytes_step, dialled_ends_step, events_without_effect, fresh_ends_begin, lost_ends_step,
+    received_bytes_step, sent_bytes_step, taken_bytes_step,
+};
+pub use filter_laws::{
+    bytes_are_answered, dialogues_are_answered, sessions_are_answered, sessions_are_replied_to,
+    sessions_need_no_aborts,
+};
+pub use laws::{
+    beginnings_are_acted_on, defaults_are_counted, losses_settle_messages, rounds_move_on,
+    schedules_report_dialogues, undisturbed_schedules_are_ruled, verdicts_were_given,
+};
+pub use least_wants_laws::least_wants_settle_alike;
+pub use mta_laws::{
+    dialogues_are_followed, ends_in_steps, entries_are_followed, pieces_are_followed,
+    places_are_reported,
+};
 pub use one_connection::play;
+pub use pieces::pieces_move;
+pub use scenarios::scenarios_are_possible;
+pub use state::{Counts, State};
 pub use world::World;

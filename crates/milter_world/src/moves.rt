@@ -5,7 +5,7 @@ ghost use Rattle.milter_protocol.specs.declared.filter_state.FilterState.TheVari
 ghost use Rattle.milter_filter.specs.Cores.{Takes};
 ghost use Rattle.milter_mta.specs.Replies.{received};
 ghost use Rattle.milter_mta.specs.Output.{advanced, pending};
-ghost use Rattle.milter_world_laws.specs.Ends.{mta_sent, sent_count};
+ghost use Rattle.milter_world.specs.Ends.{mta_sent, sent_count};
 ghost use Rattle.milter_world.specs.Reached.{CanTake};
 
 use milter_fields::ByteQueue;

@@ -2,19 +2,21 @@
 
 ghost use Rattle.std.specs.Prelude.{◌≡◌, All, IfOk, OnOk, true};
 ghost use Rattle.std.specs.List.{AllZip};
-ghost use Rattle.milter_world_schedule.specs.Rounds.{round};
-ghost use Rattle.milter_world_schedule.specs.Schedule.{Scenario};
-ghost use Rattle.milter_world_schedule.specs.DialogueReports.{HasAllVerdicts, IsRuledBy, is_by_verdict};
-ghost use Rattle.milter_world_laws.specs.Ends.{AreEndsOf};
+ghost use Rattle.milter_world.specs.Rounds.{round};
+ghost use Rattle.milter_world.specs.Schedule.{Scenario};
+ghost use Rattle.milter_world.specs.DialogueReports.{HasAllVerdicts, IsRuledBy, is_by_verdict};
+ghost use Rattle.milter_world.specs.Ends.{AreEndsOf};
 ghost use Rattle.milter_world.specs.Outcomes.{ConnectionIsGiven};
 ghost use Rattle.milter_world.specs.Reached.{AreReached, Leads, scenario_of};
 
+use crate::event::Event;
+use crate::laws::{rounds_move_on, undisturbed_schedules_are_ruled};
+use crate::state::State;
 use crate::world::World;
 use milter_filter::Policy;
 use milter_mail::Session;
 use milter_mta::{Config, Reports};
 use milter_wire::NoMemory;
-use milter_world_schedule::{Event, State, rounds_move_on, undisturbed_schedules_are_ruled};
 use std::alloc::Global;
 
 /// All bytes that are there.

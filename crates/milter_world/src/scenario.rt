@@ -1,12 +1,12 @@
 //! What the types of a policy, a configuration and a session keep.
 
 ghost use Rattle.std.specs.Prelude.{◌≡◌};
-ghost use Rattle.milter_world_laws.specs.Ends.{IsPossible};
+ghost use Rattle.milter_world.specs.Ends.{IsPossible};
 
+use crate::scenarios::scenarios_are_possible;
 use milter_filter::Policy;
 use milter_mail::{Session, SessionParts};
 use milter_mta::Config;
-use milter_world_laws::scenarios_are_possible;
 
 /// The session itself: with this configuration and this policy it makes a scenario that is possible.
 pub(crate) fn possible_session<P: Policy>(config: &Config, session: Session, policy: &P) -> Session

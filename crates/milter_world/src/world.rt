@@ -2,24 +2,25 @@
 
 ghost use Rattle.std.specs.Prelude.{◌≡◌, IfOk, OnOk, []};
 ghost use Rattle.milter_protocol.specs.declared.command_order.CommandOrder.TheVariants.{Strict};
-ghost use Rattle.milter_world_schedule.specs.declared.event.Event.TheVariants as events;
-ghost use Rattle.milter_world_schedule.specs.declared.event.Event.{Event};
-ghost use Rattle.milter_world_schedule.specs.Schedule.{Scenario};
-ghost use Rattle.milter_world_laws.specs.Ends.{AreEndsOf, IsLossBy, Steps, fresh_ends};
+ghost use Rattle.milter_world.specs.declared.event.Event.TheVariants as events;
+ghost use Rattle.milter_world.specs.declared.event.Event.{Event};
+ghost use Rattle.milter_world.specs.Schedule.{Scenario};
+ghost use Rattle.milter_world.specs.Ends.{AreEndsOf, IsLossBy, Steps, fresh_ends};
 ghost use Rattle.milter_world.specs.Reached.{AreReached, StepsTo};
 
+use crate::event::Event;
+use crate::events::{
+    answered_bytes_step, dialled_ends_step, events_without_effect, fresh_ends_begin, lost_ends_step,
+    received_bytes_step, sent_bytes_step, taken_bytes_step,
+};
 use crate::moves::{feed_filter, feed_mta, send_bytes, take_replies};
 use crate::scenario::possible_session;
+use crate::state::{Counts, State};
 use milter_fields::ByteQueue;
 use milter_filter::{CommandOrder, FilterCore, Policy};
 use milter_mail::Session;
 use milter_mta::{Config, Loss, MtaCore, Reports, Want};
 use milter_wire::NoMemory;
-use milter_world_laws::{
-    answered_bytes_step, dialled_ends_step, events_without_effect, fresh_ends_begin, lost_ends_step,
-    received_bytes_step, sent_bytes_step, taken_bytes_step,
-};
-use milter_world_schedule::{Counts, Event, State};
 use std::alloc::Global;
 use std::marker::Model;
 
@@ -42,7 +43,7 @@ pub struct World<'p, P: Policy> {
 }
 
 impl<'p, P: Policy> Model for World<'p, P> {
-    ghost use Rattle.milter_world_laws.specs.Ends.{Ends};
+    ghost use Rattle.milter_world.specs.Ends.{Ends};
 
     ghost Value = { Ends P };
 

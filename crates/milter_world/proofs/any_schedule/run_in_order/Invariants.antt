@@ -1,6 +1,6 @@
 use Rattle.std.proofs.Common.{◌≡◌, drop}
-use Rattle.milter_world_schedule.specs.Schedule.{Scenario, after_all, first, stays}
-use Rattle.milter_world_laws.specs.Ends.{AreEndsOf}
+use Rattle.milter_world.specs.Schedule.{Scenario, after_all, first, stays}
+use Rattle.milter_world.specs.Ends.{AreEndsOf}
 use Rattle.milter_world.specs.Reached.{after_of, scenario_of}
 use Rattle.milter_world.proofs.any_schedule.run_in_order.Given as goal
 

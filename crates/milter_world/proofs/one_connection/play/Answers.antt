@@ -2,10 +2,10 @@ use Rattle.std.proofs.Common.{◌≡◌, All, List, true, sym, ap, subst, ◌∙
 use Rattle.std.specs.List.{AllZip}
 use Rattle.milter_protocol.specs.declared.command_order.CommandOrder.TheVariants.{Strict}
 use Rattle.milter_mta_outcome.specs.declared.report.Report.{Report}
-use Rattle.milter_world_schedule.specs.declared.state.State.{State}
-use Rattle.milter_world_schedule.specs.Schedule.{After, Scenario, run_reports}
-use Rattle.milter_world_schedule.specs.DialogueReports.{HasAllVerdicts, IsRuledBy, IsUndisturbed, is_by_verdict}
-use Rattle.milter_world_laws.specs.Ends.{IsAt, IsLinked}
+use Rattle.milter_world.specs.declared.state.State.{State}
+use Rattle.milter_world.specs.Schedule.{After, Scenario, run_reports}
+use Rattle.milter_world.specs.DialogueReports.{HasAllVerdicts, IsRuledBy, IsUndisturbed, is_by_verdict}
+use Rattle.milter_world.specs.Ends.{IsAt, IsLinked}
 use Rattle.milter_world.specs.PlayedSessions.{AreUndisturbed, Lives}
 use Rattle.milter_world.specs.Reached.{scenario_of}
 use Rattle.milter_world.proofs.Connections.{connection-given}

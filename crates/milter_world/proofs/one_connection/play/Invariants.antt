@@ -1,5 +1,5 @@
 use Rattle.std.proofs.Common.{◌≡◌}
-use Rattle.milter_world_schedule.specs.Schedule.{Scenario}
+use Rattle.milter_world.specs.Schedule.{Scenario}
 use Rattle.milter_world.specs.PlayedSessions.{AreUndisturbed, left_to_move}
 use Rattle.milter_world.specs.Reached.{scenario_of}
 use Rattle.milter_world.proofs.one_connection.play.Given as goal

@@ -1,6 +1,6 @@
 use Rattle.std.proofs.Common.{◌+◌, ◌++◌, Some, arith, take, sym, ap, ◌∙◌}
-use Rattle.milter_world_schedule.specs.declared.event.Event.TheVariants as events
-use Rattle.milter_world_schedule.specs.declared.state.State.TheVariants.{Linked}
+use Rattle.milter_world.specs.declared.event.Event.TheVariants as events
+use Rattle.milter_world.specs.declared.state.State.TheVariants.{Linked}
 use Rattle.milter_world.proofs.EndsByParts.{steps-as}
 use Rattle.milter_world.proofs.world.World.answer.Goals as goal
 

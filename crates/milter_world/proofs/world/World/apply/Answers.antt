@@ -1,8 +1,8 @@
 use Rattle.std.proofs.Common.{refl, sym, subst, arith}
 use Rattle.std.proofs.lemmas.Grind.{common_steps}
-use Rattle.milter_world_schedule.specs.declared.event.Event.{Event}
-use Rattle.milter_world_schedule.specs.declared.event.Event.TheVariants.{Lose, Timeout}
-use Rattle.milter_world_laws.specs.Ends.{Steps}
+use Rattle.milter_world.specs.declared.event.Event.{Event}
+use Rattle.milter_world.specs.declared.event.Event.TheVariants.{Lose, Timeout}
+use Rattle.milter_world.specs.Ends.{Steps}
 use Rattle.milter_world.proofs.world.World.apply.Goals as goal
 
 pub returns-in-Lose : goal.returns-in-Lose

@@ -1,7 +1,7 @@
 use Rattle.std.proofs.Common.{◌≢◌, length, sym, ap, ◌∙◌}
 use Rattle.milter_mta.specs.Output.{want}
 use Rattle.milter_mta.specs.Dispositions.{lost}
-use Rattle.milter_world_schedule.specs.declared.state.State.TheVariants.{Done, Idle}
+use Rattle.milter_world.specs.declared.state.State.TheVariants.{Done, Idle}
 use Rattle.milter_world.proofs.EndsByParts.{steps-as}
 use Rattle.milter_world.proofs.world.World.lose.Goals as goal
 use Rattle.milter_world.proofs.world.World.lose.Goals.{in-Dial, in_default-want}

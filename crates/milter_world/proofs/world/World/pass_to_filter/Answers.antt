@@ -1,8 +1,8 @@
 use Rattle.std.proofs.Common.{◌≡◌, ◌≢◌, ℕ, ◌+◌, List, [], ◌∷◌, Some, arith, take, drop, length, refl, sym, ap, ◌∙◌, subst}
-use Rattle.milter_world_schedule.specs.declared.event.Event.TheVariants as events
-use Rattle.milter_world_schedule.specs.declared.state.State.TheVariants.{Linked}
-use Rattle.milter_world_laws.specs.Ends.{AreEndsOf, Steps}
-use Rattle.milter_world_schedule.specs.Schedule.{Scenario}
+use Rattle.milter_world.specs.declared.event.Event.TheVariants as events
+use Rattle.milter_world.specs.declared.state.State.TheVariants.{Linked}
+use Rattle.milter_world.specs.Ends.{AreEndsOf, Steps}
+use Rattle.milter_world.specs.Schedule.{Scenario}
 use Rattle.milter_world.proofs.EndsByParts.{steps-as}
 use Rattle.milter_world.proofs.world.World.pass_to_filter.Goals as goal
 use Rattle.milter_protocol.specs.Behavior.{Behavior}

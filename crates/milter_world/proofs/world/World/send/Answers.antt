@@ -1,11 +1,11 @@
 use Rattle.std.proofs.Common.{◌≡◌, ℕ, ◌+◌, ◌++◌, List, arith, take, refl, sym, ap, ◌∙◌}
-use Rattle.milter_world_schedule.specs.declared.event.Event.TheVariants as events
-use Rattle.milter_world_schedule.specs.declared.state.State.TheVariants.{Linked}
+use Rattle.milter_world.specs.declared.event.Event.TheVariants as events
+use Rattle.milter_world.specs.declared.state.State.TheVariants.{Linked}
 use Rattle.milter_world.proofs.EndsByParts.{steps-as}
 use Rattle.milter_world.proofs.world.World.send.Goals as goal
 use Rattle.std.proofs.Common.{Bool, true, false, if◌then◌else◌}
 use Rattle.milter_mta.specs.Output.{advanced, pending, want}
-use Rattle.milter_world_laws.specs.Ends.{mta_sent, sent_count}
+use Rattle.milter_world.specs.Ends.{mta_sent, sent_count}
 use Rattle.milter_world.proofs.world.World.send.Goals.{in-Done-want, in_default-want}
 
 pub returns-in_default : goal.returns-in_default

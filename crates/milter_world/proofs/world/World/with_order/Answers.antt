@@ -2,7 +2,7 @@ use Rattle.std.proofs.Common.{refl, sym, ap, ◌∙◌}
 use Rattle.milter_mail.specs.MailSession.{MailSession}
 use Rattle.milter_mta.specs.Mta.{fresh}
 use Rattle.milter_mta.specs.Output.{want}
-use Rattle.milter_world_laws.specs.Ends.{fresh_ends}
+use Rattle.milter_world.specs.Ends.{fresh_ends}
 use Rattle.milter_world.specs.Reached.{scenario_of}
 use Rattle.milter_world.proofs.EndsByParts.{ends-as, same-ends}
 use Rattle.milter_world.proofs.world.World.with_order.Goals as goal

@@ -1,0 +1,28 @@
+use Rattle.std.proofs.Common.{[], arith, subst}
+use Rattle.milter_wire.specs.Negotiation.{has_leading_space}
+use Rattle.milter_mail.specs.Plan.{plan}
+use Rattle.milter_world.specs.declared.state.State.{State}
+use Rattle.milter_world.specs.DialogueReports.{negotiated_of}
+use Rattle.milter_world.specs.Schedule.{run_reports}
+use Rattle.milter_world.proofs.EntryAccounts.{dialogue_with-laws}
+use Rattle.milter_world.proofs.Progress.{Left, run-settles}
+use Rattle.milter_world.proofs.laws.losses_settle_messages.Goals as goal
+
+pub returns-clause-losses : goal.returns-clause-losses
+returns-clause-losses c = λ p events.
+    let laws = dialogue_with-laws p (λ message. c.plans_are_sent.ensures.plan (negotiated_of p) p.session message)
+    (λ message. c.plans_are_sent.ensures.next (negotiated_of p) [] p.session message (record { proper = tt; in_order = tt }))
+    (λ message end. c.closed_dialogues_rule.ensures.whole_dialogue p.filter (negotiated_of p) [] (plan (negotiated_of p) p.session message) (has_leading_space (negotiated_of p)) message end)
+    (λ message other client. c.dialogues_of_messages.ensures.next p.filter (negotiated_of p) p.session message other client)
+    (λ message other client. c.dialogues_of_messages.ensures.same p.filter (negotiated_of p) p.session message other client) in
+    let more = (run-settles p laws events).more in
+    omega (arith, more)
+
+pub returns-clause-done : goal.returns-clause-done
+returns-clause-done c = λ p events is.
+    let laws = dialogue_with-laws p (λ message. c.plans_are_sent.ensures.plan (negotiated_of p) p.session message)
+    (λ message. c.plans_are_sent.ensures.next (negotiated_of p) [] p.session message (record { proper = tt; in_order = tt }))
+    (λ message end. c.closed_dialogues_rule.ensures.whole_dialogue p.filter (negotiated_of p) [] (plan (negotiated_of p) p.session message) (has_leading_space (negotiated_of p)) message end)
+    (λ message other client. c.dialogues_of_messages.ensures.next p.filter (negotiated_of p) p.session message other client)
+    (λ message other client. c.dialogues_of_messages.ensures.same p.filter (negotiated_of p) p.session message other client) in
+    subst (λ (s : State). Left p laws s (run_reports p events)) is (run-settles p laws events).left

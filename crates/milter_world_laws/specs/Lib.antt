@@ -1,4 +1,0 @@
-pub mod Answered
-pub mod FilterTranscript
-pub mod FollowedLines
-pub mod Ends

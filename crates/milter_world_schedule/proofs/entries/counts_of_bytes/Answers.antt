@@ -1,5 +1,0 @@
-use Rattle.milter_world_schedule.proofs.CountedBytes.{owed-due}
-use Rattle.milter_world_schedule.proofs.entries.counts_of_bytes.Goals as goal
-
-pub returns : goal.returns
-returns c = owed-due
