@@ -1,9 +1,11 @@
 //! The reading of a capture.
 
+use crate::capture_reader::CaptureReader;
 use crate::connection::Connection;
 use crate::connection_table::ConnectionTable;
+use crate::fault::CaptureFault;
+use crate::record::{Frame, Record};
 use crate::segment::segment_in;
-use milter_capture_file::{CaptureFault, CaptureReader, Frame, Record};
 use std::alloc::Global;
 
 /// What was read of a capture.

@@ -1,9 +1,9 @@
 //! A TCP connection of a capture.
 
+use crate::fault::CaptureFault;
 use crate::offer::OfferReader;
 use crate::segment::Segment;
 use crate::stream::Stream;
-use milter_capture_file::CaptureFault;
 use std::alloc::Global;
 use std::net::SocketAddr;
 

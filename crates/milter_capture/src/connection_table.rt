@@ -1,8 +1,8 @@
 //! The connections of a capture, by the addresses of their sides.
 
 use crate::connection::Connection;
+use crate::fault::CaptureFault;
 use crate::segment::Segment;
-use milter_capture_file::CaptureFault;
 use std::alloc::Global;
 use std::collections::BTreeMap;
 use std::net::SocketAddr;

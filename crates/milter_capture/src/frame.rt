@@ -1,6 +1,6 @@
 //! The IP packet in a frame.
 
-use milter_capture_file::LinkType;
+use crate::link_type::LinkType;
 
 /// The bytes of an Ethernet frame before its type.
 const ADDRESSES: usize = 12;

@@ -1,7 +1,7 @@
 //! What an IP packet carries of TCP.
 
+use crate::byte_order::at_most;
 use crate::internet6::datagram6;
-use milter_capture_file::at_most;
 use std::net::{IpAddr, Ipv4Addr};
 
 /// The protocol number of TCP.

@@ -1,7 +1,7 @@
 //! What an IPv6 packet carries of TCP.
 
+use crate::byte_order::at_most;
 use crate::internet::{Datagram, TCP, segment_length};
-use milter_capture_file::at_most;
 use std::net::{IpAddr, Ipv6Addr};
 
 /// What follows a header of IPv6.

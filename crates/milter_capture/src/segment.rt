@@ -2,7 +2,7 @@
 
 use crate::frame::internet_packet;
 use crate::internet::{Datagram, datagram_in};
-use milter_capture_file::Frame;
+use crate::record::Frame;
 use std::net::SocketAddr;
 
 /// The bit of a segment that is the last of its direction.

@@ -1,6 +1,6 @@
 //! What is said of faults of a capture.
 
-use milter_capture_file::CaptureFault;
+use milter_capture::CaptureFault;
 
 /// What a fault means, and what is due; nothing where memory was refused.
 pub(crate) fn capture_meaning(fault: CaptureFault) -> Option<&'static str> {

@@ -17,7 +17,7 @@ use crate::session_words::say_session;
 use crate::shown_name::shown_name;
 use crate::socket_words::{say_unbound, say_unconnected};
 use crate::trace_words::{say_recording, say_trace};
-use milter_capture_file::CaptureFault;
+use milter_capture::CaptureFault;
 use milter_cli_io::{AnswerError, FileError, InputFile, ToolError};
 use milter_cli_request::{Address, Request, UsageError};
 use milter_mta_client::{difference_text, lines_of};

@@ -8,7 +8,7 @@ use Rattle.clap.specs.declared.error.kind.ErrorKind.{ErrorKind}
 use Rattle.clap.specs.declared.error.kind.ErrorKind.TheVariants.{DisplayHelp, DisplayVersion, OutOfMemory}
 use Rattle.milter_cli_io.specs.AnswerRun.{answer_error_text}
 use Rattle.milter_cli_io.specs.FileRun.{file_error_text}
-use Rattle.milter_capture_file.specs.FaultText.{capture_fault_text}
+use Rattle.milter_capture.specs.FaultText.{capture_fault_text}
 use Rattle.milter_text.specs.declared.text_fault.TextFault.{TextFault}
 use Rattle.milter_text.specs.declared.text_fault.TextFault.TheVariants as texts
 use Rattle.milter_trace.specs.FaultText.{fault_text}

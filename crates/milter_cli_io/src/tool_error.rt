@@ -8,7 +8,7 @@ ghost use Rattle.milter_cli_io.specs.ToolError.{EndsBy, IsShown, argument_error,
 use clap::error::ErrorKind;
 use crate::answer_error::AnswerError;
 use crate::file_error::FileError;
-use milter_capture_file::CaptureFault;
+use milter_capture::CaptureFault;
 use milter_cli_request::UsageError;
 use milter_service::ServiceError;
 use milter_text::TextFault;

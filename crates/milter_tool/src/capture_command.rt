@@ -1,7 +1,7 @@
 //! The subcommand `trace` of captures.
 
 use crate::opened_file::open;
-use milter_capture_text::{PrintFault, print_capture};
+use milter_capture::{PrintFault, print_capture};
 use milter_cli_faults::Failure;
 use milter_cli_io::{InputFile, ToolError, output_error, read_file};
 use milter_trace::TraceForm;

@@ -1,6 +1,6 @@
 //! How the printing of a capture can end before its end.
 
-use milter_capture::CaptureFault;
+use crate::fault::CaptureFault;
 use milter_text::TextFault;
 use milter_wire::NoMemory;
 

@@ -1,7 +1,7 @@
 //! Why a file isn't read as a capture.
 
-ghost use Rattle.milter_capture_file.specs.FaultText.{capture_fault_text};
-ghost use Rattle.milter_capture_file.specs.declared.fault.CaptureFault.TheVariants as faults;
+ghost use Rattle.milter_capture.specs.FaultText.{capture_fault_text};
+ghost use Rattle.milter_capture.specs.declared.fault.CaptureFault.TheVariants as faults;
 ghost use Rattle.std.specs.Prelude.{◌≡◌};
 
 use milter_fields::RefusedMemory;

@@ -1,9 +1,9 @@
 //! The lines of a connection.
 
+use crate::connection::{Connection, Piece, Sender};
 use crate::elapsed::Elapsed;
 use crate::print_fault::PrintFault;
 use crate::side_text::SideText;
-use milter_capture::{Connection, Piece, Sender};
 use milter_text::write_text;
 use milter_trace::{Direction, TraceForm};
 use milter_wire::NoMemory;

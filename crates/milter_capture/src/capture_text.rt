@@ -1,8 +1,8 @@
 //! The lines of a capture.
 
+use crate::capture::{Capture, read_capture};
 use crate::connection_text::print_connection;
 use crate::print_fault::PrintFault;
-use milter_capture::{Capture, read_capture};
 use milter_text::write_text;
 use milter_trace::TraceForm;
 use milter_wire::NoMemory;

@@ -1,7 +1,7 @@
 -- The fault lines of captures, before their LF.
 use Rattle.std.specs.Prelude.{ℕ, List, ◌++◌, Option, None, Some, codes, decimal}
-use Rattle.milter_capture_file.specs.declared.fault.CaptureFault.{CaptureFault}
-use Rattle.milter_capture_file.specs.declared.fault.CaptureFault.TheVariants.{NotCapture, Truncated, BadRecord, LinkType, NoMemory}
+use Rattle.milter_capture.specs.declared.fault.CaptureFault.{CaptureFault}
+use Rattle.milter_capture.specs.declared.fault.CaptureFault.TheVariants.{NotCapture, Truncated, BadRecord, LinkType, NoMemory}
 
 -- the line of each fault; that of a link type is stated nowhere
 abbrev pub capture_fault_text : CaptureFault → Option (List ℕ)
