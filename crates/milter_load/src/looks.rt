@@ -2,9 +2,10 @@
 
 use crate::load::{FIRST, Load};
 use crate::load_error::LoadError;
+use crate::outcome::Cause;
+use crate::report::write_progress;
 use crate::settings::SECOND;
 use crate::slot::Need;
-use milter_load::{Cause, write_progress};
 use std::io::{ErrorKind, Write};
 
 /// How many microseconds pass between two looks at all connections.

@@ -1,6 +1,10 @@
 //! A connection of a load that is open.
 
-use milter_load::{Advance, Cause, Conversation, Moment, Schedule, Totals};
+use crate::advance::Advance;
+use crate::conversation::{Conversation, Moment};
+use crate::outcome::Cause;
+use crate::schedule::Schedule;
+use crate::totals::Totals;
 use milter_mail::Session;
 use milter_mta_connection::Want;
 use milter_sockets::Stream;

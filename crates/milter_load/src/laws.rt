@@ -1,7 +1,7 @@
 //! Laws of the buckets of latencies, each the contract of a function that does nothing.
 
 ghost use Rattle.std.specs.Prelude.{◌≡◌, ◌+◌, ◌*◌, ◌^◌, ◌<◌, ◌≤◌, ℕ};
-ghost use Rattle.milter_load_stats.specs.Buckets.{bucket_of, highest_in, lowest_in};
+ghost use Rattle.milter_load.specs.Buckets.{bucket_of, highest_in, lowest_in};
 
 /// A value is between the lowest and the highest of its bucket, which are at most a sixty-fourth of it apart; and where
 /// one bucket ends the next one begins.
