@@ -1,7 +1,9 @@
 //! What broke, and its line.
 
+use crate::exchange::Place;
+use crate::given::{Difference, Given};
+use crate::trial::Trial;
 use milter_mta_outcome::Loss;
-use milter_probe_trials::{Difference, Given, Place, Trial};
 use milter_wire::NoMemory;
 use std::alloc::Global;
 

@@ -1,12 +1,13 @@
 //! The trials of a filter, one after another.
 
 use crate::breakage::{Broken, When, reference_line, trial_line};
+use crate::kind::Kind;
 use crate::reference::{OFFER, Reference, is_lost};
 use crate::session_end::send_session;
 use crate::tally::{has_broken, note, tally_lines};
+use crate::trial::{Trial, chosen, trials};
 use milter_mail::Session;
 use milter_mta_client::Dial;
-use milter_probe_trials::{Kind, Trial, chosen, trials};
 use milter_text::{TextFault, write_text};
 use std::alloc::Global;
 use std::io::Write;

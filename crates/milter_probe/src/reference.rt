@@ -1,12 +1,15 @@
 //! What the trials are made of, and the connections on which they are made.
 
 use crate::breakage::Broken;
+use crate::exchange::{Exchange, Place};
+use crate::given::first_difference;
+use crate::script::{Play, Script, plain, play_of};
 use crate::script_end::play_script;
 use crate::session_end::{SentSession, send_session};
+use crate::trial::Trial;
 use milter_mail::Session;
 use milter_mta_client::Dial;
 use milter_mta_outcome::{Loss, MtaFault};
-use milter_probe_trials::{Exchange, Place, Play, Script, Trial, first_difference, plain, play_of};
 use milter_protocol::{ACTIONS_MAX, PROTOCOL_MAX, VERSION_MAX};
 use milter_wire::{Actions, NoMemory, Options, Protocol};
 use std::thread;

@@ -1,10 +1,12 @@
 //! A script that is played over a connection.
 
 use crate::breakage::Broken;
+use crate::exchange::{Exchange, Place};
+use crate::given::{Difference, Given};
 use crate::link_read::read_some;
+use crate::script::{Cut, Script, Step};
 use milter_mta_connection::{ExpectedReply, FilterEvent, MtaChannel};
 use milter_mta_outcome::{Loss, MtaFault};
-use milter_probe_trials::{Cut, Difference, Exchange, Given, Place, Script, Step};
 use milter_text::write_text;
 use milter_wire::{CommandRef, NoMemory, Options, read_buffer};
 use std::alloc::Global;

@@ -1,11 +1,12 @@
 //! A session that is sent plainly, and what passes over its connection.
 
 use crate::breakage::Broken;
+use crate::exchange::{Exchange, Place};
+use crate::given::Given;
 use crate::link_read::{READS_MAX, read_some};
 use milter_mail::{Macros, Message, Session};
 use milter_mta_connection::{CallFault, CallOutcome, FilterEvent, MtaConnection, Phase, Want};
 use milter_mta_outcome::Loss;
-use milter_probe_trials::{Exchange, Given, Place};
 use milter_text::write_text;
 use milter_wire::{HEAD_LEN, NoMemory, Options, Packet, Stage, read_buffer};
 use std::alloc::Global;

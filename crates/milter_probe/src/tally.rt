@@ -1,7 +1,7 @@
 //! How many trials of each kind were made, and how many broke.
 
 use crate::breakage::put_number;
-use milter_probe_trials::Kind;
+use crate::kind::Kind;
 use milter_wire::NoMemory;
 use std::alloc::Global;
 

@@ -1,7 +1,7 @@
 //! Which trials are made of a conversation.
 
 ghost use Rattle.std.specs.Prelude.{◌≡◌, ◌==◌, ◌<◌, filter};
-ghost use Rattle.milter_probe_trials.specs.Trials.{chosen, kind_number};
+ghost use Rattle.milter_probe.specs.Trials.{chosen, kind_number};
 
 use crate::exchange::{
     Exchange, Place, came_len, message_count, packet_count, packet_place, sent_len,

@@ -1,8 +1,8 @@
 -- Which trials are made.
 use Rattle.std.specs.Prelude.{ℕ, List, Option, None, Some, ◌==◌, filter}
-use Rattle.milter_probe_trials.specs.declared.kind.Kind.{Kind}
-use Rattle.milter_probe_trials.specs.declared.kind.Kind.TheVariants.{CutSent, CutCame, ByteByByte, Ahead, Offer, Abort, SecondMessage, SecondClient, Mutated}
-use Rattle.milter_probe_trials.specs.declared.trial.Trial.{Trial}
+use Rattle.milter_probe.specs.declared.kind.Kind.{Kind}
+use Rattle.milter_probe.specs.declared.kind.Kind.TheVariants.{CutSent, CutCame, ByteByByte, Ahead, Offer, Abort, SecondMessage, SecondClient, Mutated}
+use Rattle.milter_probe.specs.declared.trial.Trial.{Trial}
 
 -- the number of a kind, in the order in which the kinds are tried
 abbrev pub kind_number : Kind → ℕ

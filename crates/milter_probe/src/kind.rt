@@ -1,7 +1,7 @@
 //! The kinds of trials.
 
 ghost use Rattle.std.specs.Prelude.{◌≡◌};
-ghost use Rattle.milter_probe_trials.specs.Trials.{kind_number};
+ghost use Rattle.milter_probe.specs.Trials.{kind_number};
 
 /// A kind of trials.
 #[derive(Clone, Copy, Debug, PartialEq, Eq)]
