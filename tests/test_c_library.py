@@ -200,7 +200,7 @@ def versions(library):
     version = '%d.%d.%d' % (number >> 16, number >> 8 & 0xff, number & 0xff)
     yield checked('the library', expect, 'version', deiruska.version(), version + programs.unproved())
     for path, pattern in [('bindings/python/pyproject.toml', r'(?m)^version = "(.*)"'),
-                          ('crates/milter_cli_words/src/subcommands.rt', r'VERSION: &str = "(.*)";')]:
+                          ('crates/milter_command_line/src/subcommands.rt', r'VERSION: &str = "(.*)";')]:
         with open(os.path.join(programs.TOP, path), encoding='utf-8') as file:
             yield checked(path, expect, 'version', re.findall(pattern, file.read()), [version])
     options = ['pkg-config', '--modversion', 'deiruska']

@@ -19,7 +19,7 @@ use crate::socket_words::{say_unbound, say_unconnected};
 use crate::trace_words::{say_recording, say_trace};
 use milter_capture::CaptureFault;
 use milter_cli_io::{AnswerError, FileError, InputFile, ToolError};
-use milter_cli_request::{Address, Request, UsageError};
+use milter_command_line::{Address, Request, UsageError};
 use milter_mta_client::{difference_text, lines_of};
 use milter_rules::{Notes, Span};
 use milter_trace::TraceFault;

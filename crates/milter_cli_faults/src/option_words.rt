@@ -1,6 +1,6 @@
 //! What is said of values of options.
 
-use milter_cli_request::GivenMacro;
+use milter_command_line::GivenMacro;
 use milter_rule_words::say_fault;
 use milter_rules::{Notes, RuleFault, Span};
 use milter_wire::NoMemory;

@@ -1,7 +1,7 @@
 //! The files and values that a request names.
 
 use milter_cli_io::InputFile;
-use milter_cli_request::Request;
+use milter_command_line::Request;
 
 /// The path of the file of this kind that a request names.
 pub(crate) fn path_of<'a>(request: &Request<'a>, file: InputFile) -> Option<&'a str> {

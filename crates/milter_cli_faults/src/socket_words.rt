@@ -2,7 +2,7 @@
 
 use crate::failure::SocketFault;
 use crate::file_words::has_folder;
-use milter_cli_request::Address;
+use milter_command_line::Address;
 use milter_rules::{Notes, Span};
 use milter_wire::NoMemory;
 use std::io::ErrorKind;

@@ -15,10 +15,10 @@ use Rattle.milter_trace.specs.FaultText.{fault_text}
 use Rattle.milter_cli_io.specs.declared.tool_error.ToolError.{ToolError}
 use Rattle.milter_cli_io.specs.declared.tool_error.ToolError.TheVariants.{Usage, Trace, Capture, File, Answer}
 use Rattle.milter_cli_io.specs.declared.tool_error.ToolError.TheVariants.{Connect, Differs, Findings, Listen, Record, Write, NoMemory}
-use Rattle.milter_cli_request.specs.UsageError.{usage_lines}
+use Rattle.milter_command_line.specs.UsageError.{usage_lines}
 use Rattle.milter_service.specs.declared.service_error.ServiceError.{ServiceError}
 use Rattle.milter_service.specs.declared.service_error.ServiceError.TheVariants as services
-use Rattle.milter_cli_request.specs.declared.usage_error.UsageError.TheVariants.{CommandLine, NotUtf8}
+use Rattle.milter_command_line.specs.declared.usage_error.UsageError.TheVariants.{CommandLine, NotUtf8}
 
 -- a wrong use of the program, or a fault
 abbrev pub error_status : ToolError → ℕ

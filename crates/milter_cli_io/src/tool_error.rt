@@ -9,7 +9,7 @@ use clap::error::ErrorKind;
 use crate::answer_error::AnswerError;
 use crate::file_error::FileError;
 use milter_capture::CaptureFault;
-use milter_cli_request::UsageError;
+use milter_command_line::UsageError;
 use milter_service::ServiceError;
 use milter_text::TextFault;
 use milter_trace::TraceFault;

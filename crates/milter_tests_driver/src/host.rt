@@ -9,7 +9,7 @@ mod look_up_host;
 
 use anyhow::bail;
 use look_up_host::LookUpHost;
-use milter_cli_request::Address;
+use milter_command_line::Address;
 use milter_service::{Limits, Listener, Service};
 
 /// The mode of a Unix socket.

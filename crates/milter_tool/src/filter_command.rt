@@ -6,7 +6,7 @@ use crate::unbound_socket::unbound;
 use milter_cli::{Connections, filter_run};
 use milter_cli_faults::Failure;
 use milter_cli_io::{RuleUse, ToolError, output_error};
-use milter_cli_request::{Address, FilterRequest, UsageError};
+use milter_command_line::{Address, FilterRequest, UsageError};
 use milter_filter::CommandOrder;
 use milter_rules::Rules;
 use std::io;

@@ -3,7 +3,7 @@
 use crate::session_file::session_at;
 use milter_cli_faults::Failure;
 use milter_cli_io::{ToolError, output_error};
-use milter_cli_request::{Address, LoadRequest, Target as Filter};
+use milter_command_line::{Address, LoadRequest, Target as Filter};
 use milter_load::{LoadError, ReportForm, Settings, Target, Totals, run_load, write_report};
 use milter_mail::Session;
 use milter_mta::{Config, OnLoss};

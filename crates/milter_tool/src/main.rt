@@ -40,7 +40,7 @@ use crate::session_command::print_session_file;
 use crate::trace_command::print_traces;
 use milter_cli_faults::{Failure, explain, explain_words};
 use milter_cli_io::{ToolError, argument_error, end_usage, report};
-use milter_cli_request::{Request, is_explained, parse};
+use milter_command_line::{Request, is_explained, parse};
 use std::env;
 use std::io::{self, IsTerminal, Stderr, Write};
 use std::process::ExitCode;

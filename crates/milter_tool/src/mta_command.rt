@@ -8,7 +8,7 @@ use milter_cli::{
 };
 use milter_cli_faults::Failure;
 use milter_cli_io::{ToolError, output_error};
-use milter_cli_request::{Address, GivenMacro, MtaRequest, Target};
+use milter_command_line::{Address, GivenMacro, MtaRequest, Target};
 use milter_mail::Session;
 use milter_mta::Config;
 use milter_mta_client::mta_run;

@@ -7,7 +7,7 @@ use crate::session_reports::{end_reports, expected_at, kept_error};
 use milter_cli::{load_events, play_run, schedule_run};
 use milter_cli_faults::Failure;
 use milter_cli_io::{InputFile, RuleUse, ToolError, output_error};
-use milter_cli_request::{Offer, PlayRequest};
+use milter_command_line::{Offer, PlayRequest};
 use milter_mail::Session;
 use milter_mta::Config;
 use milter_rules::Rules;

@@ -4,7 +4,7 @@ use crate::session_file::session_at;
 use milter_cli::{Connect, TcpDial, UnixDial, WaitingDial};
 use milter_cli_faults::Failure;
 use milter_cli_io::{ToolError, output_error};
-use milter_cli_request::{Address, ProbeRequest, UsageError};
+use milter_command_line::{Address, ProbeRequest, UsageError};
 use milter_mail::Session;
 use milter_probe::{Kind, Settings, probe};
 use std::io;

@@ -7,7 +7,7 @@ use crate::opened_file::open;
 use milter_cli::{Connect, TcpDial, UnixDial, WaitingDial, load_recording, replay_run};
 use milter_cli_faults::Failure;
 use milter_cli_io::{InputFile, ToolError};
-use milter_cli_request::{Address, ReplayRequest, UsageError};
+use milter_command_line::{Address, ReplayRequest, UsageError};
 use milter_replay::Recording;
 use std::io::{self, Read, Write};
 use std::time::Duration;

@@ -1,5 +1,0 @@
-pub mod AddressLaws
-pub mod RequestLaws
-pub mod FaultlessRows
-pub mod FaultlessWalk
-pub mod OfferLaws

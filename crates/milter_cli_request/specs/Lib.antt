@@ -1,6 +1,0 @@
-pub mod Address
-pub mod CommandLine
-pub mod GivenMacro
-pub mod Target
-pub mod UsageError
-pub mod Mode

@@ -1,7 +1,0 @@
-use Rattle.std.proofs.Common.{◌≡◌, map, take}
-use Rattle.clap.specs.Words.{app_of}
-use Rattle.milter_cli_words.specs.Words.{app_in, with_apps}
-use Rattle.milter_cli_words.proofs.subcommands.with_each.Given as goal
-
-abbrev pub invariant-loop-subcommand : goal.invariant-loop-subcommand
-invariant-loop-subcommand l = app_of l.command ≡ with_apps (app_of l.fn.command) (map app_in (take l.subcommand-index l.subcommands))

@@ -1,0 +1,6 @@
+mod RowLaws
+pub mod AddressLaws
+pub mod RequestLaws
+pub mod FaultlessRows
+pub mod FaultlessWalk
+pub mod OfferLaws
