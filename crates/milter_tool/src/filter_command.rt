@@ -3,11 +3,11 @@
 use crate::command_order::order_of;
 use crate::rule_file::rules_at;
 use crate::unbound_socket::unbound;
-use milter_cli::{Connections, filter_run};
 use milter_cli_faults::Failure;
 use milter_cli_io::{RuleUse, ToolError, output_error};
 use milter_command_line::{Address, FilterRequest, UsageError};
 use milter_filter::CommandOrder;
+use milter_play::{Connections, filter_run};
 use milter_rules::Rules;
 use std::io;
 use std::net::TcpListener;

@@ -2,16 +2,16 @@
 
 use crate::session_file::session_at;
 use crate::session_reports::{end_reports, expected_at, kept_error};
-use milter_cli::{
-    Connect, LimitedDial, Negotiation, SeenDial, TcpDial, UnixDial, WaitingDial, parse_macros,
-    with_macros,
-};
 use milter_cli_faults::Failure;
 use milter_cli_io::{ToolError, output_error};
 use milter_command_line::{Address, GivenMacro, MtaRequest, Target};
 use milter_mail::Session;
 use milter_mta::Config;
 use milter_mta_client::mta_run;
+use milter_play::{
+    Connect, LimitedDial, Negotiation, SeenDial, TcpDial, UnixDial, WaitingDial, parse_macros,
+    with_macros,
+};
 use milter_text::write_text;
 use std::io;
 use std::time::Duration;

@@ -1,11 +1,11 @@
 //! The subcommand `probe`.
 
 use crate::session_file::session_at;
-use milter_cli::{Connect, TcpDial, UnixDial, WaitingDial};
 use milter_cli_faults::Failure;
 use milter_cli_io::{ToolError, output_error};
 use milter_command_line::{Address, ProbeRequest, UsageError};
 use milter_mail::Session;
+use milter_play::{Connect, TcpDial, UnixDial, WaitingDial};
 use milter_probe::{Kind, Settings, probe};
 use std::io;
 use std::time::Duration;

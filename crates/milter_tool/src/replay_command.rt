@@ -4,10 +4,10 @@ ghost use Rattle.std.specs.Prelude.{IfOk};
 ghost use Rattle.milter_replay.specs.Recordings.{AllFit};
 
 use crate::opened_file::open;
-use milter_cli::{Connect, TcpDial, UnixDial, WaitingDial, load_recording, replay_run};
 use milter_cli_faults::Failure;
 use milter_cli_io::{InputFile, ToolError};
 use milter_command_line::{Address, ReplayRequest, UsageError};
+use milter_play::{Connect, TcpDial, UnixDial, WaitingDial, load_recording, replay_run};
 use milter_replay::Recording;
 use std::io::{self, Read, Write};
 use std::time::Duration;

@@ -2,7 +2,7 @@
 
 ghost use Rattle.std.specs.Prelude.{OnErr, OnOk};
 ghost use Rattle.milter_world.specs.Reached.{scenario_of};
-ghost use Rattle.milter_cli.specs.InMemory.{IsPlayed, WritesAtMost, WritesReports};
+ghost use Rattle.milter_play.specs.InMemory.{IsPlayed, WritesAtMost, WritesReports};
 
 use milter_filter::Policy;
 use milter_mail::Session;

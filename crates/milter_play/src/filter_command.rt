@@ -5,7 +5,7 @@ ghost use Rattle.milter_protocol.specs.Behavior.{Behavior};
 ghost use Rattle.milter_protocol.specs.declared.command_order.CommandOrder.{CommandOrder};
 ghost use Rattle.milter_filter.specs.declared.served.Served.{Served};
 ghost use Rattle.milter_text.specs.WrittenText.{WritesText};
-ghost use Rattle.milter_cli.specs.FilterRuns.{ServedAll, ServedSome};
+ghost use Rattle.milter_play.specs.FilterRuns.{ServedAll, ServedSome};
 ghost use Rattle.milter_cli_io.specs.ConnectionLine.{report_line};
 
 use milter_cli_io::ConnectionReport;

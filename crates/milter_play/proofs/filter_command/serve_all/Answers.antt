@@ -1,7 +1,7 @@
 use Rattle.std.proofs.Common.{◌+◌, ◌-◌, ◌∙◌, arith, rules, subst}
 use Rattle.milter_filter.specs.ServedConnections.{ServedBy}
-use Rattle.milter_cli.proofs.FilteringLaws.{cut_off, none_left, on_error, one_more}
-use Rattle.milter_cli.proofs.filter_command.serve_all.Goals as goal
+use Rattle.milter_play.proofs.FilteringLaws.{cut_off, none_left, on_error, one_more}
+use Rattle.milter_play.proofs.filter_command.serve_all.Goals as goal
 
 pub returns-in_err-write_report-clause-cut_off : goal.returns-in_err-write_report-clause-cut_off
 returns-in_err-write_report-clause-cut_off g c =

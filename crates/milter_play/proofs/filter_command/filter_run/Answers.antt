@@ -1,7 +1,7 @@
 use Rattle.std.proofs.Common.{OnErr, OnOk, subst}
 use Rattle.milter_filter.specs.ServedConnections.{ServedBy}
-use Rattle.milter_cli.specs.FilterRuns.{ServedAll, ServedSome}
-use Rattle.milter_cli.proofs.filter_command.filter_run.Goals as goal
+use Rattle.milter_play.specs.FilterRuns.{ServedAll, ServedSome}
+use Rattle.milter_play.proofs.filter_command.filter_run.Goals as goal
 
 pub returns-clause-done : goal.returns-clause-done
 returns-clause-done g c =

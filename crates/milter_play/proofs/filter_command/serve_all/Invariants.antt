@@ -1,6 +1,6 @@
 use Rattle.std.proofs.Common.{◌≡◌, ◌+◌, ◌-◌, ◌≤◌}
-use Rattle.milter_cli.specs.FilterRuns.{ServedAll}
-use Rattle.milter_cli.proofs.filter_command.serve_all.Given as goal
+use Rattle.milter_play.specs.FilterRuns.{ServedAll}
+use Rattle.milter_play.proofs.filter_command.serve_all.Given as goal
 
 abbrev pub invariant-loop-number : goal.invariant-loop-number
 invariant-loop-number g l = record {

@@ -2,7 +2,7 @@
 
 ghost use Rattle.std.specs.Prelude.{◌≤◌, IfOk, length};
 ghost use Rattle.std.specs.Io.KnownBytes.{WriteAppends};
-ghost use Rattle.milter_cli.specs.LimitedLinks.{IsAllowed, Spends};
+ghost use Rattle.milter_play.specs.LimitedLinks.{IsAllowed, Spends};
 
 use milter_mta_client::{Dial, DialFault};
 use std::cmp::min;

@@ -1,7 +1,7 @@
 //! Reports that are compared with those that are expected.
 
 ghost use Rattle.std.specs.Prelude.{◌≡◌, IfErr, IfOk, IfSome, MatchOption, OnOk};
-ghost use Rattle.milter_cli.specs.ExpectedReports.{AreExpected, DifferAt, EndsBeside};
+ghost use Rattle.milter_play.specs.ExpectedReports.{AreExpected, DifferAt, EndsBeside};
 ghost use Rattle.milter_cli_io.specs.FileRun.{IsFileFault, IsOf};
 
 use milter_cli_io::{FileError, InputFile, ToolError, output_error, read_file};
