@@ -6,13 +6,13 @@ use Rattle.milter_filter_rules.specs.declared.rules.Rules.{Rules}
 use Rattle.milter_filter_rules.specs.RulesValue.{case_of, named_of, rule_set, states_protocol}
 use Rattle.milter_rules.specs.ListFiles.{AreRead}
 use Rattle.milter_rules.specs.RuleFile.{IsRuleFile, StatesProtocol}
-use Rattle.milter_cli_io.specs.declared.file_error.FileError.{FileError}
-use Rattle.milter_cli_io.specs.declared.file_error.FileError.TheVariants.{Read, Fault, Write, NoMemory}
+use Rattle.milter_cli.specs.declared.file_error.FileError.{FileError}
+use Rattle.milter_cli.specs.declared.file_error.FileError.TheVariants.{Read, Fault, Write, NoMemory}
 use Rattle.milter_cli_serve.specs.declared.known_file.ReadFile.{ReadFile}
 use Rattle.milter_cli_serve.specs.declared.known_file.RuleBytes.{RuleBytes}
-use Rattle.milter_cli_io.specs.FileRun.{IsFaultOrMemory, IsFileFault}
-use Rattle.milter_cli_io.specs.declared.rules_run.RuleUse.{RuleUse}
-use Rattle.milter_cli_io.specs.UsedRules.{IsFileWith, used_set}
+use Rattle.milter_cli.specs.FileRun.{IsFaultOrMemory, IsFileFault}
+use Rattle.milter_cli.specs.declared.rules_run.RuleUse.{RuleUse}
+use Rattle.milter_cli.specs.UsedRules.{IsFileWith, used_set}
 use Rattle.milter_cli_serve.specs.KnownFiles.{AreUsed, Known, TakesOther, case_by, known, read_again}
 
 module _ (usage : RuleUse) (file : ReadFile) (old new : Known) where

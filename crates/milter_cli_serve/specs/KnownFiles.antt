@@ -7,14 +7,14 @@ use Rattle.milter_filter_rules.specs.RuleSet.{RuleSet}
 use Rattle.milter_filter_rules.specs.RulesValue.{case_of, named_of, rule_set}
 use Rattle.milter_rules.specs.ListFiles.{AreRead}
 use Rattle.milter_rules.specs.RuleFile.{IsRuleFile, StatesProtocol}
-use Rattle.milter_cli_io.specs.declared.file_error.FileError.{FileError}
-use Rattle.milter_cli_io.specs.declared.file_error.FileError.TheVariants.{Fault, NoMemory}
+use Rattle.milter_cli.specs.declared.file_error.FileError.{FileError}
+use Rattle.milter_cli.specs.declared.file_error.FileError.TheVariants.{Fault, NoMemory}
 use Rattle.milter_cli_serve.specs.declared.file_stamp.FileStamp.{FileStamp}
 use Rattle.milter_cli_serve.specs.declared.known_file.ReadFile.{ReadFile}
 use Rattle.milter_cli_serve.specs.declared.known_file.RuleBytes.{RuleBytes}
-use Rattle.milter_cli_io.specs.FileRun.{HasNone}
-use Rattle.milter_cli_io.specs.UsedRules.{IsFileWith, used_set}
-use Rattle.milter_cli_io.specs.declared.rules_run.RuleUse.{RuleUse}
+use Rattle.milter_cli.specs.FileRun.{HasNone}
+use Rattle.milter_cli.specs.UsedRules.{IsFileWith, used_set}
+use Rattle.milter_cli.specs.declared.rules_run.RuleUse.{RuleUse}
 
 -- what the file and its lists had when they were last taken, and the stamps by which they have it still
 pub record Known : Type 0 where

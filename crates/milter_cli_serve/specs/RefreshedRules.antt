@@ -4,7 +4,7 @@ use Rattle.milter_protocol.specs.Behavior.{Behavior}
 use Rattle.milter_filter_rules.specs.RuleSet.{behavior_of}
 use Rattle.milter_filter_rules.specs.RulesValue.{matching_of, rule_set}
 use Rattle.milter_filter_rules.specs.declared.rules.Rules.{Rules}
-use Rattle.milter_cli_io.specs.declared.file_error.FileError.{FileError}
+use Rattle.milter_cli.specs.declared.file_error.FileError.{FileError}
 
 -- what a filter does that goes by these rules
 abbrev pub behavior_by : Rules → Behavior

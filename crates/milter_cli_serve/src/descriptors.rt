@@ -1,6 +1,6 @@
 //! How many connections the descriptors of the process allow.
 
-use milter_cli_io::{InputFile, read_file};
+use milter_cli::{InputFile, read_file};
 use std::alloc::Global;
 use std::fs::{self, File};
 

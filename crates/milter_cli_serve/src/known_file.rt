@@ -4,7 +4,7 @@ ghost use Rattle.std.specs.Prelude.{◌≡◌, ◌↔◌, IsTrue, None, Some};
 ghost use Rattle.milter_cli_serve.specs.KnownFiles.{TakesFile, TakesOther, known, nothing_known};
 
 use crate::file_stamp::FileStamp;
-use milter_cli_io::{FileError, RuleUse, rules_of, used_rules};
+use milter_cli::{FileError, RuleUse, rules_of, used_rules};
 use milter_rules::{ListFile, Rules};
 use milter_wire::{List, Text};
 use std::alloc::Global;

@@ -2,7 +2,7 @@
 
 use crate::file_stamp::FileStamp;
 use crate::known_file::FileStamps;
-use milter_cli_io::ListPath;
+use milter_cli::ListPath;
 use milter_wire::NoMemory;
 use std::alloc::Global;
 use std::fs::{self, File};

@@ -4,14 +4,14 @@ ghost use Rattle.std.specs.Prelude.{◌≡◌, IfErr, IfOk, OnErr, OnOk, Some};
 ghost use Rattle.milter_wire.specs.declared.stage.Stage.{Stage as At};
 ghost use Rattle.milter_protocol.specs.Questions.{wanted_of};
 ghost use Rattle.milter_filter.specs.Connections.{connected_answered, question_in};
-ghost use Rattle.milter_cli_io.specs.FileRun.{IsFileFault};
+ghost use Rattle.milter_cli.specs.FileRun.{IsFileFault};
 ghost use Rattle.milter_cli_serve.specs.RefreshedRules.{Refreshes, behavior_by};
 
 use crate::decision_log::LoggedPolicy;
 use crate::line_output::LineOutput;
 use crate::rule_source::{RuleSource, RuleText, lines_in};
 use crate::service_log::{ServiceEvent, ServiceLog};
-use milter_cli_io::{ConnectionReport, FileError};
+use milter_cli::{ConnectionReport, FileError};
 use milter_filter::{FilterFault, Served, Wants};
 use milter_rules::Rules;
 use milter_service::{AskedConnection, Host, Key, QuestionKey, ServiceError, Shortage, policy_wants};

@@ -4,15 +4,14 @@ use crate::file_stamp::current_second;
 use crate::known_file::{KnownFile, ReadFile, RuleBytes};
 use crate::read_stamps::{ReadStamps, stamp_of, stamps_at};
 use crate::rule_lines::RuleLines;
-use milter_cli_faults::explain_file;
-use milter_cli_io::{
-    FILE_MAX, FileError, InputFile, ListPath, RuleUse, list_file, list_paths, open_list,
-    read_error, read_file, read_list,
+use milter_cli::{
+    FILE_MAX, FileError, InputFile, ListPath, RuleUse, explain_file, list_file, list_paths,
+    open_list, read_error, read_file, read_list,
 };
 use milter_rules::{ListFile, Rules};
 use milter_wire::{List, NoMemory, Text};
-use std::alloc::Global;
 use std::fs;
+use std::alloc::Global;
 use std::marker::Model;
 use std::os::unix::fs::FileTypeExt;
 use std::path::Path;
@@ -30,8 +29,8 @@ pub struct RuleText<'a> {
 pub trait RuleSource {
     ghost use Rattle.std.specs.Prelude.{IfErr, IfSome, Option, Result};
     ghost use Rattle.milter_filter_rules.specs.declared.rules.Rules.{Rules};
-    ghost use Rattle.milter_cli_io.specs.declared.file_error.FileError.{FileError};
-    ghost use Rattle.milter_cli_io.specs.FileRun.{IsFileFault};
+    ghost use Rattle.milter_cli.specs.declared.file_error.FileError.{FileError};
+    ghost use Rattle.milter_cli.specs.FileRun.{IsFileFault};
 
     /// Holds of a source, what it answers when it is asked, and the source then. It claims nothing where an impl leaves
     /// it out.
@@ -102,7 +101,7 @@ impl<'r> RuleFile<'r> {
 
 impl<'r> RuleSource for RuleFile<'r> {
     ghost use Rattle.std.specs.Prelude.{◌≡◌, IfErr, IfSome, None};
-    ghost use Rattle.milter_cli_io.specs.FileRun.{IsFileFault};
+    ghost use Rattle.milter_cli.specs.FileRun.{IsFileFault};
     ghost use Rattle.milter_cli_serve.specs.KnownFiles.{LooksAt};
 
     ghost answers = { LooksAt };

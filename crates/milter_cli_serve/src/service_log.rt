@@ -4,7 +4,7 @@ use crate::decision_log::LogDetail;
 use crate::line_output::LineOutput;
 use crate::log_line::{LogKeys, LogLine, line_of};
 use crate::rule_source::RuleText;
-use milter_cli_io::{FileError, ToolError};
+use milter_cli::{FileError, ToolError};
 use milter_rules::Rules;
 use milter_service::Shortage;
 use milter_text::TextFault;

@@ -7,7 +7,7 @@ use Rattle.milter_protocol.specs.Behavior.{Behavior}
 use Rattle.milter_filter.specs.declared.served.Served.{Served}
 use Rattle.milter_text.specs.WrittenText.{WritesPrefix, WritesText}
 use Rattle.milter_play.specs.FilterRuns.{ServedAll, ServedSome, ServesEach, report_lines}
-use Rattle.milter_cli_io.specs.ConnectionLine.{report_line}
+use Rattle.milter_cli.specs.ConnectionLine.{report_line}
 
 pub on_error : {E P : Type 0} (r : Result Unit E) → P → OnErr r P
 on_error (Ok done) h = tt

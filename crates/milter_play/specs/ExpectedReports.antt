@@ -4,8 +4,8 @@ use Rattle.std.specs.Io.KnownBytes.{Appends}
 use Rattle.milter_text.specs.WrittenText.{WritesPrefix}
 use Rattle.bstr.specs.Text.{lines_of}
 use Rattle.milter_mta_client.specs.Patterns.{IsFirstDifference, stand_for}
-use Rattle.milter_cli_io.specs.declared.tool_error.ToolError.{ToolError}
-use Rattle.milter_cli_io.specs.declared.tool_error.ToolError.TheVariants.{Differs, NoMemory}
+use Rattle.milter_cli.specs.declared.tool_error.ToolError.{ToolError}
+use Rattle.milter_cli.specs.declared.tool_error.ToolError.TheVariants.{Differs, NoMemory}
 
 -- the lines that are expected stand for those of the reports
 abbrev pub AreExpected : List ℕ → List ℕ → Type 0

@@ -4,7 +4,7 @@ use Rattle.std.specs.Io.KnownBytes.{Appends}
 use Rattle.milter_protocol.specs.Behavior.{Behavior}
 use Rattle.milter_filter.specs.declared.served.Served.{Served}
 use Rattle.milter_text.specs.WrittenText.{WritesPrefix}
-use Rattle.milter_cli_io.specs.ConnectionLine.{report_line}
+use Rattle.milter_cli.specs.ConnectionLine.{report_line}
 
 -- the lines of connections in turn, of which the first has this number
 abbrev pub report_lines : ℕ → List Served → List ℕ

@@ -4,10 +4,10 @@
 ghost use Rattle.std.specs.Prelude.{IfErr, IfOk, OnErr, OnOk};
 ghost use Rattle.milter_world.specs.EventFile.{IsEventFile};
 ghost use Rattle.milter_world.specs.Reached.{scenario_of};
-ghost use Rattle.milter_cli_io.specs.FileRun.{Has, HasNone, IsFileFault, IsOf};
+ghost use Rattle.milter_cli.specs.FileRun.{Has, HasNone, IsFileFault, IsOf};
 ghost use Rattle.milter_play.specs.InMemory.{IsRun, WritesAtMost, WritesReports};
 
-use milter_cli_io::{FileError, InputFile, fault_error, read_file};
+use milter_cli::{FileError, InputFile, fault_error, read_file};
 use milter_filter::Policy;
 use milter_mail::Session;
 use milter_mta::Config;

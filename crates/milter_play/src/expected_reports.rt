@@ -2,9 +2,9 @@
 
 ghost use Rattle.std.specs.Prelude.{◌≡◌, IfErr, IfOk, IfSome, MatchOption, OnOk};
 ghost use Rattle.milter_play.specs.ExpectedReports.{AreExpected, DifferAt, EndsBeside};
-ghost use Rattle.milter_cli_io.specs.FileRun.{IsFileFault, IsOf};
+ghost use Rattle.milter_cli.specs.FileRun.{IsFileFault, IsOf};
 
-use milter_cli_io::{FileError, InputFile, ToolError, output_error, read_file};
+use milter_cli::{FileError, InputFile, ToolError, output_error, read_file};
 use milter_fields::NoMemory;
 use milter_mta_client::{first_difference, lines_of};
 use milter_text::write_text;

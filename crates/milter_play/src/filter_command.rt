@@ -6,9 +6,9 @@ ghost use Rattle.milter_protocol.specs.declared.command_order.CommandOrder.{Comm
 ghost use Rattle.milter_filter.specs.declared.served.Served.{Served};
 ghost use Rattle.milter_text.specs.WrittenText.{WritesText};
 ghost use Rattle.milter_play.specs.FilterRuns.{ServedAll, ServedSome};
-ghost use Rattle.milter_cli_io.specs.ConnectionLine.{report_line};
+ghost use Rattle.milter_cli.specs.ConnectionLine.{report_line};
 
-use milter_cli_io::ConnectionReport;
+use milter_cli::ConnectionReport;
 use milter_filter::{CommandOrder, Policy, Served, Server};
 use milter_text::{TextFault, write_text};
 use std::alloc::Global;

@@ -2,7 +2,7 @@
 
 ghost use Rattle.std.specs.Prelude.{◌≡◌, Ok, []};
 
-use milter_cli_io::ToolError;
+use milter_cli::ToolError;
 use milter_command_line::{GivenMacro, UsageError};
 use milter_mail::{Macros, Session, SessionParts};
 use milter_wire::{NoMemory, PairRef, Pairs};

@@ -1,11 +1,11 @@
 //! The subcommand `replay`: the mail server's side of a trace, sent to a filter again.
 
 ghost use Rattle.std.specs.Prelude.{IfErr, IfOk, OnErr, OnOk};
-ghost use Rattle.milter_cli_io.specs.FileRun.{IsOf};
+ghost use Rattle.milter_cli.specs.FileRun.{IsOf};
 ghost use Rattle.milter_replay.specs.Recordings.{AllFit};
 ghost use Rattle.milter_replay.specs.Sending.{SendsAll, SendsSome};
 
-use milter_cli_io::{FileError, InputFile, ToolError, fault_error, output_error, read_file};
+use milter_cli::{FileError, InputFile, ToolError, fault_error, output_error, read_file};
 use milter_replay::{Recording, read_trace, replay};
 use std::alloc::Global;
 use std::io::{Read, Write};

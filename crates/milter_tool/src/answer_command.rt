@@ -2,7 +2,7 @@
 
 use crate::command_order::order_of;
 use crate::rule_file::rules_at;
-use milter_cli_io::{RuleUse, ToolError, ended_as};
+use milter_cli::{RuleUse, ToolError, ended_as};
 use milter_command_line::AnswerRequest;
 use milter_filter::serve_in_order;
 use std::io;

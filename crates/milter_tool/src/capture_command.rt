@@ -2,8 +2,7 @@
 
 use crate::opened_file::open;
 use milter_capture::{PrintFault, print_capture};
-use milter_cli_faults::Failure;
-use milter_cli_io::{InputFile, ToolError, output_error, read_file};
+use milter_cli::{Failure, InputFile, ToolError, output_error, read_file};
 use milter_trace::TraceForm;
 use std::io::{self, Read};
 

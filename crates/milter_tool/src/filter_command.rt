@@ -3,8 +3,7 @@
 use crate::command_order::order_of;
 use crate::rule_file::rules_at;
 use crate::unbound_socket::unbound;
-use milter_cli_faults::Failure;
-use milter_cli_io::{RuleUse, ToolError, output_error};
+use milter_cli::{Failure, RuleUse, ToolError, output_error};
 use milter_command_line::{Address, FilterRequest, UsageError};
 use milter_filter::CommandOrder;
 use milter_play::{Connections, filter_run};

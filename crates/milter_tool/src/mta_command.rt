@@ -2,8 +2,7 @@
 
 use crate::session_file::session_at;
 use crate::session_reports::{end_reports, expected_at, kept_error};
-use milter_cli_faults::Failure;
-use milter_cli_io::{ToolError, output_error};
+use milter_cli::{Failure, ToolError, output_error};
 use milter_command_line::{Address, GivenMacro, MtaRequest, Target};
 use milter_mail::Session;
 use milter_mta::Config;

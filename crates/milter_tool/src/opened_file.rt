@@ -1,6 +1,6 @@
 //! The files that are named on the command line.
 
-use milter_cli_io::{InputFile, ToolError, read_error};
+use milter_cli::{InputFile, ToolError, read_error};
 use std::fs::{self, File};
 
 /// Opens the file at this path.

@@ -1,8 +1,7 @@
 //! The subcommand `probe`.
 
 use crate::session_file::session_at;
-use milter_cli_faults::Failure;
-use milter_cli_io::{ToolError, output_error};
+use milter_cli::{Failure, ToolError, output_error};
 use milter_command_line::{Address, ProbeRequest, UsageError};
 use milter_mail::Session;
 use milter_play::{Connect, TcpDial, UnixDial, WaitingDial};

@@ -2,8 +2,7 @@
 
 use crate::load_command::target_of;
 use crate::serve_command::listener_at;
-use milter_cli_faults::Failure;
-use milter_cli_io::ToolError;
+use milter_cli::{Failure, ToolError};
 use milter_command_line::{Address, RecordRequest, UsageError};
 use milter_record::{RecordError, create_directory, has_traces, record};
 use milter_sockets::Target;

@@ -1,7 +1,7 @@
 //! The rules that a subcommand filters by.
 
 use crate::opened_file::open;
-use milter_cli_io::{
+use milter_cli::{
     FileError, InputFile, RuleUse, ToolError, read_file, read_lists, rules_of, used_rules,
 };
 use milter_rules::Rules;

@@ -1,7 +1,7 @@
 //! The subcommand `rules`.
 
 use crate::opened_file::open;
-use milter_cli_io::{InputFile, ToolError, check_rule_file, print_rules};
+use milter_cli::{InputFile, ToolError, check_rule_file, print_rules};
 use std::io;
 
 /// Prints the rules of the file at this path, in canonical form.

@@ -1,8 +1,7 @@
 //! The subcommand `serve`.
 
 use crate::unbound_socket::unbound;
-use milter_cli_faults::Failure;
-use milter_cli_io::{RuleUse, ToolError, service_error};
+use milter_cli::{Failure, RuleUse, ToolError, service_error};
 use milter_cli_serve::{
     LineOutput, LogDetail, LoggedPolicy, LostWords, RuleFile, RuleHost, RuleSource, RuleText,
     ServiceEvent, ServiceLog, ServiceStart, StandardStream, fill_standard, free_descriptors,

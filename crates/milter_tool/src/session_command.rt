@@ -1,7 +1,7 @@
 //! The subcommand `session`.
 
 use crate::opened_file::open;
-use milter_cli_io::{InputFile, ToolError, print_session};
+use milter_cli::{InputFile, ToolError, print_session};
 use std::io;
 
 /// Prints the session of the file at this path, in canonical form.

@@ -1,7 +1,7 @@
 //! The session of a file.
 
 use crate::opened_file::open;
-use milter_cli_io::{InputFile, ToolError, load_session};
+use milter_cli::{InputFile, ToolError, load_session};
 use milter_mail::Session;
 
 /// The session of the file at this path.

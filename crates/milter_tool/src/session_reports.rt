@@ -1,8 +1,7 @@
 //! The reports of a session, and those that are expected.
 
 use crate::opened_file::open;
-use milter_cli_faults::{DifferingReports, Failure};
-use milter_cli_io::{FileError, InputFile, ToolError, output_error};
+use milter_cli::{DifferingReports, Failure, FileError, InputFile, ToolError, output_error};
 use milter_play::{check_reports, load_reports};
 use milter_text::write_text;
 use std::io;

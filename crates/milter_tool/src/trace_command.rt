@@ -2,8 +2,7 @@
 
 use crate::capture_command::print_captures;
 use crate::opened_file::open;
-use milter_cli_faults::Failure;
-use milter_cli_io::{FileError, InputFile, ToolError};
+use milter_cli::{Failure, FileError, InputFile, ToolError};
 use milter_command_line::TraceRequest;
 use milter_trace::{TraceFault, TraceForm, trace_run_as};
 use std::io;

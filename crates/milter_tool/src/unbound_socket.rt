@@ -1,7 +1,6 @@
 //! Sockets on which nothing listens, since the system refuses them.
 
-use milter_cli_faults::Failure;
-use milter_cli_io::listen_error;
+use milter_cli::{Failure, listen_error};
 use std::io::ErrorKind;
 
 /// The failure of a socket that isn't bound at this address.

@@ -1,8 +1,8 @@
 use Rattle.std.proofs.Common.{ap, ◌∙◌}
 use Rattle.milter_world.specs.EventFault.{event_fault_line}
 use Rattle.milter_world.specs.EventFile.{IsEventFile}
-use Rattle.milter_cli_io.specs.declared.file_error.InputFile.TheVariants.{Events}
-use Rattle.milter_cli_io.proofs.FileLaws.{fault_error-none, has_none}
+use Rattle.milter_cli.specs.declared.file_error.InputFile.TheVariants.{Events}
+use Rattle.milter_cli.proofs.FileLaws.{fault_error-none, has_none}
 use Rattle.milter_play.proofs.by_events.load_events.Goals as goal
 
 pub returns-clause-fault : goal.returns-clause-fault

@@ -1,4 +1,4 @@
-use Rattle.milter_cli_io.specs.ConnectionLine.{report_line}
+use Rattle.milter_cli.specs.ConnectionLine.{report_line}
 use Rattle.milter_play.proofs.FilteringLaws.{unwritten}
 use Rattle.milter_play.proofs.filter_command.write_report.Goals as goal
 

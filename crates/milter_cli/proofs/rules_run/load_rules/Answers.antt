@@ -1,0 +1,12 @@
+use Rattle.std.proofs.Common.{ap, ◌∙◌}
+use Rattle.milter_rules.specs.RuleFault.{rule_fault_line}
+use Rattle.milter_rules.specs.RuleFile.{IsRuleFile}
+use Rattle.milter_cli.specs.declared.file_error.InputFile.TheVariants.{Rules}
+use Rattle.milter_cli.proofs.FileLaws.{fault_error-none, has_none}
+use Rattle.milter_cli.proofs.rules_run.load_rules.Goals as goal
+
+pub returns-clause-fault : goal.returns-clause-fault
+returns-clause-fault g c =
+    λ h. has_none IsRuleFile (g.R.Read.remaining c.args.reader) c.in_ok-file.file.items c.in_ok-file.ensures.bytes
+    (λ s read. (let none = rw c.as_slice.ensures.value at (c.in-Err.ensures.only s) in
+    fault_error-none Rules c.line.result c.number.result (rw c.fault_error.ensures at h) (c.line.ensures ∙ ap rule_fault_line (none read))))
