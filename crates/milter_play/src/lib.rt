@@ -1,6 +1,6 @@
 //! What the subcommands of `milter_tool` do: the answering to mail servers over sockets, the playing of sessions to
 //! filters over sockets and in memory, and the sending of traces to filters again. What is asked for is read by
-//! `milter_command_line`, the files are read by `milter_cli`, and rules that change are those of `milter_cli_serve`.
+//! `milter_command_line`, the files are read by `milter_cli`, and rules that change are those of `milter_serve`.
 #![tactic(auto)]
 
 mod by_events;

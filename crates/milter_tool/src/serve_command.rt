@@ -2,13 +2,13 @@
 
 use crate::unbound_socket::unbound;
 use milter_cli::{Failure, RuleUse, ToolError, service_error};
-use milter_cli_serve::{
+use milter_command_line::{Address, ServeRequest, UsageError, VERSION, parse_mode};
+use milter_rules::Rules;
+use milter_serve::{
     LineOutput, LogDetail, LoggedPolicy, LostWords, RuleFile, RuleHost, RuleSource, RuleText,
     ServiceEvent, ServiceLog, ServiceStart, StandardStream, fill_standard, free_descriptors,
     lines_in,
 };
-use milter_command_line::{Address, ServeRequest, UsageError, VERSION, parse_mode};
-use milter_rules::Rules;
 use milter_service::{Host, Limits, Listener, Service};
 use std::alloc::Global;
 use std::rc::Rc;
