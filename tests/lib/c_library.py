@@ -125,6 +125,6 @@ def constants(crate, file):
 def edits():
     """The numbers of edits in the crates, by the names that the header has for their variants."""
     arm = r'(?s)Edit::(\w+).*? => (?:\w+\(|EditParts \{\s*number: )(\d+)'
-    for variant, number in re.findall(arm, source('milter_c_mta', 'edit_parts.rt')):
+    for variant, number in re.findall(arm, source('milter_c_objects', 'edit_parts.rt')):
         words = re.findall('[A-Z][a-z]+', variant)
         yield '_'.join(['EDIT', *(SPELLED.get(word, word).upper() for word in words)]), int(number)

@@ -3,8 +3,8 @@ use Rattle.std.specs.Prelude.{◌≡◌, [], Some, IsSomeAnd}
 use Rattle.milter_wire.specs.declared.verdict.Verdict.TheVariants.{Continue}
 use Rattle.milter_message.specs.declared.edit.Edit.{Edit}
 use Rattle.milter_protocol.specs.declared.answer.Answer.{Answer}
-use Rattle.milter_c_handle.specs.declared.handle.Handle.{Handle}
-use Rattle.milter_c_handle.specs.Objects.{answer_of}
+use Rattle.milter_c_objects.specs.declared.handle.Handle.{Handle}
+use Rattle.milter_c_objects.specs.Objects.{answer_of}
 use Rattle.milter_c_objects.specs.Edits.{with_edit}
 
 -- Continue, without edits

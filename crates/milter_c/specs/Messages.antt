@@ -2,9 +2,9 @@
 use Rattle.std.specs.Prelude.{ℤ, Result, Ok, Err}
 use Rattle.milter_message.specs.declared.message.Held.{Held}
 use Rattle.milter_mta_connection.specs.Connection.{Connection, has_leading_space_in}
-use Rattle.milter_c_message.specs.Messages.{edited}
-use Rattle.milter_c_message.specs.declared.parts.PartFault.{PartFault}
-use Rattle.milter_c_message.specs.declared.parts.PartFault.TheVariants.{DoesNotFit, NoMemory}
+use Rattle.milter_c_objects.specs.Messages.{edited}
+use Rattle.milter_c_objects.specs.declared.parts.PartFault.{PartFault}
+use Rattle.milter_c_objects.specs.declared.parts.PartFault.TheVariants.{DoesNotFit, NoMemory}
 use Rattle.milter_c_objects.specs.declared.status.TheConstants.{MESSAGE_DOES_NOT_FIT, NO_MEMORY, OK}
 
 -- the message after the edits of the filter's answer

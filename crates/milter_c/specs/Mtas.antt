@@ -6,12 +6,12 @@ use Rattle.milter_mta_connection.specs.ChannelParts.{Receives}
 use Rattle.milter_mta_connection.specs.declared.call_outcome.CallFault.{CallFault}
 use Rattle.milter_mta_connection.specs.declared.call_outcome.CallOutcome.{CallOutcome}
 use Rattle.milter_mta_connection.specs.Connection.{after_fed, fresh}
-use Rattle.milter_c_mta.specs.EditParts.{edit_index, edit_number, first_text, second_text}
-use Rattle.milter_c_mta.specs.MtaEnds.{nothing_fed}
-use Rattle.milter_c_mta.specs.MtaNumbers.{loss_status}
-use Rattle.milter_c_mta.specs.declared.mta_end.MtaEnd.{MtaEnd}
-use Rattle.milter_c_handle.specs.declared.handle.Handle.{Handle}
-use Rattle.milter_c_handle.specs.Objects.{mta_of}
+use Rattle.milter_c_objects.specs.EditParts.{edit_index, edit_number, first_text, second_text}
+use Rattle.milter_c_objects.specs.MtaEnds.{nothing_fed}
+use Rattle.milter_c_objects.specs.MtaNumbers.{loss_status}
+use Rattle.milter_c_objects.specs.declared.mta_end.MtaEnd.{MtaEnd}
+use Rattle.milter_c_objects.specs.declared.handle.Handle.{Handle}
+use Rattle.milter_c_objects.specs.Objects.{mta_of}
 use Rattle.milter_c.specs.declared.view.EditView.{EditView}
 
 abbrev pub options_of : ℕ → ℕ → ℕ → Options

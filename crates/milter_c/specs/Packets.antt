@@ -9,7 +9,7 @@ use Rattle.milter_trace.specs.declared.fault.TraceFault.TheVariants as faults
 use Rattle.milter_trace.specs.PrintedPackets.{PrintedPackets, bytes_trace}
 use Rattle.milter_c_objects.specs.Faults.{wire_fault_number}
 use Rattle.milter_c_objects.specs.declared.status.TheConstants.{BAD_ARGUMENT, NO_MEMORY, TO_FILTER, TO_MTA}
-use Rattle.milter_c_packets.specs.declared.decoded.Decoded.{Decoded}
+use Rattle.milter_c_objects.specs.declared.decoded.Decoded.{Decoded}
 
 abbrev pub frame_of : ℕ → List ℕ → Frame
 frame_of code payload = record { code = code; payload = payload }

@@ -2,7 +2,7 @@
 use Rattle.std.specs.Prelude.{◌≡◌, ℤ, ℕ, List, Option, None, Some}
 use Rattle.milter_fields.specs.Stream.{Frame}
 use Rattle.milter_c_objects.specs.declared.status.TheConstants.{NOTHING, OK}
-use Rattle.milter_c_packets.specs.Parts.{PartValue}
+use Rattle.milter_c_objects.specs.Parts.{PartValue}
 use Rattle.milter_c.specs.declared.view.PacketView.{PacketView}
 use Rattle.milter_c.specs.declared.view.PartView.{PartView}
 use Rattle.milter_c.specs.declared.view.View.{View}

@@ -2,18 +2,16 @@
 
 ghost use Rattle.std.specs.Prelude.{◌≡◌, ◌≢◌, ◌≤◌, ◌<◌, IsSomeAnd, MatchOption, Ok, length, slice_get};
 ghost use Rattle.milter_fields.specs.declared.number.TheConstants.{PAYLOAD_MAX};
-ghost use Rattle.milter_c_handle.specs.Objects.{IsKept, decoded_of};
-ghost use Rattle.milter_c_packets.specs.DecodedPackets.{decoded_command, decoded_reply};
-ghost use Rattle.milter_c_packets.specs.Parts.{parts_of};
+ghost use Rattle.milter_c_objects.specs.Objects.{IsKept, decoded_of};
+ghost use Rattle.milter_c_objects.specs.DecodedPackets.{decoded_command, decoded_reply};
+ghost use Rattle.milter_c_objects.specs.Parts.{parts_of};
 ghost use Rattle.milter_c.specs.Packets.{IsUnread, frame_of};
 ghost use Rattle.milter_c.specs.Views.{part_in};
 
 use crate::let_object::let_object;
 use crate::view::PartView;
-use milter_c_handle::{Handle, Object};
-use milter_c_objects::{memory_status, wire_fault_number};
+use milter_c_objects::{Decoded, Handle, Object, memory_status, wire_fault_number};
 use milter_c_objects::status::{NOTHING, NO_MEMORY, OK, WIRE_NO_MEMORY, WIRE_TOO_LONG, WRONG_KIND};
-use milter_c_packets::Decoded;
 use milter_fields::PAYLOAD_MAX;
 use std::alloc::Global;
 

@@ -11,17 +11,16 @@ ghost use Rattle.milter_protocol.specs.Questions.{IsTaking, ProgressReported, ev
 ghost use Rattle.milter_filter_stream.specs.Conversations.{TakesIn, answered, conversation_by, fresh_conversation, next_step};
 ghost use Rattle.milter_c_objects.specs.Faults.{filter_fault_number};
 ghost use Rattle.milter_c_objects.specs.Numbers.{stage_number, state_status_of, step_number};
-ghost use Rattle.milter_c_handle.specs.Objects.{IsKept, answer_of, filter_of};
+ghost use Rattle.milter_c_objects.specs.Objects.{IsKept, answer_of, filter_of};
 ghost use Rattle.milter_c.specs.Answers.{plain_answer};
 ghost use Rattle.milter_c.specs.Filters.{BreaksWants, IsGivenUp, IsRefused, wanted_by};
 ghost use Rattle.milter_c.specs.Statuses.{kind_status};
 
 use crate::let_object::let_object;
 use crate::view::View;
-use milter_c_handle::{Handle, Object};
 use milter_c_objects::{
-    answer_fault_number, answer_status, filter_fault_number, memory_status, stage_number,
-    state_status, step_number, wants_fault_number,
+    Handle, Object, answer_fault_number, answer_status, filter_fault_number, memory_status,
+    stage_number, state_status, step_number, wants_fault_number,
 };
 use milter_c_objects::status::{
     ANSWER_NOT_ASKED, ANSWER_NOT_AT_END, ANSWER_NO_MEMORY, BAD_ARGUMENT, NOTHING, NO_MEMORY, OK,

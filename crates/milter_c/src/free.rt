@@ -2,7 +2,7 @@
 
 ghost use Rattle.std.specs.Prelude.{◌≡◌, None};
 
-use milter_c_handle::Handle;
+use milter_c_objects::Handle;
 use std::alloc::Global;
 
 /// Frees the object of a handle of any kind, which is empty then. An empty one stays so. Doesn't allocate.

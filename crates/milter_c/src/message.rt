@@ -4,21 +4,21 @@ ghost use Rattle.std.specs.Prelude.{◌≡◌, ◌≢◌, ◌↔◌, IsSomeAnd, 
 ghost use Rattle.milter_wire.specs.declared.command.Command.TheVariants as commands;
 ghost use Rattle.milter_wire.specs.Command.{Fits};
 ghost use Rattle.milter_message.specs.LeadingSpace.{FieldFits};
-ghost use Rattle.milter_c_handle.specs.Objects.{IsKept, message_of, mta_of};
-ghost use Rattle.milter_c_message.specs.Messages.{bare_path, header_name_at, header_value_at, message_from, recipient_at, with_body, with_header, with_recipient};
+ghost use Rattle.milter_c_objects.specs.Objects.{IsKept, message_of, mta_of};
+ghost use Rattle.milter_c_objects.specs.Messages.{bare_path, header_name_at, header_value_at, message_from, recipient_at, with_body, with_header, with_recipient};
 ghost use Rattle.milter_c.specs.Messages.{edited_by, part_status_of};
 ghost use Rattle.milter_c.specs.Statuses.{kind_status};
 ghost use Rattle.milter_c.specs.Views.{IsBorrowed};
 
 use crate::let_object::let_object;
 use crate::view::{View, borrow};
-use milter_c_handle::{Handle, Object};
-use milter_c_message::{
-    PartFault, add_body, add_header, add_recipient, edit_message, header_name, header_value,
-    new_message, quarantine, recipient, sender,
+use milter_c_objects::{
+    Handle, Object, PartFault, add_body, edit_message, memory_status,
+    message_add_header as add_header, message_add_recipient as add_recipient,
+    message_header_name as header_name, message_header_value as header_value,
+    message_quarantine as quarantine, new_message, recipient, sender,
 };
-use milter_c_objects::memory_status;
-use milter_c_objects::status::{MESSAGE_DOES_NOT_FIT, NO_MEMORY, NOTHING, OK, WRONG_KIND};
+use milter_c_objects::status::{MESSAGE_DOES_NOT_FIT, NOTHING, NO_MEMORY, OK, WRONG_KIND};
 use std::alloc::Global;
 
 /// Puts a message of this sender into the handle, with nothing else.

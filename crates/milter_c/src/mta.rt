@@ -2,20 +2,19 @@
 
 ghost use Rattle.std.specs.Prelude.{◌≡◌, ◌≢◌, ◌<◌, ◌≤◌, ◌↔◌, ◌++◌, ◌∷◌, [], IfSome, IsSomeAnd, MatchOption, None, Some, if◌then◌else◌, length, slice_get};
 ghost use Rattle.milter_mta_connection.specs.Connection.{is_under_way, lost, want};
-ghost use Rattle.milter_c_mta.specs.MtaEnds.{sent_of};
-ghost use Rattle.milter_c_mta.specs.MtaNumbers.{event_number, verdict_in, verdict_number, verdict_text, want_number};
-ghost use Rattle.milter_c_handle.specs.Objects.{IsKept, mta_of};
+ghost use Rattle.milter_c_objects.specs.MtaEnds.{sent_of};
+ghost use Rattle.milter_c_objects.specs.MtaNumbers.{event_number, verdict_in, verdict_number, verdict_text, want_number};
+ghost use Rattle.milter_c_objects.specs.Objects.{IsKept, mta_of};
 ghost use Rattle.milter_c.specs.Mtas.{IsFed, ShowsEdit, fresh_mta, options_of};
 ghost use Rattle.milter_c.specs.Statuses.{kind_status};
 
 use crate::let_object::let_object;
 use crate::view::{EditView, View};
-use milter_c_handle::{Handle, Object};
-use milter_c_mta::{
-    MtaEnd, event_number, loss_status, parts_of, verdict_number, verdict_text, want_number,
+use milter_c_objects::{
+    Handle, MtaEnd, Object, event_number, loss_status, memory_status, parts_of, verdict_number,
+    verdict_text, want_number,
 };
-use milter_c_objects::memory_status;
-use milter_c_objects::status::{BAD_ARGUMENT, NO_MEMORY, NOTHING, OK, WRONG_KIND};
+use milter_c_objects::status::{BAD_ARGUMENT, NOTHING, NO_MEMORY, OK, WRONG_KIND};
 use milter_mta_connection::FilterEvent;
 use milter_wire::{Actions, Options, Protocol};
 use std::alloc::Global;

@@ -2,15 +2,14 @@
 
 ghost use Rattle.std.specs.Prelude.{◌≡◌, ◌≢◌, ◌↔◌, [], IfSome, None};
 ghost use Rattle.milter_wire.specs.declared.command.Command.TheVariants as commands;
-ghost use Rattle.milter_c_mta.specs.MtaEnds.{AbortCalled, BodyCalled, CalledAt, HeaderCalled, QuitCalled, UnknownCalled, path_with};
-ghost use Rattle.milter_c_mta.specs.MtaNumbers.{call_result};
-ghost use Rattle.milter_c_mta.specs.Origins.{origin_numbered};
-ghost use Rattle.milter_c_handle.specs.Objects.{IsKept, mta_of};
+ghost use Rattle.milter_c_objects.specs.MtaEnds.{AbortCalled, BodyCalled, CalledAt, HeaderCalled, QuitCalled, UnknownCalled, path_with};
+ghost use Rattle.milter_c_objects.specs.MtaNumbers.{call_result};
+ghost use Rattle.milter_c_objects.specs.Origins.{origin_numbered};
+ghost use Rattle.milter_c_objects.specs.Objects.{IsKept, mta_of};
 ghost use Rattle.milter_c.specs.Mtas.{IsCall};
 
 use crate::let_object::let_object;
-use milter_c_handle::{Handle, Object};
-use milter_c_mta::{call_status, origin_numbered};
+use milter_c_objects::{Handle, Object, call_status, origin_numbered};
 use milter_c_objects::status::{BAD_ARGUMENT, OK, WRONG_KIND};
 use milter_wire::{ClientRef, HeaderRef, Stage};
 use std::alloc::Global;

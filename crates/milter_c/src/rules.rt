@@ -9,12 +9,11 @@ ghost use Rattle.milter_filter_rules.specs.RulesValue.{case_of, matching_of, rul
 ghost use Rattle.milter_filter_rules.specs.RuleSet.{RuleSet, behavior_of};
 ghost use Rattle.milter_text.specs.declared.text_case.TextCase.TheVariants.{Exact};
 ghost use Rattle.milter_rules.specs.RuleFile.{IsRuleFile};
-ghost use Rattle.milter_c_handle.specs.Objects.{IsKept, filter_of, rules_of};
+ghost use Rattle.milter_c_objects.specs.Objects.{IsKept, filter_of, rules_of};
 ghost use Rattle.milter_c.specs.RuleFaults.{IsLineOf, rule_fault_number};
 
 use crate::let_object::let_object;
-use milter_c_handle::{Handle, Object};
-use milter_c_objects::memory_status;
+use milter_c_objects::{Handle, Object, memory_status};
 use milter_c_objects::status::{
     NO_MEMORY, OK, RULES_ACTION_NOT_HERE, RULES_BAD_ACTION, RULES_BAD_CONDITION, RULES_BAD_LIST,
     RULES_BAD_STAGE, RULES_NO_MEMORY, RULES_TOO_LARGE, RULES_UNKNOWN_WORD, WRONG_KIND,

@@ -3,18 +3,18 @@
 ghost use Rattle.std.specs.Prelude.{◌≡◌, ◌≢◌, IfSome, IsSomeAnd, MatchOption, Some, length};
 ghost use Rattle.milter_protocol.specs.Seen.{value_in};
 ghost use Rattle.milter_c_objects.specs.Shown.{client_endpoint, header_name_at, header_value_at, host_in, recipient_at, sender_address_in};
-ghost use Rattle.milter_c_handle.specs.Objects.{IsKept, filter_of};
+ghost use Rattle.milter_c_objects.specs.Objects.{IsKept, filter_of};
 ghost use Rattle.milter_c.specs.Filters.{seen_of};
 ghost use Rattle.milter_c.specs.Statuses.{kind_status};
 ghost use Rattle.milter_c.specs.Views.{IsBorrowed};
 
 use crate::let_object::let_object;
 use crate::view::{View, borrow};
-use milter_c_handle::{Handle, Object};
-use milter_c_objects::status::{NOTHING, OK, WRONG_KIND};
 use milter_c_objects::{
-    client_address, client_host, header_name, header_value, recipient_address, sender_address,
+    Handle, Object, client_address, client_host, header_name, header_value, recipient_address,
+    sender_address,
 };
+use milter_c_objects::status::{NOTHING, OK, WRONG_KIND};
 
 /// The name of the client's host. Doesn't allocate.
 #[unsafe(no_mangle)]

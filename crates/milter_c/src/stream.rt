@@ -4,13 +4,12 @@ ghost use Rattle.std.specs.Prelude.{◌≡◌, ◌≢◌, ◌↔◌, ◌++◌, [
 ghost use Rattle.milter_fields.specs.FirstPacket.{fed_len};
 ghost use Rattle.milter_fields.specs.Stream.{IsFrame, IsUnfinished, frame_bytes, length_fault};
 ghost use Rattle.milter_c_objects.specs.Faults.{wire_fault_number};
-ghost use Rattle.milter_c_handle.specs.Objects.{IsKept, stream_of};
+ghost use Rattle.milter_c_objects.specs.Objects.{IsKept, stream_of};
 ghost use Rattle.milter_c.specs.Views.{frame_in};
 
 use crate::let_object::let_object;
 use crate::view::PacketView;
-use milter_c_handle::{Handle, Object};
-use milter_c_objects::{memory_status, wire_fault_number};
+use milter_c_objects::{Handle, Object, memory_status, wire_fault_number};
 use milter_c_objects::status::{NOTHING, NO_MEMORY, OK, WRONG_KIND};
 use milter_fields::Splitter;
 use std::alloc::Global;

@@ -2,15 +2,14 @@
 
 ghost use Rattle.std.specs.Prelude.{◌≡◌, ◌≢◌, ◌↔◌, [], IsSomeAnd, MatchOption, None, Some};
 ghost use Rattle.milter_trace.specs.PrintedPackets.{fresh_packets, printed};
-ghost use Rattle.milter_c_handle.specs.Objects.{IsKept, trace_of};
+ghost use Rattle.milter_c_objects.specs.Objects.{IsKept, trace_of};
 ghost use Rattle.milter_c.specs.Packets.{IsStopped, direction_numbered, trace_fault_number};
 ghost use Rattle.milter_c.specs.Statuses.{kind_status};
 
 use crate::let_object::let_object;
 use crate::view::View;
-use milter_c_handle::{Handle, Object};
+use milter_c_objects::{Handle, Object, memory_status, wire_fault_number};
 use milter_c_objects::status::{BAD_ARGUMENT, NO_MEMORY, OK, TO_FILTER, TO_MTA, WRONG_KIND};
-use milter_c_objects::{memory_status, wire_fault_number};
 use milter_trace::{Direction, PacketTrace, TraceFault};
 use std::alloc::Global;
 

@@ -2,3 +2,13 @@ pub mod Edits
 pub mod Faults
 pub mod Numbers
 pub mod Shown
+pub mod DecodedPackets
+pub mod Parts
+pub mod Messages
+pub mod EditParts
+pub mod MtaEnds
+pub mod MtaNumbers
+pub mod Origins
+pub mod Objects
+pub mod Slot
+pub mod SlotBorrow

@@ -1,13 +1,48 @@
 //! What the functions of the C library do with one object, or with none: the numbers of their answers, the texts that a
 //! filter is shown, and the edits of an answer. What a caller in C passes and reads stands in the crates above.
+//!
+//! A box as the pointer that it is, for places whose layout a caller in C sees.
+//!
+//! Packets as callers in C have them: what a packet is decoded to, whose parts are looked at one by one.
+//!
+//! A message as callers in C have it: it is put together part by part, edits change it, and its parts are looked at one
+//! by one.
+//!
+//! A mail server's end of a connection to a filter as callers in C have it: the macros and the parameters of a call are
+//! given one by one, and the last event and the edits are looked at one by one.
+//!
+//! The handles of the C library: a place that a caller in C keeps, with one object or none. An object is of one kind of
+//! a few, so what owns its memory is proved once for all of them.
 #![tactic(auto)]
 
+mod accessors;
+mod command_parts;
+mod decoded;
+mod edit_parts;
+mod edited;
 mod edits;
 mod faults;
+mod handle;
+mod mta_end;
+mod mta_numbers;
 mod numbers;
+mod object;
+mod origins;
+mod part;
+mod parts;
+mod raw_box;
+mod reply_parts;
 mod shown;
+mod slot;
 pub mod status;
 
+pub use accessors::{
+    header_name as message_header_name, header_value as message_header_value,
+    quarantine as message_quarantine, recipient, sender,
+};
+pub use decoded::Decoded;
+pub use edit_parts::{EditParts, parts_of};
+pub use edited::edit_message;
 pub use edits::{
     add_header, add_recipient, change_header, change_sender, delete_recipient, insert_header,
     quarantine, replace_body, set_code,
@@ -16,8 +51,22 @@ pub use faults::{
     answer_fault_number, answer_status, filter_fault_number, memory_status, wants_fault_number,
     wire_fault_number,
 };
+pub use handle::Handle;
+pub use mta_end::MtaEnd;
+pub use mta_numbers::{
+    call_status, event_number, loss_status, verdict_number, verdict_text, want_number,
+};
 pub use numbers::{stage_number, state_status, step_number, verdict_numbered};
+pub use object::Object;
+pub use origins::origin_numbered;
+pub use part::Part;
+pub use parts::{
+    PartFault, add_body, add_header as message_add_header, add_recipient as message_add_recipient,
+    new_message,
+};
+pub use raw_box::Loose;
 pub use shown::{
     Address, client_address, client_host, header_name, header_value, recipient_address,
     sender_address,
 };
+pub use slot::Slot;

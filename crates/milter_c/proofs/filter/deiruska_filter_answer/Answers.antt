@@ -1,6 +1,6 @@
 use Rattle.std.proofs.Common.{◌≡◌, Some, arith, refl}
 use Rattle.std.proofs.lemmas.Grind.{common_steps}
-use Rattle.milter_c_handle.specs.Objects.{answer_of, filter_of}
+use Rattle.milter_c_objects.specs.Objects.{answer_of, filter_of}
 use Rattle.milter_c.proofs.filter.deiruska_filter_answer.Goals as goal
 
 pub returns-in-Err-clause-refused : goal.returns-in-Err-clause-refused

@@ -6,7 +6,7 @@ use Rattle.milter_rules.specs.ListFiles.{CanBeList, CanBeRead}
 use Rattle.milter_rules.specs.declared.rule_fault.RuleFault.{RuleFault}
 use Rattle.milter_rules.specs.declared.rule_fault.RuleFault.TheVariants.{NoMemory}
 use Rattle.milter_filter_rules.specs.RulesValue.{rule_set}
-use Rattle.milter_c_handle.specs.Objects.{rules_in}
+use Rattle.milter_c_objects.specs.Objects.{rules_in}
 use Rattle.milter_c_objects.specs.declared.status.TheConstants.{RULES_NO_MEMORY}
 use Rattle.milter_c.specs.RuleFaults.{rule_fault_number}
 use Rattle.milter_c.proofs.rules.deiruska_rules_read.Goals as goal

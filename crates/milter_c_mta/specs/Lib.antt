@@ -1,4 +1,0 @@
-pub mod EditParts
-pub mod MtaEnds
-pub mod MtaNumbers
-pub mod Origins

@@ -1,2 +1,0 @@
-pub mod DecodedPackets
-pub mod Parts
