@@ -13,12 +13,12 @@ ghost use Rattle.milter_mail.specs.Steps.{message_steps, opening_steps};
 ghost use Rattle.milter_wire.specs.Negotiation.{negotiate, is_asked};
 ghost use Rattle.milter_wire.specs.Command.{encoding};
 ghost use Rattle.milter_mail.specs.Weight.{weight};
-ghost use Rattle.milter_tests_worked.specs.WorkedEdits.{edits_of_fields, new_fields, new_fields_with_blanks, old_fields};
-ghost use Rattle.milter_tests_worked.specs.WorkedMessage.{negotiated, at, client, field, helo, line, message, no_macros, one_macro, options};
-ghost use Rattle.milter_tests_worked.specs.WorkedMacros.{blank_field, blank_field_packet, both_packets, client_packet, field_packet, list, listed_packets, message_with, one_packets, opened, other_j, tab_field, tab_field_packet, two_pairs};
-ghost use Rattle.milter_tests_worked.specs.WorkedSession.{negotiated_with_lists, message_of, opening_commands, planned_commands, session_of};
+ghost use Rattle.milter_tests.specs.WorkedEdits.{edits_of_fields, new_fields, new_fields_with_blanks, old_fields};
+ghost use Rattle.milter_tests.specs.WorkedMessage.{negotiated, at, client, field, helo, line, message, no_macros, one_macro, options};
+ghost use Rattle.milter_tests.specs.WorkedMacros.{blank_field, blank_field_packet, both_packets, client_packet, field_packet, list, listed_packets, message_with, one_packets, opened, other_j, tab_field, tab_field_packet, two_pairs};
+ghost use Rattle.milter_tests.specs.WorkedSession.{negotiated_with_lists, message_of, opening_commands, planned_commands, session_of};
 ghost use Rattle.milter_mail.specs.Plan.{opening, plan};
-ghost use Rattle.milter_tests_worked.specs.WorkedPlan.{all_macros, body, eob, full_message, header, mail, one, rcpt, short_message};
+ghost use Rattle.milter_tests.specs.WorkedPlan.{all_macros, body, eob, full_message, header, mail, one, rcpt, short_message};
 
 use milter_mail::weight_of_parts;
 

@@ -1,5 +1,5 @@
-use Rattle.milter_tests_worked.proofs.Chunks.{chunks-len, two-chunks}
-use Rattle.milter_tests_worked.proofs.definitions.planned_sessions.Goals as goal
+use Rattle.milter_tests.proofs.Chunks.{chunks-len, two-chunks}
+use Rattle.milter_tests.proofs.definitions.planned_sessions.Goals as goal
 
 pub returns-clause-chunks : goal.returns-clause-chunks
 returns-clause-chunks c = λ body is. chunks-len 131071 body is

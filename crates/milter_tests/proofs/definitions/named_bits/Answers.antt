@@ -1,7 +1,7 @@
 use Rattle.std.specs.Prelude.{refl}
 use Rattle.bitflags.specs.Sets.{find_row}
 use Rattle.milter_wire.specs.Bits.{each_found, with_bits}
-use Rattle.milter_tests_worked.proofs.definitions.named_bits.Goals as goal
+use Rattle.milter_tests.proofs.definitions.named_bits.Goals as goal
 
 pub returns-clause-none : goal.returns-clause-none
 unfolding each_found with_bits find_row

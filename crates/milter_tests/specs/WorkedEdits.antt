@@ -3,7 +3,7 @@ use Rattle.std.specs.Prelude.{List, [], ◌∷◌, codes}
 use Rattle.milter_fields.specs.declared.header.Header.{Header}
 use Rattle.milter_message.specs.declared.edit.Edit.{Edit}
 use Rattle.milter_message.specs.declared.edit.Edit.TheVariants.{InsertHeader, ChangeHeader}
-use Rattle.milter_tests_worked.specs.WorkedMessage.{field}
+use Rattle.milter_tests.specs.WorkedMessage.{field}
 
 abbrev pub old_fields : List Header
 old_fields = field (codes "A") (codes "1") ∷ field (codes "B") (codes "2") ∷ field (codes "A") (codes "3") ∷ []

@@ -5,7 +5,7 @@ use Rattle.milter_wire.specs.declared.command.Command.TheVariants as commands
 use Rattle.milter_fields.specs.declared.pair.Pair.{Pair}
 use Rattle.milter_mail.specs.Macros.{Macros}
 use Rattle.milter_message.specs.MailObject.{MailObject}
-use Rattle.milter_tests_worked.specs.WorkedMessage.{at, field}
+use Rattle.milter_tests.specs.WorkedMessage.{at, field}
 
 -- a macro with the value 1
 abbrev pub one : List ℕ → List Pair

@@ -8,9 +8,9 @@ use Rattle.milter_wire.specs.declared.symbol_lists.SymList.{SymList}
 use Rattle.milter_mail.specs.Macros.{Macros}
 use Rattle.milter_message.specs.MailObject.{MailObject}
 use Rattle.milter_mail.specs.MailSession.{MailSession}
-use Rattle.milter_tests_worked.specs.WorkedMacros.{list, two_pairs}
-use Rattle.milter_tests_worked.specs.WorkedMessage.{at, client, field, helo, options}
-use Rattle.milter_tests_worked.specs.WorkedPlan.{header, mail, one, rcpt}
+use Rattle.milter_tests.specs.WorkedMacros.{list, two_pairs}
+use Rattle.milter_tests.specs.WorkedMessage.{at, client, field, helo, options}
+use Rattle.milter_tests.specs.WorkedPlan.{header, mail, one, rcpt}
 
 -- k and j at connect, and one macro at each other stage
 abbrev pub macros : Macros

@@ -8,7 +8,7 @@ use Rattle.milter_wire.specs.Command.{encoding}
 use Rattle.milter_message.specs.MailObject.{MailObject}
 use Rattle.milter_mail.specs.MailSession.{MailSession}
 use Rattle.milter_mail.specs.Plan.{opening}
-use Rattle.milter_tests_worked.specs.WorkedMessage.{at, client, field, helo, macros_with, options}
+use Rattle.milter_tests.specs.WorkedMessage.{at, client, field, helo, macros_with, options}
 
 -- the macros k and j
 abbrev pub two_pairs : List Pair
