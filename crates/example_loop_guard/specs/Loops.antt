@@ -12,7 +12,7 @@ use Rattle.milter_message.specs.declared.edit.Edit.TheVariants.{AddHeader}
 use Rattle.milter_protocol.specs.Behavior.{Behavior}
 use Rattle.milter_protocol.specs.Seen.{Seen}
 use Rattle.milter_protocol.specs.declared.answer.Answer.{Answer}
-use Rattle.milter_protocol.specs.declared.limits.TheConstants.{VERSION_MAX}
+use Rattle.milter_protocol.specs.declared.permitted.TheConstants.{VERSION_MAX}
 
 -- by its name, without regard to ASCII case
 abbrev pub is_received : Header → Bool

@@ -6,7 +6,7 @@ ghost use Rattle.milter_address.specs.Bytes.{is_atext};
 ghost use Rattle.milter_address.specs.LocalPart.{is_atom, is_dot_string};
 
 use crate::bytes::is_atext;
-use crate::parts::cut;
+use crate::splits::cut;
 
 /// Whether the bytes are a Dot-string. Doesn't allocate. Source: RFC 5321, 4.1.2.
 pub(crate) fn is_dot_string(bytes: &[u8]) -> bool

@@ -18,7 +18,6 @@ mod local_part;
 mod mailbox;
 mod network;
 mod network_laws;
-mod parts;
 mod quotes;
 mod route;
 mod rows;

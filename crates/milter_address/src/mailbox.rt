@@ -8,9 +8,9 @@ ghost use Rattle.milter_address.specs.Mailbox.{behind_local_part, mailbox, mailb
 
 use crate::atoms::is_dot_string;
 use crate::local_part::local_text;
-use crate::parts::cut;
 use crate::quotes::{quoted_rest, quoted_text};
 use crate::route::{at_domain, behind_route, is_domain};
+use crate::splits::cut;
 use milter_fields::NoMemory;
 use std::alloc::Global;
 

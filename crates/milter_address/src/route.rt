@@ -3,7 +3,7 @@
 ghost use Rattle.std.specs.Prelude.{◌≡◌, MatchOption, None, Some};
 ghost use Rattle.milter_address.specs.Mailbox.{at_domain, behind_route, is_domain, is_route};
 
-use crate::parts::cut;
+use crate::splits::cut;
 
 /// The bytes behind a source route and its colon, or all where they begin with none. Doesn't allocate.
 /// Source: RFC 5321, 4.1.2.

@@ -1,7 +1,10 @@
 //! Texts cut in two.
 
-ghost use Rattle.std.specs.Prelude.{◌≡◌, ◌==◌, drop};
+ghost use Rattle.std.specs.Prelude.{◌≡◌, ◌==◌, drop, MatchOption};
 ghost use Rattle.std.specs.List.{before_first, position, position_or_len};
+ghost use Rattle.milter_address.specs.Parts.{IsCut, IsOnePart};
+
+use memchr::memchr;
 
 /// The text before the first such byte, and the text from there on.
 #[tactic(auto, using(crate::proofs::Positions::position_or_len_of))]
@@ -25,4 +28,15 @@ fn position_of(text: &[u8], byte: u8) -> Option<usize>
     ensures { result ≡ position (λ b. b == byte) text.now }
 {
     text.iter().position(|b| *b == byte)
+}
+
+/// The bytes before the first separator and those behind it, or none where there is no separator. Doesn't allocate.
+pub(crate) fn cut(bytes: &[u8], separator: u8) -> Option<(&[u8], &[u8])>
+    ensures { MatchOption result (IsOnePart separator bytes.now)
+        (λ parts. IsCut separator bytes.now parts.0.now parts.1.now) }
+{
+    match memchr(separator, bytes) {
+        Some(end) => Some((&bytes[..end], &bytes[end + 1..])),
+        None => None,
+    }
 }

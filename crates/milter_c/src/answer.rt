@@ -8,12 +8,12 @@ ghost use Rattle.milter_c_objects.specs.Numbers.{verdict_numbered};
 ghost use Rattle.milter_c_objects.specs.Objects.{IsKept, answer_of};
 ghost use Rattle.milter_c.specs.Answers.{IsEdited, plain_answer};
 
-use crate::let_object::let_object;
+use crate::view::let_object;
+use milter_c_objects::status::{BAD_ARGUMENT, NO_MEMORY, OK, WRONG_KIND};
 use milter_c_objects::{
     Handle, Object, add_header, add_recipient, change_header, change_sender, delete_recipient,
     insert_header, memory_status, quarantine, replace_body, set_code, verdict_numbered,
 };
-use milter_c_objects::status::{BAD_ARGUMENT, NO_MEMORY, OK, WRONG_KIND};
 use milter_protocol::Answer;
 use milter_wire::Verdict;
 use std::alloc::Global;

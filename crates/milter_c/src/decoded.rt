@@ -8,10 +8,9 @@ ghost use Rattle.milter_c_objects.specs.Parts.{parts_of};
 ghost use Rattle.milter_c.specs.Packets.{IsUnread, frame_of};
 ghost use Rattle.milter_c.specs.Views.{part_in};
 
-use crate::let_object::let_object;
-use crate::view::PartView;
+use crate::view::{PartView, let_object};
+use milter_c_objects::status::{NO_MEMORY, NOTHING, OK, WIRE_NO_MEMORY, WIRE_TOO_LONG, WRONG_KIND};
 use milter_c_objects::{Decoded, Handle, Object, memory_status, wire_fault_number};
-use milter_c_objects::status::{NOTHING, NO_MEMORY, OK, WIRE_NO_MEMORY, WIRE_TOO_LONG, WRONG_KIND};
 use milter_fields::PAYLOAD_MAX;
 use std::alloc::Global;
 

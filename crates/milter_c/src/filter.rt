@@ -3,9 +3,9 @@
 ghost use Rattle.std.specs.Prelude.{◌≡◌, ◌≢◌, ◌<◌, ◌≤◌, ◌↔◌, ◌∷◌, [], IfSome, IsSomeAnd, List, MatchOption, None, Some, drop, length, ℕ};
 ghost use Rattle.milter_wire.specs.declared.stage.Stage.{Stage as At};
 ghost use Rattle.milter_wire.specs.declared.stage.Stage.TheVariants.{Eob};
-ghost use Rattle.milter_protocol.specs.declared.command_order.CommandOrder.TheVariants.{Lenient};
+ghost use Rattle.milter_protocol.specs.declared.stage_order.CommandOrder.TheVariants.{Lenient};
 ghost use Rattle.milter_protocol.specs.declared.filter_fault.FilterFault.{FilterFault as Fault};
-ghost use Rattle.milter_protocol.specs.declared.filter_state.FilterState.TheVariants.{Failed, Quit, Serving};
+ghost use Rattle.milter_protocol.specs.declared.filter_fault.FilterState.TheVariants.{Failed, Quit, Serving};
 ghost use Rattle.milter_protocol.specs.Lawful.{AnswerFits};
 ghost use Rattle.milter_protocol.specs.Questions.{IsTaking, ProgressReported, event_step};
 ghost use Rattle.milter_filter_stream.specs.Conversations.{TakesIn, answered, conversation_by, fresh_conversation, next_step};
@@ -16,15 +16,14 @@ ghost use Rattle.milter_c.specs.Answers.{plain_answer};
 ghost use Rattle.milter_c.specs.Filters.{BreaksWants, IsGivenUp, IsRefused, wanted_by};
 ghost use Rattle.milter_c.specs.Statuses.{kind_status};
 
-use crate::let_object::let_object;
-use crate::view::View;
+use crate::view::{View, let_object};
+use milter_c_objects::status::{
+    ANSWER_NO_MEMORY, ANSWER_NOT_ASKED, ANSWER_NOT_AT_END, BAD_ARGUMENT, NO_MEMORY, NOTHING, OK,
+    WRONG_KIND,
+};
 use milter_c_objects::{
     Handle, Object, answer_fault_number, answer_status, filter_fault_number, memory_status,
     stage_number, state_status, step_number, wants_fault_number,
-};
-use milter_c_objects::status::{
-    ANSWER_NOT_ASKED, ANSWER_NOT_AT_END, ANSWER_NO_MEMORY, BAD_ARGUMENT, NOTHING, NO_MEMORY, OK,
-    WRONG_KIND,
 };
 use milter_filter::FilterConnection;
 use milter_filter_stream::Wants;

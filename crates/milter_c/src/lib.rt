@@ -6,8 +6,7 @@
 mod answer;
 mod decoded;
 mod filter;
-mod free;
-mod let_object;
+mod library;
 mod macros;
 mod message;
 mod mta;
@@ -17,5 +16,4 @@ mod rules;
 mod shown;
 mod stream;
 mod trace;
-mod version;
 mod view;

@@ -1,18 +1,18 @@
 //! The macros that a filter asks for.
 
 ghost use Rattle.std.specs.Prelude.{◌≡◌, ◌≢◌, ◌++◌, ◌∷◌, [], IfOk, IfSome, IsSomeAnd, None, Some};
-ghost use Rattle.milter_protocol.specs.declared.command_order.CommandOrder.TheVariants.{Lenient};
+ghost use Rattle.milter_protocol.specs.declared.stage_order.CommandOrder.TheVariants.{Lenient};
 ghost use Rattle.milter_filter_stream.specs.Conversations.{fresh_conversation};
 ghost use Rattle.milter_c_objects.specs.Objects.{IsKept, filter_of};
 ghost use Rattle.milter_c.specs.AskedMacros.{asking_for, list_stage};
 ghost use Rattle.milter_c.specs.Filters.{BreaksWants};
 
-use crate::let_object::let_object;
-use milter_c_objects::{Handle, Object, wants_fault_number};
+use crate::view::let_object;
 use milter_c_objects::status::{
     BAD_ARGUMENT, NO_MEMORY, OK, STAGE_CONNECT, STAGE_DATA, STAGE_EOB, STAGE_EOH, STAGE_HELO,
     STAGE_MAIL, STAGE_RCPT, WRONG_KIND,
 };
+use milter_c_objects::{Handle, Object, wants_fault_number};
 use milter_filter_stream::Wants;
 use milter_protocol::CommandOrder;
 use milter_wire::{

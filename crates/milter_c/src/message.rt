@@ -10,15 +10,14 @@ ghost use Rattle.milter_c.specs.Messages.{edited_by, part_status_of};
 ghost use Rattle.milter_c.specs.Statuses.{kind_status};
 ghost use Rattle.milter_c.specs.Views.{IsBorrowed};
 
-use crate::let_object::let_object;
-use crate::view::{View, borrow};
+use crate::view::{View, borrow, let_object};
+use milter_c_objects::status::{MESSAGE_DOES_NOT_FIT, NO_MEMORY, NOTHING, OK, WRONG_KIND};
 use milter_c_objects::{
     Handle, Object, PartFault, add_body, edit_message, memory_status,
     message_add_header as add_header, message_add_recipient as add_recipient,
     message_header_name as header_name, message_header_value as header_value,
     message_quarantine as quarantine, new_message, recipient, sender,
 };
-use milter_c_objects::status::{MESSAGE_DOES_NOT_FIT, NOTHING, NO_MEMORY, OK, WRONG_KIND};
 use std::alloc::Global;
 
 /// Puts a message of this sender into the handle, with nothing else.

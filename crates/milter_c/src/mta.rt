@@ -8,13 +8,12 @@ ghost use Rattle.milter_c_objects.specs.Objects.{IsKept, mta_of};
 ghost use Rattle.milter_c.specs.Mtas.{IsFed, ShowsEdit, fresh_mta, options_of};
 ghost use Rattle.milter_c.specs.Statuses.{kind_status};
 
-use crate::let_object::let_object;
-use crate::view::{EditView, View};
+use crate::view::{EditView, View, let_object};
+use milter_c_objects::status::{BAD_ARGUMENT, NO_MEMORY, NOTHING, OK, WRONG_KIND};
 use milter_c_objects::{
     Handle, MtaEnd, Object, event_number, loss_status, memory_status, parts_of, verdict_number,
     verdict_text, want_number,
 };
-use milter_c_objects::status::{BAD_ARGUMENT, NOTHING, NO_MEMORY, OK, WRONG_KIND};
 use milter_mta_connection::FilterEvent;
 use milter_wire::{Actions, Options, Protocol};
 use std::alloc::Global;

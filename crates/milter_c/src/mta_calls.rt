@@ -8,9 +8,9 @@ ghost use Rattle.milter_c_objects.specs.Origins.{origin_numbered};
 ghost use Rattle.milter_c_objects.specs.Objects.{IsKept, mta_of};
 ghost use Rattle.milter_c.specs.Mtas.{IsCall};
 
-use crate::let_object::let_object;
-use milter_c_objects::{Handle, Object, call_status, origin_numbered};
+use crate::view::let_object;
 use milter_c_objects::status::{BAD_ARGUMENT, OK, WRONG_KIND};
+use milter_c_objects::{Handle, Object, call_status, origin_numbered};
 use milter_wire::{ClientRef, HeaderRef, Stage};
 use std::alloc::Global;
 

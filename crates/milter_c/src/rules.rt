@@ -2,22 +2,22 @@
 
 ghost use Rattle.std.specs.Prelude.{◌≡◌, ◌≢◌, ◌↔◌, [], IsSomeAnd, None, Some};
 ghost use Rattle.milter_wire.specs.declared.stage.Stage.{Stage as At};
-ghost use Rattle.milter_protocol.specs.declared.command_order.CommandOrder.TheVariants.{Lenient};
+ghost use Rattle.milter_protocol.specs.declared.stage_order.CommandOrder.TheVariants.{Lenient};
 ghost use Rattle.milter_protocol.specs.Questions.{wanted_of};
 ghost use Rattle.milter_filter_stream.specs.Conversations.{answered, fresh_conversation};
 ghost use Rattle.milter_filter_rules.specs.RulesValue.{case_of, matching_of, rule_set};
 ghost use Rattle.milter_filter_rules.specs.RuleSet.{RuleSet, behavior_of};
-ghost use Rattle.milter_text.specs.declared.text_case.TextCase.TheVariants.{Exact};
+ghost use Rattle.milter_text.specs.declared.glob.TextCase.TheVariants.{Exact};
 ghost use Rattle.milter_rules.specs.RuleFile.{IsRuleFile};
 ghost use Rattle.milter_c_objects.specs.Objects.{IsKept, filter_of, rules_of};
 ghost use Rattle.milter_c.specs.RuleFaults.{IsLineOf, rule_fault_number};
 
-use crate::let_object::let_object;
-use milter_c_objects::{Handle, Object, memory_status};
+use crate::view::let_object;
 use milter_c_objects::status::{
     NO_MEMORY, OK, RULES_ACTION_NOT_HERE, RULES_BAD_ACTION, RULES_BAD_CONDITION, RULES_BAD_LIST,
     RULES_BAD_STAGE, RULES_NO_MEMORY, RULES_TOO_LARGE, RULES_UNKNOWN_WORD, WRONG_KIND,
 };
+use milter_c_objects::{Handle, Object, memory_status};
 use milter_filter::{CommandOrder, FilterConnection, policy_wants};
 use milter_rules::{RuleFault, read_rules};
 use std::alloc::Global;

@@ -8,13 +8,12 @@ ghost use Rattle.milter_c.specs.Filters.{seen_of};
 ghost use Rattle.milter_c.specs.Statuses.{kind_status};
 ghost use Rattle.milter_c.specs.Views.{IsBorrowed};
 
-use crate::let_object::let_object;
-use crate::view::{View, borrow};
+use crate::view::{View, borrow, let_object};
+use milter_c_objects::status::{NOTHING, OK, WRONG_KIND};
 use milter_c_objects::{
     Handle, Object, client_address, client_host, header_name, header_value, recipient_address,
     sender_address,
 };
-use milter_c_objects::status::{NOTHING, OK, WRONG_KIND};
 
 /// The name of the client's host. Doesn't allocate.
 #[unsafe(no_mangle)]

@@ -7,10 +7,9 @@ ghost use Rattle.milter_c_objects.specs.Faults.{wire_fault_number};
 ghost use Rattle.milter_c_objects.specs.Objects.{IsKept, stream_of};
 ghost use Rattle.milter_c.specs.Views.{frame_in};
 
-use crate::let_object::let_object;
-use crate::view::PacketView;
+use crate::view::{PacketView, let_object};
+use milter_c_objects::status::{NO_MEMORY, NOTHING, OK, WRONG_KIND};
 use milter_c_objects::{Handle, Object, memory_status, wire_fault_number};
-use milter_c_objects::status::{NOTHING, NO_MEMORY, OK, WRONG_KIND};
 use milter_fields::Splitter;
 use std::alloc::Global;
 

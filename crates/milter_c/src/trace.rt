@@ -6,10 +6,9 @@ ghost use Rattle.milter_c_objects.specs.Objects.{IsKept, trace_of};
 ghost use Rattle.milter_c.specs.Packets.{IsStopped, direction_numbered, trace_fault_number};
 ghost use Rattle.milter_c.specs.Statuses.{kind_status};
 
-use crate::let_object::let_object;
-use crate::view::View;
-use milter_c_objects::{Handle, Object, memory_status, wire_fault_number};
+use crate::view::{View, let_object};
 use milter_c_objects::status::{BAD_ARGUMENT, NO_MEMORY, OK, TO_FILTER, TO_MTA, WRONG_KIND};
+use milter_c_objects::{Handle, Object, memory_status, wire_fault_number};
 use milter_trace::{Direction, PacketTrace, TraceFault};
 use std::alloc::Global;
 

@@ -5,6 +5,20 @@ ghost use Rattle.milter_c.specs.Views.{IsBorrowed};
 
 use milter_c_objects::status::{NOTHING, OK};
 
+/// Borrows the object of this kind that a handle has. The function answers `WRONG_KIND` where there is none.
+macro_rules! let_object {
+    ($object:ident: $kind:ident = $handle:expr) => {
+        if !$handle.full {
+            return WRONG_KIND;
+        }
+        let Object::$kind($object) = $handle.slot.as_mut() else {
+            return WRONG_KIND;
+        };
+    };
+}
+
+pub(crate) use let_object;
+
 /// Bytes that are borrowed: in C a pointer and a length.
 #[repr(C)]
 #[derive(Clone, Copy)]

@@ -13,8 +13,8 @@ use Rattle.milter_mta_connection.specs.declared.call_outcome.CallFault.{CallFaul
 use Rattle.milter_mta_connection.specs.declared.call_outcome.CallFault.TheVariants as call_faults
 use Rattle.milter_mta_connection.specs.declared.call_outcome.CallOutcome.{CallOutcome}
 use Rattle.milter_mta_connection.specs.declared.call_outcome.CallOutcome.TheVariants.{LeftOut, NoReply, VerdictDue}
-use Rattle.milter_mta_connection.specs.declared.want.Want.{Want}
-use Rattle.milter_mta_connection.specs.declared.want.Want.TheVariants as wants
+use Rattle.milter_mta_connection.specs.declared.mta_connection.Want.{Want}
+use Rattle.milter_mta_connection.specs.declared.mta_connection.Want.TheVariants as wants
 use Rattle.milter_c_objects.specs.declared.status.TheConstants as status
 
 -- ---- calls

@@ -4,10 +4,10 @@ use Rattle.milter_wire.specs.declared.stage.Stage.{Stage}
 use Rattle.milter_wire.specs.declared.stage.Stage.TheVariants as stages
 use Rattle.milter_wire.specs.declared.verdict.Verdict.{Verdict}
 use Rattle.milter_wire.specs.declared.verdict.Verdict.TheVariants as verdicts
-use Rattle.milter_protocol.specs.declared.filter_state.FilterState.{FilterState}
-use Rattle.milter_protocol.specs.declared.filter_state.FilterState.TheVariants.{Failed, Quit, Serving}
-use Rattle.milter_filter_stream.specs.declared.next_step.NextStep.{NextStep}
-use Rattle.milter_filter_stream.specs.declared.next_step.NextStep.TheVariants as steps
+use Rattle.milter_protocol.specs.declared.filter_fault.FilterState.{FilterState}
+use Rattle.milter_protocol.specs.declared.filter_fault.FilterState.TheVariants.{Failed, Quit, Serving}
+use Rattle.milter_filter_stream.specs.declared.filter_stream.NextStep.{NextStep}
+use Rattle.milter_filter_stream.specs.declared.filter_stream.NextStep.TheVariants as steps
 use Rattle.milter_c_objects.specs.declared.status.TheConstants as numbers
 use Rattle.milter_c_objects.specs.Faults.{filter_fault_number}
 

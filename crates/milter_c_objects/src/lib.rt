@@ -27,7 +27,6 @@ mod mta_end;
 mod mta_numbers;
 mod numbers;
 mod object;
-mod origins;
 mod part;
 mod parts;
 mod raw_box;
@@ -56,9 +55,8 @@ pub use mta_end::MtaEnd;
 pub use mta_numbers::{
     call_status, event_number, loss_status, verdict_number, verdict_text, want_number,
 };
-pub use numbers::{stage_number, state_status, step_number, verdict_numbered};
+pub use numbers::{origin_numbered, stage_number, state_status, step_number, verdict_numbered};
 pub use object::Object;
-pub use origins::origin_numbered;
 pub use part::Part;
 pub use parts::{
     PartFault, add_body, add_header as message_add_header, add_recipient as message_add_recipient,

@@ -1,14 +1,32 @@
 //! The lines of a connection.
 
 use crate::connection::{Connection, Piece, Sender};
-use crate::elapsed::Elapsed;
 use crate::print_fault::PrintFault;
 use crate::side_text::SideText;
 use milter_text::write_text;
 use milter_trace::{Direction, TraceForm};
 use milter_wire::NoMemory;
 use std::alloc::Global;
+use std::fmt;
 use std::io::Write;
+
+/// The nanoseconds of a microsecond.
+const MICROSECOND: u64 = 1_000;
+
+/// The microseconds of a second.
+const SECOND: u64 = 1_000_000;
+
+/// So many nanoseconds, which are printed as seconds with six decimals; what is left of a microsecond is dropped.
+#[derive(Clone, Copy, Drop)]
+pub(crate) struct Elapsed(pub(crate) u64);
+
+impl fmt::Display for Elapsed {
+    fn fmt<W: fmt::Write>(&self, f: &mut fmt::Formatter<W>) -> fmt::Result {
+        let all = self.0 / MICROSECOND;
+        let (seconds, parts) = (all / SECOND, all % SECOND);
+        write!(f, "{seconds}.{parts:06}")
+    }
+}
 
 /// How many bytes are written at once, as far as lines allow it.
 const WRITE_LEN: usize = 65_536;

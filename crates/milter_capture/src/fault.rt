@@ -5,8 +5,8 @@ ghost use Rattle.milter_capture.specs.declared.fault.CaptureFault.TheVariants as
 ghost use Rattle.std.specs.Prelude.{◌≡◌};
 
 use milter_fields::RefusedMemory;
-use std::fmt;
 use std::error::Error;
+use std::fmt;
 
 /// Why a file isn't read as a capture. Its records, which are the blocks of a pcapng file, are numbered from 1. The
 /// text of each is its fault line, without the LF.

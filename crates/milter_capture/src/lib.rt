@@ -20,7 +20,6 @@ mod capture_text;
 mod connection;
 mod connection_table;
 mod connection_text;
-mod elapsed;
 mod fault;
 mod frame;
 mod internet;

@@ -2,7 +2,7 @@
 
 ghost use Rattle.std.specs.Prelude.{◌≡◌};
 
-use crate::elapsed::Elapsed;
+use crate::connection_text::Elapsed;
 use milter_trace::{Direction, TraceForm, put_packet_as};
 use milter_wire::{NoMemory, Splitter, WireFault};
 use std::alloc::Global;

@@ -3,8 +3,8 @@ use Rattle.std.specs.Prelude.{ℕ, ◌==◌, List, ◌++◌, Result, Ok, Err, co
 use Rattle.milter_protocol.specs.FilterFault.{filter_fault_number}
 use Rattle.milter_protocol.specs.declared.filter_fault.FilterFault.{FilterFault}
 use Rattle.milter_protocol.specs.declared.filter_fault.FilterFault.TheVariants as faults
-use Rattle.milter_filter.specs.declared.served.Served.{Served}
-use Rattle.milter_filter.specs.declared.served.Served.TheVariants as served
+use Rattle.milter_filter.specs.declared.turn.Served.{Served}
+use Rattle.milter_filter.specs.declared.turn.Served.TheVariants as served
 use Rattle.milter_cli.specs.declared.answer_error.AnswerError.{AnswerError}
 use Rattle.milter_cli.specs.declared.answer_error.AnswerError.TheVariants.{Fault, Truncated, Read, Write}
 use Rattle.milter_cli.specs.declared.answer_error.AnswerError.TheVariants.{TurnLimit, NoMemory}

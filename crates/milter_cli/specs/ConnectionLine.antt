@@ -1,9 +1,9 @@
 -- The line of a connection that was served.
 use Rattle.std.specs.Prelude.{ℕ, List, [], ◌∷◌, ◌++◌, codes, decimal}
 use Rattle.milter_protocol.specs.FilterFault.{filter_fault_number}
-use Rattle.milter_filter.specs.declared.served.Served.{Served}
-use Rattle.milter_filter.specs.declared.served.Served.TheVariants.{Quit, Ended, Failed, ReadFault, WriteFault}
-use Rattle.milter_filter.specs.declared.served.Served.TheVariants.{TurnLimit}
+use Rattle.milter_filter.specs.declared.turn.Served.{Served}
+use Rattle.milter_filter.specs.declared.turn.Served.TheVariants.{Quit, Ended, Failed, ReadFault, WriteFault}
+use Rattle.milter_filter.specs.declared.turn.Served.TheVariants.{TurnLimit}
 
 -- the line of a connection, without its end
 abbrev pub report_text : ℕ → Served → List ℕ

@@ -8,7 +8,7 @@ use crate::event_words::say_events;
 use crate::failure::{DifferingReports, Failure};
 use crate::file_error::{FileError, InputFile};
 use crate::file_forms::fault_meaning;
-use crate::file_words::{bytes_again, unmade_reason, unread_reason, unstreamed_reason};
+use crate::file_words::{bytes_again, shown_name, unmade_reason, unread_reason, unstreamed_reason};
 use crate::option_words::{say_bad_macros, say_bad_mode, say_bad_names, say_bad_trials};
 use crate::request_paths::{
     actions_of, address_of, addresses_of, directory_of, macros_of, mode_of, only_of, path_of,
@@ -16,7 +16,6 @@ use crate::request_paths::{
 };
 use crate::rule_words::{say_rules, unread_lists};
 use crate::session_words::say_session;
-use crate::shown_name::shown_name;
 use crate::socket_words::{say_unbound, say_unconnected};
 use crate::tool_error::ToolError;
 use crate::trace_words::{say_recording, say_trace};

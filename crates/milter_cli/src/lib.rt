@@ -31,7 +31,6 @@ mod rules_run;
 mod session_forms;
 mod session_run;
 mod session_words;
-mod shown_name;
 mod socket_words;
 mod tool_error;
 mod trace_words;

@@ -1,14 +1,13 @@
 //! What is said of a rule file that can't be used, and of its lists.
 
-use crate::file_words::unread_reason;
+use crate::file_words::{shown_name, unread_reason};
 use crate::list_check::say_lists;
 use crate::list_input::list_paths;
-use crate::shown_name::shown_name;
 use milter_rule_words::say_fault;
 use milter_rules::{Notes, RuleFault, Span, read_rule_lines};
 use milter_wire::NoMemory;
-use std::fs;
 use std::alloc::Global;
+use std::fs;
 use std::path::Path;
 
 /// Says why the rule file at this path, which has these bytes, can't be used: its first fault, or that of its lists,

@@ -5,7 +5,7 @@ ghost use Rattle.milter_rules.specs.RuleFile.{IsRuleFile, StatesProtocol};
 ghost use Rattle.milter_filter_rules.specs.RulesValue.{case_of, named_of, rule_set, states_protocol};
 ghost use Rattle.milter_rules.specs.ListFiles.{AreRead};
 ghost use Rattle.milter_cli.specs.UsedRules.{IsFileWith, also_sent, used_set};
-ghost use Rattle.milter_text.specs.declared.text_case.TextCase.TheVariants.{Exact, Ignored};
+ghost use Rattle.milter_text.specs.declared.glob.TextCase.TheVariants.{Exact, Ignored};
 ghost use Rattle.milter_rules.specs.RulesText.{rules_text};
 ghost use Rattle.milter_cli.specs.FileRun.{Has, HasNone, IsFaultOrMemory, IsFileFault, IsOf, WritesCanonical};
 

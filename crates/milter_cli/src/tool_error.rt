@@ -5,16 +5,16 @@ ghost use Rattle.std.specs.Process.{exit_status};
 ghost use Rattle.clap.specs.Words.{kind_of};
 ghost use Rattle.milter_cli.specs.ToolError.{EndsBy, IsShown, argument_error, error_lines, listen_error, output_error, service_error, status_of};
 
-use clap::error::ErrorKind;
 use crate::answer_error::AnswerError;
 use crate::file_error::FileError;
+use clap::error::ErrorKind;
 use milter_capture::CaptureFault;
 use milter_command_line::UsageError;
 use milter_service::ServiceError;
 use milter_text::TextFault;
 use milter_trace::TraceFault;
-use std::fmt;
 use std::error::Error;
+use std::fmt;
 use std::io::{self, Write};
 use std::process::ExitCode;
 

@@ -6,7 +6,7 @@ use Rattle.std.proofs.lemmas.Bool.{and_parts}
 use Rattle.std.proofs.lemmas.Nat.{and_comm}
 use Rattle.std.proofs.lemmas.Option.{same_Some}
 use Rattle.clap.specs.Words.{Text}
-use Rattle.milter_protocol.specs.declared.limits.TheConstants.{ACTIONS_MAX, PROTOCOL_MAX}
+use Rattle.milter_protocol.specs.declared.permitted.TheConstants.{ACTIONS_MAX, PROTOCOL_MAX}
 use Rattle.milter_wire.specs.Bits.{is_within}
 use Rattle.milter_wire.proofs.NamedSets.{actions_named, protocol_named}
 use Rattle.milter_mta_outcome.specs.ReceivedReplies.{is_offered}

@@ -3,7 +3,7 @@ use Rattle.std.specs.Prelude.{◌≡◌, ℕ, List, Option, None, Some, IsSome, 
 use Rattle.bitflags.specs.Sets.{Row}
 use Rattle.clap.specs.Words.{Text}
 use Rattle.milter_wire.specs.Bits.{actions_table, bits_named, protocol_table}
-use Rattle.milter_protocol.specs.declared.limits.TheConstants.{ACTIONS_MAX, PROTOCOL_MAX}
+use Rattle.milter_protocol.specs.declared.permitted.TheConstants.{ACTIONS_MAX, PROTOCOL_MAX}
 use Rattle.milter_command_line.specs.Address.{IsAddress}
 use Rattle.milter_command_line.specs.declared.address.Address.{Address}
 use Rattle.milter_command_line.specs.declared.target.Offer.{Offer}

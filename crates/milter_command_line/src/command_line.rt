@@ -15,16 +15,16 @@ ghost use Rattle.milter_command_line.specs.declared.limits.TheConstants.{WAIT_MA
 ghost use Rattle.milter_command_line.specs.CommandLine.{IsLoss, IsNumber, IsNumberOr, IsRequestOf, IsRequestOfNamed};
 ghost use Rattle.milter_command_line.specs.CommandLine.{MatchesAs, ParsesAs, text_of};
 
-use clap::{ArgMatches, Error};
 use crate::limits::{
     AT_ONCE_DEFAULT, COUNT_DEFAULT, IDLE_DEFAULT, LOAD_AT_ONCE_DEFAULT, MODE_DEFAULT,
     PROBE_TIMEOUT_DEFAULT, SEED_DEFAULT, TIMEOUT_DEFAULT,
 };
 use crate::request::{
-    AnswerRequest, FilterRequest, LoadRequest, MtaRequest, PlayRequest, ProbeRequest, RecordRequest,
-    ReplayRequest, Request, ServeRequest, TraceRequest,
+    AnswerRequest, FilterRequest, LoadRequest, MtaRequest, PlayRequest, ProbeRequest,
+    RecordRequest, ReplayRequest, Request, ServeRequest, TraceRequest,
 };
 use crate::subcommands::command;
+use clap::{ArgMatches, Error};
 use milter_mta_outcome::OnLoss;
 use std::alloc::{AllocError, Global};
 use std::convert::AsStr;

@@ -10,7 +10,6 @@ mod given_macro;
 mod help_text;
 mod limits;
 mod load_help;
-mod mode;
 mod mta_help;
 mod probe_help;
 mod record_help;
@@ -29,14 +28,13 @@ pub use given_macro::GivenMacro;
 pub use limits::{
     AT_ONCE_DEFAULT, AT_ONCE_MAX, BODIES_MAX, COUNT_DEFAULT, COUNT_MAX, IDLE_DEFAULT, IDLE_MAX,
     LOAD_AT_ONCE_DEFAULT, LOAD_SECONDS_MAX, MESSAGES_MAX, MODE_DEFAULT, MODE_MAX,
-    PROBE_TIMEOUT_DEFAULT, RATE_MAX, SEED_DEFAULT, SEED_MAX, SENT_MAX, TIMEOUT_DEFAULT, TIMEOUT_MAX,
-    WAIT_MAX,
+    PROBE_TIMEOUT_DEFAULT, RATE_MAX, SEED_DEFAULT, SEED_MAX, SENT_MAX, TIMEOUT_DEFAULT,
+    TIMEOUT_MAX, WAIT_MAX,
 };
-pub use mode::parse_mode;
 pub use request::{
-    AnswerRequest, FilterRequest, LoadRequest, MtaRequest, PlayRequest, ProbeRequest, RecordRequest,
-    ReplayRequest, Request, ServeRequest, TraceRequest,
+    AnswerRequest, FilterRequest, LoadRequest, MtaRequest, PlayRequest, ProbeRequest,
+    RecordRequest, ReplayRequest, Request, ServeRequest, TraceRequest,
 };
 pub use subcommands::{VERSION, command};
-pub use target::{Offer, Target};
+pub use target::{Offer, Target, parse_mode};
 pub use usage_error::UsageError;

@@ -1,10 +1,11 @@
 //! Filters that a session is played to: where they are, and what is offered to them.
 
 ghost use Rattle.std.specs.Prelude.{◌≡◌, IfOk, option_map, true};
-ghost use Rattle.milter_protocol.specs.declared.limits.TheConstants.{ACTIONS_MAX, PROTOCOL_MAX};
+ghost use Rattle.milter_protocol.specs.declared.permitted.TheConstants.{ACTIONS_MAX, PROTOCOL_MAX};
 ghost use Rattle.milter_mta_outcome.specs.ReceivedReplies.{is_offered};
 ghost use Rattle.milter_command_line.specs.CommandLine.{text_of};
 ghost use Rattle.milter_command_line.specs.Target.{IsOffer, IsTarget, actions_given, protocol_given};
+ghost use Rattle.milter_command_line.specs.Mode.{IsModeOf};
 
 use crate::address::Address;
 use crate::usage_error::UsageError;
@@ -84,4 +85,16 @@ impl<'a> Target<'a> {
             None => Err(UsageError::BadAddress),
         }
     }
+}
+
+/// The mode that up to three octal digits name, which are given as a decimal number; one with a digit above 7 is
+/// [`UsageError::BadMode`].
+pub fn parse_mode(digits: u32) -> Result<u32, UsageError>
+    ensures { IsModeOf digits result }
+{
+    let (owner, group, others) = (digits / 100, digits / 10 % 10, digits % 10);
+    if owner > 7 || group > 7 || others > 7 {
+        return Err(UsageError::BadMode);
+    }
+    Ok(owner * 64 + group * 8 + others)
 }

@@ -3,7 +3,7 @@
 use Rattle.std.specs.Prelude.{◌≡◌, ℕ, Bool, true, false, ◌<◌, ◌^◌, ◌==◌, ◌&&◌, ◌||◌, List, [], ◌∷◌, ◌++◌, All, Option, None, Some}
 use Rattle.std.specs.List.{flat_map}
 use Rattle.std.specs.Char.{is_ascii_digit}
-use Rattle.milter_fields.specs.declared.families.TheConstants.{SMFIA_INET, SMFIA_INET6, SMFIA_UNIX, SMFIA_UNKNOWN}
+use Rattle.milter_fields.specs.declared.client.TheConstants.{SMFIA_INET, SMFIA_INET6, SMFIA_UNIX, SMFIA_UNKNOWN}
 use Rattle.milter_fields.specs.declared.client.Client.{Client}
 use Rattle.milter_fields.specs.declared.client.Origin.{Origin}
 use Rattle.milter_fields.specs.declared.client.Origin.TheVariants.{Unknown, Unix, Inet, Inet6}

@@ -1,19 +1,35 @@
 //! Clients that connect to the mail server, and their encoding: the host, a byte for the family of the address, and for
 //! a known family the port and the address.
 
-ghost use Rattle.std.specs.Prelude.{◌≡◌, ◌-◌, ◌^◌, ◌∷◌, ◌++◌, ◌↔◌, IfOk, IsTrue, length, min, option_map};
+ghost use Rattle.std.specs.Prelude.{◌≡◌, ◌-◌, ◌^◌, ◌∷◌, ◌++◌, ◌↔◌, IfOk, IsTrue, length, min, option_map, [], codes};
 ghost use Rattle.milter_fields.specs.AppendedBytes.{PutsBytes};
 ghost use Rattle.milter_fields.specs.Field.{port, string};
 ghost use Rattle.milter_fields.specs.Layout.{client, origin, ClientFits, OriginFits};
 ghost use Rattle.milter_fields.specs.Decoders.{client_in, origin_in, endpoint_in};
 ghost use Rattle.milter_fields.specs.Borrowed.{client_of, origin_of};
 
-use crate::families::{SMFIA_INET, SMFIA_INET6, SMFIA_UNIX, SMFIA_UNKNOWN};
 use crate::fault::NoMemory;
 use crate::port::{put_port, take_port};
 use crate::strings::{has_no_nul, one_string, put_string, string_len, take_string};
 use crate::text::Text;
 use std::alloc::Global;
+
+/// A client of which nothing is known. Source: mfdef.h.
+pub const SMFIA_UNKNOWN: u8 = b'U';
+
+/// A client at a Unix socket. Source: mfdef.h.
+pub const SMFIA_UNIX: u8 = b'L';
+
+/// A client with an IPv4 address. Source: mfdef.h.
+pub const SMFIA_INET: u8 = b'4';
+
+/// A client with an IPv6 address. Source: mfdef.h.
+pub const SMFIA_INET6: u8 = b'6';
+
+/// The codes of the families. Source: mfdef.h.
+pub fn family_codes()
+    ensures { SMFIA_UNKNOWN ∷ SMFIA_UNIX ∷ SMFIA_INET ∷ SMFIA_INET6 ∷ [] ≡ codes "UL46" }
+{}
 
 /// A client of the mail server. Source: the libmilter callback documentation (xxfi_connect).
 #[derive(Clone, Debug, PartialEq, Eq, Drop)]

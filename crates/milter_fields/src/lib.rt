@@ -20,7 +20,6 @@ mod borrowed_lists;
 mod byte_queue;
 mod client;
 mod code_name;
-pub mod families;
 mod fault;
 mod first_packet;
 mod header;
@@ -40,7 +39,10 @@ mod text;
 pub use arguments::{arguments_fit, arguments_len, put_addressed, take_addressed};
 pub use borrowed_lists::{PairsRef, ParamsRef};
 pub use byte_queue::ByteQueue;
-pub use client::{Client, ClientRef, Origin, OriginRef};
+pub use client::{
+    Client, ClientRef, Origin, OriginRef, SMFIA_INET, SMFIA_INET6, SMFIA_UNIX, SMFIA_UNKNOWN,
+    family_codes,
+};
 pub use code_name::{CodeName, hex_digit};
 pub use fault::{NoMemory, RefusedMemory, WireFault};
 pub use header::{

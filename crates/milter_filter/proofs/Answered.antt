@@ -5,7 +5,7 @@ use Rattle.milter_protocol.specs.declared.answer.Answer.{Answer}
 use Rattle.milter_protocol.specs.Questions.{sent_answer}
 use Rattle.milter_filter_stream.specs.Conversations.{Conversation, answered}
 use Rattle.milter_filter_stream.proofs.UndoneData.{answered-state}
-use Rattle.milter_filter.specs.declared.served.Served.{Served}
+use Rattle.milter_filter.specs.declared.turn.Served.{Served}
 use Rattle.milter_filter.specs.Connections.{IsServing, question_by}
 
 -- a question is open only before the end

@@ -1,12 +1,12 @@
 -- What a connection comes to from its beginning.
 use Rattle.std.proofs.Common.{◌≡◌, ℕ, List, ◌++◌, length, Option, sym, ◌∙◌, ap, append-nil}
 use Rattle.milter_fields.specs.Stream.{divide}
-use Rattle.milter_protocol.specs.declared.command_order.CommandOrder.{CommandOrder}
-use Rattle.milter_protocol.specs.declared.filter_state.FilterState.{FilterState}
-use Rattle.milter_protocol.specs.declared.filter_state.FilterState.TheVariants as states
+use Rattle.milter_protocol.specs.declared.stage_order.CommandOrder.{CommandOrder}
+use Rattle.milter_protocol.specs.declared.filter_fault.FilterState.{FilterState}
+use Rattle.milter_protocol.specs.declared.filter_fault.FilterState.TheVariants as states
 use Rattle.milter_protocol.specs.Questions.{AskState, Event, Wanted}
-use Rattle.milter_filter.specs.declared.served.Served.{Served}
-use Rattle.milter_filter.specs.declared.served.Served.TheVariants.{Quit, Ended, Failed, ReadFault, WriteFault, TurnLimit}
+use Rattle.milter_filter.specs.declared.turn.Served.{Served}
+use Rattle.milter_filter.specs.declared.turn.Served.TheVariants.{Quit, Ended, Failed, ReadFault, WriteFault, TurnLimit}
 use Rattle.milter_filter.specs.Connections.{CompletesAs, Connected, ConversesAs, EndsAs, GoesFrom, RepliesTo, RepliesToAll, fresh_connected}
 
 module _ (order : CommandOrder) (wanted : Wanted) (events : List Event) (unread left w v : Option (List ℕ)) where

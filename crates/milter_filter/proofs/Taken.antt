@@ -6,13 +6,13 @@ use Rattle.milter_fields.specs.Stream.{IsUnfinished}
 use Rattle.milter_wire.specs.declared.stage.Stage.{Stage}
 use Rattle.milter_protocol.specs.declared.filter_fault.FilterFault.{FilterFault}
 use Rattle.milter_protocol.specs.declared.filter_fault.FilterFault.TheVariants as faults
-use Rattle.milter_protocol.specs.declared.filter_state.FilterState.{FilterState}
-use Rattle.milter_protocol.specs.declared.filter_state.FilterState.TheVariants.{Failed, Quit, Serving}
+use Rattle.milter_protocol.specs.declared.filter_fault.FilterState.{FilterState}
+use Rattle.milter_protocol.specs.declared.filter_fault.FilterState.TheVariants.{Failed, Quit, Serving}
 use Rattle.milter_protocol.specs.Questions.{Came, Event, IsTaking}
-use Rattle.milter_filter_stream.specs.declared.next_step.NextStep.TheVariants.{Feed}
+use Rattle.milter_filter_stream.specs.declared.filter_stream.NextStep.TheVariants.{Feed}
 use Rattle.milter_filter_stream.specs.Conversations.{Conversation, GivesUpIn, TakesIn, given_up_in, next_step}
 use Rattle.milter_filter_stream.specs.Streams.{received_in}
-use Rattle.milter_filter.specs.declared.served.Served.TheVariants as ends
+use Rattle.milter_filter.specs.declared.turn.Served.TheVariants as ends
 use Rattle.milter_filter.specs.declared.turn.Turn.{Turn}
 use Rattle.milter_filter.specs.declared.turn.Turn.TheVariants as turns
 use Rattle.milter_filter.specs.ServedPieces.{Writes}

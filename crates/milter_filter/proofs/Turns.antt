@@ -3,12 +3,12 @@ use Rattle.std.proofs.Common.{◌≡◌, ℕ, List, [], ◌++◌, Option, map, R
 use Rattle.std.proofs.lemmas.List.{map-append}
 use Rattle.std.specs.Io.KnownBytes.{Consumes}
 use Rattle.std.proofs.KnownBytes.{Appends-nil, Appends-trans, Consumes-nil, Consumes-trans}
-use Rattle.milter_protocol.specs.declared.filter_state.FilterState.{FilterState}
-use Rattle.milter_protocol.specs.declared.filter_state.FilterState.TheVariants as states
+use Rattle.milter_protocol.specs.declared.filter_fault.FilterState.{FilterState}
+use Rattle.milter_protocol.specs.declared.filter_fault.FilterState.TheVariants as states
 use Rattle.milter_protocol.specs.Questions.{Came, Event}
 use Rattle.milter_filter_stream.specs.Conversations.{Conversation, GoesOnIn}
-use Rattle.milter_filter.specs.declared.served.Served.{Served}
-use Rattle.milter_filter.specs.declared.served.Served.TheVariants.{Quit, Ended, Failed, ReadFault, WriteFault, TurnLimit}
+use Rattle.milter_filter.specs.declared.turn.Served.{Served}
+use Rattle.milter_filter.specs.declared.turn.Served.TheVariants.{Quit, Ended, Failed, ReadFault, WriteFault, TurnLimit}
 use Rattle.milter_filter.specs.declared.turn.Turn.{Turn}
 use Rattle.milter_filter.specs.declared.turn.Turn.TheVariants as turns
 use Rattle.milter_filter.specs.ServedPieces.{Writes}

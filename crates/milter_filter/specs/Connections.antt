@@ -6,19 +6,19 @@ use Rattle.milter_fields.specs.Stream.{IsUnfinished, divide}
 use Rattle.milter_wire.specs.Reply.{encoding}
 use Rattle.milter_wire.specs.declared.stage.Stage.{Stage}
 use Rattle.milter_protocol.specs.declared.answer.Answer.{Answer}
-use Rattle.milter_protocol.specs.declared.command_order.CommandOrder.{CommandOrder}
+use Rattle.milter_protocol.specs.declared.stage_order.CommandOrder.{CommandOrder}
 use Rattle.milter_protocol.specs.declared.filter_fault.FilterFault.{FilterFault}
 use Rattle.milter_protocol.specs.declared.filter_fault.FilterFault.TheVariants.{NoMemory}
-use Rattle.milter_protocol.specs.declared.filter_state.FilterState.{FilterState}
-use Rattle.milter_protocol.specs.declared.filter_state.FilterState.TheVariants as states
+use Rattle.milter_protocol.specs.declared.filter_fault.FilterState.{FilterState}
+use Rattle.milter_protocol.specs.declared.filter_fault.FilterState.TheVariants as states
 use Rattle.milter_protocol.specs.FilterEnds.{Received}
 use Rattle.milter_protocol.specs.GivenAnswers.{IsInTurn}
 use Rattle.milter_protocol.specs.Questions.{Came, Event, IsTaking, ProgressReported, Wanted, commands_in, event_step, events_after, events_replies, fresh_ask_state}
 use Rattle.milter_filter_stream.specs.Conversations.{Conversation, GoesOnIn, answered, conversation_by, fresh_conversation}
 use Rattle.milter_filter_stream.specs.Streams.{received_in}
-use Rattle.milter_filter.specs.declared.served.Served.{Served}
-use Rattle.milter_filter.specs.declared.served.Served.TheVariants.{Quit, Ended, Failed, ReadFault, WriteFault}
-use Rattle.milter_filter.specs.declared.served.Served.TheVariants.{TurnLimit}
+use Rattle.milter_filter.specs.declared.turn.Served.{Served}
+use Rattle.milter_filter.specs.declared.turn.Served.TheVariants.{Quit, Ended, Failed, ReadFault, WriteFault}
+use Rattle.milter_filter.specs.declared.turn.Served.TheVariants.{TurnLimit}
 use Rattle.milter_filter.specs.declared.turn.Turn.{Turn}
 use Rattle.milter_filter.specs.declared.turn.Turn.TheVariants as turns
 

@@ -3,12 +3,12 @@ use Rattle.std.specs.Prelude.{◌≡◌, ◌≢◌, ℕ, List, ◌++◌, length,
 use Rattle.std.specs.Io.KnownBytes.{Appends, Consumes, IsAtEnd}
 use Rattle.milter_fields.specs.Stream.{divide}
 use Rattle.milter_protocol.specs.Behavior.{Behavior}
-use Rattle.milter_protocol.specs.declared.command_order.CommandOrder.{CommandOrder}
+use Rattle.milter_protocol.specs.declared.stage_order.CommandOrder.{CommandOrder}
 use Rattle.milter_protocol.specs.declared.filter_fault.FilterFault.TheVariants.{NoMemory}
-use Rattle.milter_protocol.specs.declared.filter_state.FilterState.{FilterState}
-use Rattle.milter_protocol.specs.declared.filter_state.FilterState.TheVariants as states
-use Rattle.milter_filter.specs.declared.served.Served.{Served}
-use Rattle.milter_filter.specs.declared.served.Served.TheVariants.{Quit, Ended, Failed, ReadFault, WriteFault, TurnLimit}
+use Rattle.milter_protocol.specs.declared.filter_fault.FilterState.{FilterState}
+use Rattle.milter_protocol.specs.declared.filter_fault.FilterState.TheVariants as states
+use Rattle.milter_filter.specs.declared.turn.Served.{Served}
+use Rattle.milter_filter.specs.declared.turn.Served.TheVariants.{Quit, Ended, Failed, ReadFault, WriteFault, TurnLimit}
 use Rattle.milter_filter_stream.specs.Streams.{filter_end_of, reply_bytes}
 
 -- by what connections are served one after another: a policy, and the order in which commands are taken

@@ -4,9 +4,9 @@ use Rattle.std.specs.Io.KnownBytes.{Appends}
 use Rattle.milter_protocol.specs.Behavior.{Behavior}
 use Rattle.milter_protocol.specs.declared.filter_fault.FilterFault.{FilterFault as Fault}
 use Rattle.milter_protocol.specs.declared.filter_fault.FilterFault.TheVariants.{NoMemory}
-use Rattle.milter_protocol.specs.declared.filter_state.FilterState.TheVariants as states
-use Rattle.milter_filter.specs.declared.served.Served.{Served}
-use Rattle.milter_filter.specs.declared.served.Served.TheVariants.{Failed, WriteFault}
+use Rattle.milter_protocol.specs.declared.filter_fault.FilterState.TheVariants as states
+use Rattle.milter_filter.specs.declared.turn.Served.{Served}
+use Rattle.milter_filter.specs.declared.turn.Served.TheVariants.{Failed, WriteFault}
 use Rattle.milter_filter.specs.Cores.{Core, GoesOn, given_up}
 
 -- the first of the bytes that were pending were written, and these are left

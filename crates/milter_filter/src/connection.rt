@@ -9,9 +9,8 @@ ghost use Rattle.milter_filter_stream.specs.AnswerFaults.{Breaks};
 ghost use Rattle.milter_filter.specs.declared.turn.Turn.TheVariants as turns;
 
 use crate::filter_connection::FilterConnection;
-use crate::served::Served;
 use crate::steps::run_turn;
-use crate::turn::Turn;
+use crate::turn::{Served, Turn};
 use milter_fields::ByteQueue;
 use milter_filter_stream::{AnswerFault, Policy, Search, Seen, Wants};
 use milter_protocol::{Answer, CommandOrder};

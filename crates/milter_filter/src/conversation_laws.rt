@@ -9,11 +9,11 @@ ghost use Rattle.milter_wire.specs.declared.stage.Stage.TheVariants.{Eob};
 ghost use Rattle.milter_protocol.specs.FilterEnds.{Received};
 ghost use Rattle.milter_protocol.specs.OrderStates.{fresh_in};
 ghost use Rattle.milter_protocol.specs.declared.answer.Answer.{Answer as Given};
-ghost use Rattle.milter_protocol.specs.declared.command_order.CommandOrder.{CommandOrder as Order};
+ghost use Rattle.milter_protocol.specs.declared.stage_order.CommandOrder.{CommandOrder as Order};
 ghost use Rattle.milter_protocol.specs.declared.filter_fault.FilterFault.{FilterFault as Fault};
 ghost use Rattle.milter_filter_stream.specs.Conversations.{Conversation, GivesUpIn, GoesOnIn, TakesIn, answered, conversation_by, fresh_conversation, given_up_in};
 ghost use Rattle.milter_protocol.specs.GivenAnswers.{IsInTurn, given_steps};
-ghost use Rattle.milter_protocol.specs.declared.filter_state.FilterState.TheVariants.{Serving};
+ghost use Rattle.milter_protocol.specs.declared.filter_fault.FilterState.TheVariants.{Serving};
 ghost use Rattle.milter_protocol.specs.Questions.{Answered, Came, Event, IsTaking, ProgressReported, Wanted, answers_in, commands_in, event_step, events_replies, fresh_ask_state};
 ghost use Rattle.milter_filter_stream.specs.Streams.{received_in};
 

@@ -6,13 +6,13 @@ ghost use Rattle.milter_wire.specs.declared.stage.Stage.TheVariants.{Eob};
 ghost use Rattle.milter_protocol.specs.Lawful.{AnswerFits};
 ghost use Rattle.milter_protocol.specs.declared.filter_fault.FilterFault.{FilterFault as Fault};
 ghost use Rattle.milter_protocol.specs.declared.filter_fault.FilterFault.TheVariants as faults;
-ghost use Rattle.milter_protocol.specs.declared.filter_state.FilterState.TheVariants.{Failed, Quit, Serving};
+ghost use Rattle.milter_protocol.specs.declared.filter_fault.FilterState.TheVariants.{Failed, Quit, Serving};
 ghost use Rattle.milter_protocol.specs.Questions.{IsTaking, ProgressReported, event_step};
 ghost use Rattle.milter_filter_stream.specs.declared.answer_fault.AnswerFault.TheVariants as refusals;
 ghost use Rattle.milter_filter_stream.specs.AnswerFaults.{Breaks};
 ghost use Rattle.milter_filter_stream.specs.Streams.{received_in};
 
-use crate::policy_answer::answer_at_once;
+use crate::policy::answer_at_once;
 use milter_filter_stream::{
     AnswerFault, FilterStream, NextStep, Policy, Search, Seen, Wants, check_answer,
 };

@@ -3,12 +3,12 @@
 ghost use Rattle.std.specs.Prelude.{◌≡◌, ◌≢◌, ◌≤◌, ◌++◌, [], Err, IfErr, IfOk, None, Ok, OnErr, OnOk, Some, drop, length};
 ghost use Rattle.milter_protocol.specs.declared.filter_fault.FilterFault.{FilterFault as Fault};
 ghost use Rattle.milter_protocol.specs.declared.filter_fault.FilterFault.TheVariants as faults;
-ghost use Rattle.milter_protocol.specs.declared.filter_state.FilterState.TheVariants.{Failed, Quit, Serving};
+ghost use Rattle.milter_protocol.specs.declared.filter_fault.FilterState.TheVariants.{Failed, Quit, Serving};
 ghost use Rattle.milter_protocol.specs.Questions.{answer_step, wanted_of};
 ghost use Rattle.milter_filter_stream.specs.Conversations.{failed_stream, stream_by};
 ghost use Rattle.milter_filter_stream.specs.Streams.{received_in};
 
-use crate::policy_answer::answer_at_once;
+use crate::policy::answer_at_once;
 use milter_filter_stream::{FilterStream, Policy, WantsRef};
 use milter_protocol::{CommandOrder, FilterFault, FilterState};
 use milter_wire::{NoMemory, Stage};

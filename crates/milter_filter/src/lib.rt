@@ -14,13 +14,11 @@ mod cutting_laws;
 mod filter_connection;
 mod filter_core;
 mod output;
-mod policy_answer;
-mod served;
+mod policy;
 mod steps;
 mod stream_server;
 mod turn;
 mod turn_laws;
-mod wants;
 
 pub use connection::Connection;
 pub use conversation_laws::{conversations_go_on, conversations_reply};
@@ -35,8 +33,7 @@ pub use milter_protocol::{
     ACTIONS_MAX, Answer, CommandOrder, Edits, FilterFault, FilterState, PROTOCOL_MAX, VERSION_MAX,
 };
 pub use milter_wire::read_buffer;
-pub use served::Served;
+pub use policy::policy_wants;
 pub use stream_server::{Server, serve, serve_in_order, serving_limits};
-pub use turn::Turn;
+pub use turn::{Served, Turn};
 pub use turn_laws::{connections_go_on, connections_reply};
-pub use wants::policy_wants;

@@ -4,15 +4,14 @@ ghost use Rattle.std.specs.Prelude.{◌≡◌, ◌≢◌, ◌≤◌, ◌<◌, Li
 ghost use Rattle.std.specs.Io.KnownBytes.{Consumes};
 ghost use Rattle.milter_wire.specs.declared.stage.Stage.{Stage as At};
 ghost use Rattle.milter_protocol.specs.Questions.{IsTaking};
-ghost use Rattle.milter_filter.specs.declared.served.Served.TheVariants.{Quit, WriteFault};
+ghost use Rattle.milter_filter.specs.declared.turn.Served.TheVariants.{Quit, WriteFault};
 ghost use Rattle.milter_filter.specs.declared.turn.Turn.TheVariants as turns;
 ghost use Rattle.milter_filter.specs.ServedPieces.{Writes};
 ghost use Rattle.milter_filter.specs.Connections.{EndsBy, GoesBy, IsDone, IsOver, IsServing, ReadsWhereDone, StandsAt, Stops, TurnsBy, connected};
 
 use crate::filter_connection::FilterConnection;
 use crate::output::write_now;
-use crate::served::Served;
-use crate::turn::Turn;
+use crate::turn::{Served, Turn};
 use milter_fields::ByteQueue;
 use milter_filter_stream::NextStep;
 use milter_protocol::FilterFault;

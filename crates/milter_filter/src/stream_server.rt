@@ -2,15 +2,15 @@
 
 ghost use Rattle.std.specs.Prelude.{◌≡◌, ◌<◌, ◌↔◌, [], IfErr, IfOk, IsTrue, OnOk, length, true};
 ghost use Rattle.milter_fields.specs.Stream.{IsUnfinished};
-ghost use Rattle.milter_protocol.specs.declared.filter_state.FilterState.TheVariants.{Quit, Serving};
-ghost use Rattle.milter_protocol.specs.declared.command_order.CommandOrder.TheVariants.{Strict};
+ghost use Rattle.milter_protocol.specs.declared.filter_fault.FilterState.TheVariants.{Quit, Serving};
+ghost use Rattle.milter_protocol.specs.declared.stage_order.CommandOrder.TheVariants.{Strict};
 ghost use Rattle.milter_filter.specs.Cores.{fresh_core_in};
 ghost use Rattle.milter_filter.specs.ServedConnections.{Serves};
 ghost use Rattle.milter_filter.specs.ServedPieces.{CutOff, PieceServed, Writes};
 
 use crate::filter_core::FilterCore;
 use crate::output::write_now;
-use crate::served::Served;
+use crate::turn::Served;
 use milter_filter_stream::Policy;
 use milter_protocol::{CommandOrder, FilterFault, FilterState};
 use milter_wire::{NoMemory, READ_LEN_MAX, read_buffer};

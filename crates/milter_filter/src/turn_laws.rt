@@ -5,8 +5,8 @@ ghost use Rattle.milter_wire.specs.declared.stage.Stage.{Stage as At};
 ghost use Rattle.milter_wire.specs.declared.stage.Stage.TheVariants.{Eob};
 ghost use Rattle.milter_protocol.specs.Questions.{Answered, Event, ProgressReported, Wanted};
 ghost use Rattle.milter_protocol.specs.declared.answer.Answer.{Answer as Given};
-ghost use Rattle.milter_protocol.specs.declared.command_order.CommandOrder.{CommandOrder as Order};
-ghost use Rattle.milter_filter.specs.declared.served.Served.{Served as End};
+ghost use Rattle.milter_protocol.specs.declared.stage_order.CommandOrder.{CommandOrder as Order};
+ghost use Rattle.milter_filter.specs.declared.turn.Served.{Served as End};
 ghost use Rattle.milter_filter.specs.declared.turn.Turn.{Turn as Pause};
 ghost use Rattle.milter_filter.specs.Connections.{Connected, ConversesAs, EndsAs, GoesFrom, IsOpen, RepliesTo, Turns, connected_answered, connected_reporting, fresh_connected};
 

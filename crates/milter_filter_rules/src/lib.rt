@@ -5,7 +5,6 @@
 mod action_fits;
 mod comparison;
 mod conditions;
-mod context;
 mod decision;
 mod edit_list;
 mod formed_text;

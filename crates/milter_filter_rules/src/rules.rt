@@ -4,7 +4,7 @@ ghost use Rattle.std.specs.Prelude.{◌≡◌, true};
 ghost use Rattle.milter_filter_rules.specs.ListedValues.{sources_of};
 ghost use Rattle.milter_filter_rules.specs.RuleSet.{is_lawful};
 
-use crate::context::Context;
+use crate::conditions::Context;
 use crate::decision::{decide_by, deciding_rule};
 use crate::least_wants::least_protocol;
 use crate::named_list::{NamedList, NamedLists};
@@ -44,7 +44,7 @@ impl Rules {
     ghost use Rattle.milter_filter_rules.specs.RuleSet.{no_rule_set};
     ghost use Rattle.milter_filter_rules.specs.ListedValues.{sources_of};
     ghost use Rattle.milter_filter_rules.specs.RulesValue.{case_of, matching_of, named_of, rule_set, states_protocol};
-    ghost use Rattle.milter_text.specs.declared.text_case.TextCase.TheVariants.{Exact, Ignored};
+    ghost use Rattle.milter_text.specs.declared.glob.TextCase.TheVariants.{Exact, Ignored};
     ghost use Rattle.milter_filter_rules.specs.StageRules.{rules_at};
 
     /// No rules: the filter wants version 6 without any bit, and answers `Continue` to all, as

@@ -1,8 +1,8 @@
 -- Parts of a value as it is compared, which are those of the value.
 use Rattle.std.proofs.Common.{◌≡◌, ◌∙◌, ◌-◌, ℕ, List, length, min, take, drop, refl, sym, ap}
 use Rattle.std.proofs.lemmas.List.{drop-map, length-map, take-map, take_min}
-use Rattle.milter_text.specs.declared.text_case.TextCase.{TextCase}
-use Rattle.milter_text.specs.declared.text_case.TextCase.TheVariants.{Exact, Ignored}
+use Rattle.milter_text.specs.declared.glob.TextCase.{TextCase}
+use Rattle.milter_text.specs.declared.glob.TextCase.TheVariants.{Exact, Ignored}
 use Rattle.milter_filter_search.specs.Texts.{folded}
 
 pub folded_take : (case : TextCase) (n : ℕ) (bytes : List ℕ) → folded case (take n bytes) ≡ take n (folded case bytes)

@@ -7,7 +7,7 @@ use Rattle.milter_fields.specs.declared.path.Path.{Path}
 use Rattle.milter_filter_search.specs.declared.header_key.HeaderKey.{HeaderKey}
 use Rattle.milter_filter_search.specs.declared.needle.Needle.{Needle}
 use Rattle.milter_filter_search.specs.declared.path_key.PathKey.{PathKey}
-use Rattle.milter_filter_search.specs.declared.path_part.PathPart.{PathPart}
+use Rattle.milter_filter_search.specs.declared.path_key.PathPart.{PathPart}
 use Rattle.milter_filter_search.specs.declared.search.Search.{Search}
 use Rattle.milter_filter_search.specs.Needles.{header_found, matches, part_of, path_found}
 use Rattle.milter_filter_search.specs.Searches.{HasLooked}

@@ -11,8 +11,8 @@ use Rattle.milter_filter_search.specs.declared.needle.KeptNeedle.TheVariants as 
 use Rattle.milter_filter_search.specs.declared.needle.Needle.{Needle}
 use Rattle.milter_filter_search.specs.declared.needle.Needle.TheVariants.{Text, Domain, List as Listed}
 use Rattle.milter_filter_search.specs.declared.path_key.PathKey.{PathKey}
-use Rattle.milter_filter_search.specs.declared.path_part.PathPart.{PathPart}
-use Rattle.milter_filter_search.specs.declared.path_part.PathPart.TheVariants as parts
+use Rattle.milter_filter_search.specs.declared.path_key.PathPart.{PathPart}
+use Rattle.milter_filter_search.specs.declared.path_key.PathPart.TheVariants as parts
 use Rattle.milter_filter_search.specs.Texts.{finds, is_named}
 
 -- ---- the parts of a sender or a recipient

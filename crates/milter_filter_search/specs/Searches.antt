@@ -3,7 +3,7 @@ use Rattle.std.specs.Prelude.{◌≡◌, ◌≤◌, ℕ, Bool, false, List, [], 
 use Rattle.std.specs.List.{list_any}
 use Rattle.milter_filter_search.specs.declared.pattern.Test.TheVariants.{Has}
 use Rattle.milter_filter_search.specs.declared.search.Search.{Search}
-use Rattle.milter_text.specs.declared.text_case.TextCase.{TextCase}
+use Rattle.milter_text.specs.declared.glob.TextCase.{TextCase}
 use Rattle.milter_filter_search.specs.Texts.{finds}
 
 -- ---- searches among items, of which each has what a key stands for or not

@@ -7,8 +7,8 @@ use Rattle.milter_text.specs.Globs.{is_like}
 use Rattle.milter_fields.specs.declared.header.Header.{Header}
 use Rattle.milter_filter_search.specs.declared.pattern.Test.{Test}
 use Rattle.milter_filter_search.specs.declared.pattern.Test.TheVariants.{Is, Has, Lacks, Begins, Ends, Like, Under}
-use Rattle.milter_text.specs.declared.text_case.TextCase.{TextCase}
-use Rattle.milter_text.specs.declared.text_case.TextCase.TheVariants.{Exact, Ignored}
+use Rattle.milter_text.specs.declared.glob.TextCase.{TextCase}
+use Rattle.milter_text.specs.declared.glob.TextCase.TheVariants.{Exact, Ignored}
 
 -- a text as it is compared: where the case of ASCII letters doesn't count, each of them in lower case
 abbrev pub folded : TextCase → List ℕ → List ℕ

@@ -5,11 +5,22 @@ ghost use Rattle.milter_fields.specs.declared.path.Path.{Path};
 ghost use Rattle.milter_filter_search.specs.Needles.{matches, part_of, path_found};
 
 use crate::needle::{KeptNeedle, Needle};
-use crate::path_part::PathPart;
 use crate::search::Lookup;
 use milter_address::{canonical_address, domain_of};
 use milter_fields::{NoMemory, Path};
 use std::alloc::Global;
+
+/// What of a sender or a recipient a condition looks at.
+#[derive(Clone, Copy, Debug, PartialEq, Eq)]
+pub enum PathPart {
+    /// All of it as it was sent, with `<` and `>`.
+    Sent,
+    /// The address in the form in which mail servers compare addresses:
+    /// [`canonical_address`](milter_address::canonical_address). The null sender's is empty.
+    Address,
+    /// The domain of that address; empty where it has none.
+    Domain,
+}
 
 /// A needle that is looked for in a part of paths.
 #[derive(Debug, Drop)]

@@ -5,8 +5,7 @@ ghost use Rattle.std.specs.List.{list_any};
 ghost use Rattle.milter_filter_search.specs.Needles.{matches, part_of};
 
 use crate::needle::Needle;
-use crate::path_key::{PathKey, finds_in_path};
-use crate::path_part::PathPart;
+use crate::path_key::{PathKey, PathPart, finds_in_path};
 use crate::search::{Search, look_at_all, reset_all};
 use milter_fields::{NoMemory, Path};
 use std::alloc::Global;

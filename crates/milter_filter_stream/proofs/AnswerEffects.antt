@@ -17,9 +17,9 @@ use Rattle.milter_wire.specs.Negotiation.{has, is_answered}
 use Rattle.milter_wire.specs.Stages.{stage_of}
 use Rattle.milter_message.specs.declared.message.TheConstants.{WEIGHT_MAX}
 use Rattle.milter_protocol.specs.declared.answer.Answer.{Answer}
-use Rattle.milter_protocol.specs.declared.command_order.CommandOrder.{CommandOrder}
-use Rattle.milter_protocol.specs.declared.command_order.CommandOrder.TheVariants.{Lenient, Strict}
-use Rattle.milter_protocol.specs.declared.filter_state.FilterState.TheVariants.{Serving}
+use Rattle.milter_protocol.specs.declared.stage_order.CommandOrder.{CommandOrder}
+use Rattle.milter_protocol.specs.declared.stage_order.CommandOrder.TheVariants.{Lenient, Strict}
+use Rattle.milter_protocol.specs.declared.filter_fault.FilterState.TheVariants.{Serving}
 use Rattle.milter_protocol.specs.Aborts.{is_in_message}
 use Rattle.milter_protocol.specs.Commands.{is_end_by, is_shown}
 use Rattle.milter_protocol.specs.OrderStates.{OrderState, after_message, with_shown}
@@ -28,7 +28,7 @@ use Rattle.milter_protocol.specs.Questions.{answered_at, counted_with, counts_la
 use Rattle.milter_protocol.specs.Verdicts.{is_final_at, is_refusal}
 use Rattle.milter_filter_stream.proofs.PacketLengths.{packet-len}
 use Rattle.milter_filter_stream.specs.Asking.{IsAsked, effect_at, late_effect, with_effect}
-use Rattle.milter_filter_stream.specs.declared.answer_effect.AnswerEffect.TheVariants.{EndsMessage, Nothing}
+use Rattle.milter_filter_stream.specs.declared.connection.AnswerEffect.TheVariants.{EndsMessage, Nothing}
 
 -- ---- DATA that isn't counted yet
 

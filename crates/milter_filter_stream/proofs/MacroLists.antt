@@ -9,7 +9,7 @@ use Rattle.milter_fields.specs.declared.pair.Pair.{Pair}
 use Rattle.milter_protocol.specs.Seen.{value_in}
 use Rattle.milter_protocol.proofs.PermittedEdits.{filter-again}
 use Rattle.milter_protocol.proofs.SeenCommands.{value-append}
-use Rattle.milter_filter_stream.specs.declared.macro_group.MacroGroup.{MacroGroup}
+use Rattle.milter_filter_stream.specs.declared.macro_list.MacroGroup.{MacroGroup}
 use Rattle.milter_filter_stream.specs.MacroLists.{macros_of, macros_with, pairs_of, stays}
 
 -- ---- one packet more

@@ -6,8 +6,8 @@ use Rattle.std.proofs.lemmas.List.{length-take-le, take_more}
 use Rattle.std.proofs.lemmas.Option.{same_Some, slice_get_read}
 use Rattle.milter_fields.specs.declared.pair.Pair.{Pair}
 use Rattle.milter_protocol.specs.Seen.{value_in}
-use Rattle.milter_filter_stream.specs.declared.macro_group.MacroGroup.{MacroGroup}
-use Rattle.milter_filter_stream.specs.declared.macro_group.MacroPosition.{MacroPosition}
+use Rattle.milter_filter_stream.specs.declared.macro_list.MacroGroup.{MacroGroup}
+use Rattle.milter_filter_stream.specs.declared.macro_list.MacroPosition.{MacroPosition}
 use Rattle.milter_filter_stream.specs.MacroLists.{pairs_of}
 use Rattle.milter_filter_stream.specs.MacroSearches.{HasLooked, IsFor, IsLastIn, IsLastOf, MacroSearch, nth_value, value_at}
 use Rattle.milter_filter_stream.proofs.MacroLists.{value-more, value-more_groups}

@@ -12,12 +12,12 @@ use Rattle.milter_wire.specs.Frames.{frame_command, value_or_fault}
 use Rattle.milter_wire.proofs.CommandGrammar.{commands_read}
 use Rattle.milter_wire.specs.declared.negotiation.Negotiated.{Negotiated}
 use Rattle.milter_wire.specs.declared.command.Command.TheVariants.{Abort}
-use Rattle.milter_protocol.specs.declared.command_order.CommandOrder.{CommandOrder}
-use Rattle.milter_protocol.specs.declared.command_order.CommandOrder.TheVariants.{Lenient, Strict}
+use Rattle.milter_protocol.specs.declared.stage_order.CommandOrder.{CommandOrder}
+use Rattle.milter_protocol.specs.declared.stage_order.CommandOrder.TheVariants.{Lenient, Strict}
 use Rattle.milter_protocol.specs.Aborts.{needs_abort}
 use Rattle.milter_protocol.specs.Behavior.{Behavior}
 use Rattle.milter_protocol.specs.declared.filter_fault.FilterFault.{FilterFault}
-use Rattle.milter_protocol.specs.declared.filter_state.FilterState.TheVariants.{Failed, Serving}
+use Rattle.milter_protocol.specs.declared.filter_fault.FilterState.TheVariants.{Failed, Serving}
 use Rattle.milter_protocol.specs.FilterEnds.{Received}
 use Rattle.milter_protocol.specs.Faults.{fault_of}
 use Rattle.milter_protocol.specs.OrderStates.{OrderState, after_message, nothing_kept, order_state_before, order_state_fault, order_step_in}

@@ -8,12 +8,12 @@ use Rattle.milter_fields.proofs.StreamLaws.{divide-fault, divide-handed, divide-
 use Rattle.milter_wire.specs.Frames.{frame_command}
 use Rattle.milter_wire.specs.declared.negotiation.Negotiated.{Negotiated}
 use Rattle.milter_wire.specs.declared.command.Command.TheVariants.{Abort}
-use Rattle.milter_protocol.specs.declared.command_order.CommandOrder.{CommandOrder}
-use Rattle.milter_protocol.specs.declared.command_order.CommandOrder.TheVariants.{Lenient, Strict}
+use Rattle.milter_protocol.specs.declared.stage_order.CommandOrder.{CommandOrder}
+use Rattle.milter_protocol.specs.declared.stage_order.CommandOrder.TheVariants.{Lenient, Strict}
 use Rattle.milter_protocol.specs.Aborts.{needs_abort}
 use Rattle.milter_protocol.specs.declared.filter_fault.FilterFault.{FilterFault}
 use Rattle.milter_protocol.specs.declared.filter_fault.FilterFault.TheVariants.{Wire}
-use Rattle.milter_protocol.specs.declared.filter_state.FilterState.TheVariants.{Failed}
+use Rattle.milter_protocol.specs.declared.filter_fault.FilterState.TheVariants.{Failed}
 use Rattle.milter_protocol.specs.FilterEnds.{Received}
 use Rattle.milter_protocol.specs.OrderStates.{OrderState, nothing_kept, order_state_before, order_step_in}
 use Rattle.milter_protocol.specs.Steps.{Step, silent, steps}

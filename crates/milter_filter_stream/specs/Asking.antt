@@ -13,17 +13,17 @@ use Rattle.milter_wire.specs.Stages.{stage_of}
 use Rattle.milter_wire.specs.declared.reply.Reply.{Reply}
 use Rattle.milter_wire.specs.Reply.{encoding}
 use Rattle.milter_message.specs.declared.message.TheConstants.{WEIGHT_MAX}
-use Rattle.milter_protocol.specs.declared.command_order.CommandOrder.{CommandOrder}
+use Rattle.milter_protocol.specs.declared.stage_order.CommandOrder.{CommandOrder}
 use Rattle.milter_protocol.specs.declared.filter_fault.FilterFault.{FilterFault}
 use Rattle.milter_protocol.specs.declared.filter_fault.FilterFault.TheVariants.{NoMemory}
-use Rattle.milter_protocol.specs.declared.filter_state.FilterState.TheVariants.{Failed, Serving}
+use Rattle.milter_protocol.specs.declared.filter_fault.FilterState.TheVariants.{Failed, Serving}
 use Rattle.milter_protocol.specs.FilterEnds.{Received}
 use Rattle.milter_protocol.specs.OrderStates.{OrderState, after_message, nothing_kept, with_shown}
 use Rattle.milter_protocol.specs.Steps.{Step, steps}
 use Rattle.milter_protocol.specs.Commands.{is_end_by}
 use Rattle.milter_protocol.specs.Verdicts.{is_final_at, is_refusal}
-use Rattle.milter_filter_stream.specs.declared.answer_effect.AnswerEffect.{AnswerEffect}
-use Rattle.milter_filter_stream.specs.declared.answer_effect.AnswerEffect.TheVariants.{Nothing, EndsMessage, CountsData}
+use Rattle.milter_filter_stream.specs.declared.connection.AnswerEffect.{AnswerEffect}
+use Rattle.milter_filter_stream.specs.declared.connection.AnswerEffect.TheVariants.{Nothing, EndsMessage, CountsData}
 use Rattle.milter_filter_stream.specs.Conversations.{EndsThere, GivesUpIn}
 use Rattle.milter_filter_stream.specs.Conversations.{unread_after}
 use Rattle.milter_protocol.specs.Questions.{AskState, Wanted, IsTaking, ask_step, ask_step_by, asked_about, counts_late, fresh_ask_state, question_at, unquestioned}

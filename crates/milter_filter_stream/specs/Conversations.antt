@@ -8,17 +8,17 @@ use Rattle.milter_fields.specs.Stream.{IsUnfinished, divide}
 use Rattle.milter_wire.specs.Reply.{encoding}
 use Rattle.milter_wire.specs.declared.stage.Stage.{Stage}
 use Rattle.milter_protocol.specs.declared.answer.Answer.{Answer}
-use Rattle.milter_protocol.specs.declared.command_order.CommandOrder.{CommandOrder}
+use Rattle.milter_protocol.specs.declared.stage_order.CommandOrder.{CommandOrder}
 use Rattle.milter_protocol.specs.declared.filter_fault.FilterFault.{FilterFault}
 use Rattle.milter_protocol.specs.declared.filter_fault.FilterFault.TheVariants.{Wire}
-use Rattle.milter_protocol.specs.declared.filter_state.FilterState.{FilterState}
-use Rattle.milter_protocol.specs.declared.filter_state.FilterState.TheVariants.{Failed, Quit, Serving}
+use Rattle.milter_protocol.specs.declared.filter_fault.FilterState.{FilterState}
+use Rattle.milter_protocol.specs.declared.filter_fault.FilterState.TheVariants.{Failed, Quit, Serving}
 use Rattle.milter_protocol.specs.FilterEnds.{Received}
 use Rattle.milter_protocol.specs.OrderStates.{nothing_kept}
 use Rattle.milter_protocol.specs.Steps.{Step}
 use Rattle.milter_protocol.specs.GivenAnswers.{IsInTurn}
-use Rattle.milter_filter_stream.specs.declared.next_step.NextStep.{NextStep}
-use Rattle.milter_filter_stream.specs.declared.next_step.NextStep.TheVariants as steps
+use Rattle.milter_filter_stream.specs.declared.filter_stream.NextStep.{NextStep}
+use Rattle.milter_filter_stream.specs.declared.filter_stream.NextStep.TheVariants as steps
 use Rattle.milter_protocol.specs.Questions.{AskState, Event, Wanted, answer_step, ask_after, ask_replies, commands_in, events_after, events_replies, fresh_ask_state, unquestioned}
 use Rattle.milter_filter_stream.specs.Streams.{read_in, received_in}
 

@@ -2,7 +2,7 @@
 use Rattle.std.specs.Prelude.{Bool, List, ◌++◌, reverse, if◌then◌else◌}
 use Rattle.std.specs.List.{filter, flat_map}
 use Rattle.milter_fields.specs.declared.pair.Pair.{Pair}
-use Rattle.milter_filter_stream.specs.declared.macro_group.MacroGroup.{MacroGroup}
+use Rattle.milter_filter_stream.specs.declared.macro_list.MacroGroup.{MacroGroup}
 
 -- the last ones first
 pub record Macros : Type 0 where

@@ -3,8 +3,8 @@ use Rattle.std.specs.Prelude.{◌≡◌, ◌≤◌, ℕ, List, Option, Some, Non
 use Rattle.std.specs.Option.{option_and_then}
 use Rattle.milter_fields.specs.declared.pair.Pair.{Pair}
 use Rattle.milter_protocol.specs.Seen.{value_in}
-use Rattle.milter_filter_stream.specs.declared.macro_group.MacroGroup.{MacroGroup}
-use Rattle.milter_filter_stream.specs.declared.macro_group.MacroPosition.{MacroPosition}
+use Rattle.milter_filter_stream.specs.declared.macro_list.MacroGroup.{MacroGroup}
+use Rattle.milter_filter_stream.specs.declared.macro_list.MacroPosition.{MacroPosition}
 use Rattle.milter_filter_stream.specs.MacroLists.{pairs_of}
 
 -- the value of the macro at this index of a packet, if there is one

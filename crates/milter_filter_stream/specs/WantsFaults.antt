@@ -6,7 +6,7 @@ use Rattle.milter_wire.specs.OptionsPayload.{OptionsWithListsFit, options_with_l
 use Rattle.milter_wire.specs.declared.options.TheConstants.Actions.{SETSYMLIST}
 use Rattle.milter_wire.specs.Negotiation.{has_bit}
 use Rattle.milter_protocol.specs.Questions.{Wanted}
-use Rattle.milter_protocol.specs.declared.limits.TheConstants.{ACTIONS_MAX, PROTOCOL_MAX, VERSION_MAX, VERSION_MIN}
+use Rattle.milter_protocol.specs.declared.permitted.TheConstants.{ACTIONS_MAX, PROTOCOL_MAX, VERSION_MAX, VERSION_MIN}
 use Rattle.milter_filter_stream.specs.declared.wants_fault.WantsFault.{WantsFault}
 use Rattle.milter_filter_stream.specs.declared.wants_fault.WantsFault.TheVariants as faults
 

@@ -25,8 +25,7 @@ ghost use Rattle.milter_protocol.specs.OrderStates.{order_state_fault};
 use crate::answer_packets::{put_answer, put_continue, put_progress};
 use crate::connection::{Connection, KEPT_MAX};
 use crate::policy::Policy;
-use crate::search::Search;
-use crate::seen::Seen;
+use crate::seen::{Search, Seen};
 use crate::wants::WantsRef;
 use milter_protocol::{Answer, CommandOrder, FilterFault, FilterState};
 use milter_wire::{

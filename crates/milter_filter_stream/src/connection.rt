@@ -12,11 +12,9 @@ ghost use Rattle.milter_protocol.specs.Questions.{counts_late, question_at};
 ghost use Rattle.milter_filter_stream.specs.Asking.{effect_at, with_effect};
 ghost use Rattle.milter_protocol.specs.OrderStates.{after_client, after_message, after_options, fresh_in, nothing_kept, with_shown};
 
-use crate::answer_effect::AnswerEffect;
 use crate::commands::{is_greeting_or_sender, is_of_connection, is_shown};
 use crate::policy::Policy;
-use crate::search::Search;
-use crate::seen::Seen;
+use crate::seen::{Search, Seen};
 use milter_message::WEIGHT_MAX;
 use milter_protocol::{
     CommandOrder, FilterFault, FilterState, VERSION_MIN, is_final_at, may_follow, rank_of,
@@ -24,6 +22,17 @@ use milter_protocol::{
 use milter_wire::{CommandRef, HEAD_LEN, Negotiated, NoMemory, Stage, Verdict};
 use std::alloc::Global;
 use std::marker::Model;
+
+/// What an answer does to what is kept of a connection.
+#[derive(Clone, Copy, Debug, PartialEq, Eq)]
+pub(crate) enum AnswerEffect {
+    /// All stays as it is.
+    Nothing,
+    /// The message ends.
+    EndsMessage,
+    /// The DATA command that was asked about counts from now on.
+    CountsData,
+}
 
 /// The rank of the last stage from which the next message goes on: at most that of a greeting.
 const RANK_OF_GREETING: u8 = 2;

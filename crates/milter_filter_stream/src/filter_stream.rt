@@ -6,21 +6,32 @@ ghost use Rattle.milter_wire.specs.declared.stage.Stage.{Stage as At};
 ghost use Rattle.milter_wire.specs.Reply as wire_replies;
 ghost use Rattle.milter_wire.specs.Verdicts as given;
 ghost use Rattle.milter_protocol.specs.declared.filter_fault.FilterFault.TheVariants as faults;
-ghost use Rattle.milter_protocol.specs.declared.filter_state.FilterState.TheVariants.{Serving};
+ghost use Rattle.milter_protocol.specs.declared.filter_fault.FilterState.TheVariants.{Serving};
 ghost use Rattle.milter_protocol.specs.Questions.{IsTaking, ProgressReported, Wanted, answer_step, event_step};
 ghost use Rattle.milter_filter_stream.specs.Streams.{received_in};
 
 use crate::asker::Asker;
-use crate::next_step::NextStep;
 use crate::pieces::feed_piece;
 use crate::policy::Policy;
-use crate::search::Search;
-use crate::seen::Seen;
+use crate::seen::{Search, Seen};
 use crate::wants::WantsRef;
 use milter_protocol::{Answer, CommandOrder, FilterFault, FilterState};
 use milter_wire::{NoMemory, Splitter, Stage};
 use std::alloc::Global;
 use std::marker::Model;
+
+/// What the caller of a connection does next, so that it goes on.
+#[derive(Clone, Copy, Debug, PartialEq, Eq)]
+pub enum NextStep {
+    /// It gives bytes of the mail server to `feed`.
+    Feed,
+    /// It sends what is pending, and says so to `sent`.
+    Send,
+    /// It answers the question about this stage by `answer`, when it can.
+    Answer(Stage),
+    /// Nothing: the mail server has quit, or the connection was given up for a fault.
+    Done,
+}
 
 /// A filter's end of a connection, apart from what the filter wants: the bytes of a packet that isn't whole, what is
 /// kept and asked, and the replies that are pending.
@@ -34,7 +45,7 @@ pub struct FilterStream {
 
 impl Model for FilterStream {
     ghost use Rattle.std.specs.Prelude.{◌≡◌, ◌≤◌, drop, length};
-    ghost use Rattle.milter_protocol.specs.declared.filter_state.FilterState.TheVariants.{Serving};
+    ghost use Rattle.milter_protocol.specs.declared.filter_fault.FilterState.TheVariants.{Serving};
     ghost use Rattle.milter_filter_stream.specs.Conversations.{StreamState};
     ghost use Rattle.milter_filter_stream.specs.Asking.{IsUnread};
 

@@ -10,22 +10,18 @@
 #![tactic(auto)]
 
 mod answer_check;
-mod answer_effect;
 mod answer_fault;
 mod answer_packets;
 mod asker;
 mod commands;
 mod connection;
 mod filter_stream;
-mod macro_group;
 mod macro_list;
 mod macro_search;
 mod macro_values;
-mod next_step;
 mod pass;
 mod pieces;
 mod policy;
-mod search;
 mod seen;
 mod wants;
 mod wants_fault;
@@ -33,12 +29,10 @@ mod wants_fault;
 pub use answer_check::check_answer;
 pub use answer_fault::AnswerFault;
 pub use answer_packets::{put_answer, put_continue, put_progress};
-pub use filter_stream::FilterStream;
+pub use filter_stream::{FilterStream, NextStep};
 pub use milter_filter_search::{Needle, PathPart, Pattern, Test, TextCase};
-pub use next_step::NextStep;
 pub use pass::Pass;
 pub use policy::Policy;
-pub use search::Search;
-pub use seen::Seen;
+pub use seen::{Search, Seen};
 pub use wants::{Wants, WantsRef};
 pub use wants_fault::WantsFault;

@@ -4,12 +4,27 @@ ghost use Rattle.std.specs.Prelude.{◌≡◌, [], OnErr, OnOk, option_map};
 ghost use Rattle.std.specs.List.{filter};
 ghost use Rattle.milter_protocol.specs.Seen.{value_in};
 
-use crate::macro_group::MacroGroup;
 use crate::macro_search::{MacroSearch, look_at_all, reset_all};
 use crate::macro_values::last_value;
-use milter_wire::{NoMemory, PairsRef};
+use milter_wire::{NoMemory, Pairs, PairsRef};
 use std::alloc::Global;
 use std::marker::Model;
+
+/// The macros of a packet, and whether they stay for the whole connection.
+#[derive(Debug, Drop)]
+pub(crate) struct MacroGroup {
+    pub(crate) pairs: Pairs,
+    pub(crate) of_connection: bool,
+}
+
+/// Where a macro is, both counted from 0.
+#[derive(Clone, Copy, Debug)]
+pub(crate) struct MacroPosition {
+    /// The packet.
+    pub(crate) group: usize,
+    /// The macro in it.
+    pub(crate) pair: usize,
+}
 
 /// The macros that came, packet by packet: those of the connection, and those of the message. And what was searched for
 /// among them.

@@ -3,11 +3,11 @@
 ghost use Rattle.std.specs.Prelude.{◌≡◌, ◌<◌, ◌+◌, ◌↔◌, IfOk, IsTrue, List, length, option_map};
 ghost use Rattle.std.specs.List.{All};
 ghost use Rattle.milter_protocol.specs.Seen.{value_in};
-ghost use Rattle.milter_filter_stream.specs.declared.macro_group.MacroGroup.{MacroGroup};
+ghost use Rattle.milter_filter_stream.specs.declared.macro_list.MacroGroup.{MacroGroup};
 ghost use Rattle.milter_filter_stream.specs.MacroLists.{pairs_of};
 ghost use Rattle.milter_filter_stream.specs.MacroSearches.{HasLooked, IsFor, IsUnlooked, unlooked};
 
-use crate::macro_group::{MacroGroup, MacroPosition};
+use crate::macro_list::{MacroGroup, MacroPosition};
 use crate::macro_values::{last_pair, value_at};
 use milter_wire::{NoMemory, Text};
 use std::alloc::Global;

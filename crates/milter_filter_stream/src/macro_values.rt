@@ -6,7 +6,7 @@ ghost use Rattle.milter_protocol.specs.Seen.{value_in};
 ghost use Rattle.milter_filter_stream.specs.MacroLists.{pairs_of};
 ghost use Rattle.milter_filter_stream.specs.MacroSearches.{IsLastIn, nth_value, value_at};
 
-use crate::macro_group::{MacroGroup, MacroPosition};
+use crate::macro_list::{MacroGroup, MacroPosition};
 use milter_wire::Pair;
 
 /// Whether the macro has this name.

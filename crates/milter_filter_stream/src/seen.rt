@@ -10,12 +10,26 @@ ghost use Rattle.milter_filter_search.specs.Needles.{matches, part_of};
 ghost use Rattle.milter_filter_search.specs.Texts.{finds, values_named};
 
 use crate::macro_list::MacroList;
-use crate::search::Search;
 use milter_filter_search::{Body, Headers, Needle, PathPart, Pattern, Recipients};
 use milter_wire::codes::{SMFIC_CONNECT, SMFIC_HELO};
 use milter_wire::{Client, CommandRef, Header, NoMemory, Path, Text};
 use std::alloc::Global;
 use std::marker::Model;
+
+/// What a filter is going to look for in what it is shown, for [`Seen::search`](crate::Seen::search).
+#[derive(Clone, Copy, Debug)]
+pub enum Search<'a> {
+    /// A needle in this part of the recipients, for [`Seen::finds_in_recipients`](crate::Seen::finds_in_recipients).
+    Recipients(PathPart, &'a Needle<'a>),
+    /// A needle in the values of the header fields of this name, in which ASCII case doesn't count, for
+    /// [`Seen::finds_in_headers`](crate::Seen::finds_in_headers).
+    Headers(&'a [u8], &'a Needle<'a>),
+    /// A pattern in the body, for [`Seen::finds_in_body`](crate::Seen::finds_in_body).
+    Body(&'a Pattern<'a>),
+    /// The value that was last given to the macro of this name, for
+    /// [`Seen::macro_value_at`](crate::Seen::macro_value_at).
+    Macro(&'a [u8]),
+}
 
 /// What a filter is shown when it is asked: what has come of the connection, and of the message up to the stage that it
 /// is asked about. A filter's end makes it. Source: the libmilter callback documentation (callbacks).

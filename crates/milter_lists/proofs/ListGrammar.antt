@@ -14,7 +14,7 @@ use Rattle.milter_fields.specs.Bind.{◌>>=◌}
 use Rattle.milter_lists.specs.declared.list_kind.ListKind.{ListKind}
 use Rattle.milter_lists.specs.declared.list_kind.ListKind.TheVariants.{Addresses, Domains, Networks, Texts}
 use Rattle.milter_lists.specs.ListKinds.{kind_name}
-use Rattle.milter_lists.specs.declared.list_source.ListSource.{ListSource}
+use Rattle.milter_lists.specs.declared.sources.ListSource.{ListSource}
 use Rattle.milter_lists.specs.ListLines.{is_list_name, is_name_byte, is_source, kind_in, name_in, source_at}
 use Rattle.milter_lists.specs.ListLines.{source_by, source_of, source_with, source_words}
 

@@ -9,8 +9,8 @@ use Rattle.milter_text.specs.LineCursor.{HasNoNext, IsNextLine, LinesAhead, Next
 use Rattle.milter_text.specs.Words.{HasWords}
 use Rattle.milter_text.specs.WordValues.{begins}
 use Rattle.milter_text.proofs.WordLaws.{words_same}
-use Rattle.milter_lists.specs.declared.list_limits.TheConstants.{LISTS_MAX}
-use Rattle.milter_lists.specs.declared.list_source.ListSource.{ListSource}
+use Rattle.milter_lists.specs.declared.sources.TheConstants.{LISTS_MAX}
+use Rattle.milter_lists.specs.declared.sources.ListSource.{ListSource}
 use Rattle.milter_lists.specs.ListLines.{HasSources, IsAdded, IsSourceLine, may_follow, source_of}
 use Rattle.milter_lists.proofs.ListGrammar.{source_begins}
 

@@ -8,7 +8,7 @@ use Rattle.milter_address.specs.declared.ip_address.Address.{Address}
 use Rattle.milter_address.specs.declared.ip_address.Address.TheVariants.{V4, V6}
 use Rattle.milter_address.specs.ReadTexts.{address_in, network_in}
 use Rattle.milter_lists.specs.Entries.{bytes_of}
-use Rattle.milter_lists.specs.declared.text_set_limits.TheConstants.{BYTES_MAX, ENTRIES_MAX}
+use Rattle.milter_lists.specs.declared.text_set_builder.TheConstants.{BYTES_MAX, ENTRIES_MAX}
 use Rattle.milter_lists.specs.declared.number_range.NumberRange.{NumberRange}
 use Rattle.milter_lists.specs.declared.list_kind.ListKind.{ListKind}
 use Rattle.milter_lists.specs.declared.list_kind.ListKind.TheVariants.{Addresses, Domains, Networks, Texts}

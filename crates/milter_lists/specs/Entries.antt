@@ -1,7 +1,7 @@
 -- The entries of a set of texts, in one list of bytes.
 use Rattle.std.specs.Prelude.{◌≡◌, ℕ, ◌+◌, ◌≤◌, List, length, map, take, drop, sum_by}
 use Rattle.std.specs.List.{All}
-use Rattle.milter_lists.specs.declared.text_set_limits.TheConstants.{BYTES_MAX, ENTRIES_MAX}
+use Rattle.milter_lists.specs.declared.text_set_builder.TheConstants.{BYTES_MAX, ENTRIES_MAX}
 use Rattle.milter_lists.specs.declared.span.Span.{Span}
 
 -- the bytes of an entry

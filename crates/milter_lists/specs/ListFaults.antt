@@ -4,7 +4,7 @@ use Rattle.std.specs.List.{list_all}
 use Rattle.milter_text.specs.LineCursor.{all_contents}
 use Rattle.milter_text.specs.Lines.{is_skipped}
 use Rattle.milter_lists.specs.Entries.{bytes_of}
-use Rattle.milter_lists.specs.declared.text_set_limits.TheConstants.{BYTES_MAX, ENTRIES_MAX}
+use Rattle.milter_lists.specs.declared.text_set_builder.TheConstants.{BYTES_MAX, ENTRIES_MAX}
 use Rattle.milter_lists.specs.declared.list_fault.ListFault.{ListFault}
 use Rattle.milter_lists.specs.declared.list_fault.ListFault.TheVariants.{BadEntry, TooLarge, NoMemory}
 use Rattle.milter_lists.specs.declared.list_kind.ListKind.{ListKind}

@@ -13,8 +13,8 @@ use Rattle.milter_text.specs.WordValues.{is_keyword, keyword, plain_text, text_o
 use Rattle.milter_lists.specs.declared.list_kind.ListKind.{ListKind}
 use Rattle.milter_lists.specs.declared.list_kind.ListKind.TheVariants.{Addresses, Domains, Networks, Texts}
 use Rattle.milter_lists.specs.ListKinds.{kind_name}
-use Rattle.milter_lists.specs.declared.list_limits.TheConstants.{LISTS_MAX}
-use Rattle.milter_lists.specs.declared.list_source.ListSource.{ListSource}
+use Rattle.milter_lists.specs.declared.sources.TheConstants.{LISTS_MAX}
+use Rattle.milter_lists.specs.declared.sources.ListSource.{ListSource}
 
 -- ---- names
 

@@ -5,7 +5,7 @@ ghost use Rattle.std.specs.List.{list_all};
 ghost use Rattle.milter_lists.specs.ListLines.{is_list_name, is_name_byte, kind_in, name_in, source_of};
 
 use crate::list_kind::ListKind;
-use crate::list_source::ListSource;
+use crate::sources::ListSource;
 use milter_fields::{NoMemory, Text};
 use milter_text::Word;
 use std::alloc::Global;

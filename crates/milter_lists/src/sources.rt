@@ -1,20 +1,40 @@
 //! The lines of lists in a rule file.
 
-ghost use Rattle.std.specs.Prelude.{◌≡◌, ◌≤◌, [], IfErr, IfOk, List, MatchResult, OnOk, codes, option_map, true, ℕ};
+ghost use Rattle.std.specs.Prelude.{◌≡◌, ◌≤◌, [], IfErr, IfOk, List, MatchResult, OnOk, codes, option_map, true, ℕ, Some};
 ghost use Rattle.std.specs.List.{list_any};
 ghost use Rattle.std.specs.Str.{bytes_eq};
 ghost use Rattle.milter_text.specs.LineCursor.{HasNoNext, NextHasWords};
-ghost use Rattle.milter_lists.specs.declared.list_source.ListSource.{ListSource};
+ghost use Rattle.milter_lists.specs.declared.sources.ListSource.{ListSource};
 ghost use Rattle.milter_lists.specs.declared.source_fault.SourceFault.TheVariants as faults;
-ghost use Rattle.milter_lists.specs.ListLines.{HasSources, IsAdded, may_follow, source_named, source_of};
+ghost use Rattle.milter_lists.specs.ListLines.{HasSources, IsAdded, may_follow, source_named, source_of, is_list_name, is_source, source_words};
 ghost use Rattle.milter_lists.specs.SourceFault.{IsFaultAt, IsFaultBefore};
+ghost use Rattle.milter_text.specs.declared.word.Word.{Word};
+ghost use Rattle.milter_text.specs.WordValues.{is_plain_word};
+ghost use Rattle.milter_lists.specs.declared.sources.TheConstants.{LISTS_MAX};
 
-use crate::list_limits::LISTS_MAX;
-use crate::list_source::{ListSource, ListSources};
+use crate::list_kind::ListKind;
 use crate::source_fault::SourceFault;
 use crate::source_words::source_in;
+use milter_fields::{List, Text};
 use milter_text::{FileLine, LineCursor};
 use std::alloc::Global;
+
+/// The most lists that a rule file may have.
+pub const LISTS_MAX: usize = 100;
+
+/// Where a list comes from, as a line of a rule file says.
+#[derive(Clone, Debug, PartialEq, Eq, Drop)]
+pub struct ListSource {
+    /// The name by which conditions refer to it.
+    pub name: Text,
+    /// What its entries are.
+    pub kind: ListKind,
+    /// The path of its file.
+    pub file: Text,
+}
+
+/// Where the lists of a rule file come from, in the order of their lines.
+pub type ListSources = List<ListSource>;
 
 /// The lists whose lines are at the cursor, which moves behind these. The lines are `list NAME KIND FILE`, at most 100,
 /// one after the other, each with a name of its own: a plain word of ASCII letters, digits, `-`, `.` and `_`. KIND is
@@ -74,3 +94,16 @@ pub fn source_named<'a>(sources: &'a [ListSource], name: &[u8]) -> Option<&'a Li
 {
     sources.iter().find(|source| source.name.as_slice() == name)
 }
+
+/// What the words of a list's line give, and in which words it is written.
+pub fn list_lines()
+    // The words of a source give that source, if its name is one.
+    ensures read { (s : ListSource) → is_source s ≡ true → source_of (source_words s) ≡ Some s }
+    // No other words give it.
+    ensures only { (words : List Word) (s : ListSource) → source_of words ≡ Some s →
+        (words ≡ source_words s) × (is_source s ≡ true) }
+    // A name may be a plain word.
+    ensures plain { (text : List ℕ) → is_list_name text ≡ true → is_plain_word text ≡ true }
+    // The number that the definitions name: the most lists of a file.
+    ensures few { LISTS_MAX ≡ 100 }
+{}

@@ -10,9 +10,14 @@ use crate::entry_fault::EntryFault;
 use crate::sort::sort_spans;
 use crate::span::Span;
 use crate::text_set::TextSet;
-use crate::text_set_limits::{BYTES_MAX, ENTRIES_MAX};
 use std::alloc::Global;
 use std::marker::Model;
+
+/// The most entries that a set may have.
+pub const ENTRIES_MAX: usize = 1_000_000;
+
+/// The most bytes that the entries of a set may have: 200 MiB.
+pub const BYTES_MAX: usize = 209_715_200;
 
 /// The entries of a set that is being built, in the order in which they came.
 #[derive(Debug, Drop)]

@@ -1,8 +1,8 @@
 //! The buckets of latencies.
 
-ghost use Rattle.std.specs.Prelude.{◌≡◌, ◌<◌};
+ghost use Rattle.std.specs.Prelude.{◌≡◌, ◌<◌, ◌+◌, ◌*◌, ◌^◌, ◌≤◌, ℕ};
 ghost use Rattle.milter_load.specs.Buckets as buckets;
-ghost use Rattle.milter_load.specs.Buckets.{bucket_of};
+ghost use Rattle.milter_load.specs.Buckets.{bucket_of, highest_in, lowest_in};
 ghost use Rattle.milter_load.specs.declared.bucket.TheConstants.{BUCKETS};
 
 /// How many buckets a power of two has, from 128 on.
@@ -33,3 +33,12 @@ pub fn highest_in(bucket: usize) -> u64
     let place = bucket - OCTAVE * octave;
     (place as u64 + 1) * (1u64 << octave) - 1
 }
+
+/// A value is between the lowest and the highest of its bucket, which are at most a sixty-fourth of it apart; and where
+/// one bucket ends the next one begins.
+pub fn buckets_have_their_values()
+    ensures lowest { (value : ℕ) → value < 2 ^ 32 → lowest_in (bucket_of value) ≤ value }
+    ensures highest { (value : ℕ) → value < 2 ^ 32 → value ≤ highest_in (bucket_of value) }
+    ensures close { (value : ℕ) → value < 2 ^ 32 → 64 * highest_in (bucket_of value) ≤ 65 * value }
+    ensures next { (bucket : ℕ) → lowest_in (bucket + 1) ≡ highest_in bucket + 1 }
+{}

@@ -1,6 +1,5 @@
 //! One connection of a load.
 
-use crate::advance::Advance;
 use crate::outcome::{Cause, Settled};
 use crate::schedule::Schedule;
 use crate::step::Step;
@@ -12,6 +11,19 @@ use milter_mta_outcome::{Loss, is_refusal};
 use milter_protocol::is_final_at;
 use milter_wire::{NoMemory, Options, Stage, Verdict};
 use std::alloc::Global;
+
+/// What became of going on with a connection that wants a command.
+#[derive(Clone, Copy)]
+pub enum Advance {
+    /// A command was called for, or left out: there is something to be sent, or the next command.
+    Called,
+    /// No message is due.
+    Idle,
+    /// The connection is quit: what is pending is to be sent, and then it is to be closed.
+    Quit,
+    /// It was lost.
+    Lost,
+}
 
 /// What a connection has before it when something happens: the session that is played, and the time.
 #[derive(Clone, Copy)]

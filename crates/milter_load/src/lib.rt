@@ -15,13 +15,11 @@
 //! [`run_load`] has the conversations of `milter_load` over sockets that never wait, until all messages are settled.
 #![tactic(auto)]
 
-mod advance;
 mod bucket;
 mod conversation;
 mod figures;
 mod json_report;
 mod latencies;
-mod laws;
 mod load;
 mod load_error;
 mod looks;
@@ -29,7 +27,6 @@ mod open_connection;
 mod outcome;
 mod report;
 mod schedule;
-mod settings;
 mod slot;
 mod sockets;
 mod spin;
@@ -37,17 +34,15 @@ mod step;
 mod timed;
 mod totals;
 
-pub use advance::Advance;
-pub use bucket::{BUCKETS, OCTAVE, highest_in};
-pub use conversation::{Conversation, Moment};
+pub use bucket::{BUCKETS, OCTAVE, buckets_have_their_values, highest_in};
+pub use conversation::{Advance, Conversation, Moment};
 pub use latencies::Latencies;
-pub use laws::buckets_have_their_values;
 pub use load::run_load;
 pub use load_error::LoadError;
+pub use looks::Settings;
 pub use milter_sockets::Target;
 pub use outcome::{Cause, Settled};
 pub use report::{ReportForm, write_progress, write_report};
 pub use schedule::Schedule;
-pub use settings::Settings;
 pub use timed::Timed;
 pub use totals::Totals;

@@ -2,11 +2,10 @@
 
 use crate::conversation::Conversation;
 use crate::load_error::LoadError;
-use crate::looks::LOOK;
+use crate::looks::{LOOK, SECOND, Settings};
 use crate::open_connection::{Next, OpenConnection, Work};
 use crate::outcome::Cause;
 use crate::schedule::Schedule;
-use crate::settings::{SECOND, Settings};
 use crate::slot::Slot;
 use crate::sockets::Sockets;
 use crate::spin::Spin;
@@ -14,8 +13,8 @@ use crate::totals::Totals;
 use milter_mail::Session;
 use milter_sockets::{Stream, Target};
 use milter_wire::{Options, read_buffer};
-use mio::{Events, Poll, Token};
 use mio::event::Event;
+use mio::{Events, Poll, Token};
 use std::alloc::Global;
 use std::io::{self, ErrorKind, Write};
 use std::time::{Duration, Instant};

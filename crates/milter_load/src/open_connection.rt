@@ -1,7 +1,6 @@
 //! A connection of a load that is open.
 
-use crate::advance::Advance;
-use crate::conversation::{Conversation, Moment};
+use crate::conversation::{Advance, Conversation, Moment};
 use crate::outcome::Cause;
 use crate::schedule::Schedule;
 use crate::totals::Totals;

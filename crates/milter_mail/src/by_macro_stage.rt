@@ -3,8 +3,9 @@
 ghost use Rattle.std.specs.Prelude.{◌≡◌};
 ghost use Rattle.std.specs.Borrow.{sem};
 ghost use Rattle.milter_mail.specs.ByMacroStage.{BorrowsStage, at_stage};
+ghost use Rattle.milter_mail.specs.Steps.{macros_at};
 
-use milter_wire::MacroStage;
+use milter_wire::{MacroStage, Pair, Pairs, Stage};
 
 /// A value for each stage that has macros. Source: mfapi.h (SMFIM_CONNECT and those after it).
 #[derive(Clone, Debug, PartialEq, Eq, Drop)]
@@ -54,6 +55,22 @@ impl<T> ByMacroStage<T> {
             MacroStage::DataCmd => &mut self.data_cmd,
             MacroStage::Eom => &mut self.eom,
             MacroStage::Eoh => &mut self.eoh,
+        }
+    }
+}
+
+/// The macros of each stage that has some: what is sent before each command of the stage, of every message.
+pub type Macros = ByMacroStage<Pairs>;
+
+impl Macros {
+    /// The macros that precede each command of a stage. A header field and a chunk of the body have none. Doesn't
+    /// allocate.
+    pub fn before(&self, stage: Stage) -> &[Pair]
+        ensures { result.now ≡ macros_at self.now stage }
+    {
+        match stage.macro_stage() {
+            Some(stage) => self.at(stage).as_slice(),
+            None => &[],
         }
     }
 }

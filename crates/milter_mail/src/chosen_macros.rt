@@ -7,7 +7,7 @@ ghost use Rattle.std.specs.List.{slice_split};
 ghost use Rattle.std.specs.Ordering.{nat_cmp};
 ghost use Rattle.milter_mail.specs.ChosenMacros.{chosen_at, chosen_macros, chosen_pairs, last_pair, list_of, names_of};
 
-use crate::macros::Macros;
+use crate::by_macro_stage::Macros;
 use milter_wire::{MacroStage, NoMemory, Pair, Pairs, SymList, SymLists, Text};
 use std::alloc::Global;
 use std::collections::BTreeMap;

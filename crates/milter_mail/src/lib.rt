@@ -9,19 +9,17 @@ mod by_macro_stage;
 mod chosen_macros;
 mod held_text;
 mod laws;
-mod macros;
 mod message_lines;
 mod session;
 mod weight;
 
-pub use by_macro_stage::ByMacroStage;
+pub use by_macro_stage::{ByMacroStage, Macros};
 pub use chosen_macros::pairs_asked_for;
 pub use held_text::write_message;
 pub use laws::{
     chosen_macros_fit, plans_fit, sendable_messages, weight_of_any_plan, weight_of_parts,
     weight_of_plan,
 };
-pub use macros::Macros;
 pub use message_lines::{put_line, put_message, put_text};
 pub use milter_message::{
     CHUNK_LEN, Edit, Held, Message, MessageParts, WEIGHT_MAX, apply, changed_fields, edits_in_turn,

@@ -5,7 +5,7 @@ ghost use Rattle.milter_wire.specs.declared.command.Command.TheVariants as comma
 ghost use Rattle.milter_wire.specs.Command.{Fits};
 ghost use Rattle.milter_mail.specs.MailSession.{IsSendable, IsSession, MacrosFit};
 
-use crate::macros::Macros;
+use crate::by_macro_stage::Macros;
 use crate::weight::is_session;
 use milter_message::Message;
 use milter_wire::{Client, Text};

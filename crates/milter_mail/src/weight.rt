@@ -8,7 +8,7 @@ ghost use Rattle.milter_message.specs.MailObject.{IsMessage};
 ghost use Rattle.milter_mail.specs.MailSession.{IsSession};
 ghost use Rattle.milter_mail.specs.WeightParts.{body_weight, CommonWeighs, FieldsWeigh, IsOverhead, IsSendableWith, MacrosWeigh, OpeningAndMacrosFit, OpeningWeighs, PartsWeigh};
 
-use crate::macros::Macros;
+use crate::by_macro_stage::Macros;
 use milter_message::{CHUNK_LEN, Message, WEIGHT_MAX};
 use milter_wire::codes::{
     SMFIC_BODYEOB, SMFIC_CONNECT, SMFIC_DATA, SMFIC_EOH, SMFIC_HELO, SMFIC_MAIL, SMFIC_RCPT,

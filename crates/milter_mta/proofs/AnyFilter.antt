@@ -24,8 +24,8 @@ use Rattle.milter_message.specs.declared.edit.Edit.{Edit}
 use Rattle.milter_message.specs.declared.message.TheConstants.{WEIGHT_MAX}
 use Rattle.milter_message.specs.EditReplies.{weight_of}
 use Rattle.milter_message.specs.MailObject.{MailObject}
-use Rattle.milter_protocol.specs.declared.action.Action.{Action}
-use Rattle.milter_protocol.specs.declared.action.Action.TheVariants as received_as
+use Rattle.milter_protocol.specs.declared.answer.Action.{Action}
+use Rattle.milter_protocol.specs.declared.answer.Action.TheVariants as received_as
 use Rattle.milter_protocol.specs.Permitted.{is_permitted}
 use Rattle.milter_mail.specs.Plan.{plan}
 use Rattle.milter_protocol.specs.declared.answer.Answer.{Answer}
@@ -34,7 +34,7 @@ use Rattle.milter_protocol.specs.Dialogue.{IsOpen, is_body, is_closed, is_end_co
 use Rattle.milter_protocol.specs.Verdicts.{is_skip}
 use Rattle.milter_protocol.proofs.Lists.{same-head}
 use Rattle.milter_protocol.proofs.Sendable.{end_left, same-open, same_rcpts, sendable-closed}
-use Rattle.milter_mta_outcome.specs.declared.acted.Acted.{Acted}
+use Rattle.milter_mta_outcome.specs.declared.acted_verdicts.Acted.{Acted}
 use Rattle.milter_mta_outcome.specs.declared.loss.Loss.{Loss}
 use Rattle.milter_mta_outcome.specs.declared.loss.Loss.TheVariants.{Fault}
 use Rattle.milter_mta_outcome.specs.declared.loss.MtaFault.{MtaFault}
@@ -44,8 +44,8 @@ use Rattle.milter_mta_outcome.specs.Dialogues.{acted}
 use Rattle.milter_mta_outcome.specs.EditWeights.{weight_of_all}
 use Rattle.milter_mta_outcome.specs.Transactions.{asks_first, stage_first}
 use Rattle.milter_mta_outcome.specs.TransactionVerdicts.{with_verdict}
-use Rattle.milter_mta.specs.declared.want.Want.{Want}
-use Rattle.milter_mta.specs.declared.want.Want.TheVariants as wants
+use Rattle.milter_mta.specs.declared.mta_core.Want.{Want}
+use Rattle.milter_mta.specs.declared.mta_core.Want.TheVariants as wants
 use Rattle.milter_mta.specs.Mta.{FilterConnection, Mta, Position, at_packet}
 use Rattle.milter_mta.specs.Mta.Position.{Ended, Offering, Quitting, Sending}
 use Rattle.milter_mta.specs.Replies.{negotiated_on, at, byte_at, fails, framed, received, received_at, received_byte, opening_position, replied, replied_at, ruled_on, unread_is}

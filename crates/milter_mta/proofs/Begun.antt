@@ -4,7 +4,7 @@ use Rattle.milter_message.specs.MailObject.{MailObject}
 use Rattle.milter_wire.specs.declared.negotiation.Negotiated.{Negotiated}
 use Rattle.milter_wire.specs.declared.command.Command.{Command}
 use Rattle.milter_wire.specs.declared.stage.Stage.TheVariants.{Connect, Mail}
-use Rattle.milter_mta_outcome.specs.declared.acted.Acted.{Acted}
+use Rattle.milter_mta_outcome.specs.declared.acted_verdicts.Acted.{Acted}
 use Rattle.milter_mail.specs.MailSession.{MailSession}
 use Rattle.milter_mta_outcome.specs.PlanCursor.{outgoing_of}
 use Rattle.milter_mta_outcome.proofs.PlanLaws.{message_by_stages, plan_by_stages}

@@ -14,22 +14,22 @@ use Rattle.milter_wire.specs.declared.verdict.Verdict.{Verdict}
 use Rattle.milter_wire.specs.Frames.{frame_reply}
 use Rattle.milter_message.specs.declared.edit.Edit.{Edit}
 use Rattle.milter_message.specs.MailObject.{MailObject}
-use Rattle.milter_protocol.specs.declared.action.Action.{Action}
-use Rattle.milter_protocol.specs.declared.action.Action.TheVariants as received_as
-use Rattle.milter_mta_outcome.specs.declared.acted.Acted.{Acted}
+use Rattle.milter_protocol.specs.declared.answer.Action.{Action}
+use Rattle.milter_protocol.specs.declared.answer.Action.TheVariants as received_as
+use Rattle.milter_mta_outcome.specs.declared.acted_verdicts.Acted.{Acted}
 use Rattle.milter_mta_outcome.specs.declared.loss.By.TheVariants.{Connection}
 use Rattle.milter_mta_outcome.specs.declared.loss.Loss.{Loss}
 use Rattle.milter_mta_outcome.specs.declared.loss.Loss.TheVariants.{Fault}
 use Rattle.milter_mta_outcome.specs.declared.loss.MtaFault.{MtaFault}
 use Rattle.milter_mta_outcome.specs.declared.loss.MtaFault.TheVariants.{Early, NotAtThisStage, Wire}
-use Rattle.milter_mta_outcome.specs.declared.report.Report.{Report}
+use Rattle.milter_mta_outcome.specs.declared.outcome.Report.{Report}
 use Rattle.milter_mta_outcome.specs.ReceivedReplies.{options_received, reply_received}
 use Rattle.milter_mta_outcome.specs.Outcomes.{at_connection}
 use Rattle.milter_mta_outcome.specs.EditWeights.{weight_of_all}
 use Rattle.milter_mta_outcome.specs.Transactions.{stage_first}
 use Rattle.milter_mta_outcome.specs.TransactionVerdicts.{ends_dialogue, is_of_connection, last_verdict, left_after, number_after, with_verdict}
-use Rattle.milter_mta.specs.declared.want.Want.{Want}
-use Rattle.milter_mta.specs.declared.want.Want.TheVariants as wants
+use Rattle.milter_mta.specs.declared.mta_core.Want.{Want}
+use Rattle.milter_mta.specs.declared.mta_core.Want.TheVariants as wants
 use Rattle.milter_mta.specs.Mta.{FilterConnection, Mta, Position, at_packet}
 use Rattle.milter_mta.specs.Mta.Position.{Ended, Offering, Quitting, Sending}
 use Rattle.milter_mta.specs.Replies.{negotiated_on, at, byte_at, fails, framed, received, received_at, received_byte, replied, replied_at, ruled_on, unread_is}

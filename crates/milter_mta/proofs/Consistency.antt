@@ -6,8 +6,8 @@ use Rattle.milter_wire.specs.declared.stage.Stage.{Stage}
 use Rattle.milter_wire.specs.declared.stage.Stage.TheVariants.{Connect, Mail}
 use Rattle.milter_mail.specs.ChosenMacros.{chosen_macros}
 use Rattle.milter_mail.specs.MailSession.{IsSendable, IsSession}
-use Rattle.milter_mta_outcome.specs.declared.report.Report.{Report}
-use Rattle.milter_mta_outcome.specs.declared.cursor.Cursor.{Cursor}
+use Rattle.milter_mta_outcome.specs.declared.outcome.Report.{Report}
+use Rattle.milter_mta_outcome.specs.declared.plan_cursor.Cursor.{Cursor}
 use Rattle.milter_mta_outcome.specs.declared.transaction.Transaction.{Transaction}
 use Rattle.milter_mta_outcome.proofs.PlanLaws.{begun_sends}
 use Rattle.milter_mta.specs.declared.state.Position.TheVariants as parts

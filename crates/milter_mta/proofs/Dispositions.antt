@@ -15,16 +15,16 @@ use Rattle.milter_mail.specs.Plan.{macros_of, plan}
 use Rattle.milter_mail.specs.Steps.{message_steps}
 use Rattle.milter_protocol.specs.declared.answer.Answer.{Answer}
 use Rattle.milter_protocol.specs.Exchanges.{Exchange, commands_of}
-use Rattle.milter_protocol.specs.declared.limits.TheConstants.{VERSION_MIN}
+use Rattle.milter_protocol.specs.declared.permitted.TheConstants.{VERSION_MIN}
 use Rattle.milter_protocol.specs.Permitted.{is_permitted}
 use Rattle.milter_protocol.specs.Dialogue.{IsEnded, IsOpen}
 use Rattle.milter_protocol.proofs.Lists.{same-head}
 use Rattle.milter_protocol.specs.Dialogue.{sendable}
-use Rattle.milter_mta_outcome.specs.declared.acted.Acted.{Acted}
+use Rattle.milter_mta_outcome.specs.declared.acted_verdicts.Acted.{Acted}
 use Rattle.milter_mta_outcome.specs.declared.loss.By.TheVariants.{Connection, Default, Filter}
 use Rattle.milter_mta_outcome.specs.declared.loss.Loss.{Loss}
 use Rattle.milter_mta_outcome.specs.declared.outcome.Outcome.{Outcome}
-use Rattle.milter_mta_outcome.specs.declared.report.Report.{Report}
+use Rattle.milter_mta_outcome.specs.declared.outcome.Report.{Report}
 use Rattle.milter_mta_outcome.specs.ActedVerdicts.{kept}
 use Rattle.milter_mta_outcome.specs.Outcomes.{fallback}
 use Rattle.milter_mta_outcome.specs.Dialogues.{acted, ruled}

@@ -13,9 +13,9 @@ use Rattle.milter_wire.specs.Frames.{frame_reply}
 use Rattle.milter_wire.specs.Negotiation.{is_answered}
 use Rattle.milter_message.specs.declared.edit.Edit.{Edit}
 use Rattle.milter_message.specs.MailObject.{MailObject}
-use Rattle.milter_protocol.specs.declared.action.Action.{Action}
-use Rattle.milter_protocol.specs.declared.action.Action.TheVariants as actions
-use Rattle.milter_mta_outcome.specs.declared.acted.Acted.{Acted}
+use Rattle.milter_protocol.specs.declared.answer.Action.{Action}
+use Rattle.milter_protocol.specs.declared.answer.Action.TheVariants as actions
+use Rattle.milter_mta_outcome.specs.declared.acted_verdicts.Acted.{Acted}
 use Rattle.milter_mta_outcome.specs.declared.loss.Loss.{Loss}
 use Rattle.milter_mta_outcome.specs.declared.loss.Loss.TheVariants.{Fault, Memory, Reset, Timeout}
 use Rattle.milter_mta_outcome.specs.declared.loss.MtaFault.{MtaFault}
@@ -24,8 +24,8 @@ use Rattle.milter_mta_outcome.specs.ReceivedReplies.{options_received, reply_rec
 use Rattle.milter_mta_outcome.specs.EditWeights.{weight_of_all}
 use Rattle.milter_mta_outcome.specs.Transactions.{stage_first}
 use Rattle.milter_mta_outcome.specs.TransactionVerdicts.{ends_dialogue, is_of_connection, left_after, with_verdict}
-use Rattle.milter_mta_connection.specs.declared.expected_reply.ExpectedReply.{ExpectedReply}
-use Rattle.milter_mta_connection.specs.declared.expected_reply.ExpectedReply.TheVariants as expects
+use Rattle.milter_mta_connection.specs.declared.channel_state.ExpectedReply.{ExpectedReply}
+use Rattle.milter_mta_connection.specs.declared.channel_state.ExpectedReply.TheVariants as expects
 use Rattle.milter_mta_connection.specs.declared.filter_event.Fed.{Fed}
 use Rattle.milter_mta_connection.specs.declared.filter_event.FilterEvent.{FilterEvent}
 use Rattle.milter_mta_connection.specs.declared.filter_event.FilterEvent.TheVariants as events

@@ -4,7 +4,7 @@ use Rattle.milter_message.specs.declared.edit.Edit.{Edit}
 use Rattle.milter_mta_connection.specs.Channel.{Channel, is_owed}
 use Rattle.milter_mta_outcome.specs.declared.loss.Loss.TheVariants.{Fault}
 use Rattle.milter_mta_outcome.specs.declared.loss.MtaFault.TheVariants.{Early}
-use Rattle.milter_mta_outcome.specs.declared.cursor.ClientInfo.{ClientInfo}
+use Rattle.milter_mta_outcome.specs.declared.plan_cursor.ClientInfo.{ClientInfo}
 use Rattle.milter_mta.specs.declared.state.FilterConnection.{FilterConnection as Connected}
 use Rattle.milter_mta.specs.declared.state.Position.{Position as PositionParts}
 use Rattle.milter_mta.specs.declared.state.Position.TheVariants as parts

@@ -21,7 +21,7 @@ use Rattle.milter_protocol.specs.StageOrder.{rank_of}
 use Rattle.milter_protocol.specs.Dialogue.{are_all_refused, is_closed, is_final_answer, is_kept_rcpt, is_left_out, is_rcpt, sendable}
 use Rattle.milter_protocol.specs.Verdicts.{is_final_at, is_refusal}
 use Rattle.milter_protocol.proofs.Sendable.{same_rcpts, sendable-next}
-use Rattle.milter_mta_outcome.specs.declared.acted.Acted.{Acted}
+use Rattle.milter_mta_outcome.specs.declared.acted_verdicts.Acted.{Acted}
 use Rattle.milter_mta_outcome.specs.ActedVerdicts.{rcpt_verdicts}
 use Rattle.milter_mta_outcome.specs.Dialogues.{acted, acted_at, count_at, is_at}
 use Rattle.milter_mta_outcome.specs.EditWeights.{weight_of_all}

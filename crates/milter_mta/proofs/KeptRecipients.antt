@@ -6,7 +6,7 @@ use Rattle.milter_fields.specs.declared.path.Path.{Path}
 use Rattle.milter_message.specs.MailObject.{MailObject}
 use Rattle.milter_wire.specs.declared.verdict.Verdict.{Verdict}
 use Rattle.milter_wire.specs.declared.stage.Stage.TheVariants.{Eob}
-use Rattle.milter_mta_outcome.specs.declared.acted.Acted.{Acted}
+use Rattle.milter_mta_outcome.specs.declared.acted_verdicts.Acted.{Acted}
 use Rattle.milter_mta_outcome.specs.ActedVerdicts.{kept, kept_recipients, rcpt_verdict, rcpt_verdicts}
 
 all_kept : (recipients : List Path) → kept_recipients recipients [] ≡ recipients

@@ -2,10 +2,10 @@
 use Rattle.std.specs.Prelude.{if◌then◌else◌}
 use Rattle.std.proofs.Common.{◌≡◌, ◌+◌, ℕ, zero, suc, Bool, true, false, List, [], ◌∷◌, drop, Option, None, Some, refl, sym, ap, ◌∙◌, arith, drop-drop}
 use Rattle.milter_message.specs.MailObject.{MailObject}
-use Rattle.milter_mta_outcome.specs.declared.acted.Acted.{Acted}
+use Rattle.milter_mta_outcome.specs.declared.acted_verdicts.Acted.{Acted}
 use Rattle.milter_mta_outcome.specs.declared.loss.Loss.{Loss}
-use Rattle.milter_mta.specs.declared.want.Want.{Want}
-use Rattle.milter_mta.specs.declared.want.Want.TheVariants as wants
+use Rattle.milter_mta.specs.declared.mta_core.Want.{Want}
+use Rattle.milter_mta.specs.declared.mta_core.Want.TheVariants as wants
 use Rattle.milter_mta.specs.Mta.{FilterConnection, Mta, Position}
 use Rattle.milter_mta.specs.Mta.Position.{Offering, Sending, Quitting, Ended}
 use Rattle.milter_mta.specs.Output.{advanced, advanced_in, after_packet, asks_at, finished, made, sent, sent_from, sent_in, sent_of, want}

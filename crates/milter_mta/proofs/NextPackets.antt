@@ -9,7 +9,7 @@ use Rattle.milter_wire.specs.declared.command.Command.TheVariants as commands
 use Rattle.milter_wire.specs.Command.{Fits}
 use Rattle.milter_message.specs.declared.edit.Edit.{Edit}
 use Rattle.milter_mta_connection.proofs.Offered as offers
-use Rattle.milter_mta_outcome.specs.declared.cursor.ClientInfo.{ClientInfo}
+use Rattle.milter_mta_outcome.specs.declared.plan_cursor.ClientInfo.{ClientInfo}
 use Rattle.milter_mta_outcome.specs.Transactions.{first_of, left_of}
 use Rattle.milter_mta.specs.declared.state.Position.{Position as PositionParts}
 use Rattle.milter_mta.specs.declared.state.Position.TheVariants as parts

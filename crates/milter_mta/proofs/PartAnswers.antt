@@ -15,10 +15,10 @@ use Rattle.milter_message.specs.declared.edit.Edit.{Edit}
 use Rattle.milter_message.specs.declared.message.TheConstants.{WEIGHT_MAX}
 use Rattle.milter_message.specs.EditReplies as edits
 use Rattle.milter_message.specs.EditReplies.{weight_of}
-use Rattle.milter_protocol.specs.declared.action.Action.TheVariants as received_as
+use Rattle.milter_protocol.specs.declared.answer.Action.TheVariants as received_as
 use Rattle.milter_protocol.specs.Permitted.{is_permitted}
 use Rattle.milter_protocol.proofs.Lists.{same-head, same-tail}
-use Rattle.milter_mta_outcome.specs.declared.acted.Acted.{Acted}
+use Rattle.milter_mta_outcome.specs.declared.acted_verdicts.Acted.{Acted}
 use Rattle.milter_mta_outcome.specs.ReceivedReplies.{is_end}
 use Rattle.milter_mta_outcome.specs.EditWeights.{weight_of_all}
 use Rattle.milter_mta_outcome.specs.Transactions.{stage_first}

@@ -15,13 +15,13 @@ use Rattle.milter_protocol.specs.Lawful.{IsLawful}
 use Rattle.milter_protocol.specs.Seen.{Seen, seen}
 use Rattle.milter_protocol.specs.Dialogue.{is_left_out, sendable}
 use Rattle.milter_protocol.proofs.Sendable.{sendable-next}
-use Rattle.milter_mta_outcome.specs.declared.acted.Acted.{Acted}
+use Rattle.milter_mta_outcome.specs.declared.acted_verdicts.Acted.{Acted}
 use Rattle.milter_mta_outcome.specs.declared.loss.Loss.{Loss}
 use Rattle.milter_mta_outcome.specs.Dialogues.{acted}
 use Rattle.milter_mta_outcome.specs.EditWeights.{weight_of_all}
 use Rattle.milter_mta.specs.Mta.{Mta, at_packet}
 use Rattle.milter_mta.specs.Mta.Position.{Sending}
-use Rattle.milter_mta.specs.declared.want.Want.TheVariants as wants
+use Rattle.milter_mta.specs.declared.mta_core.Want.TheVariants as wants
 use Rattle.milter_mta.specs.Replies.{After, at, received}
 use Rattle.milter_mta.specs.Output.{want}
 use Rattle.milter_mta.specs.Dispositions.{lost}

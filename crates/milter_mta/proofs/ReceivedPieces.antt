@@ -8,7 +8,7 @@ use Rattle.milter_mta_connection.specs.Channel.{Channel, is_owed}
 use Rattle.milter_mta_connection.specs.ChannelParts.{ReceivesBy}
 use Rattle.milter_mta_connection.specs.Received.{ended, received as received_on_channel}
 use Rattle.milter_mta_connection.specs.ReplyRules.{IsAnswered, IsLeftBy, IsWaiting}
-use Rattle.milter_mta_outcome.specs.declared.acted.Acted.{Acted}
+use Rattle.milter_mta_outcome.specs.declared.acted_verdicts.Acted.{Acted}
 use Rattle.milter_mta_outcome.specs.declared.loss.Loss.{Loss}
 use Rattle.milter_mta.specs.declared.state.FilterConnection.{FilterConnection as Connected}
 use Rattle.milter_mta.specs.declared.state.SessionState.{SessionState}

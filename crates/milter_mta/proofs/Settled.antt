@@ -21,10 +21,10 @@ use Rattle.milter_protocol.specs.Commands.{is_of_connection}
 use Rattle.milter_protocol.specs.Exchanges.{Exchange, commands_of}
 use Rattle.milter_protocol.specs.Transcripts.{rank_at}
 use Rattle.milter_protocol.specs.Dialogue.{is_end_command}
-use Rattle.milter_mta_outcome.specs.declared.acted.Acted.{Acted}
+use Rattle.milter_mta_outcome.specs.declared.acted_verdicts.Acted.{Acted}
 use Rattle.milter_mta_outcome.specs.declared.loss.By.TheVariants.{Connection, Filter}
 use Rattle.milter_mta_outcome.specs.declared.outcome.Outcome.{Outcome}
-use Rattle.milter_mta_outcome.specs.declared.report.Report.{Report}
+use Rattle.milter_mta_outcome.specs.declared.outcome.Report.{Report}
 use Rattle.milter_mta_outcome.specs.ActedVerdicts.{kept, kept_recipients, rcpt_verdict, rcpt_verdicts}
 use Rattle.milter_mta_outcome.specs.ReceivedReplies.{is_end}
 use Rattle.milter_mta_outcome.specs.Outcomes.{at_connection, outcome}

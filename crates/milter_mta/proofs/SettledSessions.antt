@@ -18,9 +18,9 @@ use Rattle.milter_mta_outcome.specs.declared.loss.By.{By}
 use Rattle.milter_mta_outcome.specs.declared.loss.By.TheVariants.{Connection, Filter}
 use Rattle.milter_mta_outcome.specs.declared.outcome.Outcome.{Outcome}
 use Rattle.milter_mta_outcome.specs.declared.outcome.Outcome.TheVariants.{NoRecipients}
-use Rattle.milter_mta_outcome.specs.declared.report.Report.{Report}
+use Rattle.milter_mta_outcome.specs.declared.outcome.Report.{Report}
 use Rattle.milter_mta_outcome.specs.Dialogues.{acted, ruled}
-use Rattle.milter_mta.specs.declared.want.Want.TheVariants as wants
+use Rattle.milter_mta.specs.declared.mta_core.Want.TheVariants as wants
 use Rattle.milter_mta.specs.Mta.{FilterConnection, Mta, Position, at_packet, connection_at}
 use Rattle.milter_mta.specs.Mta.Position.{Ended, Quitting}
 use Rattle.milter_mta.specs.Replies.{at}

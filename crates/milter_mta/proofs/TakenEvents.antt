@@ -9,8 +9,8 @@ use Rattle.milter_wire.specs.declared.verdict.Verdict.{Verdict}
 use Rattle.milter_wire.specs.Negotiation.{is_answered}
 use Rattle.milter_wire.specs.Verdicts.{given_at}
 use Rattle.milter_message.specs.declared.edit.Edit.{Edit}
-use Rattle.milter_mta_connection.specs.declared.expected_reply.ExpectedReply.{ExpectedReply}
-use Rattle.milter_mta_connection.specs.declared.expected_reply.ExpectedReply.TheVariants as expects
+use Rattle.milter_mta_connection.specs.declared.channel_state.ExpectedReply.{ExpectedReply}
+use Rattle.milter_mta_connection.specs.declared.channel_state.ExpectedReply.TheVariants as expects
 use Rattle.milter_mta_connection.specs.declared.filter_event.Fed.{Fed}
 use Rattle.milter_mta_connection.specs.declared.filter_event.FilterEvent.{FilterEvent}
 use Rattle.milter_mta_connection.specs.declared.filter_event.FilterEvent.TheVariants as events

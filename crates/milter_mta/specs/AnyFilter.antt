@@ -12,11 +12,11 @@ use Rattle.milter_mail.specs.MailSession.{MailSession}
 use Rattle.milter_mail.specs.Plan.{plan}
 use Rattle.milter_protocol.specs.Exchanges.{Exchange}
 use Rattle.milter_protocol.specs.Dialogue.{IsEnded, IsOpen, is_end_command, sendable}
-use Rattle.milter_mta_outcome.specs.declared.acted.Acted.{Acted}
+use Rattle.milter_mta_outcome.specs.declared.acted_verdicts.Acted.{Acted}
 use Rattle.milter_mta_outcome.specs.declared.loss.By.TheVariants.{Default}
 use Rattle.milter_mta_outcome.specs.declared.loss.Loss.{Loss}
 use Rattle.milter_mta_outcome.specs.declared.outcome.Outcome.{Outcome}
-use Rattle.milter_mta_outcome.specs.declared.report.Report.{Report}
+use Rattle.milter_mta_outcome.specs.declared.outcome.Report.{Report}
 use Rattle.milter_mta_outcome.specs.ReceivedReplies.{IsWithinOffer}
 use Rattle.milter_mta_outcome.specs.Dialogues.{acted, given_up, ruled}
 use Rattle.milter_mta_outcome.specs.Losses.{is_by_client}

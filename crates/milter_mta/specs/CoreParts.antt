@@ -4,18 +4,18 @@ use Rattle.milter_message.specs.declared.edit.Edit.{Edit}
 use Rattle.milter_message.specs.MailObject.{MailObject}
 use Rattle.milter_mail.specs.ChosenMacros.{chosen_macros}
 use Rattle.milter_mail.specs.MailSession.{IsSession, MailSession}
-use Rattle.milter_mta_connection.specs.declared.expected_reply.ExpectedReply.{ExpectedReply}
-use Rattle.milter_mta_connection.specs.declared.expected_reply.ExpectedReply.TheVariants as expects
+use Rattle.milter_mta_connection.specs.declared.channel_state.ExpectedReply.{ExpectedReply}
+use Rattle.milter_mta_connection.specs.declared.channel_state.ExpectedReply.TheVariants as expects
 use Rattle.milter_mta_connection.specs.declared.filter_event.FilterEvent.{FilterEvent}
 use Rattle.milter_mta_connection.specs.declared.filter_event.FilterEvent.TheVariants as events
 use Rattle.milter_mta_connection.specs.Channel.{Channel, is_owed, without_edits}
-use Rattle.milter_mta_outcome.specs.declared.acted.Acted.{Acted}
+use Rattle.milter_mta_outcome.specs.declared.acted_verdicts.Acted.{Acted}
 use Rattle.milter_mta_outcome.specs.declared.loss.By.TheVariants.{Connection}
 use Rattle.milter_mta_outcome.specs.declared.loss.Loss.{Loss}
 use Rattle.milter_mta_outcome.specs.declared.loss.Loss.TheVariants.{Memory}
-use Rattle.milter_mta_outcome.specs.declared.cursor.ClientInfo.{ClientInfo}
+use Rattle.milter_mta_outcome.specs.declared.plan_cursor.ClientInfo.{ClientInfo}
 use Rattle.milter_mta_outcome.specs.declared.transaction.Transaction.{Transaction}
-use Rattle.milter_mta_outcome.specs.declared.report.Report.{Report}
+use Rattle.milter_mta_outcome.specs.declared.outcome.Report.{Report}
 use Rattle.milter_wire.specs.declared.negotiation.Negotiated.{Negotiated}
 use Rattle.milter_wire.specs.declared.stage.Stage.{Stage}
 use Rattle.milter_wire.specs.declared.verdict.Verdict.{Verdict}

@@ -10,7 +10,7 @@ use Rattle.milter_protocol.specs.declared.answer.Answer.{Answer}
 use Rattle.milter_protocol.specs.Commands.{is_of_connection}
 use Rattle.milter_protocol.specs.Exchanges.{Exchange}
 use Rattle.milter_protocol.specs.Dialogue.{is_closed, sendable}
-use Rattle.milter_mta_outcome.specs.declared.acted.Acted.{Acted}
+use Rattle.milter_mta_outcome.specs.declared.acted_verdicts.Acted.{Acted}
 use Rattle.milter_mta_outcome.specs.Dialogues.{acted}
 use Rattle.milter_mta.specs.Mta.{Mta, Position, at_packet}
 use Rattle.milter_mta.specs.Mta.Position.{Sending}

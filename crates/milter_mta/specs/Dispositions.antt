@@ -10,13 +10,13 @@ use Rattle.milter_protocol.specs.declared.answer.Answer.{Answer}
 use Rattle.milter_mail.specs.MailSession.{MailSession}
 use Rattle.milter_mail.specs.Plan.{macros_of}
 use Rattle.milter_mail.specs.Steps.{message_steps}
-use Rattle.milter_mta_outcome.specs.declared.acted.Acted.{Acted}
+use Rattle.milter_mta_outcome.specs.declared.acted_verdicts.Acted.{Acted}
 use Rattle.milter_mta_outcome.specs.declared.fallback.OnLoss.{OnLoss}
 use Rattle.milter_mta_outcome.specs.declared.loss.By.{By}
 use Rattle.milter_mta_outcome.specs.declared.loss.By.TheVariants.{Filter, Connection, Default}
 use Rattle.milter_mta_outcome.specs.declared.loss.Loss.{Loss}
 use Rattle.milter_mta_outcome.specs.declared.outcome.Outcome.{Outcome}
-use Rattle.milter_mta_outcome.specs.declared.report.Report.{Report}
+use Rattle.milter_mta_outcome.specs.declared.outcome.Report.{Report}
 use Rattle.milter_mta_outcome.specs.ActedVerdicts.{kept}
 use Rattle.milter_mta_outcome.specs.ReceivedReplies.{is_end}
 use Rattle.milter_mta_outcome.specs.Outcomes.{at_connection, fallback, outcome}

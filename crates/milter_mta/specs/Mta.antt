@@ -6,9 +6,9 @@ use Rattle.milter_wire.specs.declared.command.Command.{Command}
 use Rattle.milter_wire.specs.declared.verdict.Verdict.{Verdict}
 use Rattle.milter_message.specs.declared.edit.Edit.{Edit}
 use Rattle.milter_mail.specs.MailSession.{MailSession}
-use Rattle.milter_mta_outcome.specs.declared.acted.Acted.{Acted}
+use Rattle.milter_mta_outcome.specs.declared.acted_verdicts.Acted.{Acted}
 use Rattle.milter_mta_outcome.specs.declared.fallback.OnLoss.{OnLoss}
-use Rattle.milter_mta_outcome.specs.declared.report.Report.{Report}
+use Rattle.milter_mta_outcome.specs.declared.outcome.Report.{Report}
 
 -- what is offered to each filter, and what a lost one leaves
 pub record Configuration : Type 0 where

@@ -4,7 +4,7 @@
 ghost use Rattle.std.specs.Prelude.{◌≡◌, [], List, ℕ};
 ghost use Rattle.milter_mail.specs.MailSession.{MailSession};
 ghost use Rattle.milter_mta_outcome.specs.declared.loss.Loss.{Loss};
-ghost use Rattle.milter_mta.specs.declared.want.Want.TheVariants as wants;
+ghost use Rattle.milter_mta.specs.declared.mta_core.Want.TheVariants as wants;
 ghost use Rattle.milter_mta.specs.Mta.{Configuration, Mta, fresh};
 ghost use Rattle.milter_mta.specs.Replies.{received};
 ghost use Rattle.milter_mta.specs.Output.{advanced, dialled, sent, want};

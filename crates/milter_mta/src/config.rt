@@ -1,7 +1,7 @@
 //! What a mail server offers its filters.
 
 ghost use Rattle.std.specs.Prelude.{◌≡◌, ◌↔◌, IfSome, IsSome, true};
-ghost use Rattle.milter_protocol.specs.declared.limits.TheConstants.{ACTIONS_MAX, PROTOCOL_MAX, VERSION_MAX};
+ghost use Rattle.milter_protocol.specs.declared.permitted.TheConstants.{ACTIONS_MAX, PROTOCOL_MAX, VERSION_MAX};
 ghost use Rattle.milter_mta_outcome.specs.ReceivedReplies.{is_offered};
 
 use milter_mta_outcome::OnLoss;
@@ -18,7 +18,7 @@ pub struct Config {
 
 impl Model for Config {
     ghost use Rattle.std.specs.Prelude.{◌≡◌};
-    ghost use Rattle.milter_protocol.specs.declared.limits.TheConstants.{VERSION_MAX};
+    ghost use Rattle.milter_protocol.specs.declared.permitted.TheConstants.{VERSION_MAX};
     ghost use Rattle.milter_mta.specs.Mta.{Configuration};
 
     ghost Value = { Configuration };

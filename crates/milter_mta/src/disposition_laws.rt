@@ -7,7 +7,7 @@ ghost use Rattle.milter_wire.specs.Negotiation.{negotiate, has_leading_space};
 ghost use Rattle.milter_message.specs.MailObject.{MailObject};
 ghost use Rattle.milter_protocol.specs.Behavior.{Behavior};
 ghost use Rattle.milter_protocol.specs.Exchanges.{Exchange};
-ghost use Rattle.milter_protocol.specs.declared.limits.TheConstants.{VERSION_MAX, VERSION_MIN};
+ghost use Rattle.milter_protocol.specs.declared.permitted.TheConstants.{VERSION_MAX, VERSION_MIN};
 ghost use Rattle.milter_protocol.specs.Lawful.{IsLawful};
 ghost use Rattle.milter_mta_outcome.specs.declared.loss.By.TheVariants.{Default, Filter};
 ghost use Rattle.milter_mta_outcome.specs.declared.loss.Loss.{Loss};

@@ -33,7 +33,6 @@ mod reports;
 mod rows;
 mod settle;
 mod state;
-mod want;
 
 pub use any_filter::{connections_are_reported, messages_are_settled_by_dialogues};
 pub use config::Config;
@@ -58,6 +57,5 @@ pub use loss_laws::{
 pub use milter_mta_outcome::{
     Acted, ActedVerdicts, By, Loss, MtaFault, OnLoss, Outcome, Refusal, Report,
 };
-pub use mta_core::MtaCore;
+pub use mta_core::{MtaCore, Want};
 pub use reports::Reports;
-pub use want::Want;

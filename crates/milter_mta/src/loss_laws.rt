@@ -13,7 +13,7 @@ ghost use Rattle.milter_protocol.specs.Replies.{options_reply};
 ghost use Rattle.milter_protocol.specs.Dialogue.{is_left_out, sendable};
 ghost use Rattle.milter_mta_outcome.specs.declared.loss.Loss.{Loss};
 ghost use Rattle.milter_mta_outcome.specs.Dialogues.{acted};
-ghost use Rattle.milter_mta.specs.declared.want.Want.TheVariants as wants;
+ghost use Rattle.milter_mta.specs.declared.mta_core.Want.TheVariants as wants;
 ghost use Rattle.milter_mta.specs.Mta.{FilterConnection, Mta, at_packet};
 ghost use Rattle.milter_mta.specs.Mta.Position.{Offering};
 ghost use Rattle.milter_mta.specs.Replies.{After, at, goes_on};

@@ -14,13 +14,25 @@ use crate::config::Config;
 use crate::queue::Queue;
 use crate::reports::Reports;
 use crate::state::{FilterConnection, Position, SessionState};
-use crate::want::Want;
 use milter_mail::{Session, SessionParts};
 use milter_mta_connection::MtaChannel;
 use milter_mta_outcome::{ClientInfo, Loss, MtaFault, Report};
 use milter_wire::NoMemory;
 use std::alloc::Global;
 use std::marker::Model;
+
+/// What is to be done for a mail server's end before it goes on.
+#[derive(Clone, Copy, Debug, PartialEq, Eq)]
+pub enum Want {
+    /// A connection to a filter is to be made.
+    Dial,
+    /// Bytes are to be sent: those pending, or the next packet's.
+    Send,
+    /// The filter's reply is to be received.
+    Receive,
+    /// Nothing: every message is settled, and the end of the connection was sent, or there is none.
+    Done,
+}
 
 /// A mail server's end of a connection to a filter: it plays a session to the filter, and settles each message by what
 /// the filter answers, or by default where the filter is lost. It neither reads nor writes: do what [`MtaCore::want`]

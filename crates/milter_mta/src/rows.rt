@@ -7,7 +7,7 @@ ghost use Rattle.milter_wire.specs.declared.verdict.Verdict.TheVariants as verdi
 ghost use Rattle.milter_mta_outcome.specs.declared.fallback.OnLoss.TheVariants.{Accept, Tempfail};
 ghost use Rattle.milter_mta_outcome.specs.declared.loss.Loss.TheVariants.{Reset};
 ghost use Rattle.milter_mta_outcome.specs.declared.outcome.Outcome.TheVariants.{Discarded, NoRecipients, Refused, RefusedAtConnection};
-ghost use Rattle.milter_mta_outcome.specs.declared.refusal.Refusal.TheVariants as refusals;
+ghost use Rattle.milter_mta_outcome.specs.declared.outcome.Refusal.TheVariants as refusals;
 ghost use Rattle.milter_mta_outcome.specs.Outcomes.{released};
 ghost use Rattle.milter_mta.specs.Dispositions.{lost};
 ghost use Rattle.milter_mta.specs.Worked.{acted_on, after_turns, negotiated, at, begun, commands_sent, continue, message, options, outcomes, reply, session, to_sender, two_recipients};

@@ -1,7 +1,7 @@
 //! How a message is settled by the last verdict on it.
 
 ghost use Rattle.std.specs.Prelude.{◌≡◌, ◌≢◌, ◌<◌, ◌≤◌, ◌-◌, ◌⊎◌, ◌++◌, ◌∷◌, [], All, IfErr, IfOk, List, None, OnOk, Some, length};
-ghost use Rattle.milter_mta_outcome.specs.declared.acted.Acted.{Acted as ActedValue};
+ghost use Rattle.milter_mta_outcome.specs.declared.acted_verdicts.Acted.{Acted as ActedValue};
 ghost use Rattle.milter_mta_outcome.specs.Outcomes.{at_connection, fallback};
 ghost use Rattle.milter_mta_outcome.specs.ReceivedReplies.{is_end};
 ghost use Rattle.milter_message.specs.EditReplies.{reply_of};

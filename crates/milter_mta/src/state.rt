@@ -11,8 +11,8 @@ ghost use Rattle.milter_mta.specs.Driven.{expected_after, expected_first};
 ghost use Rattle.milter_mta.specs.Output.{after_packet, command_at, want_at};
 
 use crate::config::Config;
+use crate::mta_core::Want;
 use crate::queue::Queue;
-use crate::want::Want;
 use milter_mail::Message;
 use milter_mta_connection::ExpectedReply;
 use milter_mta_outcome::{ActedVerdicts, By, ClientInfo, Loss, Report, Transaction, fall_back};

@@ -12,9 +12,9 @@ use Rattle.milter_wire.specs.declared.verdict.Verdict.{Verdict}
 use Rattle.milter_wire.specs.Frames.{frame_reply}
 use Rattle.milter_message.specs.declared.edit.Edit.{Edit}
 use Rattle.milter_message.specs.MailObject.{MailObject}
-use Rattle.milter_protocol.specs.declared.action.Action.{Action}
-use Rattle.milter_protocol.specs.declared.action.Action.TheVariants as received_as
-use Rattle.milter_mta_outcome.specs.declared.acted.Acted.{Acted}
+use Rattle.milter_protocol.specs.declared.answer.Action.{Action}
+use Rattle.milter_protocol.specs.declared.answer.Action.TheVariants as received_as
+use Rattle.milter_mta_outcome.specs.declared.acted_verdicts.Acted.{Acted}
 use Rattle.milter_mta_outcome.specs.declared.loss.Loss.{Loss}
 use Rattle.milter_mta_outcome.specs.declared.loss.Loss.TheVariants.{Fault, Memory, Reset, Timeout}
 use Rattle.milter_mta_outcome.specs.declared.loss.MtaFault.{MtaFault}
@@ -23,8 +23,8 @@ use Rattle.milter_mta_outcome.specs.ReceivedReplies.{options_received, reply_rec
 use Rattle.milter_mta_outcome.specs.EditWeights.{weight_of_all}
 use Rattle.milter_mta_outcome.specs.Transactions.{stage_first}
 use Rattle.milter_mta_outcome.specs.TransactionVerdicts.{ends_dialogue, is_of_connection, left_after}
-use Rattle.milter_mta.specs.declared.want.Want.{Want}
-use Rattle.milter_mta.specs.declared.want.Want.TheVariants as wants
+use Rattle.milter_mta.specs.declared.mta_core.Want.{Want}
+use Rattle.milter_mta.specs.declared.mta_core.Want.TheVariants as wants
 use Rattle.milter_mta.specs.Cores.{ReceivesBytes}
 use Rattle.milter_mta.specs.Mta.{FilterConnection, Mta, Position, at_packet}
 use Rattle.milter_mta.specs.Mta.Position.{Ended, Offering, Quitting, Sending}

@@ -2,14 +2,14 @@
 use Rattle.std.proofs.Common.{◌≡◌, ◌≢◌, ◌<◌, arith, ℕ, Bool, true, false, List, [], length, Option, None, Some, refl, sym, subst}
 use Rattle.milter_message.specs.MailObject.{MailObject}
 use Rattle.milter_mta_outcome.specs.declared.loss.Loss.{Loss}
-use Rattle.milter_mta.specs.declared.want.Want.{Want}
-use Rattle.milter_mta.specs.declared.want.Want.TheVariants as wants
+use Rattle.milter_mta.specs.declared.mta_core.Want.{Want}
+use Rattle.milter_mta.specs.declared.mta_core.Want.TheVariants as wants
 use Rattle.milter_mta.specs.Mta.{FilterConnection, Mta, Position}
 use Rattle.milter_mta.specs.Mta.Position.{Ended, Offering, Quitting, Sending}
 use Rattle.milter_mta.specs.Output.{dialled, dialled_if, want, want_at, want_if_owed, want_in, want_unconnected}
 use Rattle.milter_mta.specs.Dispositions.{lost}
 use Rattle.milter_mta_client.specs.ConnectionRuns.{IsConnected, dials_left, dials_left_with}
-use Rattle.milter_mta_outcome.specs.declared.report.Report.{Report}
+use Rattle.milter_mta_outcome.specs.declared.outcome.Report.{Report}
 use Rattle.milter_mta_client.specs.Observations.{Notes, NotesAdded}
 use Rattle.milter_mta_client.proofs.Connected.{lost-fewer}
 use Rattle.milter_mta_client.proofs.Noted.{notes-none}

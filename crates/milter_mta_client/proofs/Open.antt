@@ -8,8 +8,8 @@ use Rattle.std.specs.Cmp.Lexicographic.{nat_list_eq_equiv}
 use Rattle.std.specs.Str.{bytes_eq}
 use Rattle.milter_text.specs.Globs.{is_like}
 use Rattle.milter_text.specs.Globs as glob
-use Rattle.milter_text.specs.declared.text_case.TextCase.TheVariants.{Exact}
-use Rattle.milter_text.specs.declared.wildcards.TheConstants.{ANY_BYTE, ANY_RUN}
+use Rattle.milter_text.specs.declared.glob.TextCase.TheVariants.{Exact}
+use Rattle.milter_text.specs.declared.glob.TheConstants.{ANY_BYTE, ANY_RUN}
 use Rattle.milter_mta_client.specs.Patterns.{is_gap, like, some_suffix, stand_for, stands_for}
 use Rattle.milter_mta_client.specs.Places.{any_open, is_any_open}
 use Rattle.milter_mta_client.proofs.Advance.{or_none}

@@ -4,7 +4,7 @@ use Rattle.std.specs.Io.KnownBytes.{Appends, Consumes, Keeps}
 use Rattle.milter_message.specs.MailObject.{MailObject}
 use Rattle.milter_mta_outcome.specs.declared.loss.Loss.{Loss}
 use Rattle.milter_mta_outcome.specs.declared.loss.Loss.TheVariants.{Memory}
-use Rattle.milter_mta.specs.declared.want.Want.TheVariants as wants
+use Rattle.milter_mta.specs.declared.mta_core.Want.TheVariants as wants
 use Rattle.milter_mta.specs.Mta.{FilterConnection, Mta}
 use Rattle.milter_mta.specs.Output.{advanced, want}
 use Rattle.milter_mta.specs.Dispositions.{lost}

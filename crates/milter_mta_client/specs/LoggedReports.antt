@@ -2,7 +2,7 @@
 use Rattle.std.specs.Prelude.{◌≡◌, ℕ, List, Option, None}
 use Rattle.std.specs.Io.KnownBytes.{Appends}
 use Rattle.milter_mta_outcome.specs.Losses.{is_by_client}
-use Rattle.milter_mta_outcome.specs.declared.report.Report.{Report}
+use Rattle.milter_mta_outcome.specs.declared.outcome.Report.{Report}
 use Rattle.milter_mta_client.specs.ReportsText.{report_text}
 use Rattle.milter_mta_client.specs.declared.report_log.ReportLog.{ReportLog}
 

@@ -1,6 +1,6 @@
 -- What an observer is shown while a session is played.
 use Rattle.std.specs.Prelude.{◌≡◌, ◌+◌, ℕ, suc, List, [], ◌∷◌, drop, length}
-use Rattle.milter_mta_outcome.specs.declared.report.Report.{Report}
+use Rattle.milter_mta_outcome.specs.declared.outcome.Report.{Report}
 use Rattle.milter_mta.specs.Mta.{Mta}
 use Rattle.milter_mta.specs.AnyFilter.{IsOnDialogue}
 

@@ -2,7 +2,7 @@
 use Rattle.std.specs.Prelude.{◌≡◌, ◌<◌, ◌≤◌, ◌+◌, ◌++◌, ℕ, Bool, true, false, ◌||◌, ◌&&◌, List, [], ◌∷◌, length, take, drop, codes, if◌then◌else◌}
 use Rattle.std.specs.Str.{bytes_eq}
 use Rattle.milter_text.specs.Globs.{is_like}
-use Rattle.milter_text.specs.declared.text_case.TextCase.TheVariants.{Exact}
+use Rattle.milter_text.specs.declared.glob.TextCase.TheVariants.{Exact}
 
 -- the line of any lines, without its LF, and what a line begins with that has a pattern
 abbrev pub gap : List ℕ

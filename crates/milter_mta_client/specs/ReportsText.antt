@@ -8,13 +8,13 @@ use Rattle.milter_wire.specs.declared.verdict.Verdict.TheVariants.{Code}
 use Rattle.milter_wire.specs.Stages.{name_of}
 use Rattle.milter_wire.specs.Verdicts.{verdict_name}
 use Rattle.milter_mail.specs.HeldText.{held_text, line_of}
-use Rattle.milter_mta_outcome.specs.declared.acted.Acted.{Acted}
+use Rattle.milter_mta_outcome.specs.declared.acted_verdicts.Acted.{Acted}
 use Rattle.milter_mta_outcome.specs.declared.loss.By.{By}
 use Rattle.milter_mta_outcome.specs.declared.loss.By.TheVariants.{Filter, Connection, Default}
 use Rattle.milter_mta_outcome.specs.declared.loss.Loss.TheVariants.{Reset, Timeout, Memory, Fault}
 use Rattle.milter_mta_outcome.specs.declared.outcome.Outcome.{Outcome}
 use Rattle.milter_mta_outcome.specs.declared.outcome.Outcome.TheVariants.{Released, Discarded, Refused, NoRecipients, RefusedAtConnection}
-use Rattle.milter_mta_outcome.specs.declared.report.Report.{Report}
+use Rattle.milter_mta_outcome.specs.declared.outcome.Report.{Report}
 use Rattle.milter_mta_outcome.specs.Losses.{is_by_client, mta_fault_number}
 use Rattle.milter_mta_outcome.specs.Refusals.{refusal_text}
 use Rattle.milter_mta_outcome.specs.TransactionVerdicts.{last_verdict}

@@ -1,7 +1,7 @@
 //! How a mail server's end is driven over connections to filters, until every message is settled.
 
 ghost use Rattle.std.specs.Prelude.{◌≡◌, ◌+◌, ◌↔◌, IsTrue, drop, length};
-ghost use Rattle.milter_mta.specs.declared.want.Want.TheVariants as wants;
+ghost use Rattle.milter_mta.specs.declared.mta_core.Want.TheVariants as wants;
 ghost use Rattle.milter_mta.specs.Output.{want};
 ghost use Rattle.milter_mta_client.specs.ClientRuns.{Converses, first_events};
 ghost use Rattle.milter_mta_client.specs.ConnectionRuns.{IsBetween, Steps};
@@ -9,8 +9,7 @@ ghost use Rattle.milter_mta.specs.AnyFilter.{IsOnDialogue};
 ghost use Rattle.milter_mta_client.specs.Events.{Runs};
 ghost use Rattle.milter_mta_client.specs.Observations.{Notes, NotesAdded, NotesEach};
 
-use crate::connection::{drive, lose};
-use crate::dialer::Dial;
+use crate::connection::{Dial, drive, lose};
 use crate::laws::{events_keep_to_dialogues, events_report_connections};
 use crate::observer::{NoObserver, Observer};
 use milter_mta::{MtaCore, Reports, Want, messages_are_settled_by_dialogues};

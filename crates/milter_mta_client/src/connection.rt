@@ -1,7 +1,7 @@
 //! How a mail server's end is driven over one connection.
 
 ghost use Rattle.std.specs.Prelude.{◌≡◌, ◌≢◌, ◌<◌, [], length};
-ghost use Rattle.milter_mta.specs.declared.want.Want.TheVariants as wants;
+ghost use Rattle.milter_mta.specs.declared.mta_core.Want.TheVariants as wants;
 ghost use Rattle.milter_mta.specs.Output.{want};
 ghost use Rattle.milter_mta.specs.Dispositions.{lost};
 ghost use Rattle.milter_mta_client.specs.ConnectionRuns.{IsBetween, IsConnected, Receives, Steps, Transmits, Turns, dials_left};
@@ -13,6 +13,22 @@ use crate::observer::{Observer, show};
 use milter_mta::{MtaCore, Want};
 use milter_mta_outcome::Loss;
 use std::io::{Read, Write};
+use thiserror::Error;
+
+/// A connection to a filter could not be made.
+#[derive(Clone, Copy, Debug, PartialEq, Eq, Error)]
+#[error("no connection to the filter")]
+pub struct DialFault;
+
+/// Makes connections to a filter, one after another.
+pub trait Dial {
+    /// A connection: what the filter sends is read from it, and what is sent to the filter is written to it. It is
+    /// closed by being dropped. A read or a write that takes too long ends with the kind `WouldBlock` or `TimedOut`.
+    type Link: Read + Write + Drop;
+
+    /// Makes a connection to the filter.
+    fn dial(&mut self) -> Result<Self::Link, DialFault>;
+}
 
 /// The most reads and writes of one connection.
 const CALLS_MAX: u64 = 1_099_511_627_776;

@@ -2,10 +2,19 @@
 
 ghost use Rattle.std.specs.Prelude.{◌≡◌, ◌∷◌, IfOk, MatchOption, false, length, map, replicate, true};
 ghost use Rattle.milter_mta_client.specs.Patterns.{IsFirstDifference, stand_for};
+ghost use Rattle.bstr.specs.Text.{lines_of};
 
 use crate::places::{advance, first_place, is_any_open, may_end};
+use bstr::ByteSlice;
 use milter_fields::NoMemory;
 use std::alloc::Global;
+
+/// The lines of a text, each with its LF; the last may have none.
+pub fn lines_of(alloc: Global, text: &[u8]) -> Result<Vec<&[u8]>, NoMemory>
+    ensures { IfOk result (λ lines. map (λ line. line.now) lines.items ≡ lines_of text.now) }
+{
+    Ok(text.lines_with_terminator().collect(alloc)?)
+}
 
 /// The first line, counted from 0, with which the lines that were found aren't what the expected ones stand for:
 /// those before it may go on so. Behind the last line it is their number, where more are due. `None` where they are

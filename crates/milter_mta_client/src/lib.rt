@@ -23,11 +23,9 @@ mod alignment;
 mod client;
 mod connection;
 mod costs;
-mod dialer;
 mod difference;
 mod hunks;
 mod laws;
-mod lines;
 mod link_calls;
 mod observer;
 mod pattern;
@@ -39,11 +37,10 @@ mod reports_text;
 mod rows;
 
 pub use client::{converse, converse_observed};
-pub use dialer::{Dial, DialFault};
-pub use difference::first_difference;
+pub use connection::{Dial, DialFault};
+pub use difference::{first_difference, lines_of};
 pub use hunks::difference_text;
 pub use laws::{connection_limits, events_keep_to_dialogues, events_report_connections};
-pub use lines::lines_of;
 pub use milter_mta::{
     Acted, ActedVerdicts, By, Config, Loss, MtaCore, MtaFault, OnLoss, Outcome, Refusal, Report,
     Reports, Want,

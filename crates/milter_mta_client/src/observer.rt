@@ -1,7 +1,7 @@
 //! Who is shown what becomes of messages while a session is played.
 
 ghost use Rattle.std.specs.Prelude.{ℕ, ◌+◌, drop};
-ghost use Rattle.milter_mta_outcome.specs.declared.report.Report.{Report as ReportValue};
+ghost use Rattle.milter_mta_outcome.specs.declared.outcome.Report.{Report as ReportValue};
 ghost use Rattle.milter_mta_client.specs.Observations.{NotesEach, notes_nothing};
 
 use milter_mta::MtaCore;

@@ -4,7 +4,7 @@ ghost use Rattle.std.specs.Prelude.{OnOk};
 ghost use Rattle.milter_mta_client.specs.MtaRuns.{PlaysSession};
 
 use crate::client::converse_observed;
-use crate::dialer::Dial;
+use crate::connection::Dial;
 use crate::report_log::ReportLog;
 use milter_mail::Session;
 use milter_mta::{Config, MtaCore, messages_are_settled_by_dialogues};

@@ -7,7 +7,7 @@ ghost use Rattle.milter_mta_outcome.specs.declared.loss.By.TheVariants.{Connecti
 ghost use Rattle.milter_mta_outcome.specs.declared.loss.Loss.TheVariants.{Fault, Memory, Reset, Timeout};
 ghost use Rattle.milter_mta_outcome.specs.declared.loss.MtaFault.TheVariants.{Early};
 ghost use Rattle.milter_mta_outcome.specs.declared.outcome.Outcome.TheVariants.{Discarded, NoRecipients, Refused, RefusedAtConnection, Released};
-ghost use Rattle.milter_mta_outcome.specs.declared.refusal.Refusal.TheVariants as refusals;
+ghost use Rattle.milter_mta_outcome.specs.declared.outcome.Refusal.TheVariants as refusals;
 ghost use Rattle.milter_mta_outcome.specs.Outcomes.{released};
 ghost use Rattle.milter_mta.specs.Dispositions.{report};
 ghost use Rattle.milter_mta.specs.Worked.{message};

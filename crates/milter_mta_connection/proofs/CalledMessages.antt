@@ -33,7 +33,7 @@ use Rattle.milter_protocol.specs.Lawful.{IsLawful}
 use Rattle.milter_protocol.specs.Replies.{options_reply}
 use Rattle.milter_mta_outcome.specs.declared.loss.MtaFault.{MtaFault}
 use Rattle.milter_mta_outcome.specs.ReceivedReplies.{options_received}
-use Rattle.milter_mta_connection.specs.declared.expected_reply.ExpectedReply.TheVariants as expects
+use Rattle.milter_mta_connection.specs.declared.channel_state.ExpectedReply.TheVariants as expects
 use Rattle.milter_mta_connection.specs.declared.filter_event.Fed.{Fed}
 use Rattle.milter_mta_connection.specs.declared.filter_event.FilterEvent.TheVariants as events
 use Rattle.milter_mta_connection.specs.Channel.{Channel}

@@ -29,7 +29,7 @@ use Rattle.milter_protocol.specs.Permitted.{permitted_verdict}
 use Rattle.milter_protocol.specs.Seen.{Seen, seen}
 use Rattle.milter_protocol.specs.StageOrder.{rank_of}
 use Rattle.milter_protocol.specs.Verdicts.{has_verdict, is_skip}
-use Rattle.milter_mta_connection.specs.declared.expected_reply.ExpectedReply.TheVariants as expects
+use Rattle.milter_mta_connection.specs.declared.channel_state.ExpectedReply.TheVariants as expects
 use Rattle.milter_mta_connection.specs.Channel.{Channel, is_idle_by}
 use Rattle.milter_mta_connection.specs.declared.phase.Phase.{Phase}
 use Rattle.milter_mta_connection.specs.declared.phase.Phase.TheVariants.{NoMessage, InMessage, Skipping, MessageOver, ClientOver, Closed}

@@ -27,8 +27,8 @@ use Rattle.milter_protocol.specs.Exchanges.{Exchange, commands_of, onto}
 use Rattle.milter_protocol.specs.Lawful.{IsLawful}
 use Rattle.milter_protocol.specs.Permitted.{permitted}
 use Rattle.milter_protocol.specs.Seen.{Seen, seen}
-use Rattle.milter_mta_connection.specs.declared.expected_reply.ExpectedReply.{ExpectedReply}
-use Rattle.milter_mta_connection.specs.declared.expected_reply.ExpectedReply.TheVariants as expects
+use Rattle.milter_mta_connection.specs.declared.channel_state.ExpectedReply.{ExpectedReply}
+use Rattle.milter_mta_connection.specs.declared.channel_state.ExpectedReply.TheVariants as expects
 use Rattle.milter_mta_connection.specs.declared.filter_event.Fed.{Fed}
 use Rattle.milter_mta_connection.specs.Channel.{Channel, expected_by, expected_of, is_unknown, queue_all, without_edits}
 use Rattle.milter_mta_connection.specs.Received.{After, received}

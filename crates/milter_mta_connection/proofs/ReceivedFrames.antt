@@ -9,14 +9,14 @@ use Rattle.milter_wire.specs.declared.reply.Reply.{Reply}
 use Rattle.milter_wire.specs.declared.stage.Stage.{Stage}
 use Rattle.milter_wire.specs.declared.stage.Stage.TheVariants.{Rcpt}
 use Rattle.milter_wire.specs.Frames.{frame_reply}
-use Rattle.milter_protocol.specs.declared.action.Action.{Action}
-use Rattle.milter_protocol.specs.declared.action.Action.TheVariants as actions
+use Rattle.milter_protocol.specs.declared.answer.Action.{Action}
+use Rattle.milter_protocol.specs.declared.answer.Action.TheVariants as actions
 use Rattle.milter_mta_outcome.specs.declared.loss.Loss.{Loss}
 use Rattle.milter_mta_outcome.specs.declared.loss.MtaFault.{MtaFault}
 use Rattle.milter_mta_outcome.specs.declared.loss.MtaFault.TheVariants.{Wire, Early}
 use Rattle.milter_mta_outcome.specs.ReceivedReplies.{options_received, reply_received}
-use Rattle.milter_mta_connection.specs.declared.expected_reply.ExpectedReply.{ExpectedReply}
-use Rattle.milter_mta_connection.specs.declared.expected_reply.ExpectedReply.TheVariants as expects
+use Rattle.milter_mta_connection.specs.declared.channel_state.ExpectedReply.{ExpectedReply}
+use Rattle.milter_mta_connection.specs.declared.channel_state.ExpectedReply.TheVariants as expects
 use Rattle.milter_mta_connection.specs.declared.filter_event.FilterEvent.{FilterEvent}
 use Rattle.milter_mta_outcome.specs.EditWeights.{weight_of_all}
 use Rattle.milter_mta_connection.specs.Channel.{Channel, is_owed}

@@ -12,8 +12,8 @@ use Rattle.milter_wire.specs.Command.{encoding}
 use Rattle.milter_wire.specs.Negotiation.{has, is_answered}
 use Rattle.milter_wire.specs.Stages.{stage_of}
 use Rattle.milter_message.specs.declared.edit.Edit.{Edit}
-use Rattle.milter_mta_connection.specs.declared.expected_reply.ExpectedReply.{ExpectedReply}
-use Rattle.milter_mta_connection.specs.declared.expected_reply.ExpectedReply.TheVariants as expects
+use Rattle.milter_mta_connection.specs.declared.channel_state.ExpectedReply.{ExpectedReply}
+use Rattle.milter_mta_connection.specs.declared.channel_state.ExpectedReply.TheVariants as expects
 
 pub record Channel : Type 0 where
   -- what the filter is offered

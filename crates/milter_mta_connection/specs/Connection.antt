@@ -22,8 +22,8 @@ use Rattle.milter_protocol.specs.Commands.{is_end_by}
 use Rattle.milter_protocol.specs.StageOrder.{may_follow, rank_of}
 use Rattle.milter_protocol.specs.Verdicts.{is_final_at, is_skip}
 use Rattle.milter_mta_outcome.specs.declared.loss.Loss.{Loss}
-use Rattle.milter_mta_connection.specs.declared.expected_reply.ExpectedReply.{ExpectedReply}
-use Rattle.milter_mta_connection.specs.declared.expected_reply.ExpectedReply.TheVariants as expects
+use Rattle.milter_mta_connection.specs.declared.channel_state.ExpectedReply.{ExpectedReply}
+use Rattle.milter_mta_connection.specs.declared.channel_state.ExpectedReply.TheVariants as expects
 use Rattle.milter_mta_connection.specs.declared.filter_event.Fed.{Fed}
 use Rattle.milter_mta_connection.specs.declared.filter_event.FilterEvent.{FilterEvent}
 use Rattle.milter_mta_connection.specs.declared.filter_event.FilterEvent.TheVariants as events
@@ -35,8 +35,8 @@ use Rattle.milter_mta_connection.specs.declared.call_outcome.CallOutcome.TheVari
 use Rattle.milter_mta_connection.specs.declared.phase.Phase.{Phase}
 use Rattle.milter_mta_connection.specs.declared.phase.Phase.TheVariants.{NoMessage, InMessage, Skipping, MessageOver, ClientOver, Closed}
 use Rattle.milter_mta_connection.specs.declared.phase.TheConstants.{UNKNOWN_VERSION_MIN}
-use Rattle.milter_mta_connection.specs.declared.want.Want.{Want}
-use Rattle.milter_mta_connection.specs.declared.want.Want.TheVariants as wants
+use Rattle.milter_mta_connection.specs.declared.mta_connection.Want.{Want}
+use Rattle.milter_mta_connection.specs.declared.mta_connection.Want.TheVariants as wants
 
 pub record Connection : Type 0 where
   pub channel : Channel

@@ -6,7 +6,7 @@ use Rattle.milter_wire.specs.declared.verdict.Verdict.{Verdict}
 use Rattle.milter_message.specs.declared.edit.Edit.{Edit}
 use Rattle.milter_protocol.specs.Permitted.{is_permitted}
 use Rattle.milter_mta_outcome.specs.ReceivedReplies.{is_given}
-use Rattle.milter_mta_connection.specs.declared.expected_reply.ExpectedReply.TheVariants as expects
+use Rattle.milter_mta_connection.specs.declared.channel_state.ExpectedReply.TheVariants as expects
 use Rattle.milter_mta_connection.specs.declared.filter_event.FilterEvent.{FilterEvent}
 use Rattle.milter_mta_connection.specs.declared.filter_event.FilterEvent.TheVariants as events
 use Rattle.milter_mta_connection.specs.Channel.{Channel, verdict_stage}

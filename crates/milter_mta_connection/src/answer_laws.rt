@@ -9,7 +9,7 @@ ghost use Rattle.milter_wire.specs.Reply.{Fits, encoding};
 ghost use Rattle.milter_protocol.specs.declared.answer.Answer.{Answer};
 ghost use Rattle.milter_protocol.specs.Lawful.{AnswerFits};
 ghost use Rattle.milter_protocol.specs.Permitted.{permitted};
-ghost use Rattle.milter_mta_connection.specs.declared.expected_reply.ExpectedReply.TheVariants as expects;
+ghost use Rattle.milter_mta_connection.specs.declared.channel_state.ExpectedReply.TheVariants as expects;
 ghost use Rattle.milter_mta_connection.specs.declared.filter_event.FilterEvent.{FilterEvent};
 ghost use Rattle.milter_mta_connection.specs.declared.filter_event.FilterEvent.TheVariants as events;
 ghost use Rattle.milter_mta_connection.specs.Channel.{Channel, is_owed};

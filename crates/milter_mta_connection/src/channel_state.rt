@@ -13,7 +13,6 @@ ghost use Rattle.milter_mta_connection.specs.ChannelParts.{Receives, Leaves, Lea
 ghost use Rattle.milter_mta_connection.specs.Received.{edits_left, framed, negotiated_on, replied, replied_at, wire_loss};
 ghost use Rattle.milter_mta_outcome.specs.ReceivedReplies.{options_received};
 
-use crate::expected_reply::ExpectedReply;
 use crate::filter_event::{Fed, FilterEvent, latest};
 use milter_mta_outcome::{
     Action, Loss, MtaFault, ReceivedEdits, on_options, on_reply, on_verdict, received_replies,
@@ -23,6 +22,19 @@ use milter_wire::{
     WireFault, reply_frames,
 };
 use std::alloc::Global;
+
+/// What a filter is to reply once all that is pending was sent. Source: mfdef.h, and the layouts that libmilter reads.
+#[derive(Clone, Copy, Debug, PartialEq, Eq)]
+pub enum ExpectedReply {
+    /// Nothing.
+    Nothing,
+    /// The options, by the offer.
+    Options,
+    /// A verdict on a command of this stage; at the end of a message its edits and progress before it.
+    Verdict(Stage),
+    /// A verdict on a command of the client that the mail server doesn't know: one that a recipient may have.
+    Unknown,
+}
 
 /// What was negotiated with a filter, the reply that is expected of it, and the edits that came.
 #[derive(Debug, Drop)]

@@ -14,7 +14,7 @@ ghost use Rattle.milter_message.specs.MailObject.{MailObject};
 ghost use Rattle.milter_mail.specs.Macros.{Macros};
 ghost use Rattle.milter_mail.specs.MailSession.{MailSession};
 ghost use Rattle.milter_mail.specs.Plan.{plan};
-ghost use Rattle.milter_protocol.specs.declared.limits.TheConstants.{VERSION_MAX, VERSION_MIN};
+ghost use Rattle.milter_protocol.specs.declared.permitted.TheConstants.{VERSION_MAX, VERSION_MIN};
 ghost use Rattle.milter_protocol.specs.Behavior.{Behavior};
 ghost use Rattle.milter_protocol.specs.Dialogue.{dialogue_with, is_skipping};
 ghost use Rattle.milter_protocol.specs.Lawful.{IsLawful};

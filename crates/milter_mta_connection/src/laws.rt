@@ -13,9 +13,13 @@ ghost use Rattle.milter_wire.specs.declared.options.Options.{Options};
 ghost use Rattle.milter_protocol.specs.Commands.{is_end_by};
 ghost use Rattle.milter_protocol.specs.Transcripts.{rank_from};
 ghost use Rattle.milter_mta_connection.specs.Channel.{Channel, queue_all};
-ghost use Rattle.milter_mta_connection.specs.Calls.{AllComeInOrder, Call};
+ghost use Rattle.milter_mta_connection.specs.Calls.{AllComeInOrder, Call, after};
 ghost use Rattle.milter_mta_connection.specs.CommandOrder.{ComeInOrder, rank_with_all};
 ghost use Rattle.milter_mta_connection.specs.Connection.{Connection, after_abort, after_command, after_verdict, aborts, fault_at, fresh, outcome_at, outcome_of, packets_for, with_command};
+ghost use Rattle.milter_mta_outcome.specs.declared.loss.Loss.{Loss};
+ghost use Rattle.milter_mta_connection.specs.Received.{received};
+ghost use Rattle.milter_mta_connection.specs.Calls.Call.{Feed, Lost};
+ghost use Rattle.milter_mta_connection.specs.Losses.{AllStayLost, IsLost};
 
 /// Where a command is taken, what is answered says what is sent of it, by what was negotiated: nothing where it is left
 /// out, perhaps after the abort that is due; else its packets, and its verdict is due where the stage is answered.
@@ -47,4 +51,13 @@ pub fn commands_come_in_order()
 /// that is sent on a connection comes in the order in which a filter's end takes commands.
 pub fn connections_keep_order()
     ensures { (offer : Options) (calls : List Call) → AllComeInOrder (fresh offer) 0 calls }
+{}
+
+/// After a loss nothing is pending and no reply is expected; and whatever is called then, in whatever order, nothing is
+/// queued, no event comes, and no edit is added.
+pub fn losses_end_connections()
+    ensures lost { (c : Connection) → IsLost (after Lost c) }
+    ensures fed { (c : Connection) (bytes : List ℕ) (loss : Loss) → (received c.channel bytes).loss ≡ Some loss →
+        IsLost (after (Feed bytes) c) }
+    ensures stays { (c : Connection) (calls : List Call) → IsLost c → AllStayLost calls c }
 {}

@@ -23,10 +23,8 @@ mod call_outcome;
 mod channel_laws;
 mod channel_state;
 mod dialogue_laws;
-mod expected_reply;
 mod filter_event;
 mod laws;
-mod loss_laws;
 mod method_laws;
 mod mta_channel;
 mod mta_connection;
@@ -34,23 +32,22 @@ mod packets;
 mod pending;
 mod phase;
 mod piece_laws;
-mod want;
 
 pub use answer_laws::{answers_are_received, replies_are_received};
 pub use call_outcome::{CallFault, CallOutcome};
 pub use channel_laws::{
     edits_were_negotiated, events_leave_channels, pieces_go_on, verdicts_follow_commands,
 };
+pub use channel_state::ExpectedReply;
 pub use dialogue_laws::{
     aborts_end_messages, calls_are_exchanges, messages_are_dialogues, sessions_are_dialogues,
 };
-pub use expected_reply::ExpectedReply;
 pub use filter_event::{Fed, FilterEvent};
-pub use laws::{commands_come_in_order, connections_keep_order, verdicts_are_due};
-pub use loss_laws::losses_end_connections;
+pub use laws::{
+    commands_come_in_order, connections_keep_order, losses_end_connections, verdicts_are_due,
+};
 pub use method_laws::methods_are_calls;
 pub use mta_channel::MtaChannel;
-pub use mta_connection::MtaConnection;
+pub use mta_connection::{MtaConnection, Want};
 pub use phase::Phase;
 pub use piece_laws::pieces_are_fed;
-pub use want::Want;

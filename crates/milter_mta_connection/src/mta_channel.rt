@@ -9,8 +9,7 @@ ghost use Rattle.milter_wire.specs.Reply.{Fits as ReplyFits};
 ghost use Rattle.milter_mta_connection.specs.Channel.{cleared, is_idle, is_owed, offered, queue, queue_expecting, sent, unopened, without_edits, without_pending};
 ghost use Rattle.milter_mta_connection.specs.ChannelParts.{Receives};
 
-use crate::channel_state::ChannelState;
-use crate::expected_reply::ExpectedReply;
+use crate::channel_state::{ChannelState, ExpectedReply};
 use crate::filter_event::{Fed, FilterEvent};
 use crate::pending::append;
 use milter_fields::ByteQueue;
@@ -18,9 +17,9 @@ use milter_message::Edit;
 use milter_mta_outcome::{Loss, MtaFault, ReceivedEdits};
 use milter_protocol::Edits;
 use milter_wire::{CommandRef, Negotiated, NoMemory, Options, Splitter};
-use std::mem;
 use std::alloc::Global;
 use std::marker::Model;
+use std::mem;
 
 /// A channel to a filter: the commands that a mail server sends on a connection, one by one, and the replies to them.
 /// It knows nothing of the order of commands. It neither reads nor writes. Source: mfdef.h.

@@ -14,22 +14,34 @@ ghost use Rattle.milter_mta_connection.specs.ChannelParts.{Receives};
 ghost use Rattle.milter_mta_connection.specs.Connection.{CallLeaves, CanBeQueued, CommandLeaves, FitPackets, QueuesSome, UnknownLeaves, after_abort, after_command, after_event, after_fed, after_quit, after_verdict, any_fault, closed_by, fault_at, fresh, has_leading_space_in, header_command, is_left_out, is_under_way, lost, outcome_of, pairs_for, want, with_command};
 
 use crate::call_outcome::{CallFault, CallOutcome};
-use crate::expected_reply::ExpectedReply;
+use crate::channel_state::ExpectedReply;
 use crate::filter_event::{Fed, FilterEvent};
 use crate::mta_channel::MtaChannel;
 use crate::packets::{packets_fit, queue_abort, queue_abort_before, queue_packets, queue_quit};
 use crate::phase::{Phase, rank_aborted, rank_after, rank_after_verdict};
-use crate::want::Want;
 use milter_mail::pairs_asked_for;
 use milter_message::{Edit, Held, Message, apply, sent_header};
 use milter_protocol::{Edits, is_final_at};
+use milter_wire::codes::SMFIC_UNKNOWN;
 use milter_wire::{
     ClientRef, CommandRef, HeaderRef, Negotiated, NoMemory, Options, Pair, Pairs, PathRef, Stage,
     Verdict,
 };
-use milter_wire::codes::SMFIC_UNKNOWN;
 use std::alloc::Global;
 use std::marker::Model;
+
+/// What is to be done next on a connection.
+#[derive(Clone, Copy, Debug, PartialEq, Eq)]
+pub enum Want {
+    /// Write what is pending.
+    Send,
+    /// Read what the filter sends.
+    Receive,
+    /// Call with the client's next command, once there is one.
+    Command,
+    /// Nothing: the connection has ended, or the filter was lost.
+    Nothing,
+}
 
 /// A mail server's connection to a filter. The mail server calls it with what its client does, stage by stage, and has
 /// the filter's verdicts from [`MtaConnection::feed`]. It neither reads nor writes: [`MtaConnection::want`] says what

@@ -17,7 +17,7 @@ use Rattle.milter_wire.specs.declared.reply.Reply.TheVariants as replies
 use Rattle.milter_wire.specs.Negotiation.{negotiate, has_bit}
 use Rattle.milter_wire.specs.Reply.{Fits}
 use Rattle.milter_protocol.specs.Behavior.{Behavior}
-use Rattle.milter_protocol.specs.declared.limits.TheConstants.{VERSION_MAX, VERSION_MIN}
+use Rattle.milter_protocol.specs.declared.permitted.TheConstants.{VERSION_MAX, VERSION_MIN}
 use Rattle.milter_protocol.specs.Lawful.{WantsWithin}
 use Rattle.milter_protocol.specs.Replies.{options_reply}
 use Rattle.milter_mta_outcome.specs.ReceivedReplies.{IsWithinOffer, options_received}

@@ -18,8 +18,8 @@ use Rattle.milter_mail.specs.MailSession.{IsSendable, MacrosFit, MailSession}
 use Rattle.milter_mail.specs.Plan.{macros_of, opening, plan}
 use Rattle.milter_mail.specs.Steps.{message_steps}
 use Rattle.milter_mail.proofs.MailLaws.{plan_fits, plan_weight}
-use Rattle.milter_mta_outcome.specs.declared.cursor.Cursor.{Cursor}
-use Rattle.milter_mta_outcome.specs.declared.cursor.ClientInfo.{ClientInfo}
+use Rattle.milter_mta_outcome.specs.declared.plan_cursor.Cursor.{Cursor}
+use Rattle.milter_mta_outcome.specs.declared.plan_cursor.ClientInfo.{ClientInfo}
 use Rattle.milter_mta_outcome.specs.declared.transaction.Transaction.{Transaction}
 use Rattle.milter_mta_outcome.specs.PlanCursor.{Outgoing, outgoing_of, steps_from}
 use Rattle.milter_mta_outcome.specs.Transactions.{Sends, left_of, outgoing_transaction}

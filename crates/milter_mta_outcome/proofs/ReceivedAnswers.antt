@@ -20,8 +20,8 @@ use Rattle.milter_message.specs.declared.message.TheConstants.{WEIGHT_MAX}
 use Rattle.milter_message.specs.EditReplies as edits
 use Rattle.milter_message.specs.EditReplies.{weight_of}
 use Rattle.milter_message.proofs.EditSequences.{asked_back}
-use Rattle.milter_protocol.specs.declared.action.Action.{Action}
-use Rattle.milter_protocol.specs.declared.action.Action.TheVariants as received_as
+use Rattle.milter_protocol.specs.declared.answer.Action.{Action}
+use Rattle.milter_protocol.specs.declared.answer.Action.TheVariants as received_as
 use Rattle.milter_protocol.specs.declared.answer.Answer.{Answer}
 use Rattle.milter_protocol.specs.Lawful.{AnswerFits}
 use Rattle.milter_protocol.specs.Permitted.{is_permitted, permitted, permitted_verdict}

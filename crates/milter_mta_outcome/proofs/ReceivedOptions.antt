@@ -11,7 +11,7 @@ use Rattle.milter_wire.specs.declared.negotiation.Negotiated.{Negotiated}
 use Rattle.milter_wire.specs.declared.reply.Reply.{Reply}
 use Rattle.milter_wire.specs.declared.reply.Reply.TheVariants as replies
 use Rattle.milter_wire.specs.Negotiation.{has_bit}
-use Rattle.milter_protocol.specs.declared.limits.TheConstants.{VERSION_MAX, VERSION_MIN}
+use Rattle.milter_protocol.specs.declared.permitted.TheConstants.{VERSION_MAX, VERSION_MIN}
 use Rattle.milter_protocol.specs.Replies.{options_reply}
 use Rattle.milter_mta_outcome.specs.declared.loss.MtaFault.{MtaFault}
 use Rattle.milter_mta_outcome.specs.declared.loss.MtaFault.TheVariants.{Version, ActionsNotOffered, ProtocolNotOffered}

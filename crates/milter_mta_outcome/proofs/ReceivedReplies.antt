@@ -10,7 +10,7 @@ use Rattle.milter_wire.specs.Verdicts.{verdict_of}
 use Rattle.milter_message.specs.declared.edit.Edit.{Edit}
 use Rattle.milter_message.specs.declared.message.TheConstants.{WEIGHT_MAX}
 use Rattle.milter_message.specs.EditReplies.{edit_of, reply_of, weight_of}
-use Rattle.milter_protocol.specs.declared.action.Action.TheVariants as received
+use Rattle.milter_protocol.specs.declared.answer.Action.TheVariants as received
 use Rattle.milter_protocol.specs.Permitted.{is_permitted}
 use Rattle.milter_mta_outcome.specs.declared.loss.MtaFault.TheVariants.{NotAtThisStage, EditNotNegotiated, TooManyEdits}
 use Rattle.milter_mta_outcome.specs.ReceivedReplies.{received_by, is_end, is_given, verdict_received}

@@ -7,7 +7,7 @@ use Rattle.milter_wire.specs.declared.command.Command.{Command}
 use Rattle.milter_wire.specs.declared.stage.Stage.{Stage}
 use Rattle.milter_wire.specs.Command.{Fits}
 use Rattle.milter_message.specs.declared.message.TheConstants.{WEIGHT_MAX}
-use Rattle.milter_mta_outcome.specs.declared.cursor.ClientInfo.{ClientInfo}
+use Rattle.milter_mta_outcome.specs.declared.plan_cursor.ClientInfo.{ClientInfo}
 use Rattle.milter_mta_outcome.specs.declared.transaction.Transaction.{Transaction}
 use Rattle.milter_mta_outcome.specs.PlanCursor.{without_body}
 use Rattle.milter_mta_outcome.specs.Transactions.{Sends, first_of, left_of, stage_first}

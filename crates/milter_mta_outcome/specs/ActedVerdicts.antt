@@ -7,7 +7,7 @@ use Rattle.milter_wire.specs.declared.stage.Stage.TheVariants.{Rcpt}
 use Rattle.milter_wire.specs.declared.verdict.Verdict.{Verdict}
 use Rattle.milter_message.specs.MailObject.{MailObject}
 use Rattle.milter_protocol.specs.Verdicts.{is_refusal}
-use Rattle.milter_mta_outcome.specs.declared.acted.Acted.{Acted}
+use Rattle.milter_mta_outcome.specs.declared.acted_verdicts.Acted.{Acted}
 
 -- the verdict on a recipient
 abbrev pub verdict_at_rcpt : Stage → Verdict → Option Verdict

@@ -12,7 +12,7 @@ use Rattle.milter_mta_outcome.specs.declared.fallback.OnLoss.{OnLoss}
 use Rattle.milter_mta_outcome.specs.declared.fallback.OnLoss.TheVariants as defaults
 use Rattle.milter_mta_outcome.specs.declared.outcome.Outcome.{Outcome}
 use Rattle.milter_mta_outcome.specs.declared.outcome.Outcome.TheVariants.{Released, Discarded, Refused, NoRecipients, RefusedAtConnection}
-use Rattle.milter_mta_outcome.specs.declared.refusal.Refusal.TheVariants as refusals
+use Rattle.milter_mta_outcome.specs.declared.outcome.Refusal.TheVariants as refusals
 use Rattle.milter_mta_outcome.specs.Refusals.{refusal_of}
 
 -- as it is, and not quarantined

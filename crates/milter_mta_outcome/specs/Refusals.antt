@@ -5,8 +5,8 @@ use Rattle.milter_wire.specs.declared.verdict.Verdict.TheVariants as verdicts
 use Rattle.milter_protocol.specs.Verdicts.{is_refusal}
 use Rattle.milter_mta_outcome.specs.declared.fallback.OnLoss.{OnLoss}
 use Rattle.milter_mta_outcome.specs.declared.fallback.OnLoss.TheVariants as defaults
-use Rattle.milter_mta_outcome.specs.declared.refusal.Refusal.{Refusal}
-use Rattle.milter_mta_outcome.specs.declared.refusal.Refusal.TheVariants.{Reject, Tempfail, Code}
+use Rattle.milter_mta_outcome.specs.declared.outcome.Refusal.{Refusal}
+use Rattle.milter_mta_outcome.specs.declared.outcome.Refusal.TheVariants.{Reject, Tempfail, Code}
 
 abbrev pub refusal_text : Refusal → List ℕ
 refusal_text Reject = codes "550 5.7.1 Command rejected"

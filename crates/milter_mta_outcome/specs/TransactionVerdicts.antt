@@ -8,7 +8,7 @@ use Rattle.milter_wire.specs.declared.verdict.Verdict.{Verdict}
 use Rattle.milter_protocol.specs.StageOrder.{rank_of}
 use Rattle.milter_protocol.specs.Dialogue.{is_rcpt}
 use Rattle.milter_protocol.specs.Verdicts.{is_final_at, is_refusal, is_skip}
-use Rattle.milter_mta_outcome.specs.declared.acted.Acted.{Acted}
+use Rattle.milter_mta_outcome.specs.declared.acted_verdicts.Acted.{Acted}
 use Rattle.milter_mta_outcome.specs.ActedVerdicts.{rcpt_verdicts}
 use Rattle.milter_mta_outcome.specs.PlanCursor.{without_body}
 

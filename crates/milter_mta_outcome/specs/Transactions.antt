@@ -7,7 +7,7 @@ use Rattle.milter_wire.specs.Negotiation.{is_asked}
 use Rattle.milter_wire.specs.Command.{Fits}
 use Rattle.milter_wire.specs.Stages.{stage_of}
 use Rattle.milter_message.specs.declared.message.TheConstants.{WEIGHT_MAX}
-use Rattle.milter_mta_outcome.specs.declared.cursor.ClientInfo.{ClientInfo}
+use Rattle.milter_mta_outcome.specs.declared.plan_cursor.ClientInfo.{ClientInfo}
 use Rattle.milter_mta_outcome.specs.declared.transaction.Transaction.{Transaction}
 use Rattle.milter_mta_outcome.specs.PlanCursor.{Outgoing, steps_at, steps_from}
 

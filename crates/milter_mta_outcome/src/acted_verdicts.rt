@@ -3,15 +3,28 @@
 ghost use Rattle.std.specs.Prelude.{◌≡◌, ◌++◌, ◌∷◌, ◌||◌, [], IfOk, List, OnErr, OnOk, not};
 ghost use Rattle.std.specs.List.{list_all};
 ghost use Rattle.std.specs.Option.{option_copied};
-ghost use Rattle.milter_mta_outcome.specs.declared.acted.Acted.{Acted as ActedValue};
+ghost use Rattle.milter_mta_outcome.specs.declared.acted_verdicts.Acted.{Acted as ActedValue};
 ghost use Rattle.milter_protocol.specs.Verdicts.{is_refusal};
 ghost use Rattle.milter_mta_outcome.specs.ActedVerdicts.{rcpt_verdicts};
 ghost use Rattle.milter_mta_outcome.specs.TransactionVerdicts.{is_of_connection, is_rcpt_stage, last_verdict, number_after, on_connection, with_verdict};
 
-use crate::acted::{Acted, ActedVerdicts};
 use crate::disposition::is_refusal;
-use milter_wire::{NoMemory, Stage, Verdict};
+use milter_wire::{List, NoMemory, Stage, Verdict};
 use std::alloc::Global;
+
+/// A verdict that was acted on.
+#[derive(Clone, Debug, PartialEq, Eq, Drop)]
+pub struct Acted {
+    /// The stage that it was the answer to.
+    pub stage: Stage,
+    /// Which of the message's commands of this stage it was the answer to, counted from 1.
+    pub nth: usize,
+    /// The verdict.
+    pub verdict: Verdict,
+}
+
+/// The verdicts that were acted on for a message, in order: those on the client and its greeting first.
+pub type ActedVerdicts = List<Acted>;
 
 /// Whether a verdict at the stage is on the client or its greeting.
 fn is_of_connection(stage: Stage) -> bool

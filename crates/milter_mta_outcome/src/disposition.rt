@@ -9,9 +9,8 @@ ghost use Rattle.milter_mta_outcome.specs.ActedVerdicts.{is_refused_first, kept,
 ghost use Rattle.milter_protocol.specs.Verdicts.{is_refusal};
 ghost use Rattle.milter_mta_outcome.specs.Outcomes as outcomes;
 
-use crate::acted::Acted;
-use crate::outcome::Outcome;
-use crate::refusal::Refusal;
+use crate::acted_verdicts::Acted;
+use crate::outcome::{Outcome, Refusal};
 use milter_message::{Edit, Held, Message, apply};
 use milter_protocol::Answer;
 use milter_wire::{Path, Stage, Verdict};

@@ -5,10 +5,9 @@ ghost use Rattle.milter_mta_outcome.specs.ActedVerdicts.{kept};
 ghost use Rattle.milter_mta_outcome.specs.Outcomes.{fallback};
 ghost use Rattle.milter_mta_outcome.specs.Refusals.{default_refusal};
 
-use crate::acted::Acted;
+use crate::acted_verdicts::Acted;
 use crate::disposition::{kept_message, released};
-use crate::outcome::Outcome;
-use crate::refusal::Refusal;
+use crate::outcome::{Outcome, Refusal};
 use milter_message::Message;
 
 /// What becomes of a message whose filter is lost. Source: Sendmail's flags of an `INPUT_MAIL_FILTER`, and Postfix's

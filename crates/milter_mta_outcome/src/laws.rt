@@ -11,7 +11,7 @@ ghost use Rattle.milter_wire.specs.declared.verdict.Verdict.TheVariants.{Skip};
 ghost use Rattle.milter_message.specs.declared.edit.Edit.{Edit as AnyEdit};
 ghost use Rattle.milter_message.specs.declared.message.TheConstants.{WEIGHT_MAX};
 ghost use Rattle.milter_message.specs.EditReplies.{reply_of, weight_of};
-ghost use Rattle.milter_protocol.specs.declared.action.Action.TheVariants.{Edit, Verdict};
+ghost use Rattle.milter_protocol.specs.declared.answer.Action.TheVariants.{Edit, Verdict};
 ghost use Rattle.milter_protocol.specs.Permitted.{is_permitted};
 ghost use Rattle.milter_protocol.specs.Replies.{options_reply};
 ghost use Rattle.milter_mta_outcome.specs.ReceivedReplies.{IsWithinOffer, is_end, is_given, options_received, reply_received};

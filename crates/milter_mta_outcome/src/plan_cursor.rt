@@ -13,9 +13,28 @@ ghost use Rattle.milter_mail.specs.Steps.{macro_step, macros_at};
 ghost use Rattle.milter_mta_outcome.specs.PlanCursor.{commands_of, one_of_two, stages_after, steps_at, steps_from, without_body};
 ghost use Rattle.milter_mta_outcome.specs.OutgoingValue.{outgoing};
 
-use crate::cursor::Cursor;
 use milter_mail::{Macros, Message, sent_value};
 use milter_wire::{Client, CommandRef, Header, HeaderRef, Negotiated, PairsRef, Path, Stage, Text};
+
+/// What is sent of a client before its messages, and the macros before each command.
+#[derive(Debug, Drop)]
+pub struct ClientInfo {
+    /// The client.
+    pub client: Client,
+    /// The name with which it greets.
+    pub helo: Text,
+    /// The macros of each stage, of which a filter may ask for some.
+    pub macros: Macros,
+}
+
+/// A command of the plan of a message: the stage, and how many commands of it come before, macro packets among them.
+#[derive(Clone, Copy, Debug, PartialEq, Eq)]
+pub struct Cursor {
+    /// The stage.
+    pub stage: Stage,
+    /// How many commands of the stage come before, with the macro packets.
+    pub step: usize,
+}
 
 /// What is sent of a message and its client, by what was negotiated.
 #[derive(Clone, Copy)]

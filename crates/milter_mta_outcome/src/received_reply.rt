@@ -4,7 +4,7 @@ ghost use Rattle.std.specs.Prelude.{◌≡◌, ◌≤◌, ℕ};
 ghost use Rattle.milter_message.specs.declared.message.TheConstants.{WEIGHT_MAX};
 ghost use Rattle.milter_wire.specs.Tables.{map_ok};
 ghost use Rattle.milter_wire.specs.Verdicts.{reply_of, verdict_of};
-ghost use Rattle.milter_protocol.specs.declared.action.Action.TheVariants as received;
+ghost use Rattle.milter_protocol.specs.declared.answer.Action.TheVariants as received;
 ghost use Rattle.milter_mta_outcome.specs.ReceivedReplies as received_reply;
 
 use crate::loss::MtaFault;

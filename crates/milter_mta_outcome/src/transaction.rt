@@ -10,10 +10,10 @@ ghost use Rattle.milter_mta_outcome.specs.PlanCursor.{steps_from};
 ghost use Rattle.milter_mta_outcome.specs.Transactions.{IsThere, Sends, asks_first, first_of, left_of, outgoing_transaction, stage_first};
 ghost use Rattle.milter_mta_outcome.specs.TransactionVerdicts.{are_all_refused, ends_dialogue, left_after, with_verdict};
 
-use crate::acted::ActedVerdicts;
-use crate::acted_verdicts::{act, are_refused};
-use crate::cursor::{ClientInfo, Cursor};
-use crate::plan_cursor::{OutgoingRef, after_body, first_command, first_from, has_recipient, next};
+use crate::acted_verdicts::{ActedVerdicts, act, are_refused};
+use crate::plan_cursor::{
+    ClientInfo, Cursor, OutgoingRef, after_body, first_command, first_from, has_recipient, next,
+};
 use milter_mail::{Macros, Message};
 use milter_protocol::is_final_at;
 use milter_wire::{CommandRef, Negotiated, NoMemory, Stage, Verdict};

@@ -14,7 +14,7 @@ ghost use Rattle.milter_mail.specs.Steps.{message_steps};
 ghost use Rattle.milter_mail.specs.Macros.{Macros};
 ghost use Rattle.milter_protocol.specs.Commands.{is_of_connection};
 ghost use Rattle.milter_protocol.specs.StageOrder.{rank_of};
-ghost use Rattle.milter_mta_outcome.specs.declared.cursor.ClientInfo.{ClientInfo};
+ghost use Rattle.milter_mta_outcome.specs.declared.plan_cursor.ClientInfo.{ClientInfo};
 ghost use Rattle.milter_mta_outcome.specs.declared.transaction.Transaction.{Transaction};
 ghost use Rattle.milter_mta_outcome.specs.PlanCursor.{Outgoing, outgoing_of, steps_from};
 ghost use Rattle.milter_mta_outcome.specs.PlanOrder.{IsWithinRanks};

@@ -4,7 +4,7 @@ use Rattle.std.specs.Result.{IsErr, OnErr}
 use Rattle.std.specs.Io.KnownBytes.{Appends}
 use Rattle.std.proofs.KnownBytes.{Appends-nil, Appends-trans}
 use Rattle.milter_protocol.specs.Behavior.{Behavior}
-use Rattle.milter_filter.specs.declared.served.Served.{Served}
+use Rattle.milter_filter.specs.declared.turn.Served.{Served}
 use Rattle.milter_text.specs.WrittenText.{WritesPrefix, WritesText}
 use Rattle.milter_play.specs.FilterRuns.{ServedAll, ServedSome, ServesEach, report_lines}
 use Rattle.milter_cli.specs.ConnectionLine.{report_line}

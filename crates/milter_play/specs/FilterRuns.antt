@@ -2,7 +2,7 @@
 use Rattle.std.specs.Prelude.{◌≡◌, ℕ, ◌+◌, ◌<◌, List, [], ◌∷◌, ◌++◌, length, Option}
 use Rattle.std.specs.Io.KnownBytes.{Appends}
 use Rattle.milter_protocol.specs.Behavior.{Behavior}
-use Rattle.milter_filter.specs.declared.served.Served.{Served}
+use Rattle.milter_filter.specs.declared.turn.Served.{Served}
 use Rattle.milter_text.specs.WrittenText.{WritesPrefix}
 use Rattle.milter_cli.specs.ConnectionLine.{report_line}
 

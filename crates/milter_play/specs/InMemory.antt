@@ -5,7 +5,7 @@ use Rattle.std.specs.List.{AllZip}
 use Rattle.milter_text.specs.WrittenText.{WritesPrefix}
 use Rattle.milter_mta.specs.Accounts.{Disposition}
 use Rattle.milter_mta_client.specs.ReportsText.{reports_text}
-use Rattle.milter_world.specs.declared.event.Event.{Event}
+use Rattle.milter_world.specs.declared.event_line.Event.{Event}
 use Rattle.milter_world.specs.Schedule.{Scenario, run_reports}
 use Rattle.milter_world.specs.DialogueReports.{AreNegotiated, AreReported, HasAllVerdicts, IsRuledBy, negotiated_of, by_reset, by_timeout}
 use Rattle.milter_world.specs.DialogueReports.{count_events, count_reports, is_by_verdict, is_known, is_lose, is_timeout, dialogue_about}

@@ -2,8 +2,8 @@
 
 ghost use Rattle.std.specs.Prelude.{◌≡◌, OnErr, OnOk};
 ghost use Rattle.milter_protocol.specs.Behavior.{Behavior};
-ghost use Rattle.milter_protocol.specs.declared.command_order.CommandOrder.{CommandOrder};
-ghost use Rattle.milter_filter.specs.declared.served.Served.{Served};
+ghost use Rattle.milter_protocol.specs.declared.stage_order.CommandOrder.{CommandOrder};
+ghost use Rattle.milter_filter.specs.declared.turn.Served.{Served};
 ghost use Rattle.milter_text.specs.WrittenText.{WritesText};
 ghost use Rattle.milter_play.specs.FilterRuns.{ServedAll, ServedSome};
 ghost use Rattle.milter_cli.specs.ConnectionLine.{report_line};

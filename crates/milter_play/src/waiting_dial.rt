@@ -2,8 +2,8 @@
 
 use crate::socket_dial::Connect;
 use milter_mta_client::{Dial, DialFault};
-use std::thread;
 use std::io::ErrorKind;
+use std::thread;
 use std::time::{Duration, Instant};
 
 /// How many milliseconds pass between two tries.

@@ -14,7 +14,6 @@ mod breakage;
 mod exchange;
 mod given;
 mod kind;
-mod link_read;
 mod mutation;
 mod offers;
 mod probe_run;

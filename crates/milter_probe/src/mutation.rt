@@ -1,8 +1,8 @@
 //! Packets that are no packets of the protocol.
 
 use milter_fields::put_number;
-use milter_wire::{NoMemory, Packet};
 use milter_wire::codes::{SMFIC_ABORT, SMFIC_QUIT_NC};
+use milter_wire::{NoMemory, Packet};
 use std::alloc::Global;
 
 /// The least length that is too long for a packet.

@@ -12,9 +12,9 @@ use milter_mta_client::Dial;
 use milter_mta_outcome::{Loss, MtaFault};
 use milter_protocol::{ACTIONS_MAX, PROTOCOL_MAX, VERSION_MAX};
 use milter_wire::{Actions, NoMemory, Options, Protocol};
-use std::thread;
 use std::alloc::Global;
 use std::rt::Clock;
+use std::thread;
 use std::time::{Duration, Instant};
 
 /// What is offered, but for the trials of other offers: all that the protocol has.

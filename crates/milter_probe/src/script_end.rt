@@ -3,8 +3,8 @@
 use crate::breakage::Broken;
 use crate::exchange::{Exchange, Place};
 use crate::given::{Difference, Given};
-use crate::link_read::read_some;
 use crate::script::{Cut, Script, Step};
+use crate::session_end::read_some;
 use milter_mta_connection::{ExpectedReply, FilterEvent, MtaChannel};
 use milter_mta_outcome::{Loss, MtaFault};
 use milter_text::write_text;

@@ -1,16 +1,35 @@
 //! A session that is sent plainly, and what passes over its connection.
 
+ghost use Rattle.std.specs.Prelude.{◌≤◌, IfOk, length};
+
 use crate::breakage::Broken;
 use crate::exchange::{Exchange, Place};
 use crate::given::Given;
-use crate::link_read::{READS_MAX, read_some};
 use milter_mail::{Macros, Message, Session};
 use milter_mta_connection::{CallFault, CallOutcome, FilterEvent, MtaConnection, Phase, Want};
 use milter_mta_outcome::Loss;
 use milter_text::write_text;
 use milter_wire::{HEAD_LEN, NoMemory, Options, Packet, Stage, read_buffer};
 use std::alloc::Global;
-use std::io::{Read, Write};
+use std::io::{ErrorKind, Read, Write};
+
+/// The most reads for one reply.
+pub(crate) const READS_MAX: u32 = 1_073_741_824;
+
+/// Reads some bytes into the room, none where the read was interrupted. The end of the input is a loss.
+pub(crate) fn read_some<R: Read>(link: &mut R, room: &mut [u8]) -> Result<usize, Loss>
+    ensures { IfOk result (λ count. count ≤ length room.new) }
+{
+    match link.read(room) {
+        Ok(0) => Err(Loss::Reset),
+        Ok(count) => Ok(count),
+        Err(error) => match error.kind() {
+            ErrorKind::Interrupted => Ok(0),
+            ErrorKind::WouldBlock | ErrorKind::TimedOut => Err(Loss::Timeout),
+            _ => Err(Loss::Reset),
+        },
+    }
+}
 
 /// A session that was sent.
 #[derive(Drop)]

@@ -1,7 +1,7 @@
 -- The states of a filter's end are apart.
 use Rattle.std.proofs.Common.{◌≡◌}
 use Rattle.milter_protocol.specs.declared.filter_fault.FilterFault.{FilterFault}
-use Rattle.milter_protocol.specs.declared.filter_state.FilterState.TheVariants.{Failed, Quit, Serving}
+use Rattle.milter_protocol.specs.declared.filter_fault.FilterState.TheVariants.{Failed, Quit, Serving}
 
 pub quit_serving : Quit ≡ Serving → ⊥
 quit_serving e = absurd cc

@@ -7,13 +7,13 @@ use Rattle.milter_wire.specs.declared.command.Command.{Command}
 use Rattle.milter_wire.specs.Negotiation.{is_asked}
 use Rattle.milter_wire.specs.Command.{bytes_of, encoding}
 use Rattle.milter_wire.specs.Stages.{stage_of}
-use Rattle.milter_protocol.specs.declared.command_order.CommandOrder.TheVariants.{Strict}
+use Rattle.milter_protocol.specs.declared.stage_order.CommandOrder.TheVariants.{Strict}
 use Rattle.milter_protocol.specs.Behavior.{Behavior, answer_to}
 use Rattle.milter_protocol.specs.Exchanges.{Exchange}
 use Rattle.milter_protocol.proofs.SeenCommands.{seen-with}
 use Rattle.milter_protocol.specs.declared.filter_fault.FilterFault.{FilterFault}
-use Rattle.milter_protocol.specs.declared.filter_state.FilterState.{FilterState}
-use Rattle.milter_protocol.specs.declared.filter_state.FilterState.TheVariants.{Failed, Quit, Serving}
+use Rattle.milter_protocol.specs.declared.filter_fault.FilterState.{FilterState}
+use Rattle.milter_protocol.specs.declared.filter_fault.FilterState.TheVariants.{Failed, Quit, Serving}
 use Rattle.milter_protocol.specs.Commands.{is_quit, is_of_connection, is_quit_new, is_shown}
 use Rattle.milter_protocol.specs.FilterEnds.{FilterEnd, Received, after, answer_by, exchange_at, fault_at, next, replies, state_after, step, step_by, step_in}
 use Rattle.milter_protocol.specs.Faults.{fault_of}

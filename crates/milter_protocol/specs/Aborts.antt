@@ -8,8 +8,8 @@ use Rattle.milter_wire.specs.declared.command.Command.TheVariants as commands
 use Rattle.milter_wire.specs.declared.reply.Reply.{Reply}
 use Rattle.milter_wire.specs.declared.stage.Stage.TheVariants.{Helo}
 use Rattle.milter_protocol.specs.declared.answer.Answer.{Answer}
-use Rattle.milter_protocol.specs.declared.command_order.CommandOrder.{CommandOrder}
-use Rattle.milter_protocol.specs.declared.command_order.CommandOrder.TheVariants.{Strict, Lenient}
+use Rattle.milter_protocol.specs.declared.stage_order.CommandOrder.{CommandOrder}
+use Rattle.milter_protocol.specs.declared.stage_order.CommandOrder.TheVariants.{Strict, Lenient}
 use Rattle.milter_protocol.specs.Behavior.{Behavior}
 use Rattle.milter_protocol.specs.Commands.{is_abort, is_quit, is_quit_new, is_refused_data}
 use Rattle.milter_protocol.specs.Exchanges.{Exchange}

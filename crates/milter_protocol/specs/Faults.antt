@@ -10,7 +10,7 @@ use Rattle.milter_protocol.specs.StageOrder.{may_follow}
 use Rattle.milter_protocol.specs.declared.filter_fault.FilterFault.{FilterFault}
 use Rattle.milter_protocol.specs.declared.filter_fault.FilterFault.TheVariants.{NotNegotiated, NegotiatedTwice, OutOfOrder, TooMuch, Version}
 use Rattle.milter_protocol.specs.Commands.{is_shown}
-use Rattle.milter_protocol.specs.declared.limits.TheConstants.{VERSION_MIN}
+use Rattle.milter_protocol.specs.declared.permitted.TheConstants.{VERSION_MIN}
 
 -- a command of no stage comes anywhere
 abbrev pub is_in_order : ℕ → Option Stage → Bool

@@ -10,8 +10,8 @@ use Rattle.milter_protocol.specs.Behavior.{Behavior, exchange_of}
 use Rattle.milter_protocol.specs.Exchanges.{Exchange}
 use Rattle.milter_protocol.specs.declared.filter_fault.FilterFault.{FilterFault}
 use Rattle.milter_protocol.specs.declared.filter_fault.FilterFault.TheVariants.{Wire}
-use Rattle.milter_protocol.specs.declared.filter_state.FilterState.{FilterState}
-use Rattle.milter_protocol.specs.declared.filter_state.FilterState.TheVariants.{Serving, Quit, Failed}
+use Rattle.milter_protocol.specs.declared.filter_fault.FilterState.{FilterState}
+use Rattle.milter_protocol.specs.declared.filter_fault.FilterState.TheVariants.{Serving, Quit, Failed}
 use Rattle.milter_protocol.specs.Commands.{is_quit}
 use Rattle.milter_protocol.specs.Faults.{fault_of}
 use Rattle.milter_protocol.specs.Transcripts.{negotiated_in, last_rank, shown}

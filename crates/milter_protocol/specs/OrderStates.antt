@@ -10,8 +10,8 @@ use Rattle.milter_wire.specs.Command.{bytes_of, encoding}
 use Rattle.milter_wire.specs.Stages.{stage_of}
 use Rattle.milter_wire.specs.declared.command.Command.TheVariants.{Abort}
 use Rattle.milter_protocol.specs.declared.answer.Answer.{Answer}
-use Rattle.milter_protocol.specs.declared.command_order.CommandOrder.{CommandOrder}
-use Rattle.milter_protocol.specs.declared.command_order.CommandOrder.TheVariants.{Strict}
+use Rattle.milter_protocol.specs.declared.stage_order.CommandOrder.{CommandOrder}
+use Rattle.milter_protocol.specs.declared.stage_order.CommandOrder.TheVariants.{Strict}
 use Rattle.milter_protocol.specs.Aborts.{is_undone, needs_abort}
 use Rattle.milter_protocol.specs.Behavior.{Behavior, answer_to}
 use Rattle.milter_protocol.specs.Exchanges.{Exchange}
@@ -19,8 +19,8 @@ use Rattle.milter_protocol.specs.Seen.{Seen, seen, seen_with}
 use Rattle.milter_protocol.specs.StageOrder.{rank_of}
 use Rattle.milter_protocol.specs.declared.filter_fault.FilterFault.{FilterFault}
 use Rattle.milter_protocol.specs.declared.filter_fault.FilterFault.TheVariants.{Wire}
-use Rattle.milter_protocol.specs.declared.filter_state.FilterState.{FilterState}
-use Rattle.milter_protocol.specs.declared.filter_state.FilterState.TheVariants.{Serving, Failed}
+use Rattle.milter_protocol.specs.declared.filter_fault.FilterState.{FilterState}
+use Rattle.milter_protocol.specs.declared.filter_fault.FilterState.TheVariants.{Serving, Failed}
 use Rattle.milter_protocol.specs.Commands.{is_message_end, is_of_connection, is_quit_new, is_shown}
 use Rattle.milter_protocol.specs.FilterEnds.{FilterEnd, Received, state_after}
 use Rattle.milter_protocol.specs.Faults.{fault_of}

@@ -13,11 +13,11 @@ use Rattle.milter_wire.specs.declared.verdict.Verdict.TheVariants.{Continue}
 use Rattle.milter_wire.specs.Negotiation.{is_answered}
 use Rattle.milter_wire.specs.Stages.{stage_of}
 use Rattle.milter_protocol.specs.declared.answer.Answer.{Answer}
-use Rattle.milter_protocol.specs.declared.command_order.CommandOrder.{CommandOrder}
-use Rattle.milter_protocol.specs.declared.command_order.CommandOrder.TheVariants.{Lenient}
+use Rattle.milter_protocol.specs.declared.stage_order.CommandOrder.{CommandOrder}
+use Rattle.milter_protocol.specs.declared.stage_order.CommandOrder.TheVariants.{Lenient}
 use Rattle.milter_protocol.specs.declared.filter_fault.FilterFault.{FilterFault}
-use Rattle.milter_protocol.specs.declared.filter_state.FilterState.{FilterState}
-use Rattle.milter_protocol.specs.declared.filter_state.FilterState.TheVariants.{Serving}
+use Rattle.milter_protocol.specs.declared.filter_fault.FilterState.{FilterState}
+use Rattle.milter_protocol.specs.declared.filter_fault.FilterState.TheVariants.{Serving}
 use Rattle.milter_protocol.specs.Aborts.{is_in_message}
 use Rattle.milter_protocol.specs.Behavior.{Behavior}
 use Rattle.milter_protocol.specs.FilterEnds.{Received}

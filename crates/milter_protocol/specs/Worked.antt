@@ -17,9 +17,9 @@ use Rattle.milter_message.specs.declared.edit.Edit.{Edit}
 use Rattle.milter_protocol.specs.Behavior.{Behavior}
 use Rattle.milter_protocol.specs.Seen.{Seen, value_in}
 use Rattle.milter_protocol.specs.declared.answer.Answer.{Answer}
-use Rattle.milter_protocol.specs.declared.command_order.CommandOrder.{CommandOrder}
-use Rattle.milter_protocol.specs.declared.filter_state.FilterState.{FilterState}
-use Rattle.milter_protocol.specs.declared.command_order.CommandOrder.TheVariants.{Lenient}
+use Rattle.milter_protocol.specs.declared.stage_order.CommandOrder.{CommandOrder}
+use Rattle.milter_protocol.specs.declared.filter_fault.FilterState.{FilterState}
+use Rattle.milter_protocol.specs.declared.stage_order.CommandOrder.TheVariants.{Lenient}
 use Rattle.milter_protocol.specs.FilterEnds.{after, replies, start}
 use Rattle.milter_protocol.specs.OrderStates.{OrderState, fresh_in, order_state_after, order_state_replies}
 use Rattle.milter_protocol.specs.Questions.{AskState, Event, Answered, Came, Wanted, events_after, events_replies, fresh_ask_state}

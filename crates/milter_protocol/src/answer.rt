@@ -1,10 +1,20 @@
 //! What a filter answers when it is asked.
 
 ghost use Rattle.std.specs.Prelude.{◌≡◌, []};
+ghost use Rattle.milter_protocol.specs.Verdicts.{is_final_at};
 
 use milter_message::Edit;
-use milter_wire::{List, Verdict};
+use milter_wire::{List, Stage, Verdict};
 use std::alloc::Global;
+
+/// What a filter does with one reply: an edit, or its verdict.
+#[derive(Clone, Debug, PartialEq, Eq, Drop)]
+pub enum Action {
+    /// Asks for a change to the message, or for more time: the verdict is still owed.
+    Edit(Edit),
+    /// Answers with a verdict.
+    Verdict(Verdict),
+}
 
 /// The edits that a filter asks for in one answer, in order, from none to as many as it wants. Source: the libmilter
 /// callback documentation (message modification functions).
@@ -30,5 +40,20 @@ impl Answer {
             edits: Edits::new(Vec::new(alloc)),
             verdict,
         }
+    }
+}
+
+/// Whether nothing more of a message is sent after the verdict at the stage: always at the end of the message, at a
+/// recipient where the message is taken, and else unless the filter goes on. Doesn't allocate. Source: the libmilter
+/// callback documentation (return values).
+pub fn is_final_at(stage: Stage, verdict: &Verdict) -> bool
+    ensures { result ≡ is_final_at stage verdict.now }
+{
+    match (stage, verdict) {
+        (Stage::Eob, _) => true,
+        (Stage::Rcpt, Verdict::Accept | Verdict::Discard) => true,
+        (Stage::Rcpt, _) => false,
+        (_, Verdict::Continue | Verdict::Skip) => false,
+        _ => true,
     }
 }

@@ -10,7 +10,7 @@ ghost use Rattle.milter_protocol.specs.Exchanges.{Exchange};
 ghost use Rattle.milter_protocol.specs.Commands.{is_of_connection, is_shown};
 ghost use Rattle.milter_protocol.specs.FilterEnds.{FilterEnd, Received, after, fault_at, replies, start};
 ghost use Rattle.milter_protocol.specs.Transcripts.{negotiated_by, negotiated_in, begins_anew, ends_message, last_rank, of_connection, rank_from, shown};
-ghost use Rattle.milter_protocol.specs.declared.command_order.CommandOrder.{CommandOrder as Order};
+ghost use Rattle.milter_protocol.specs.declared.stage_order.CommandOrder.{CommandOrder as Order};
 ghost use Rattle.milter_protocol.specs.declared.filter_fault.FilterFault.TheVariants.{OutOfOrder};
 ghost use Rattle.milter_protocol.specs.Aborts.{AreTakenAlike, is_within_message, replies_by, taken_by};
 ghost use Rattle.milter_protocol.specs.OrderStates.{OrderState, fresh, fresh_in, rank_by, order_state_after, order_state_of, order_state_replies};

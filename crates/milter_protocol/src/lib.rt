@@ -5,32 +5,25 @@
 //! Nothing here reads, writes, waits or takes memory.
 #![tactic(auto)]
 
-mod action;
 mod answer;
-mod command_order;
 mod filter_end_laws;
 mod filter_fault;
-mod filter_state;
 mod laws;
-mod limits;
 mod permitted;
 mod question_laws;
 mod rows;
 mod stage_order;
-mod verdicts;
 
-pub use action::Action;
-pub use answer::{Answer, Edits};
-pub use command_order::CommandOrder;
+pub use answer::{Action, Answer, Edits, is_final_at};
 pub use filter_end_laws::{
     filter_ends_go_on, lenient_orders, order_states_go_on, order_states_of_filter_ends,
     orders_reply_the_same, parts_of_transcripts,
 };
-pub use filter_fault::FilterFault;
-pub use filter_state::FilterState;
+pub use filter_fault::{FilterFault, FilterState};
 pub use laws::{dialogues, permitted_answers, seen_in_turn, stages_in_order, transcripts_cut};
-pub use limits::{ACTIONS_MAX, PROTOCOL_MAX, VERSION_MAX, VERSION_MIN, protocol_limits};
-pub use permitted::{permits, permitted_verdict};
+pub use permitted::{
+    ACTIONS_MAX, PROTOCOL_MAX, VERSION_MAX, VERSION_MIN, permits, permitted_verdict,
+    protocol_limits,
+};
 pub use question_laws::{answers_in_turn, policies_answer};
-pub use stage_order::{may_follow, rank_of};
-pub use verdicts::is_final_at;
+pub use stage_order::{CommandOrder, may_follow, rank_of};

@@ -7,7 +7,7 @@ ghost use Rattle.milter_protocol.specs.GivenAnswers.{IsInTurn, given_steps, with
 ghost use Rattle.milter_protocol.specs.OrderStates.{fresh_in, order_state_after, order_state_replies};
 ghost use Rattle.milter_protocol.specs.Questions.{Event, Wanted, answers_in, commands_in, event_step, events_after, events_replies, events_with, fresh_ask_state, unquestioned, wanted_of};
 ghost use Rattle.milter_protocol.specs.Steps.{steps};
-ghost use Rattle.milter_protocol.specs.declared.command_order.CommandOrder.{CommandOrder as Order};
+ghost use Rattle.milter_protocol.specs.declared.stage_order.CommandOrder.{CommandOrder as Order};
 
 /// With the answers of a policy, each given to the question that its command asks, an end whose caller answers is the
 /// end over that policy, in either order: the same replies, the same is kept, and no question is left open.

@@ -7,9 +7,9 @@ ghost use Rattle.milter_wire.specs.declared.reply.Reply.TheVariants as replies_w
 ghost use Rattle.milter_wire.specs.declared.stage.Stage.TheVariants.{DataCmd};
 ghost use Rattle.milter_wire.specs.declared.verdict.Verdict.TheVariants.{Accept, Continue, Discard, Reject, Skip, Tempfail};
 ghost use Rattle.milter_message.specs.declared.edit.Edit.TheVariants.{AddHeader, DelRcpt, Progress};
-ghost use Rattle.milter_protocol.specs.declared.command_order.CommandOrder.TheVariants.{Lenient, Strict};
+ghost use Rattle.milter_protocol.specs.declared.stage_order.CommandOrder.TheVariants.{Lenient, Strict};
 ghost use Rattle.milter_protocol.specs.declared.filter_fault.FilterFault.TheVariants.{NegotiatedTwice, NotNegotiated, OutOfOrder, Version, Wire};
-ghost use Rattle.milter_protocol.specs.declared.filter_state.FilterState.TheVariants.{Failed, Quit, Serving};
+ghost use Rattle.milter_protocol.specs.declared.filter_fault.FilterState.TheVariants.{Failed, Quit, Serving};
 ghost use Rattle.milter_protocol.specs.Aborts.{AreTakenAlike, taken_by};
 ghost use Rattle.milter_protocol.specs.FilterEnds.{after, start};
 ghost use Rattle.milter_protocol.specs.Pass.{pass};

@@ -5,6 +5,19 @@ ghost use Rattle.milter_protocol.specs.StageOrder.{may_follow, may_repeat, rank_
 
 use milter_wire::Stage;
 
+/// The order in which a filter's end takes commands, where a mail server departs from that of the stages: its client
+/// greets again within a message, is cut off, or says DATA again.
+#[derive(Clone, Copy, Debug, PartialEq, Eq)]
+pub enum CommandOrder {
+    /// A greeting or a sender within a message is out of order, and the connection is given up for that. A message ends
+    /// with the refusal of its DATA command.
+    Strict,
+    /// A greeting or a sender within a message, or the macros of one, ends the message as an abort before it would, and
+    /// is taken then; libmilter does so too. A DATA command that is refused within a message is undone: what was shown
+    /// before it stays, since the client may name more recipients and say DATA again.
+    Lenient,
+}
+
 /// The place of a stage among the nine, from 1 for connect to 9 for the end of a message. Doesn't allocate. Source:
 /// the libmilter callback documentation (order of callbacks).
 pub fn rank_of(stage: Stage) -> u8

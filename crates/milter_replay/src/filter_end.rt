@@ -1,19 +1,32 @@
 //! One command to a filter, and what it replies.
 
-ghost use Rattle.std.specs.Prelude.{◌≡◌, None};
+ghost use Rattle.std.specs.Prelude.{◌≡◌, None, [], OnOk};
 ghost use Rattle.milter_wire.specs.Command.{Fits, encoding};
 ghost use Rattle.milter_text.specs.WrittenText.{WritesText};
 ghost use Rattle.milter_replay.specs.Sending.{Sends, is_due};
 
-use crate::command_queue::queue_command;
 use crate::conversation::ReplyPacket;
 use crate::packets::keep_replies;
 use milter_mta_connection::{ExpectedReply, MtaChannel};
 use milter_mta_outcome::Loss;
 use milter_text::write_text;
-use milter_wire::{Command, Negotiated, NoMemory, Options, Splitter, read_buffer};
+use milter_wire::{Command, CommandRef, Negotiated, NoMemory, Options, Splitter, read_buffer};
 use std::alloc::Global;
 use std::io::{ErrorKind, Read, Write};
+
+/// Queues a command on a channel on which nothing is pending: the reply to an offer are options, and to another command
+/// what was negotiated says.
+pub(crate) fn queue_command(channel: &mut MtaChannel, command: &Command) -> Result<(), NoMemory>
+    requires fits { Fits command.now }
+    requires idle { channel.old.pending ≡ [] }
+    ensures { OnOk result (channel.new.pending ≡ encoding command.now) }
+{
+    let command = command.as_ref();
+    match command {
+        CommandRef::Options(_) => channel.queue_expecting(&command, ExpectedReply::Options),
+        _ => channel.queue(&command),
+    }
+}
 
 /// The most reads for one answer.
 const READS_MAX: u32 = 1_073_741_824;

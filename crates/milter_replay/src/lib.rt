@@ -5,7 +5,6 @@
 //! replied beside what was recorded.
 #![tactic(auto)]
 
-mod command_queue;
 mod conversation;
 mod exchange_reader;
 mod exchange_text;

@@ -5,12 +5,12 @@ ghost use Rattle.milter_fields.specs.Packet.{IsPayload};
 ghost use Rattle.milter_wire.specs.Command.{Fits};
 ghost use Rattle.milter_replay.specs.Recordings.{AllFit};
 
-use crate::command_queue::queue_command;
 use crate::conversation::Exchange;
+use crate::filter_end::queue_command;
 use milter_fields::put_head;
 use milter_mta_connection::{ExpectedReply, MtaChannel};
-use milter_wire::{Command, NoMemory, Options, Packet, Verdict};
 use milter_wire::codes::SMFIR_REPLYCODE;
+use milter_wire::{Command, NoMemory, Options, Packet, Verdict};
 use std::alloc::Global;
 
 /// The commands of a recording in their order, up to the first to which a reply is still due by what was negotiated in

@@ -1,8 +1,8 @@
 //! What is said of the action of a rule.
 
 use crate::condition_findings::{is_header_name, say_header_name};
+use crate::file_findings::bit_among;
 use crate::reply_findings::say_reply;
-use crate::sent_stages::bit_among;
 use milter_filter_rules::{Action, RuleAction};
 use milter_message::Edit;
 use milter_rules::{Notes, Span};

@@ -3,7 +3,7 @@
 ghost use Rattle.std.specs.Prelude.{◌<◌, IfSome, length};
 
 use crate::compared::{finds_empty, is_met_unfound};
-use crate::sent_stages::bit_among;
+use crate::file_findings::bit_among;
 use milter_filter_rules::{Check, Condition, Field, Joint};
 use milter_protocol::rank_of;
 use milter_rules::{Notes, Span};

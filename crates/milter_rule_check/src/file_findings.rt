@@ -1,9 +1,8 @@
 //! What is said of a rule file as a whole.
 
-use crate::sent_stages::has_stage;
 use milter_filter_rules::Rules;
 use milter_rules::{Notes, Span};
-use milter_wire::{NoMemory, Options, Stage};
+use milter_wire::{NoMemory, Options, Protocol, Stage};
 use std::alloc::Global;
 use std::str;
 
@@ -64,4 +63,21 @@ fn names_of(alloc: Global, bits: u32) -> Result<Vec<u8>, NoMemory> {
         }
     }
     Ok(names)
+}
+
+/// The first version of the protocol in which the stage of DATA is sent.
+const DATA_VERSION: u32 = 4;
+
+/// Whether the version that a filter asks for has the stage.
+pub(crate) fn has_stage(options: Options, stage: Stage) -> bool {
+    stage != Stage::DataCmd || options.version >= DATA_VERSION
+}
+
+/// The bit, where there is one and it is among those of these options.
+pub(crate) fn bit_among(options: Options, bit: Option<Protocol>) -> Option<Protocol> {
+    let bit = bit?;
+    if options.protocol.0 & bit.0 == 0 {
+        return None;
+    }
+    Some(bit)
 }

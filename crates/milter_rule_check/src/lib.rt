@@ -7,7 +7,6 @@
 mod action_findings;
 mod address_findings;
 mod advice;
-mod checked_file;
 mod client_findings;
 mod compared;
 mod condition_findings;
@@ -17,7 +16,6 @@ mod networks_meant;
 mod path_findings;
 mod reply_findings;
 mod rule_findings;
-mod sent_stages;
 mod text_findings;
 mod wildcards;
 

@@ -1,8 +1,8 @@
 //! What is said of conditions on macros.
 
 use crate::advice::{MAIL_ADDR, RCPT_ADDR, without, without_brackets};
-use crate::checked_file::CheckedFile;
 use crate::compared::{outcome_by, outcome_unfound, say_unfound};
+use crate::rule_findings::CheckedFile;
 use milter_filter_rules::Condition;
 use milter_rules::{Compared, FileForm, Notes, Span};
 use milter_wire::{MacroStage, NoMemory, SymList};

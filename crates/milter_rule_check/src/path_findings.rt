@@ -1,8 +1,8 @@
 //! What is said of texts that are compared with an address as the client wrote it.
 
 use crate::advice::{advice_end, end_of_path, macro_of, on_part, part_field, without_brackets};
-use crate::checked_file::CheckedFile;
 use crate::compared::{outcome_unfound, part_of};
+use crate::rule_findings::CheckedFile;
 use milter_address::{canonical_address, domain_of};
 use milter_filter_rules::{Check, Condition, Field, PathPart, Rule, Rules, Test, TextCheck};
 use milter_rules::{Compared, FileForm, Notes, Span};

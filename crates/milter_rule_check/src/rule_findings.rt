@@ -1,15 +1,22 @@
 //! What is said of the rules of a file that is read.
 
 use crate::action_findings::say_action;
-use crate::checked_file::CheckedFile;
 use crate::condition_findings::{say_condition_names, say_conditions};
-use crate::file_findings::say_stages;
-use crate::sent_stages::{bit_among, has_stage};
+use crate::file_findings::{bit_among, has_stage, say_stages};
 use crate::text_findings::say_texts;
 use milter_filter_rules::{Action, Rule, RuleAction, Rules};
 use milter_protocol::rank_of;
-use milter_rules::{Notes, RuleLine, Span, form_of_file, rule_lines};
+use milter_rules::{FileForm, Notes, RuleLine, Span, form_of_file, rule_lines};
 use milter_wire::{NoMemory, Options, Stage};
+
+/// A rule file that is read.
+#[derive(Clone, Copy)]
+pub(crate) struct CheckedFile<'a> {
+    /// Its rules.
+    pub(crate) rules: &'a Rules,
+    /// Its form.
+    pub(crate) form: FileForm,
+}
 
 /// How far the rules of a stage were looked at.
 #[derive(Clone, Copy)]
@@ -21,11 +28,7 @@ struct Progress {
 }
 
 /// Says what is to be said of the rules, and of their file, which is these bytes.
-pub fn say_findings(
-    notes: &mut Notes<'_>,
-    bytes: &[u8],
-    rules: &Rules,
-) -> Result<(), NoMemory> {
+pub fn say_findings(notes: &mut Notes<'_>, bytes: &[u8], rules: &Rules) -> Result<(), NoMemory> {
     let form = form_of_file(notes.alloc(), bytes)?;
     let file = CheckedFile { rules, form };
     let lines = rule_lines(notes.alloc(), bytes)?;

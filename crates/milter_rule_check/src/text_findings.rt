@@ -1,11 +1,11 @@
 //! What is said of the texts of conditions, of which mail servers send no such values.
 
 use crate::address_findings::say_part_text;
-use crate::checked_file::CheckedFile;
 use crate::client_findings::say_client_text;
 use crate::compared::{say_empty, say_unfound};
 use crate::macro_findings::{say_listed_macro, say_macro_text};
 use crate::path_findings::say_path_text;
+use crate::rule_findings::CheckedFile;
 use crate::wildcards::say_wildcard;
 use milter_filter_rules::{Check, Condition, Field, PathPart, TextCheck};
 use milter_rules::{Compared, Notes};

@@ -5,7 +5,7 @@ use Rattle.std.specs.Str.{bytes_eq}
 use Rattle.milter_lists.specs.ListFaults.{IsSmallFile, has_good_entries}
 use Rattle.milter_lists.specs.ListValues.{has_value}
 use Rattle.milter_lists.specs.Listed.{entries_in, entry_has}
-use Rattle.milter_lists.specs.declared.list_source.ListSource.{ListSource}
+use Rattle.milter_lists.specs.declared.sources.ListSource.{ListSource}
 use Rattle.milter_filter_rules.specs.declared.named_list.NamedList.{NamedList}
 use Rattle.milter_rules.specs.declared.list_file.ListFile.{ListFile}
 use Rattle.milter_rules.specs.declared.list_file.ListFileFault.{ListFileFault}

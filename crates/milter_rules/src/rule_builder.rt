@@ -10,7 +10,7 @@ ghost use Rattle.milter_rules.specs.RuleFile.{needed_actions, needed_for, needed
 ghost use Rattle.milter_filter_rules.specs.RuleSet.{is_lawful, list_fits};
 ghost use Rattle.milter_filter_rules.specs.RulesValue.{case_of, named_of, rule_set, states_protocol};
 ghost use Rattle.milter_filter_rules.specs.ListedValues.{sources_of};
-ghost use Rattle.milter_text.specs.declared.text_case.TextCase.TheVariants.{Exact};
+ghost use Rattle.milter_text.specs.declared.glob.TextCase.TheVariants.{Exact};
 
 use crate::rule_fault::RuleFault;
 use crate::rule_line::{RuleLine, Setting};

@@ -5,7 +5,7 @@ ghost use Rattle.milter_text.specs.LineCursor.{HasNoNext, NextHasWords};
 ghost use Rattle.milter_text.specs.Lines.{lines_of};
 ghost use Rattle.milter_rules.specs.ListFiles.{AreRead, CanBeRead};
 ghost use Rattle.milter_lists.specs.ListLines.{HasSources};
-ghost use Rattle.milter_lists.specs.declared.list_source.ListSource.{ListSource};
+ghost use Rattle.milter_lists.specs.declared.sources.ListSource.{ListSource};
 ghost use Rattle.milter_rules.specs.declared.rule_fault.RuleFault.TheVariants as RuleFault;
 ghost use Rattle.milter_rules.specs.declared.rule_line.RuleLine.{RuleLine};
 ghost use Rattle.milter_rules.specs.RuleFault.{IsBefore, IsWithin};
@@ -14,7 +14,7 @@ ghost use Rattle.milter_rules.specs.RuleFile.{AllGive, CanBeFile, FoundAll, IsRu
 ghost use Rattle.milter_rules.specs.RuleForms.{HasForm};
 ghost use Rattle.milter_filter_rules.specs.RuleSet.{RuleSet};
 ghost use Rattle.milter_filter_rules.specs.RulesValue.{case_of, named_of, rule_set, states_protocol};
-ghost use Rattle.milter_text.specs.declared.text_case.TextCase.TheVariants.{Exact};
+ghost use Rattle.milter_text.specs.declared.glob.TextCase.TheVariants.{Exact};
 
 use crate::form::{Form, is_header};
 use crate::list_file::{ListFile, lists_without_entries};

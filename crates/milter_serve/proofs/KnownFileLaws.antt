@@ -1,6 +1,6 @@
 -- The rules of a rule file's other bytes as they are used, and what is known of it where they give none.
 use Rattle.std.proofs.Common.{◌≡◌, ◌∙◌, refl, sym, subst, Err, Bool, true, false, List}
-use Rattle.milter_text.specs.declared.text_case.TextCase.TheVariants.{Exact, Ignored}
+use Rattle.milter_text.specs.declared.glob.TextCase.TheVariants.{Exact, Ignored}
 use Rattle.milter_filter_rules.specs.declared.named_list.NamedList.{NamedList}
 use Rattle.milter_filter_rules.specs.declared.rules.Rules.{Rules}
 use Rattle.milter_filter_rules.specs.RulesValue.{case_of, named_of, rule_set, states_protocol}

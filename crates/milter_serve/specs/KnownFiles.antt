@@ -1,7 +1,7 @@
 -- What is known of a rule file and its lists, and how what is read of them changes that.
 use Rattle.std.specs.Prelude.{◌≡◌, ◌≢◌, ◌⊎◌, Bool, List, Option, None, Some, Result, Ok, Err, if◌then◌else◌}
-use Rattle.milter_text.specs.declared.text_case.TextCase.{TextCase}
-use Rattle.milter_text.specs.declared.text_case.TextCase.TheVariants.{Exact, Ignored}
+use Rattle.milter_text.specs.declared.glob.TextCase.{TextCase}
+use Rattle.milter_text.specs.declared.glob.TextCase.TheVariants.{Exact, Ignored}
 use Rattle.milter_filter_rules.specs.declared.rules.Rules.{Rules}
 use Rattle.milter_filter_rules.specs.RuleSet.{RuleSet}
 use Rattle.milter_filter_rules.specs.RulesValue.{case_of, named_of, rule_set}

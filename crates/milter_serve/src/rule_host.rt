@@ -14,7 +14,9 @@ use crate::service_log::{ServiceEvent, ServiceLog};
 use milter_cli::{ConnectionReport, FileError};
 use milter_filter::{FilterFault, Served, Wants};
 use milter_rules::Rules;
-use milter_service::{AskedConnection, Host, Key, QuestionKey, ServiceError, Shortage, policy_wants};
+use milter_service::{
+    AskedConnection, Host, Key, QuestionKey, ServiceError, Shortage, policy_wants,
+};
 use milter_wire::{NoMemory, Stage, Verdict};
 use std::alloc::Global;
 use std::io::Write;

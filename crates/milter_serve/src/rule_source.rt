@@ -10,8 +10,8 @@ use milter_cli::{
 };
 use milter_rules::{ListFile, Rules};
 use milter_wire::{List, NoMemory, Text};
-use std::fs;
 use std::alloc::Global;
+use std::fs;
 use std::marker::Model;
 use std::os::unix::fs::FileTypeExt;
 use std::path::Path;

@@ -3,10 +3,8 @@
 #![tactic(auto)]
 
 mod asked_connection;
-mod given;
 mod host;
 mod key;
-mod limits;
 mod mail_server;
 mod mail_servers;
 mod service;
@@ -15,14 +13,12 @@ mod shortage;
 mod sources;
 
 pub use asked_connection::AskedConnection;
-pub use given::Given;
 pub use host::Host;
 pub use key::{Key, QuestionKey};
-pub use limits::Limits;
-pub use mail_servers::MailServers;
+pub use mail_servers::{Given, MailServers};
 pub use milter_filter::policy_wants;
 pub use milter_sockets::Listener;
 pub use mio::{Interest, Registry, Token};
-pub use service::Service;
+pub use service::{Limits, Service};
 pub use service_error::ServiceError;
 pub use shortage::Shortage;

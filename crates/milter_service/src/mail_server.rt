@@ -3,13 +3,13 @@
 ghost use Rattle.std.specs.Prelude.{◌≡◌, ◌≢◌, ◌<◌, ◌↔◌, IfSome, IsTrue, None, OnErr, OnOk, length};
 ghost use Rattle.milter_filter.specs.Connections.{TurnsBy};
 ghost use Rattle.milter_filter.specs.declared.turn.Turn.TheVariants as turns;
-ghost use Rattle.milter_service.specs.declared.given.Given.TheVariants as givens;
+ghost use Rattle.milter_service.specs.declared.mail_servers.Given.TheVariants as givens;
 
 use crate::asked_connection::AskedConnection;
-use crate::given::Given;
 use crate::host::Host;
 use crate::key::{Key, QuestionKey};
-use crate::limits::Limits;
+use crate::mail_servers::Given;
+use crate::service::Limits;
 use milter_filter::{Answer, AnswerFault, Connection, FilterFault, Served, Turn};
 use milter_sockets::Stream;
 use milter_wire::{Stage, Verdict};

@@ -1,18 +1,28 @@
 //! The mail servers that are connected.
 
 ghost use Rattle.std.specs.Prelude.{◌≡◌, ◌≢◌, ◌↔◌, IfOk, None, Ok, Some, option_copied, option_map};
-ghost use Rattle.milter_service.specs.declared.given.Given.TheVariants as givens;
+ghost use Rattle.milter_service.specs.declared.mail_servers.Given.TheVariants as givens;
 
-use crate::given::Given;
 use crate::key::{Key, QuestionKey};
 use crate::mail_server::MailServer;
 use crate::service_error::ServiceError;
-use milter_filter::{Answer, Seen};
+use milter_filter::{Answer, AnswerFault, Seen};
 use milter_wire::Verdict;
 use slab::Slab;
 use std::alloc::Global;
 use std::collections::VecDeque;
 use std::marker::Model;
+
+/// What became of an answer that was given later.
+#[derive(Clone, Copy, Debug, PartialEq, Eq)]
+pub enum Given {
+    /// It is sent in the connection's next turn.
+    Taken,
+    /// The connection has ended, or the question isn't open any more. Nothing has changed.
+    TooLate,
+    /// It breaks this rule, or memory is refused for it: the question stays open. Nothing has changed.
+    Refused(AnswerFault),
+}
 
 /// The mail servers that are connected: where a host gives its answers later.
 #[derive(Drop)]

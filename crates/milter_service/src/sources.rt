@@ -34,10 +34,7 @@ pub(crate) fn sources_of(
 }
 
 /// What says when one of these listeners is ready.
-pub(crate) fn watching(
-    rt: &HostRuntime,
-    sources: &mut [Source],
-) -> Result<Poll, ServiceError> {
+pub(crate) fn watching(rt: &HostRuntime, sources: &mut [Source]) -> Result<Poll, ServiceError> {
     let poll = Poll::new(rt)?;
     match watch_all(&poll, sources) {
         Ok(()) => Ok(poll),

@@ -21,8 +21,8 @@ mod filter_ends;
 mod script;
 mod socket_links;
 
-use anyhow::bail;
 use crate::input::{config_without_bits, mta_core, session_and_script};
+use anyhow::bail;
 use failing_links::{FailingDial, Network};
 use filter_ends::FilterDial;
 use milter_filter::Pass;
@@ -30,8 +30,8 @@ use milter_mta::{MtaCore, Reports};
 use milter_mta_client::{Dial, converse, write_reports};
 use script::{Script, Way, script_in};
 use socket_links::{TcpLinks, UnixLinks};
-use std::{io, process};
 use std::alloc::Global;
+use std::{io, process};
 
 /// Plays a session over the links of `dial`, which fail by the network's script.
 fn play_over<D: Dial + Drop>(

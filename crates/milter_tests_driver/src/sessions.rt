@@ -12,10 +12,10 @@
 //! - `world asked EVENT ..`: for each event it is printed how often the filter was asked up to it, in either order of
 //!   commands, which shows that a world asks no sooner than the bytes come.
 
-use anyhow::{Context, bail};
-use crate::{pair, stages, world};
 use crate::printed::print_number;
 use crate::texts::value_in;
+use crate::{pair, stages, world};
+use anyhow::{Context, bail};
 use milter_mail_file::read_session;
 use milter_world::{Event, read_events};
 use std::alloc::Global;

@@ -2,10 +2,10 @@
 
 mod counting_filter;
 
-use anyhow::bail;
-use counting_filter::Counting;
 use crate::input::config_without_bits;
 use crate::printed::print_number;
+use anyhow::bail;
+use counting_filter::Counting;
 use milter_filter::{CommandOrder, Pass};
 use milter_mail_file::read_session;
 use milter_world::{Event, play, run, run_in_order};

@@ -5,9 +5,9 @@ use Rattle.std.proofs.lemmas.List.{append-nil}
 use Rattle.std.proofs.lemmas.List.Elements.{All-head, All-tail}
 use Rattle.std.specs.Char.{to_ascii_lowercase}
 use Rattle.std.specs.Str.{bytes_eq, str_eq_ignore_ascii_case}
-use Rattle.milter_text.specs.declared.text_case.TextCase.{TextCase}
-use Rattle.milter_text.specs.declared.text_case.TextCase.TheVariants.{Exact, Ignored}
-use Rattle.milter_text.specs.declared.wildcards.TheConstants.{ANY_BYTE, ANY_RUN}
+use Rattle.milter_text.specs.declared.glob.TextCase.{TextCase}
+use Rattle.milter_text.specs.declared.glob.TextCase.TheVariants.{Exact, Ignored}
+use Rattle.milter_text.specs.declared.glob.TheConstants.{ANY_BYTE, ANY_RUN}
 use Rattle.milter_text.specs.Globs.{IsJoined, IsPlain, first_and_rest, is_like, is_same, some_suffix, stands_for}
 
 -- bytes with a suffix that passes

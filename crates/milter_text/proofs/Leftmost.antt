@@ -1,7 +1,7 @@
 -- The leftmost place of a segment is enough where any bytes may follow it.
 use Rattle.std.proofs.Common.{◌≡◌, ℕ, zero, suc, Bool, true, false, ◌||◌, ◌&&◌, List, [], ◌∷◌, length, drop, Option, None, Some, refl, sym, ◌∙◌, ⊎_elim}
 use Rattle.std.proofs.lemmas.Bool.{and_parts, cases_Bool, false_from_ne_true, false≢true, or_cases, or_right}
-use Rattle.milter_text.specs.declared.text_case.TextCase.{TextCase}
+use Rattle.milter_text.specs.declared.glob.TextCase.{TextCase}
 use Rattle.milter_text.specs.Globs.{some_suffix}
 use Rattle.milter_text.specs.Segments.{after_first, begins_with}
 

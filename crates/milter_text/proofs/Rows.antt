@@ -1,7 +1,7 @@
 -- Patterns, and values that they stand for or don't.
 use Rattle.std.proofs.Common.{◌≡◌, [], ◌∷◌, true, false, refl}
 use Rattle.std.specs.Prelude.{codes}
-use Rattle.milter_text.specs.declared.text_case.TextCase.TheVariants.{Exact, Ignored}
+use Rattle.milter_text.specs.declared.glob.TextCase.TheVariants.{Exact, Ignored}
 use Rattle.milter_text.specs.Globs.{is_like}
 
 below_a_domain : is_like Exact (codes "*.example.org") (codes "mail.example.org") ≡ true

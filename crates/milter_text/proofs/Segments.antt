@@ -6,8 +6,8 @@ use Rattle.std.proofs.lemmas.List.Elements.{All-from_get_or, All-head, All-tail}
 use Rattle.std.proofs.lemmas.List.{drop_more, get_or-take, length-drop, length-take-le, take-append-drop}
 use Rattle.std.specs.Prelude.{MatchOption, Option, None, Some}
 use Rattle.memchr.specs.Find.{IsFirst, Passes, is_byte}
-use Rattle.milter_text.specs.declared.text_case.TextCase.{TextCase}
-use Rattle.milter_text.specs.declared.wildcards.TheConstants.{ANY_RUN}
+use Rattle.milter_text.specs.declared.glob.TextCase.{TextCase}
+use Rattle.milter_text.specs.declared.glob.TheConstants.{ANY_RUN}
 use Rattle.milter_text.specs.Globs.{is_like, some_suffix, stands_for}
 use Rattle.milter_text.specs.Segments.{IsFirstRun, IsSegment, after_first, begins_with}
 use Rattle.milter_text.proofs.Leftmost.{leftmost, passes_found}

@@ -2,9 +2,9 @@
 use Rattle.std.specs.Prelude.{◌≡◌, ◌≢◌, ℕ, Bool, true, false, ◌==◌, ◌||◌, ◌&&◌, List, [], ◌∷◌, ◌++◌, if◌then◌else◌}
 use Rattle.std.specs.List.{All}
 use Rattle.std.specs.Char.{eq_ignore_ascii_case}
-use Rattle.milter_text.specs.declared.text_case.TextCase.{TextCase}
-use Rattle.milter_text.specs.declared.text_case.TextCase.TheVariants.{Exact, Ignored}
-use Rattle.milter_text.specs.declared.wildcards.TheConstants.{ANY_BYTE, ANY_RUN}
+use Rattle.milter_text.specs.declared.glob.TextCase.{TextCase}
+use Rattle.milter_text.specs.declared.glob.TextCase.TheVariants.{Exact, Ignored}
+use Rattle.milter_text.specs.declared.glob.TheConstants.{ANY_BYTE, ANY_RUN}
 
 -- two bytes are the same, or the same ASCII letter where case doesn't count
 abbrev pub is_same : TextCase → ℕ → ℕ → Bool

@@ -1,8 +1,8 @@
 -- The bytes of a pattern between one `*` and the next.
 use Rattle.std.specs.Prelude.{◌≡◌, ◌≢◌, ℕ, ◌+◌, ◌<◌, ◌++◌, Bool, true, List, [], ◌∷◌, length, take, drop, Option, Some, None, if◌then◌else◌}
 use Rattle.std.specs.List.{All}
-use Rattle.milter_text.specs.declared.text_case.TextCase.{TextCase}
-use Rattle.milter_text.specs.declared.wildcards.TheConstants.{ANY_RUN}
+use Rattle.milter_text.specs.declared.glob.TextCase.{TextCase}
+use Rattle.milter_text.specs.declared.glob.TheConstants.{ANY_RUN}
 use Rattle.milter_text.specs.Globs.{first_and_rest, stands_for}
 
 -- no byte is `*`

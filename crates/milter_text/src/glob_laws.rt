@@ -2,9 +2,9 @@
 
 ghost use Rattle.std.specs.Prelude.{◌≡◌, ◌≢◌, ◌↔◌, ◌∷◌, ◌++◌, [], List, length, true, ℕ};
 ghost use Rattle.std.specs.Str.{bytes_eq, str_eq_ignore_ascii_case};
-ghost use Rattle.milter_text.specs.declared.text_case.TextCase.{TextCase};
-ghost use Rattle.milter_text.specs.declared.text_case.TextCase.TheVariants.{Exact, Ignored};
-ghost use Rattle.milter_text.specs.declared.wildcards.TheConstants.{ANY_RUN};
+ghost use Rattle.milter_text.specs.declared.glob.TextCase.{TextCase};
+ghost use Rattle.milter_text.specs.declared.glob.TextCase.TheVariants.{Exact, Ignored};
+ghost use Rattle.milter_text.specs.declared.glob.TheConstants.{ANY_RUN};
 ghost use Rattle.milter_text.specs.Globs.{IsJoined, IsPlain, is_like, stands_for};
 
 /// Two patterns, one after the other, stand for each value of the first with each value of the second after it, and for

@@ -17,14 +17,11 @@ mod line_words;
 mod lines;
 mod quotes;
 mod runs;
-mod segment;
-mod text_case;
 mod text_fault;
 mod text_writer;
-mod wildcards;
 mod word;
 
-pub use glob::is_like;
+pub use glob::{ANY_BYTE, ANY_RUN, TextCase, is_like};
 pub use glob_laws::{joined_patterns, plain_patterns, short_patterns};
 pub use laws::{
     first_line_feeds, first_lines, lines_of_texts, lines_of_words, quoted_texts, written_numbers,
@@ -34,8 +31,6 @@ pub use line_fault::LineFault;
 pub use line_words::words;
 pub use lines::{is_skipped, line_content};
 pub use quotes::{put_escaped, quote};
-pub use text_case::TextCase;
 pub use text_fault::TextFault;
 pub use text_writer::{TextWriter, write_text};
-pub use wildcards::{ANY_BYTE, ANY_RUN};
 pub use word::{Word, WordFault};

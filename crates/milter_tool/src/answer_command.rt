@@ -1,7 +1,7 @@
 //! The subcommand `answer`.
 
-use crate::command_order::order_of;
-use crate::rule_file::rules_at;
+use crate::filter_command::order_of;
+use crate::input_files::rules_at;
 use milter_cli::{RuleUse, ToolError, ended_as};
 use milter_command_line::AnswerRequest;
 use milter_filter::serve_in_order;

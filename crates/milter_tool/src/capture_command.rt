@@ -1,6 +1,6 @@
 //! The subcommand `trace` of captures.
 
-use crate::opened_file::open;
+use crate::input_files::open;
 use milter_capture::{PrintFault, print_capture};
 use milter_cli::{Failure, InputFile, ToolError, output_error, read_file};
 use milter_trace::TraceForm;

@@ -1,14 +1,13 @@
 //! The subcommand `filter`.
 
-use crate::command_order::order_of;
-use crate::rule_file::rules_at;
-use crate::unbound_socket::unbound;
-use milter_cli::{Failure, RuleUse, ToolError, output_error};
+use crate::input_files::rules_at;
+use milter_cli::{Failure, RuleUse, ToolError, listen_error, output_error};
 use milter_command_line::{Address, FilterRequest, UsageError};
 use milter_filter::CommandOrder;
 use milter_play::{Connections, filter_run};
 use milter_rules::Rules;
 use std::io;
+use std::io::ErrorKind;
 use std::net::TcpListener;
 use std::os::unix::net::UnixListener;
 
@@ -71,4 +70,18 @@ fn serve_connections<C: Connections + Drop>(
         Ok(()) => Ok(()),
         Err(fault) => Err(output_error(fault)),
     }
+}
+
+/// The order in which a filter takes commands.
+pub(crate) fn order_of(lenient: bool) -> CommandOrder {
+    if lenient {
+        CommandOrder::Lenient
+    } else {
+        CommandOrder::Strict
+    }
+}
+
+/// The failure of a socket that isn't bound at this address.
+pub(crate) fn unbound(address: &str, kind: ErrorKind) -> Failure<'_> {
+    Failure::of_socket(listen_error(kind), address, Some(kind))
 }

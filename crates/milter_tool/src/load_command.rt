@@ -1,6 +1,6 @@
 //! The subcommand `load`.
 
-use crate::session_file::session_at;
+use crate::input_files::session_at;
 use milter_cli::{Failure, ToolError, output_error};
 use milter_command_line::{Address, LoadRequest, Target as Filter};
 use milter_load::{LoadError, ReportForm, Settings, Target, Totals, run_load, write_report};

@@ -8,35 +8,28 @@
 
 mod answer_command;
 mod capture_command;
-mod command_order;
 mod filter_command;
+mod input_files;
 mod load_command;
 mod mta_command;
-mod opened_file;
 mod play_command;
 mod probe_command;
 mod record_command;
 mod replay_command;
-mod rule_file;
-mod rules_command;
 mod serve_command;
-mod session_command;
-mod session_file;
 mod session_reports;
 mod trace_command;
-mod unbound_socket;
 
 use crate::answer_command::answer_mail_server;
 use crate::filter_command::serve_in_turn;
+use crate::input_files::{check_rules_at, print_rule_file, print_session_file};
 use crate::load_command::put_load;
 use crate::mta_command::play_session;
 use crate::play_command::play_in_memory;
 use crate::probe_command::probe_filter;
 use crate::record_command::record_connections;
 use crate::replay_command::replay_trace;
-use crate::rules_command::{check_rules_at, print_rule_file};
 use crate::serve_command::serve_many;
-use crate::session_command::print_session_file;
 use crate::trace_command::print_traces;
 use milter_cli::{Failure, ToolError, argument_error, end_usage, explain, explain_words, report};
 use milter_command_line::{Request, is_explained, parse};

@@ -1,6 +1,6 @@
 //! The subcommand `mta`.
 
-use crate::session_file::session_at;
+use crate::input_files::session_at;
 use crate::session_reports::{end_reports, expected_at, kept_error};
 use milter_cli::{Failure, ToolError, output_error};
 use milter_command_line::{Address, GivenMacro, MtaRequest, Target};

@@ -1,8 +1,6 @@
 //! The subcommand `play`.
 
-use crate::opened_file::open;
-use crate::rule_file::rules_at;
-use crate::session_file::session_at;
+use crate::input_files::{open, rules_at, session_at};
 use crate::session_reports::{end_reports, expected_at, kept_error};
 use milter_cli::{Failure, InputFile, RuleUse, ToolError, output_error};
 use milter_command_line::{Offer, PlayRequest};

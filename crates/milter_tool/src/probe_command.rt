@@ -1,6 +1,6 @@
 //! The subcommand `probe`.
 
-use crate::session_file::session_at;
+use crate::input_files::session_at;
 use milter_cli::{Failure, ToolError, output_error};
 use milter_command_line::{Address, ProbeRequest, UsageError};
 use milter_mail::Session;

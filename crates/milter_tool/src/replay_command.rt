@@ -3,7 +3,7 @@
 ghost use Rattle.std.specs.Prelude.{IfOk};
 ghost use Rattle.milter_replay.specs.Recordings.{AllFit};
 
-use crate::opened_file::open;
+use crate::input_files::open;
 use milter_cli::{Failure, InputFile, ToolError};
 use milter_command_line::{Address, ReplayRequest, UsageError};
 use milter_play::{Connect, TcpDial, UnixDial, WaitingDial, load_recording, replay_run};

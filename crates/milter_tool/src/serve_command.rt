@@ -1,6 +1,6 @@
 //! The subcommand `serve`.
 
-use crate::unbound_socket::unbound;
+use crate::filter_command::unbound;
 use milter_cli::{Failure, RuleUse, ToolError, service_error};
 use milter_command_line::{Address, ServeRequest, UsageError, VERSION, parse_mode};
 use milter_rules::Rules;

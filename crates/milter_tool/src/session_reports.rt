@@ -1,6 +1,6 @@
 //! The reports of a session, and those that are expected.
 
-use crate::opened_file::open;
+use crate::input_files::open;
 use milter_cli::{DifferingReports, Failure, FileError, InputFile, ToolError, output_error};
 use milter_play::{check_reports, load_reports};
 use milter_text::write_text;

@@ -1,7 +1,7 @@
 //! The subcommand `trace`.
 
 use crate::capture_command::print_captures;
-use crate::opened_file::open;
+use crate::input_files::open;
 use milter_cli::{Failure, FileError, InputFile, ToolError};
 use milter_command_line::TraceRequest;
 use milter_trace::{TraceFault, TraceForm, trace_run_as};

@@ -4,7 +4,7 @@
 pub use crate::macro_stage::{
     SMFIM_CONNECT, SMFIM_DATA, SMFIM_ENVFROM, SMFIM_ENVRCPT, SMFIM_EOH, SMFIM_EOM, SMFIM_HELO,
 };
-pub use milter_fields::families::{SMFIA_INET, SMFIA_INET6, SMFIA_UNIX, SMFIA_UNKNOWN};
+pub use milter_fields::{SMFIA_INET, SMFIA_INET6, SMFIA_UNIX, SMFIA_UNKNOWN};
 
 /// The message is given up. Source: mfdef.h.
 pub const SMFIC_ABORT: u8 = b'A';

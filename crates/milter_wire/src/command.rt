@@ -11,7 +11,9 @@ ghost use Rattle.milter_wire.specs.BorrowedCommand.{command_of};
 use crate::command_ref::CommandRef;
 use crate::options::Options;
 use crate::stage::Stage;
-use milter_fields::{Client, Header, NoMemory, PAYLOAD_MAX, Pairs, PairsRef, Path, Text, WireFault};
+use milter_fields::{
+    Client, Header, NoMemory, PAYLOAD_MAX, Pairs, PairsRef, Path, Text, WireFault,
+};
 use std::alloc::Global;
 
 /// A packet that an MTA sends to a filter. Source: mfdef.h (the codes SMFIC_), and the layouts that libmilter reads.

@@ -1,6 +1,6 @@
 //! The lengths of packets by what they carry, without making a command of it.
 
-ghost use Rattle.std.specs.Prelude.{◌≡◌, ◌≤◌, ◌<◌, ◌+◌, ℕ, None, Some};
+ghost use Rattle.std.specs.Prelude.{◌≡◌, ◌≤◌, ◌<◌, ◌+◌, ℕ, None, Some, IfOk, length};
 ghost use Rattle.milter_wire.specs.declared.command.Command.{Command};
 ghost use Rattle.milter_wire.specs.Command.{PacketLen};
 
@@ -8,6 +8,7 @@ use milter_fields::{
     Client, HEAD_LEN, Header, PAYLOAD_MAX, Pairs, Path, Text, has_no_nul, header_fits, header_len,
     pairs_fit, pairs_len, string_len,
 };
+use std::alloc::{AllocError, Global};
 
 /// The number of bytes of the packet of the client, from 8 to 65,540, its length field among them; or none, where there
 /// is no such packet: a string has a NUL, or they have too many bytes. Doesn't allocate.
@@ -81,4 +82,14 @@ fn with_head(payload_len: usize) -> Option<usize>
         return None;
     }
     Some(payload_len + HEAD_LEN)
+}
+
+/// The most bytes that are read of a stream at once.
+pub const READ_LEN_MAX: usize = 65_536;
+
+/// A buffer for what is read of a stream at once, of 65,536 bytes.
+pub fn read_buffer(alloc: Global) -> Result<Vec<u8>, AllocError>
+    ensures { IfOk result (λ buffer. length buffer.items ≡ READ_LEN_MAX) }
+{
+    vec![in alloc; 0u8; READ_LEN_MAX]
 }

@@ -12,8 +12,6 @@
 //! filter's reply has beside them, and [`MacroStage`] is a stage of such a list. Nothing here reads, writes or waits.
 #![tactic(auto)]
 
-mod bits;
-mod buffer;
 pub mod codes;
 mod command;
 mod command_ref;
@@ -26,12 +24,10 @@ mod options_laws;
 mod options_payload;
 mod payload;
 mod reply;
-mod shared_options;
 mod stage;
 mod symbol_lists;
 mod verdict;
 
-pub use buffer::{READ_LEN_MAX, read_buffer};
 pub use command::Command;
 pub use command_ref::CommandRef;
 pub use laws::{
@@ -39,7 +35,8 @@ pub use laws::{
     replies_apart, reply_codes, reply_encodings, reply_frames,
 };
 pub use lengths::{
-    connect_packet_len, header_packet_len, helo_packet_len, macro_packet_len, path_packet_len,
+    READ_LEN_MAX, connect_packet_len, header_packet_len, helo_packet_len, macro_packet_len,
+    path_packet_len, read_buffer,
 };
 pub use macro_stage::{
     MacroStage, SMFIM_CONNECT, SMFIM_DATA, SMFIM_ENVFROM, SMFIM_ENVRCPT, SMFIM_EOH, SMFIM_EOM,
@@ -51,12 +48,13 @@ pub use milter_fields::{
     RefusedMemory, Splitter, Text, WireFault, has_no_nul, pair_len, string_len,
 };
 pub use negotiation::{Negotiated, negotiate};
-pub use options::{Actions, Options, Protocol};
+pub use options::{Actions, Options, Protocol, common_options};
 pub use options_laws::{names_of_bits, texts_of_known_bits};
-pub use options_payload::{OPTIONS_LEN, options_fit, put_options, take_options, take_options_first};
+pub use options_payload::{
+    OPTIONS_LEN, options_fit, put_options, take_options, take_options_first,
+};
 pub use payload::PayloadRef;
 pub use reply::Reply;
-pub use shared_options::common_options;
 pub use stage::Stage;
 pub use symbol_lists::{
     SymList, SymLists, copy_sym_lists, options_with_lists_fit, options_with_lists_len,

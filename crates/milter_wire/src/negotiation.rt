@@ -3,8 +3,7 @@
 ghost use Rattle.std.specs.Prelude.{◌≡◌};
 ghost use Rattle.milter_wire.specs.Negotiation.{negotiate, has, has_leading_space, is_answered, is_of_version, is_sent};
 
-use crate::options::{Actions, Options, Protocol};
-use crate::shared_options::common_options;
+use crate::options::{Actions, Options, Protocol, common_options};
 use crate::stage::Stage;
 use crate::symbol_lists::SymLists;
 

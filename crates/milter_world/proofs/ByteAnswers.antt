@@ -12,12 +12,12 @@ use Rattle.milter_wire.specs.declared.command.Command.{Command}
 use Rattle.milter_wire.specs.Command.{Fits, encoding}
 use Rattle.milter_wire.specs.Frames.{command_frame, frame_command, frames_and}
 use Rattle.milter_wire.specs.Reply as replied
-use Rattle.milter_protocol.specs.declared.command_order.CommandOrder.{CommandOrder}
+use Rattle.milter_protocol.specs.declared.stage_order.CommandOrder.{CommandOrder}
 use Rattle.milter_protocol.specs.Aborts.{AreTakenAlike}
 use Rattle.milter_protocol.specs.Behavior.{Behavior}
 use Rattle.milter_protocol.specs.FilterEnds.{FilterEnd, Received, after, next, replies, replies_at, start}
-use Rattle.milter_protocol.specs.declared.filter_state.FilterState.{FilterState}
-use Rattle.milter_protocol.specs.declared.filter_state.FilterState.TheVariants.{Failed, Quit, Serving}
+use Rattle.milter_protocol.specs.declared.filter_fault.FilterState.{FilterState}
+use Rattle.milter_protocol.specs.declared.filter_fault.FilterState.TheVariants.{Failed, Quit, Serving}
 use Rattle.milter_protocol.specs.OrderStates.{OrderState, fresh, fresh_in, order_state_after, order_state_at, order_state_of, order_state_replies}
 use Rattle.milter_mta.specs.Lines.{Line}
 use Rattle.milter_filter_stream.specs.Streams.{fault_after, received_in}

@@ -1,6 +1,6 @@
 -- The verdict on the connection, as it is reported.
 use Rattle.std.proofs.Common.{◌≡◌, ◌≢◌, List, [], sym, ap, subst, ◌∙◌}
-use Rattle.milter_mta_outcome.specs.declared.report.Report.{Report}
+use Rattle.milter_mta_outcome.specs.declared.outcome.Report.{Report}
 use Rattle.milter_mta.specs.Accounts.{Disposition}
 use Rattle.milter_mta.specs.Mta.{Mta}
 use Rattle.milter_mta.specs.AnyFilter.{ConnectionIsReported, HaveLastVerdict, client_reports}

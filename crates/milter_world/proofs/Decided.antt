@@ -5,7 +5,7 @@ use Rattle.std.proofs.lemmas.Bool.{and_from, or_left, or_right, true≢false}
 use Rattle.milter_fields.specs.declared.header.Header.{Header}
 use Rattle.milter_wire.specs.declared.stage.Stage.TheVariants as stages
 use Rattle.milter_message.specs.declared.edit.Edit.{Edit}
-use Rattle.milter_protocol.specs.declared.action.Action.TheVariants as actions
+use Rattle.milter_protocol.specs.declared.answer.Action.TheVariants as actions
 use Rattle.milter_wire.specs.declared.stage.Stage.{Stage}
 use Rattle.milter_protocol.specs.Seen.{Seen}
 use Rattle.milter_filter_rules.specs.ListedValues.{Matching}

@@ -11,13 +11,13 @@ use Rattle.milter_mta_outcome.specs.declared.loss.By.TheVariants.{Connection, De
 use Rattle.milter_mta_outcome.specs.declared.loss.Loss.{Loss}
 use Rattle.milter_mta_outcome.specs.declared.loss.Loss.TheVariants as losses
 use Rattle.milter_mta_outcome.specs.declared.outcome.Outcome.{Outcome}
-use Rattle.milter_mta_outcome.specs.declared.report.Report.{Report}
+use Rattle.milter_mta_outcome.specs.declared.outcome.Report.{Report}
 use Rattle.milter_mta_outcome.specs.Dialogues.{acted, ruled}
 use Rattle.milter_mta.specs.Dispositions.{report}
 use Rattle.milter_mta.specs.Sessions.{settled_through}
 use Rattle.milter_mta.specs.Settled.{ends_with_client}
-use Rattle.milter_world.specs.declared.event.Event.{Event}
-use Rattle.milter_world.specs.declared.event.Event.TheVariants.{Dial, Send, ToFilter, Answer, ToMta, Die, Lose, Timeout}
+use Rattle.milter_world.specs.declared.event_line.Event.{Event}
+use Rattle.milter_world.specs.declared.event_line.Event.TheVariants.{Dial, Send, ToFilter, Answer, ToMta, Die, Lose, Timeout}
 use Rattle.milter_world.specs.declared.state.Counts.{Counts}
 use Rattle.milter_world.specs.declared.state.State.{State}
 use Rattle.milter_world.specs.declared.state.State.TheVariants.{Idle, Linked, Done}

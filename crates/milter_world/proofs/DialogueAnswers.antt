@@ -20,7 +20,7 @@ use Rattle.milter_mail.specs.MailSession.{MailSession}
 use Rattle.milter_mail.specs.Plan.{opening}
 use Rattle.milter_protocol.specs.declared.answer.Answer.{Answer}
 use Rattle.milter_protocol.specs.declared.filter_fault.FilterFault.TheVariants.{OutOfOrder, TooMuch}
-use Rattle.milter_protocol.specs.declared.filter_state.FilterState.TheVariants.{Quit, Serving}
+use Rattle.milter_protocol.specs.declared.filter_fault.FilterState.TheVariants.{Quit, Serving}
 use Rattle.milter_protocol.specs.Behavior.{Behavior, exchange_of}
 use Rattle.milter_protocol.specs.Aborts.{IsTakenAlike, is_within_message}
 use Rattle.milter_protocol.specs.Commands.{is_end_at, is_of_connection, is_quit, is_quit_new, is_refused_data, is_shown}

@@ -23,7 +23,7 @@ use Rattle.milter_mta_outcome.specs.declared.loss.By.TheVariants.{Connection, De
 use Rattle.milter_mta_outcome.specs.declared.loss.Loss.{Loss}
 use Rattle.milter_mta_outcome.specs.declared.outcome.Outcome.{Outcome}
 use Rattle.milter_mta_outcome.specs.declared.outcome.Outcome.TheVariants.{NoRecipients}
-use Rattle.milter_mta_outcome.specs.declared.report.Report.{Report}
+use Rattle.milter_mta_outcome.specs.declared.outcome.Report.{Report}
 use Rattle.milter_mta_outcome.specs.Dialogues.{acted, given_up, ruled}
 use Rattle.milter_mta.specs.Mta.{Configuration, FilterConnection, Mta, Position, at_packet, connection_at}
 use Rattle.milter_mta.specs.Mta.Position.{Ended, Quitting}

@@ -6,20 +6,20 @@ use Rattle.std.proofs.lemmas.List.Concat.{flat_map-cons}
 use Rattle.milter_message.specs.MailObject.{MailObject}
 use Rattle.milter_mail.specs.MailSession.{MailSession}
 use Rattle.milter_mta_outcome.specs.declared.loss.Loss.{Loss}
-use Rattle.milter_mta_outcome.specs.declared.report.Report.{Report}
-use Rattle.milter_mta.specs.declared.want.Want.{Want}
-use Rattle.milter_mta.specs.declared.want.Want.TheVariants as wants
+use Rattle.milter_mta_outcome.specs.declared.outcome.Report.{Report}
+use Rattle.milter_mta.specs.declared.mta_core.Want.{Want}
+use Rattle.milter_mta.specs.declared.mta_core.Want.TheVariants as wants
 use Rattle.milter_mta.specs.Mta.{FilterConnection, Mta, fresh}
 use Rattle.milter_mta.specs.Replies.{After as ReceivedReply, received}
 use Rattle.milter_mta.specs.Output.{advanced, dialled, dialled_if, sent, want, want_in, want_unconnected}
 use Rattle.milter_mta.specs.Dispositions.{lost}
 use Rattle.milter_mta.specs.AnyFilter.{ConnectionIsReported, GoesOnDialogues, IsOnDialogue, IsReportByDialogue, without_messages}
 use Rattle.milter_mta.specs.Lines.{Line}
-use Rattle.milter_protocol.specs.declared.command_order.CommandOrder.{CommandOrder}
+use Rattle.milter_protocol.specs.declared.stage_order.CommandOrder.{CommandOrder}
 use Rattle.milter_protocol.specs.Behavior.{Behavior}
 use Rattle.milter_filter.specs.Cores.{Core, GoesOn, fresh_core_in}
-use Rattle.milter_world.specs.declared.event.Event.{Event}
-use Rattle.milter_world.specs.declared.event.Event.TheVariants.{Dial, ToMta}
+use Rattle.milter_world.specs.declared.event_line.Event.{Event}
+use Rattle.milter_world.specs.declared.event_line.Event.TheVariants.{Dial, ToMta}
 use Rattle.milter_world.specs.ByteCounts.{owed, to_filter, to_mta}
 use Rattle.milter_world.specs.FollowedLines.{Follows, SendsLines}
 use Rattle.milter_world.specs.Rounds.{AreCounts}

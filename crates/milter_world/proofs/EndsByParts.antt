@@ -1,9 +1,9 @@
 -- Both ends by their parts.
 use Rattle.std.proofs.Common.{◌≡◌, ℕ, List, Option, refl}
-use Rattle.milter_protocol.specs.declared.command_order.CommandOrder.{CommandOrder}
+use Rattle.milter_protocol.specs.declared.stage_order.CommandOrder.{CommandOrder}
 use Rattle.milter_mta.specs.Mta.{Mta}
 use Rattle.milter_filter.specs.Cores.{Core}
-use Rattle.milter_world.specs.declared.event.Event.{Event}
+use Rattle.milter_world.specs.declared.event_line.Event.{Event}
 use Rattle.milter_world.specs.declared.state.State.{State}
 use Rattle.milter_world.specs.Schedule.{Scenario}
 use Rattle.milter_world.specs.Ends.{AreEndsOf, Ends, Steps}

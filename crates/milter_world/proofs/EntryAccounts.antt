@@ -10,7 +10,7 @@ use Rattle.milter_mail.specs.Steps.{message_steps}
 use Rattle.milter_protocol.specs.Exchanges.{Exchange, onto}
 use Rattle.milter_protocol.specs.Dialogue.{has_end, dialogue_with}
 use Rattle.milter_mta_outcome.specs.declared.loss.Loss.{Loss}
-use Rattle.milter_mta_outcome.specs.declared.report.Report.{Report}
+use Rattle.milter_mta_outcome.specs.declared.outcome.Report.{Report}
 use Rattle.std.proofs.lemmas.List.Concat.{flat_map-cons}
 use Rattle.milter_wire.specs.Negotiation.{has_leading_space}
 use Rattle.milter_mta_outcome.specs.declared.outcome.Outcome.{Outcome}

@@ -15,7 +15,7 @@ use Rattle.milter_mail.specs.Steps.{message_steps}
 use Rattle.milter_protocol.specs.Behavior.{Behavior}
 use Rattle.milter_protocol.specs.Exchanges.{Exchange, onto}
 use Rattle.milter_protocol.specs.Dialogue.{dialogue_with}
-use Rattle.milter_mta_outcome.specs.declared.report.Report.{Report}
+use Rattle.milter_mta_outcome.specs.declared.outcome.Report.{Report}
 use Rattle.milter_mta.specs.Lines.{Line, abort_line, line_of, offer_line, quit_line}
 use Rattle.milter_mta.specs.Sessions.{lines_after, lines_from, session_lines}
 use Rattle.milter_mta.specs.Settled.{ends_with_client, ends_with_message}

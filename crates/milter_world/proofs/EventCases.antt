@@ -3,14 +3,14 @@ use Rattle.std.proofs.Common.{◌≡◌, ◌≢◌, ◌<◌, ℕ, Bool, if◌the
 use Rattle.std.proofs.lemmas.Bool.{le-ltb}
 use Rattle.std.proofs.lemmas.List.{drop_all}
 use Rattle.milter_message.specs.MailObject.{MailObject}
-use Rattle.milter_mta.specs.declared.want.Want.TheVariants as wants
+use Rattle.milter_mta.specs.declared.mta_core.Want.TheVariants as wants
 use Rattle.milter_mta.specs.Mta.{FilterConnection}
 use Rattle.milter_mta.specs.Output.{want, want_in, want_unconnected}
 use Rattle.milter_mta.specs.Dispositions.{lost as lost_by}
 use Rattle.milter_world.proofs.CountedBytes.{by_lt, lt-ltb}
 use Rattle.milter_mta_outcome.specs.declared.loss.Loss.{Loss}
-use Rattle.milter_world.specs.declared.event.Event.{Event}
-use Rattle.milter_world.specs.declared.event.Event.TheVariants.{Dial, Send, ToFilter, Answer, ToMta, Die, Lose, Timeout}
+use Rattle.milter_world.specs.declared.event_line.Event.{Event}
+use Rattle.milter_world.specs.declared.event_line.Event.TheVariants.{Dial, Send, ToFilter, Answer, ToMta, Die, Lose, Timeout}
 use Rattle.milter_world.specs.declared.state.Counts.{Counts}
 use Rattle.milter_world.specs.declared.state.State.{State}
 use Rattle.milter_world.specs.declared.state.State.TheVariants.{Idle, Linked, Done}

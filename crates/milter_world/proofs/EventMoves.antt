@@ -2,19 +2,19 @@
 use Rattle.std.proofs.Common.{◌≡◌, ◌≢◌, inl, inr, ℕ, ◌+◌, ◌≤◌, ◌<◌, ◌==◌, min, ◌^◌, Bool, true, false, if◌then◌else◌, List, [], ◌∷◌, ◌++◌, Option, None, Some, refl, sym, ◌∙◌, ap, subst, arith, length, take, drop, append-nil, length-append, length-take, take-append-drop}
 use Rattle.std.proofs.lemmas.Bool.{eq-eqb, le-ltb, eqb-true}
 use Rattle.milter_mta_outcome.specs.declared.loss.Loss.{Loss}
-use Rattle.milter_mta_outcome.specs.declared.report.Report.{Report}
+use Rattle.milter_mta_outcome.specs.declared.outcome.Report.{Report}
 use Rattle.milter_message.specs.MailObject.{MailObject}
-use Rattle.milter_mta.specs.declared.want.Want.TheVariants as wants
+use Rattle.milter_mta.specs.declared.mta_core.Want.TheVariants as wants
 use Rattle.milter_mta.specs.Mta.{Configuration, FilterConnection, Mta}
 use Rattle.milter_mta.specs.Output.{advanced, pending, sent, want}
 use Rattle.milter_mta.specs.Dispositions.{acted_in, defaulted, lost}
 use Rattle.milter_mta.specs.Lines.{Line}
 use Rattle.milter_protocol.specs.declared.filter_fault.FilterFault.{FilterFault as Fault}
-use Rattle.milter_protocol.specs.declared.filter_state.FilterState.TheVariants.{Serving}
+use Rattle.milter_protocol.specs.declared.filter_fault.FilterState.TheVariants.{Serving}
 use Rattle.milter_filter_stream.specs.Streams.{received_in}
 use Rattle.milter_filter.specs.Cores.{Core, GivesUp, Takes}
-use Rattle.milter_world.specs.declared.event.Event.{Event}
-use Rattle.milter_world.specs.declared.event.Event.TheVariants.{Send, ToFilter, Answer, Die}
+use Rattle.milter_world.specs.declared.event_line.Event.{Event}
+use Rattle.milter_world.specs.declared.event_line.Event.TheVariants.{Send, ToFilter, Answer, Die}
 use Rattle.milter_world.specs.ByteCounts.{due, owed, packet_end, to_filter, to_mta}
 use Rattle.milter_world.specs.FollowedLines.{SendsLines, after_at}
 use Rattle.milter_world.specs.Rounds.{AreCounts}

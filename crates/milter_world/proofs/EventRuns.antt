@@ -1,7 +1,7 @@
 -- Events one after the other.
 use Rattle.std.proofs.Common.{◌≡◌, List, [], ◌∷◌, ◌++◌, refl, sym, ap, ◌∙◌}
-use Rattle.milter_mta_outcome.specs.declared.report.Report.{Report}
-use Rattle.milter_world.specs.declared.event.Event.{Event}
+use Rattle.milter_mta_outcome.specs.declared.outcome.Report.{Report}
+use Rattle.milter_world.specs.declared.event_line.Event.{Event}
 use Rattle.milter_world.specs.declared.state.State.{State}
 use Rattle.milter_world.specs.Schedule.{After, Scenario, after_all, happens}
 use Rattle.milter_world.specs.Ends.{Ends, Steps}

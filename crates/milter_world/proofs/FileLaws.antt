@@ -4,7 +4,7 @@ use Rattle.std.proofs.Common.{subst, ◌∙◌, arith, length-append}
 use Rattle.std.specs.List.{AllZip}
 use Rattle.std.specs.Result.{IfErr, IfOk, MatchResult}
 use Rattle.std.proofs.lemmas.List.Concat.{flat_map-append}
-use Rattle.milter_world.specs.declared.event.Event.{Event}
+use Rattle.milter_world.specs.declared.event_line.Event.{Event}
 use Rattle.milter_world.specs.declared.event_fault.EventFault.{EventFault}
 use Rattle.milter_world.specs.declared.event_fault.EventFault.TheVariants.{UnknownLine, TooMany, NoMemory}
 use Rattle.milter_world.specs.EventFault.{IsFaultOf}

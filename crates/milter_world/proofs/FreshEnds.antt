@@ -1,8 +1,8 @@
 -- Both ends before their first connection.
 use Rattle.std.proofs.Common.{◌≡◌, ◌≢◌, Bool, if◌then◌else◌, ltb, List, [], ◌∷◌, refl, ap, arith, length}
 use Rattle.milter_message.specs.MailObject.{MailObject}
-use Rattle.milter_protocol.specs.declared.command_order.CommandOrder.{CommandOrder}
-use Rattle.milter_mta.specs.declared.want.Want.TheVariants as wants
+use Rattle.milter_protocol.specs.declared.stage_order.CommandOrder.{CommandOrder}
+use Rattle.milter_mta.specs.declared.mta_core.Want.TheVariants as wants
 use Rattle.milter_mta.specs.Mta.{fresh}
 use Rattle.milter_mta.specs.Output.{want, want_unconnected}
 use Rattle.milter_world.proofs.CountedBytes.{lt-ltb}

@@ -14,7 +14,7 @@ use Rattle.milter_protocol.specs.Permitted.{is_permitted, permitted}
 use Rattle.milter_protocol.specs.Seen.{seen}
 use Rattle.milter_protocol.specs.Dialogue.{AreAnsweredBy}
 use Rattle.milter_mta_outcome.specs.declared.outcome.Outcome.{Outcome}
-use Rattle.milter_mta_outcome.specs.declared.report.Report.{Report}
+use Rattle.milter_mta_outcome.specs.declared.outcome.Report.{Report}
 use Rattle.milter_mta_outcome.specs.Dialogues.{acted, acted_at, ruled}
 use Rattle.milter_mta.specs.Dispositions.{report}
 use Rattle.milter_mta.specs.Sessions.{settled_through}

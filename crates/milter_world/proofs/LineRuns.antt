@@ -8,7 +8,7 @@ use Rattle.milter_text.specs.declared.word.Word.{Word}
 use Rattle.milter_text.specs.LineCursor.{IsNextLine, LinesAhead}
 use Rattle.milter_text.specs.Words.{HasWords}
 use Rattle.milter_text.proofs.WordLaws.{words_same}
-use Rattle.milter_world.specs.declared.event.Event.{Event}
+use Rattle.milter_world.specs.declared.event_line.Event.{Event}
 use Rattle.milter_world.specs.declared.event_fault.EventFault.{EventFault}
 use Rattle.milter_world.specs.declared.event_fault.EventFault.TheVariants.{UnknownLine, TooMany, NoMemory}
 use Rattle.milter_world.specs.EventFault.{IsFaultOf}

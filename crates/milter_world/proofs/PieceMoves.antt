@@ -4,10 +4,10 @@ use Rattle.std.specs.List.{fold, flat_map}
 use Rattle.std.proofs.lemmas.List.{append_cancel_left}
 use Rattle.std.proofs.Math.Seq.{take-add, take-append_seam}
 use Rattle.milter_wire.specs.Reply.{encoding}
-use Rattle.milter_protocol.specs.declared.command_order.CommandOrder.{CommandOrder}
+use Rattle.milter_protocol.specs.declared.stage_order.CommandOrder.{CommandOrder}
 use Rattle.milter_protocol.specs.Behavior.{Behavior}
 use Rattle.milter_protocol.specs.declared.filter_fault.FilterFault.{FilterFault as Fault}
-use Rattle.milter_protocol.specs.declared.filter_state.FilterState.TheVariants.{Failed, Serving}
+use Rattle.milter_protocol.specs.declared.filter_fault.FilterState.TheVariants.{Failed, Serving}
 use Rattle.milter_protocol.specs.OrderStates.{OrderState, fresh_in, order_state_after, order_state_replies}
 use Rattle.milter_mta.specs.Mta.{Mta}
 use Rattle.milter_mta.specs.Replies.{After, goes_on, received, received_byte}

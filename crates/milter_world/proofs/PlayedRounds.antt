@@ -1,8 +1,8 @@
 -- A round keeps what holds of a session that is played without a loss.
 use Rattle.std.proofs.Common.{◌≡◌, ◌≢◌, ◌⊎◌, inl, inr, nat_lt, length, ℕ, suc, ◌<◌, Bool, true, false, if◌then◌else◌, List, [], ◌∷◌, ◌++◌, refl, sym, ap, ◌∙◌, subst, arith}
-use Rattle.milter_protocol.specs.declared.command_order.CommandOrder.{CommandOrder}
-use Rattle.milter_world.specs.declared.event.Event.{Event}
-use Rattle.milter_world.specs.declared.event.Event.TheVariants.{Dial}
+use Rattle.milter_protocol.specs.declared.stage_order.CommandOrder.{CommandOrder}
+use Rattle.milter_world.specs.declared.event_line.Event.{Event}
+use Rattle.milter_world.specs.declared.event_line.Event.TheVariants.{Dial}
 use Rattle.milter_world.specs.declared.state.Counts.{Counts}
 use Rattle.milter_world.specs.declared.state.State.{State}
 use Rattle.milter_world.specs.declared.state.State.TheVariants.{Idle, Linked, Done}

@@ -4,15 +4,15 @@ use Rattle.std.proofs.lemmas.Bool.{eqb-true, le-leb, lt-leb, ltb-false, ltb-true
 use Rattle.milter_message.specs.MailObject.{MailObject}
 use Rattle.milter_mta_outcome.specs.declared.loss.Loss.{Loss}
 use Rattle.milter_mta_outcome.specs.declared.loss.Loss.TheVariants as losses
-use Rattle.milter_mta_outcome.specs.declared.report.Report.{Report}
+use Rattle.milter_mta_outcome.specs.declared.outcome.Report.{Report}
 use Rattle.milter_protocol.specs.Exchanges.{Exchange}
 use Rattle.milter_mta.specs.Lines.{Line}
 use Rattle.milter_world.specs.ByteCounts.{due, packet_end, to_filter, to_mta}
 use Rattle.milter_world.specs.ConnectionEntries.{Entry, default_reports, default_within, reports_within}
 use Rattle.milter_world.proofs.CountedBytes.{by_lt, due-le, owed-mono, packet_end-due}
 use Rattle.milter_world.proofs.EntryLines.{lines-are, session-ends}
-use Rattle.milter_world.specs.declared.event.Event.{Event}
-use Rattle.milter_world.specs.declared.event.Event.TheVariants.{Dial, Send, ToFilter, Answer, ToMta, Die, Lose, Timeout}
+use Rattle.milter_world.specs.declared.event_line.Event.{Event}
+use Rattle.milter_world.specs.declared.event_line.Event.TheVariants.{Dial, Send, ToFilter, Answer, ToMta, Die, Lose, Timeout}
 use Rattle.milter_world.specs.declared.state.Counts.{Counts}
 use Rattle.milter_world.specs.declared.state.State.{State}
 use Rattle.milter_world.specs.declared.state.State.TheVariants.{Idle, Linked, Done}

@@ -5,9 +5,9 @@ use Rattle.std.proofs.lemmas.List.{append_cancel_left}
 use Rattle.milter_message.specs.MailObject.{MailObject}
 use Rattle.milter_mta_outcome.specs.declared.fallback.OnLoss.{OnLoss}
 use Rattle.milter_mta_outcome.specs.declared.loss.Loss.{Loss}
-use Rattle.milter_mta_outcome.specs.declared.report.Report.{Report}
-use Rattle.milter_mta.specs.declared.want.Want.{Want}
-use Rattle.milter_mta.specs.declared.want.Want.TheVariants as wants
+use Rattle.milter_mta_outcome.specs.declared.outcome.Report.{Report}
+use Rattle.milter_mta.specs.declared.mta_core.Want.{Want}
+use Rattle.milter_mta.specs.declared.mta_core.Want.TheVariants as wants
 use Rattle.milter_mta.specs.Mta.{FilterConnection, Mta}
 use Rattle.milter_mta.specs.Replies.{After}
 use Rattle.milter_mta.specs.Output.{advanced, advanced_in, sent, sent_in, want}

@@ -2,9 +2,9 @@
 use Rattle.std.proofs.Common.{◌≡◌, ◌⊎◌, inl, inr, ℕ, ◌+◌, ◌<◌, ◌≤◌, ◌==◌, min, Bool, true, false, if◌then◌else◌, List, [], ◌∷◌, ◌++◌, length, refl, sym, ◌∙◌, ap, arith}
 use Rattle.std.proofs.lemmas.Bool.{eq-eqb, le-ltb, true≢false}
 use Rattle.milter_mta.specs.Lines.{Line}
-use Rattle.milter_mta_outcome.specs.declared.report.Report.{Report}
+use Rattle.milter_mta_outcome.specs.declared.outcome.Report.{Report}
 use Rattle.milter_world.specs.ByteCounts.{due, owed, packet_end, to_filter}
-use Rattle.milter_world.specs.declared.event.Event.TheVariants.{ToFilter, Answer, ToMta}
+use Rattle.milter_world.specs.declared.event_line.Event.TheVariants.{ToFilter, Answer, ToMta}
 use Rattle.milter_world.specs.declared.state.Counts.{Counts}
 use Rattle.milter_world.specs.declared.state.State.{State}
 use Rattle.milter_world.specs.declared.state.State.TheVariants.{Linked, Done}

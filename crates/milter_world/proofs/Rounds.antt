@@ -1,7 +1,7 @@
 -- The events of rounds: how many they are, and one more round.
 use Rattle.std.proofs.Common.{◌≡◌, ℕ, zero, suc, ◌+◌, ◌*◌, List, ◌++◌, length, refl, ap, ◌∙◌, arith}
 use Rattle.std.proofs.Common.{append_assoc, add-one, length-append}
-use Rattle.milter_world.specs.declared.event.Event.{Event}
+use Rattle.milter_world.specs.declared.event_line.Event.{Event}
 use Rattle.milter_world.specs.Rounds.{round, rounds}
 
 pub rounds_length : (count bytes : ℕ) → length (rounds count bytes) ≡ 4 * count

@@ -6,14 +6,14 @@ use Rattle.milter_message.specs.MailObject.{MailObject}
 use Rattle.milter_mail.specs.Plan.{plan}
 use Rattle.milter_protocol.specs.Dialogue.{dialogue_with}
 use Rattle.milter_mta_outcome.specs.declared.loss.Loss.{Loss}
-use Rattle.milter_mta_outcome.specs.declared.report.Report.{Report}
+use Rattle.milter_mta_outcome.specs.declared.outcome.Report.{Report}
 use Rattle.milter_fields.specs.Number.{number}
 use Rattle.milter_wire.specs.declared.reply.Reply.{Reply}
 use Rattle.milter_wire.specs.Reply.{code_of, encoding, payload_of}
 use Rattle.milter_protocol.specs.Replies.{options_reply}
 use Rattle.milter_world.specs.DialogueReports.{AreReported, IsDefaultAfter, IsRuledBy, IsReportOf, negotiated_of}
-use Rattle.milter_world.specs.declared.event.Event.{Event}
-use Rattle.milter_world.specs.declared.event.Event.TheVariants.{Dial, Send, ToFilter, Answer, ToMta, Die, Lose, Timeout}
+use Rattle.milter_world.specs.declared.event_line.Event.{Event}
+use Rattle.milter_world.specs.declared.event_line.Event.TheVariants.{Dial, Send, ToFilter, Answer, ToMta, Die, Lose, Timeout}
 use Rattle.milter_world.specs.declared.state.Counts.{Counts}
 use Rattle.milter_world.specs.declared.state.State.{State}
 use Rattle.milter_world.specs.declared.state.State.TheVariants.{Idle, Linked, Done}

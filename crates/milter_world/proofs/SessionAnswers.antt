@@ -20,8 +20,8 @@ use Rattle.milter_mail.specs.Steps.{message_steps}
 use Rattle.milter_mail.proofs.MailLaws.{plan_fits, plan_weight}
 use Rattle.milter_protocol.specs.declared.filter_fault.FilterFault.{FilterFault}
 use Rattle.milter_protocol.specs.declared.filter_fault.FilterFault.TheVariants.{Version}
-use Rattle.milter_protocol.specs.declared.filter_state.FilterState.TheVariants.{Serving}
-use Rattle.milter_protocol.specs.declared.limits.TheConstants.{VERSION_MIN}
+use Rattle.milter_protocol.specs.declared.filter_fault.FilterState.TheVariants.{Serving}
+use Rattle.milter_protocol.specs.declared.permitted.TheConstants.{VERSION_MIN}
 use Rattle.milter_protocol.specs.Behavior.{Behavior}
 use Rattle.milter_protocol.specs.Aborts.{is_after_refused_data, is_within_message}
 use Rattle.milter_protocol.specs.Commands.{is_of_connection}

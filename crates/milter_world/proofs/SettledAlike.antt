@@ -18,7 +18,7 @@ use Rattle.milter_protocol.specs.Dialogue.{IsDialogueWith, dialogue_with, has_en
 use Rattle.milter_protocol.specs.Exchanges.{Exchange, onto}
 use Rattle.milter_protocol.specs.Seen.{Seen}
 use Rattle.milter_protocol.proofs.WholeDialogues.{dialogue_with-whole}
-use Rattle.milter_mta_outcome.specs.declared.acted.Acted.{Acted}
+use Rattle.milter_mta_outcome.specs.declared.acted_verdicts.Acted.{Acted}
 use Rattle.milter_mta_outcome.specs.declared.loss.By.TheVariants.{Connection, Filter}
 use Rattle.milter_mta_outcome.specs.declared.outcome.Outcome.{Outcome}
 use Rattle.milter_mta_outcome.specs.ActedVerdicts.{kept}

@@ -11,9 +11,9 @@ use Rattle.std.proofs.lemmas.Option.{same_Some}
 use Rattle.milter_fields.specs.Bind.{◌>>=◌}
 use Rattle.milter_text.specs.declared.word.Word.{Word}
 use Rattle.milter_text.specs.WordValues.{is_keyword, number_of}
-use Rattle.milter_world.specs.declared.event.Event.{Event}
-use Rattle.milter_world.specs.declared.event.Event.TheVariants.{Dial, Send, ToFilter, Answer, ToMta, Die}
-use Rattle.milter_world.specs.declared.event.Event.TheVariants.{Lose, Timeout}
+use Rattle.milter_world.specs.declared.event_line.Event.{Event}
+use Rattle.milter_world.specs.declared.event_line.Event.TheVariants.{Dial, Send, ToFilter, Answer, ToMta, Die}
+use Rattle.milter_world.specs.declared.event_line.Event.TheVariants.{Lose, Timeout}
 use Rattle.milter_world.specs.Rounds.{round, rounds}
 use Rattle.milter_world.specs.declared.event_fault.EventFault.{EventFault}
 use Rattle.milter_world.specs.EventFile.{HaveEvents, LineHasEvents, bytes_moved, count_of, events_of, events_with}

@@ -1,8 +1,8 @@
 -- What a mail server's end does at one time, whatever it is.
 use Rattle.std.proofs.Common.{◌≡◌, ◌≢◌, ◌<◌, ℕ, List, [], ◌∷◌, drop, length, Option, None, Some, refl, sym, ap, ◌∙◌, arith, length-drop}
 use Rattle.milter_wire.specs.declared.command.Command.{Command}
-use Rattle.milter_mta.specs.declared.want.Want.{Want}
-use Rattle.milter_mta.specs.declared.want.Want.TheVariants as wants
+use Rattle.milter_mta.specs.declared.mta_core.Want.{Want}
+use Rattle.milter_mta.specs.declared.mta_core.Want.TheVariants as wants
 use Rattle.milter_mta.specs.Mta.{FilterConnection, Mta}
 use Rattle.milter_mta.specs.Output.{advanced, advanced_in, bytes_at, made, pending, pending_in, pending_or, sent, sent_from, sent_in, sent_of, want}
 use Rattle.milter_mta.proofs.Losses.{drop_none, none_pending}

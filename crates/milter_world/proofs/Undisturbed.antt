@@ -9,7 +9,7 @@ use Rattle.milter_mta_outcome.specs.declared.loss.By.{By}
 use Rattle.milter_mta_outcome.specs.declared.loss.By.TheVariants.{Connection, Default, Filter}
 use Rattle.milter_mta_outcome.specs.declared.loss.Loss.{Loss}
 use Rattle.milter_mta_outcome.specs.declared.outcome.Outcome.{Outcome}
-use Rattle.milter_mta_outcome.specs.declared.report.Report.{Report}
+use Rattle.milter_mta_outcome.specs.declared.outcome.Report.{Report}
 use Rattle.milter_mta_outcome.specs.Dialogues.{acted, ruled}
 use Rattle.milter_mta.specs.Dispositions.{report}
 use Rattle.milter_mta.specs.Sessions.{settled_through}

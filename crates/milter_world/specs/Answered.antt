@@ -5,10 +5,10 @@ use Rattle.milter_wire.specs.declared.command.Command.{Command}
 use Rattle.milter_wire.specs.Command as sent_to
 use Rattle.milter_wire.specs.Reply as replied
 use Rattle.milter_protocol.specs.Aborts.{IsTakenAlike}
-use Rattle.milter_protocol.specs.declared.command_order.CommandOrder.{CommandOrder}
+use Rattle.milter_protocol.specs.declared.stage_order.CommandOrder.{CommandOrder}
 use Rattle.milter_protocol.specs.Behavior.{Behavior}
 use Rattle.milter_protocol.specs.FilterEnds.{FilterEnd, fault_at, next, replies_at}
-use Rattle.milter_protocol.specs.declared.filter_state.FilterState.TheVariants.{Serving}
+use Rattle.milter_protocol.specs.declared.filter_fault.FilterState.TheVariants.{Serving}
 use Rattle.milter_protocol.specs.OrderStates.{fresh_in, order_state_after, order_state_replies}
 use Rattle.milter_mta.specs.Lines.{Line}
 use Rattle.milter_filter_stream.specs.Streams.{received_in}

@@ -16,7 +16,7 @@ use Rattle.milter_protocol.specs.Dialogue.{dialogue_with}
 use Rattle.milter_mta_outcome.specs.declared.fallback.OnLoss.{OnLoss}
 use Rattle.milter_mta_outcome.specs.declared.loss.By.TheVariants.{Default}
 use Rattle.milter_mta_outcome.specs.declared.loss.Loss.{Loss}
-use Rattle.milter_mta_outcome.specs.declared.report.Report.{Report}
+use Rattle.milter_mta_outcome.specs.declared.outcome.Report.{Report}
 use Rattle.milter_mta_outcome.specs.Dialogues.{acted, given_up}
 use Rattle.milter_mta.specs.Dispositions.{report}
 use Rattle.milter_mta.specs.Lines.{Line, abort_line, line_of, offer_line, quit_line}

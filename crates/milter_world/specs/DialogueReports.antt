@@ -12,15 +12,15 @@ use Rattle.milter_protocol.specs.Behavior.{exchange_of}
 use Rattle.milter_protocol.specs.Exchanges.{Exchange, commands_of, onto}
 use Rattle.milter_protocol.specs.Permitted.{is_permitted, permitted}
 use Rattle.milter_protocol.specs.Seen.{seen}
-use Rattle.milter_mta_outcome.specs.declared.acted.Acted.{Acted}
+use Rattle.milter_mta_outcome.specs.declared.acted_verdicts.Acted.{Acted}
 use Rattle.milter_mta_outcome.specs.declared.loss.By.{By}
 use Rattle.milter_mta_outcome.specs.declared.loss.By.TheVariants.{Connection, Default, Filter}
 use Rattle.milter_mta_outcome.specs.declared.loss.Loss.TheVariants as losses
 use Rattle.milter_mta_outcome.specs.declared.loss.Loss.TheVariants.{Reset}
-use Rattle.milter_world.specs.declared.event.Event.{Event}
-use Rattle.milter_world.specs.declared.event.Event.TheVariants.{Lose, Timeout}
+use Rattle.milter_world.specs.declared.event_line.Event.{Event}
+use Rattle.milter_world.specs.declared.event_line.Event.TheVariants.{Lose, Timeout}
 use Rattle.milter_mta_outcome.specs.declared.loss.Loss.{Loss}
-use Rattle.milter_mta_outcome.specs.declared.report.Report.{Report}
+use Rattle.milter_mta_outcome.specs.declared.outcome.Report.{Report}
 use Rattle.milter_mta_outcome.specs.Dialogues.{acted, count_at, given_up}
 use Rattle.milter_mta.specs.Dispositions.{report}
 use Rattle.milter_mta.specs.Sessions.{report_by, dialogue_of}

@@ -1,6 +1,6 @@
 -- Both ends of a connection and the bytes between them, at any byte of it.
 use Rattle.std.specs.Prelude.{◌≡◌, ◌<◌, ◌≤◌, ◌^◌, ℕ, Bool, true, false, List, [], ◌++◌, drop, length, min, take, Option, None, Some}
-use Rattle.milter_protocol.specs.declared.command_order.CommandOrder.{CommandOrder}
+use Rattle.milter_protocol.specs.declared.stage_order.CommandOrder.{CommandOrder}
 use Rattle.milter_protocol.specs.Behavior.{Behavior}
 use Rattle.milter_mta_outcome.specs.declared.loss.Loss.{Loss}
 use Rattle.milter_mta_outcome.specs.declared.loss.Loss.TheVariants as losses
@@ -13,8 +13,8 @@ use Rattle.milter_mta.specs.Lines.{Line}
 use Rattle.milter_filter.specs.Cores.{Core, GoesOn, fresh_core_in}
 use Rattle.milter_world.specs.Answered.{AnswersLines}
 use Rattle.milter_world.specs.ByteCounts.{due, to_filter, to_mta}
-use Rattle.milter_world.specs.declared.event.Event.{Event}
-use Rattle.milter_world.specs.declared.event.Event.TheVariants.{Dial, ToFilter, Answer, Lose, Timeout}
+use Rattle.milter_world.specs.declared.event_line.Event.{Event}
+use Rattle.milter_world.specs.declared.event_line.Event.TheVariants.{Dial, ToFilter, Answer, Lose, Timeout}
 use Rattle.milter_world.specs.declared.state.Counts.{Counts}
 use Rattle.milter_world.specs.declared.state.State.{State}
 use Rattle.milter_world.specs.declared.state.State.TheVariants.{Idle, Linked, Done}

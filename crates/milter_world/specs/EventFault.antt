@@ -2,7 +2,7 @@
 use Rattle.std.specs.Prelude.{◌≡◌, ℕ, ◌+◌, ◌≤◌, ◌<◌, IfSome, List, ◌∷◌, ◌++◌, length, Option, None, Some}
 use Rattle.milter_text.specs.declared.line_fault.LineFault.{LineFault}
 use Rattle.milter_text.specs.declared.line_fault.LineFault.TheVariants as line_faults
-use Rattle.milter_world.specs.declared.event.Event.{Event}
+use Rattle.milter_world.specs.declared.event_line.Event.{Event}
 use Rattle.milter_world.specs.declared.event_fault.EventFault.{EventFault}
 use Rattle.milter_world.specs.declared.event_fault.EventFault.TheVariants.{UnknownLine, TooMany, NoMemory}
 use Rattle.milter_world.specs.declared.event_file.TheConstants.{EVENTS_MAX}

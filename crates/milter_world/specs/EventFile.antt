@@ -9,9 +9,9 @@ use Rattle.milter_text.specs.declared.word.Word.{Word}
 use Rattle.milter_text.specs.Lines.{contents}
 use Rattle.milter_text.specs.Words.{HasWords}
 use Rattle.milter_text.specs.WordValues.{is_keyword, number_of}
-use Rattle.milter_world.specs.declared.event.Event.{Event}
-use Rattle.milter_world.specs.declared.event.Event.TheVariants.{Dial, Send, ToFilter, Answer, ToMta, Die}
-use Rattle.milter_world.specs.declared.event.Event.TheVariants.{Lose, Timeout}
+use Rattle.milter_world.specs.declared.event_line.Event.{Event}
+use Rattle.milter_world.specs.declared.event_line.Event.TheVariants.{Dial, Send, ToFilter, Answer, ToMta, Die}
+use Rattle.milter_world.specs.declared.event_line.Event.TheVariants.{Lose, Timeout}
 use Rattle.milter_world.specs.Rounds.{round, rounds}
 use Rattle.milter_world.specs.declared.event_file.TheConstants.{EVENTS_MAX}
 

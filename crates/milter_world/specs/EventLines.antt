@@ -1,7 +1,7 @@
 -- The lines of an event file as they are read, one after the other.
 use Rattle.std.specs.Prelude.{◌≡◌, ◌≤◌, ◌<◌, ◌+◌, ℕ, List, [], ◌∷◌, ◌++◌, length, None, Some}
 use Rattle.milter_text.specs.declared.word.Word.{Word}
-use Rattle.milter_world.specs.declared.event.Event.{Event}
+use Rattle.milter_world.specs.declared.event_line.Event.{Event}
 use Rattle.milter_world.specs.Rounds.{rounds}
 use Rattle.milter_world.specs.declared.event_fault.EventFault.{EventFault}
 use Rattle.milter_world.specs.declared.event_fault.EventFault.TheVariants.{UnknownLine, TooMany, NoMemory}

@@ -1,6 +1,6 @@
 -- One connection over which everything arrives.
 use Rattle.std.specs.Prelude.{◌≡◌, ℕ, suc, true, List}
-use Rattle.milter_world.specs.declared.event.Event.{Event}
+use Rattle.milter_world.specs.declared.event_line.Event.{Event}
 use Rattle.milter_world.specs.declared.state.State.{State}
 use Rattle.milter_world.specs.declared.state.State.TheVariants.{Idle, Linked, Done}
 use Rattle.milter_world.specs.Rounds.{to_move}

@@ -6,7 +6,7 @@ use Rattle.milter_protocol.specs.declared.filter_fault.FilterFault.{FilterFault}
 use Rattle.milter_mta.specs.Mta.{Configuration}
 use Rattle.milter_filter.specs.Cores.{Core, GivesUp, Takes}
 use Rattle.milter_filter_stream.specs.Streams.{received_in}
-use Rattle.milter_world.specs.declared.event.Event.{Event}
+use Rattle.milter_world.specs.declared.event_line.Event.{Event}
 use Rattle.milter_world.specs.Schedule.{After, Scenario, after_all}
 use Rattle.milter_world.specs.Ends.{AreEndsOf, Ends, Steps}
 

@@ -9,7 +9,7 @@ use Rattle.milter_mail.specs.MailSession.{MailSession}
 use Rattle.milter_protocol.specs.Behavior.{Behavior}
 use Rattle.milter_mta_outcome.specs.declared.loss.By.{By}
 use Rattle.milter_mta_outcome.specs.declared.outcome.Outcome.{Outcome}
-use Rattle.milter_mta_outcome.specs.declared.report.Report.{Report}
+use Rattle.milter_mta_outcome.specs.declared.outcome.Report.{Report}
 use Rattle.milter_mta.specs.Sessions.{connection_after, reports_by}
 
 -- what became of a message, and what settled it: its report without the verdicts that were acted on

@@ -15,7 +15,7 @@ use Rattle.milter_mta_outcome.specs.declared.loss.By.{By}
 use Rattle.milter_mta_outcome.specs.declared.outcome.Outcome.{Outcome}
 use Rattle.milter_wire.specs.declared.options.TheConstants.Protocol.{SKIP}
 use Rattle.milter_mta.specs.Worked.{greatest, message, session}
-use Rattle.milter_world.specs.declared.event.Event.{Event}
+use Rattle.milter_world.specs.declared.event_line.Event.{Event}
 use Rattle.milter_world.specs.Schedule.{Scenario, run_reports}
 
 abbrev pub scenario : Behavior → OnLoss → List MailObject → Scenario

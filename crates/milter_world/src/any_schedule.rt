@@ -6,7 +6,7 @@ ghost use Rattle.milter_world.specs.DialogueReports.{AreNegotiated, AreReported,
 ghost use Rattle.milter_world.specs.Outcomes.{ConnectionIsGiven, WereGiven};
 ghost use Rattle.milter_world.specs.Reached.{scenario_of};
 
-use crate::event::Event;
+use crate::event_line::Event;
 use crate::laws::{
     defaults_are_counted, losses_settle_messages, schedules_report_dialogues, verdicts_were_given,
 };

@@ -1,16 +1,15 @@
 //! Event files.
 
 ghost use Rattle.std.specs.Prelude.{◌≡◌, ◌≤◌, ◌<◌, ◌^◌, All, IfErr, IfOk, List, MatchResult, OnOk, length};
-ghost use Rattle.milter_world.specs.declared.event.Event.{Event};
+ghost use Rattle.milter_world.specs.declared.event_line.Event.{Event};
 ghost use Rattle.milter_text.specs.Lines.{contents, lines_of};
 ghost use Rattle.milter_world.specs.declared.event_fault.EventFault.TheVariants as EventFault;
 ghost use Rattle.milter_world.specs.EventFault.{IsAt, IsBefore, IsFaultOf, IsWithin};
 ghost use Rattle.milter_world.specs.EventFile.{HaveEvents, IsEventFile, bytes_moved};
 ghost use Rattle.milter_world.specs.EventLines.{AddsEvents, IsWrongAfter};
 
-use crate::event::Event;
 use crate::event_fault::EventFault;
-use crate::event_line::line_in;
+use crate::event_line::{Event, line_in};
 use milter_text::{FileLine, LineCursor};
 use std::alloc::Global;
 

@@ -6,9 +6,29 @@ ghost use Rattle.milter_world.specs.declared.event_fault.EventFault.TheVariants 
 ghost use Rattle.milter_world.specs.EventFile.{count_of, events_of, events_with, lone_event, rounds_of};
 ghost use Rattle.milter_world.specs.EventLines.{line_events};
 
-use crate::event::Event;
 use crate::event_fault::EventFault;
 use milter_text::Word;
+
+/// What happens next. A number is how many bytes are moved at most. An event that can't apply changes nothing.
+#[derive(Clone, Copy, Debug, PartialEq, Eq)]
+pub enum Event {
+    /// A connection is made, where one is wanted.
+    Dial,
+    /// The mail server's end sends so many bytes.
+    Send(usize),
+    /// So many of the bytes that were sent reach the filter's end, while it lives.
+    ToFilter(usize),
+    /// The filter's end answers so many bytes, while it lives.
+    Answer(usize),
+    /// So many of the bytes that were answered reach the mail server's end.
+    ToMta(usize),
+    /// The filter dies. What it answered before still reaches the mail server's end.
+    Die,
+    /// The connection is lost, or can't be made.
+    Lose,
+    /// The filter took too long.
+    Timeout,
+}
 
 /// How many events a round has.
 const ROUND_LEN: usize = 4;

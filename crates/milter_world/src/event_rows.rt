@@ -1,8 +1,8 @@
 //! Worked lines and files, as the definitions compute them.
 
 ghost use Rattle.std.specs.Prelude.{◌≡◌, ◌∷◌, [], None, Some, codes, true};
-ghost use Rattle.milter_world.specs.declared.event.Event.TheVariants.{Dial, Send, ToFilter, Answer, ToMta, Die};
-ghost use Rattle.milter_world.specs.declared.event.Event.TheVariants.{Lose, Timeout};
+ghost use Rattle.milter_world.specs.declared.event_line.Event.TheVariants.{Dial, Send, ToFilter, Answer, ToMta, Die};
+ghost use Rattle.milter_world.specs.declared.event_line.Event.TheVariants.{Lose, Timeout};
 ghost use Rattle.milter_world.specs.EventFile.{IsEventFile, events_of};
 ghost use Rattle.milter_world.specs.WorkedEvents.{plain};
 

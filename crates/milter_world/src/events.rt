@@ -2,19 +2,19 @@
 //! nothing.
 
 ghost use Rattle.std.specs.Prelude.{◌≡◌, ◌≢◌, ◌<◌, ◌+◌, ◌^◌, ◌++◌, [], List, None, Some, drop, false, length, take, true, ℕ};
-ghost use Rattle.milter_protocol.specs.declared.command_order.CommandOrder.{CommandOrder as Order};
+ghost use Rattle.milter_protocol.specs.declared.stage_order.CommandOrder.{CommandOrder as Order};
 ghost use Rattle.milter_protocol.specs.declared.filter_fault.FilterFault.{FilterFault as Fault};
-ghost use Rattle.milter_protocol.specs.declared.filter_state.FilterState.TheVariants.{Serving};
+ghost use Rattle.milter_protocol.specs.declared.filter_fault.FilterState.TheVariants.{Serving};
 ghost use Rattle.milter_filter.specs.Cores.{Core, GivesUp, Takes, fresh_core_in};
 ghost use Rattle.milter_filter_stream.specs.Streams.{received_in};
 ghost use Rattle.milter_mta_outcome.specs.declared.loss.Loss.{Loss};
-ghost use Rattle.milter_mta.specs.declared.want.Want.TheVariants as wants;
+ghost use Rattle.milter_mta.specs.declared.mta_core.Want.TheVariants as wants;
 ghost use Rattle.milter_mta.specs.Mta.{fresh as fresh_mta};
 ghost use Rattle.milter_mta.specs.Replies.{received};
 ghost use Rattle.milter_mta.specs.Output.{advanced, dialled, pending, want};
 ghost use Rattle.milter_mta.specs.Dispositions.{lost};
-ghost use Rattle.milter_world.specs.declared.event.Event.{Event};
-ghost use Rattle.milter_world.specs.declared.event.Event.TheVariants.{Answer, Dial, Die, Send, ToFilter, ToMta};
+ghost use Rattle.milter_world.specs.declared.event_line.Event.{Event};
+ghost use Rattle.milter_world.specs.declared.event_line.Event.TheVariants.{Answer, Dial, Die, Send, ToFilter, ToMta};
 ghost use Rattle.milter_world.specs.declared.state.Counts.{Counts};
 ghost use Rattle.milter_world.specs.declared.state.State.TheVariants.{Done, Idle, Linked};
 ghost use Rattle.milter_world.specs.Schedule.{Scenario, first, fresh, happens};

@@ -8,13 +8,13 @@ ghost use Rattle.milter_wire.specs.declared.command.Command.TheVariants as comma
 ghost use Rattle.milter_wire.specs.Command.{Fits};
 ghost use Rattle.milter_message.specs.MailObject.{MailObject};
 ghost use Rattle.milter_mail.specs.MailSession.{IsSendable, IsSession, MailSession};
-ghost use Rattle.milter_protocol.specs.declared.command_order.CommandOrder.{CommandOrder as Order};
-ghost use Rattle.milter_protocol.specs.declared.command_order.CommandOrder.TheVariants.{Lenient, Strict};
+ghost use Rattle.milter_protocol.specs.declared.stage_order.CommandOrder.{CommandOrder as Order};
+ghost use Rattle.milter_protocol.specs.declared.stage_order.CommandOrder.TheVariants.{Lenient, Strict};
 ghost use Rattle.milter_protocol.specs.Aborts.{AreTakenAlike};
 ghost use Rattle.milter_protocol.specs.Behavior.{Behavior};
 ghost use Rattle.milter_protocol.specs.FilterEnds.{FilterEnd, start};
-ghost use Rattle.milter_protocol.specs.declared.filter_state.FilterState.TheVariants.{Serving};
-ghost use Rattle.milter_protocol.specs.declared.limits.TheConstants.{VERSION_MIN};
+ghost use Rattle.milter_protocol.specs.declared.filter_fault.FilterState.TheVariants.{Serving};
+ghost use Rattle.milter_protocol.specs.declared.permitted.TheConstants.{VERSION_MIN};
 ghost use Rattle.milter_protocol.specs.Exchanges.{Exchange, onto};
 ghost use Rattle.milter_protocol.specs.Dialogue.{has_end, dialogue_with};
 ghost use Rattle.milter_filter_stream.specs.Streams.{filter_end_of, received_in, reply_bytes};

@@ -1,19 +1,25 @@
 //! Laws of what becomes of a session over connections that fail, each the contract of a function that does nothing.
 
-ghost use Rattle.std.specs.Prelude.{◌≡◌, ◌⊎◌, ◌≤◌, ◌<◌, ◌+◌, All, List, length, min, true, ℕ};
+ghost use Rattle.std.specs.Prelude.{◌≡◌, ◌⊎◌, ◌≤◌, ◌<◌, ◌+◌, All, List, length, min, true, ℕ, ◌≢◌};
 ghost use Rattle.std.specs.List.{AllZip};
 ghost use Rattle.milter_message.specs.MailObject.{MailObject};
-ghost use Rattle.milter_mta_outcome.specs.declared.report.Report.{Report};
+ghost use Rattle.milter_mta_outcome.specs.declared.outcome.Report.{Report};
 ghost use Rattle.milter_mta_outcome.specs.Dialogues.{acted};
 ghost use Rattle.milter_mta.specs.Lines.{Line};
 ghost use Rattle.milter_world.specs.ByteCounts.{due, packet_end, to_filter, to_mta};
 ghost use Rattle.milter_world.specs.ConnectionEntries.{reports_within};
-ghost use Rattle.milter_world.specs.declared.event.Event.{Event};
+ghost use Rattle.milter_world.specs.declared.event_line.Event.{Event};
 ghost use Rattle.milter_world.specs.declared.state.Counts.{Counts};
 ghost use Rattle.milter_world.specs.declared.state.State.TheVariants.{Done, Linked};
 ghost use Rattle.milter_world.specs.Rounds.{AreCounts, MovesOn, after_round, round, to_move};
 ghost use Rattle.milter_world.specs.Schedule.{Scenario, after_all, entries_at, first, lines_at, run_reports, stays};
 ghost use Rattle.milter_world.specs.DialogueReports.{AreNegotiated, AreReported, HasAllVerdicts, IsDefaultAfter, IsReportOf, IsRuledBy, IsUndisturbed, StartsWith, WasGiven, negotiated_of, by_reset, by_timeout, count_events, count_reports, is_by_verdict, is_known, is_lose, is_timeout, dialogue_about};
+ghost use Rattle.milter_text.specs.Lines.{contents};
+ghost use Rattle.milter_world.specs.declared.event_fault.EventFault.{EventFault};
+ghost use Rattle.milter_world.specs.declared.event_fault.EventFault.TheVariants as faults;
+ghost use Rattle.milter_world.specs.declared.event_file.TheConstants.{EVENTS_MAX};
+ghost use Rattle.milter_world.specs.EventFault.{IsFaultOf};
+ghost use Rattle.milter_world.specs.EventFile.{IsEventFile};
 
 use milter_mta::{closed_dialogues_rule, dialogues_of_messages, plans_are_sent};
 use milter_protocol::{dialogues, permitted_answers};
@@ -112,3 +118,16 @@ pub fn rounds_move_on()
     plans_are_sent();
     dialogues_of_messages();
 }
+
+/// The number that the definitions name: the most events of a file.
+pub fn event_limit()
+    ensures { EVENTS_MAX ≡ 10000000 }
+{}
+
+/// A file has its events in one way only, and it has none where a line is at fault.
+pub fn events_of_files()
+    ensures only { (bytes : List ℕ) (events others : List Event) → IsEventFile bytes events →
+        IsEventFile bytes others → events ≡ others }
+    ensures none { (bytes : List ℕ) (fault : EventFault) (events : List Event) → IsFaultOf (contents bytes) fault →
+        fault ≢ faults.NoMemory → ¬ IsEventFile bytes events }
+{}

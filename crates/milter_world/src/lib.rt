@@ -29,10 +29,8 @@
 
 mod any_schedule;
 mod entries;
-mod event;
 mod event_fault;
 mod event_file;
-mod event_laws;
 mod event_line;
 mod event_rows;
 mod events;
@@ -53,21 +51,21 @@ mod world;
 
 pub use any_schedule::{run, run_in_order};
 pub use entries::{counts_of_bytes, entries_of_sessions};
-pub use event::Event;
 pub use event_fault::EventFault;
 pub use event_file::{EVENTS_MAX, read_events};
-pub use event_laws::{event_limit, events_of_files};
+pub use event_line::Event;
 pub use events::{
-    answered_bytes_step, dialled_ends_step, events_without_effect, fresh_ends_begin, lost_ends_step,
-    received_bytes_step, sent_bytes_step, taken_bytes_step,
+    answered_bytes_step, dialled_ends_step, events_without_effect, fresh_ends_begin,
+    lost_ends_step, received_bytes_step, sent_bytes_step, taken_bytes_step,
 };
 pub use filter_laws::{
     bytes_are_answered, dialogues_are_answered, sessions_are_answered, sessions_are_replied_to,
     sessions_need_no_aborts,
 };
 pub use laws::{
-    beginnings_are_acted_on, defaults_are_counted, losses_settle_messages, rounds_move_on,
-    schedules_report_dialogues, undisturbed_schedules_are_ruled, verdicts_were_given,
+    beginnings_are_acted_on, defaults_are_counted, event_limit, events_of_files,
+    losses_settle_messages, rounds_move_on, schedules_report_dialogues,
+    undisturbed_schedules_are_ruled, verdicts_were_given,
 };
 pub use least_wants_laws::least_wants_settle_alike;
 pub use mta_laws::{

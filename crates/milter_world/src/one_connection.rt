@@ -9,7 +9,7 @@ ghost use Rattle.milter_world.specs.Ends.{AreEndsOf};
 ghost use Rattle.milter_world.specs.Outcomes.{ConnectionIsGiven};
 ghost use Rattle.milter_world.specs.Reached.{AreReached, Leads, scenario_of};
 
-use crate::event::Event;
+use crate::event_line::Event;
 use crate::laws::{rounds_move_on, undisturbed_schedules_are_ruled};
 use crate::state::State;
 use crate::world::World;

@@ -2,7 +2,7 @@
 
 ghost use Rattle.std.specs.Prelude.{◌≡◌, ◌≢◌, ◌≤◌, ◌<◌, ◌+◌, ◌++◌, [], List, None, drop, length, take, ℕ};
 ghost use Rattle.milter_protocol.specs.Behavior.{Behavior};
-ghost use Rattle.milter_protocol.specs.declared.command_order.CommandOrder.{CommandOrder as Order};
+ghost use Rattle.milter_protocol.specs.declared.stage_order.CommandOrder.{CommandOrder as Order};
 ghost use Rattle.milter_protocol.specs.declared.filter_fault.FilterFault.{FilterFault as Fault};
 ghost use Rattle.milter_filter.specs.Cores.{Core, GivesUp, Takes};
 ghost use Rattle.milter_filter_stream.specs.Streams.{received_in};

@@ -7,10 +7,10 @@ ghost use Rattle.milter_mta_outcome.specs.declared.fallback.OnLoss.TheVariants a
 ghost use Rattle.milter_mta_outcome.specs.declared.loss.By.TheVariants as by;
 ghost use Rattle.milter_mta_outcome.specs.declared.loss.Loss.TheVariants as losses;
 ghost use Rattle.milter_mta_outcome.specs.declared.outcome.Outcome.TheVariants.{NoRecipients, Refused};
-ghost use Rattle.milter_mta_outcome.specs.declared.refusal.Refusal.TheVariants as refusals;
+ghost use Rattle.milter_mta_outcome.specs.declared.outcome.Refusal.TheVariants as refusals;
 ghost use Rattle.milter_mta_outcome.specs.Outcomes.{released};
 ghost use Rattle.milter_mta.specs.Worked.{at, message, two_recipients};
-ghost use Rattle.milter_world.specs.declared.event.Event.TheVariants.{Dial, Send, ToFilter, Answer, ToMta, Die, Lose, Timeout};
+ghost use Rattle.milter_world.specs.declared.event_line.Event.TheVariants.{Dial, Send, ToFilter, Answer, ToMta, Die, Lose, Timeout};
 ghost use Rattle.milter_world.specs.Rounds.{rounds};
 ghost use Rattle.milter_world.specs.Worked.{accepts_client, moves_recipient, refuses_each, refuses_first, scenario, skips, summaries, three_chunks};
 

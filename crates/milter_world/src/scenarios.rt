@@ -4,7 +4,7 @@ ghost use Rattle.std.specs.Prelude.{◌≤◌, ◌<◌, ◌^◌, length};
 ghost use Rattle.milter_wire.specs.declared.command.Command.TheVariants as commands;
 ghost use Rattle.milter_wire.specs.Command.{Fits};
 ghost use Rattle.milter_mail.specs.MailSession.{IsSession};
-ghost use Rattle.milter_protocol.specs.declared.limits.TheConstants.{VERSION_MAX, VERSION_MIN};
+ghost use Rattle.milter_protocol.specs.declared.permitted.TheConstants.{VERSION_MAX, VERSION_MIN};
 ghost use Rattle.milter_protocol.specs.Lawful.{IsLawful};
 ghost use Rattle.milter_world.specs.Schedule.{Scenario};
 ghost use Rattle.milter_world.specs.Ends.{IsPossible};

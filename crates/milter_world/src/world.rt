@@ -1,17 +1,17 @@
 //! Both ends and what is on its way between them.
 
 ghost use Rattle.std.specs.Prelude.{◌≡◌, IfOk, OnOk, []};
-ghost use Rattle.milter_protocol.specs.declared.command_order.CommandOrder.TheVariants.{Strict};
-ghost use Rattle.milter_world.specs.declared.event.Event.TheVariants as events;
-ghost use Rattle.milter_world.specs.declared.event.Event.{Event};
+ghost use Rattle.milter_protocol.specs.declared.stage_order.CommandOrder.TheVariants.{Strict};
+ghost use Rattle.milter_world.specs.declared.event_line.Event.TheVariants as events;
+ghost use Rattle.milter_world.specs.declared.event_line.Event.{Event};
 ghost use Rattle.milter_world.specs.Schedule.{Scenario};
 ghost use Rattle.milter_world.specs.Ends.{AreEndsOf, IsLossBy, Steps, fresh_ends};
 ghost use Rattle.milter_world.specs.Reached.{AreReached, StepsTo};
 
-use crate::event::Event;
+use crate::event_line::Event;
 use crate::events::{
-    answered_bytes_step, dialled_ends_step, events_without_effect, fresh_ends_begin, lost_ends_step,
-    received_bytes_step, sent_bytes_step, taken_bytes_step,
+    answered_bytes_step, dialled_ends_step, events_without_effect, fresh_ends_begin,
+    lost_ends_step, received_bytes_step, sent_bytes_step, taken_bytes_step,
 };
 use crate::moves::{feed_filter, feed_mta, send_bytes, take_replies};
 use crate::scenario::possible_session;

@@ -1,10 +1,10 @@
 //! A script of a filter's end, and the connection on which it is played.
 
-use anyhow::{Context, bail};
 use crate::edits::edit_of;
 use crate::printed::{print_line, print_number, print_packets};
 use crate::script::{Line, Player, obey_lines};
 use crate::texts::{bits_in, one_of, options_in, piece_in, str_of, text_of, value_in, verdict_in};
+use anyhow::{Context, bail};
 use milter_filter::{
     Answer, AnswerFault, CommandOrder, Edits, FilterConnection, FilterFault, NextStep, Seen, Wants,
 };

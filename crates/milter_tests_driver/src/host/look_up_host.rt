@@ -8,10 +8,10 @@ use milter_service::{
 };
 use milter_wire::{NoMemory, Stage, Verdict};
 use mio::net::UnixStream;
-use std::str;
 use std::alloc::Global;
 use std::io::{self, Read, Write};
 use std::ops::Range;
+use std::str;
 
 /// The most bytes that are read at once.
 const PIECE: usize = 512;

@@ -1,6 +1,6 @@
 use Rattle.std.proofs.Common.{◌≡◌, ◌∙◌, [], IsSomeAnd, ap, of_z, subst, sym, to_z, w32, List, ℤ}
 use Rattle.std.proofs.lemmas.List.Elements.{All-nil}
-use Rattle.milter_lists.specs.declared.list_source.ListSource.{ListSource}
+use Rattle.milter_lists.specs.declared.sources.ListSource.{ListSource}
 use Rattle.milter_rules.specs.declared.list_file.ListFile.{ListFile}
 use Rattle.milter_rules.specs.ListFiles.{CanBeList, CanBeRead}
 use Rattle.milter_rules.specs.declared.rule_fault.RuleFault.{RuleFault}

@@ -1,7 +1,7 @@
 use Rattle.std.proofs.Common.{sym, ◌∙◌, ap}
 use Rattle.std.specs.List.{flat_map}
 use Rattle.milter_wire.specs.Reply.{encoding}
-use Rattle.milter_protocol.specs.declared.command_order.CommandOrder.TheVariants.{Strict}
+use Rattle.milter_protocol.specs.declared.stage_order.CommandOrder.TheVariants.{Strict}
 use Rattle.milter_filter_stream.specs.Streams.{received_in}
 use Rattle.milter_filter.proofs.cutting_laws.orders_reply_the_same_bytes.Goals as goal
 

@@ -1,5 +1,5 @@
 use Rattle.std.proofs.Common.{◌≢◌, ap, subst, sym, ◌∙◌}
-use Rattle.milter_filter_stream.specs.declared.next_step.NextStep.TheVariants.{Feed}
+use Rattle.milter_filter_stream.specs.declared.filter_stream.NextStep.TheVariants.{Feed}
 use Rattle.milter_filter_stream.specs.Conversations.{Conversation, next_step}
 use Rattle.milter_filter.specs.Connections.{EndsBy, connected}
 use Rattle.milter_filter.proofs.Taken.{over-ends, stands-asked, stands-turns, waits-stops}

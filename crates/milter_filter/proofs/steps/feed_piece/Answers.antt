@@ -1,10 +1,10 @@
 use Rattle.std.proofs.Common.{◌≢◌, ◌++◌, drop, length-drop, arith, subst, sym, ◌∙◌}
 use Rattle.std.proofs.lemmas.List.{drop-drop, take_rest}
 use Rattle.milter_protocol.specs.declared.filter_fault.FilterFault.TheVariants.{NoMemory}
-use Rattle.milter_filter_stream.specs.declared.next_step.NextStep.TheVariants.{Feed}
+use Rattle.milter_filter_stream.specs.declared.filter_stream.NextStep.TheVariants.{Feed}
 use Rattle.milter_filter_stream.specs.Conversations.{GivesUpIn, TakesIn, next_step}
 use Rattle.milter_filter_stream.specs.Streams.{received_in}
-use Rattle.milter_filter.specs.declared.served.Served.TheVariants.{Failed}
+use Rattle.milter_filter.specs.declared.turn.Served.TheVariants.{Failed}
 use Rattle.milter_filter.specs.Connections.{EndsBy, GoesBy, Stops, connected}
 use Rattle.milter_filter.proofs.Taken.{given_up-by, nothing-by, step-feed, taken-by, taken-serves, taken-stops}
 use Rattle.milter_filter.proofs.Turns.{by-joins, ends-by}

@@ -1,7 +1,7 @@
 use Rattle.std.proofs.Common.{◌++◌, ◌≢◌, append_assoc, take, drop, take-add, length-drop, arith, subst, sym, ◌∙◌, ap, take-append-drop}
 use Rattle.std.proofs.lemmas.List.{take_rest}
 use Rattle.milter_protocol.specs.declared.filter_fault.FilterFault.{FilterFault}
-use Rattle.milter_protocol.specs.declared.filter_state.FilterState.TheVariants.{Failed, Serving}
+use Rattle.milter_protocol.specs.declared.filter_fault.FilterState.TheVariants.{Failed, Serving}
 use Rattle.milter_filter.specs.Cores.{Core, GivesUp, Takes, given_up}
 use Rattle.milter_filter.specs.ServedPieces.{Goes}
 use Rattle.milter_filter_stream.specs.Streams.{received_in}

@@ -1,7 +1,7 @@
 use Rattle.std.proofs.Common.{[], IsTrue, false, take, subst, sym, ◌≢◌, arith}
 use Rattle.std.specs.Io.KnownBytes.{Consumes}
 use Rattle.std.proofs.KnownBytes.{Keeps-refl}
-use Rattle.milter_protocol.specs.declared.filter_state.FilterState.TheVariants.{Quit}
+use Rattle.milter_protocol.specs.declared.filter_fault.FilterState.TheVariants.{Quit}
 use Rattle.milter_filter.specs.ServedPieces.{CutOff, PieceServed}
 use Rattle.milter_filter.proofs.ServedBytes.{ServedSoFar, served-cut, served-end, served-kept, served-more, served-none, served-quit}
 use Rattle.milter_filter.proofs.stream_server.serve_reads.Goals as goal

@@ -5,7 +5,7 @@ use Rattle.milter_wire.specs.declared.options.Options.{Options}
 use Rattle.milter_message.specs.MailObject.{MailObject}
 use Rattle.milter_mail.specs.MailSession.{MailSession}
 use Rattle.milter_mail.specs.Plan.{plan}
-use Rattle.milter_protocol.specs.declared.limits.TheConstants.{VERSION_MAX, VERSION_MIN}
+use Rattle.milter_protocol.specs.declared.permitted.TheConstants.{VERSION_MAX, VERSION_MIN}
 use Rattle.milter_protocol.specs.Behavior.{Behavior}
 use Rattle.milter_protocol.specs.Dialogue.{dialogue_with, is_skipping}
 use Rattle.milter_protocol.specs.Exchanges.{Exchange, onto}

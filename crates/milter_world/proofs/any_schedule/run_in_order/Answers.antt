@@ -2,9 +2,9 @@ use Rattle.std.proofs.Common.{◌≡◌, ◌<◌, ◌≤◌, ◌+◌, ℕ, suc, 
 use Rattle.std.specs.List.{AllZip}
 use Rattle.std.proofs.lemmas.List.{drop_all}
 use Rattle.milter_message.specs.MailObject.{MailObject}
-use Rattle.milter_mta_outcome.specs.declared.report.Report.{Report}
-use Rattle.milter_world.specs.declared.event.Event.{Event}
-use Rattle.milter_world.specs.declared.event.Event.TheVariants.{Dial}
+use Rattle.milter_mta_outcome.specs.declared.outcome.Report.{Report}
+use Rattle.milter_world.specs.declared.event_line.Event.{Event}
+use Rattle.milter_world.specs.declared.event_line.Event.TheVariants.{Dial}
 use Rattle.milter_world.specs.Schedule.{After, Scenario, after_all, first, stays}
 use Rattle.milter_world.specs.DialogueReports.{AreReported, IsReportOf, WasGiven, by_reset, by_timeout, count_events, count_reports, is_known, is_lose, is_timeout}
 use Rattle.milter_world.specs.Reached.{after_of, scenario_of}

@@ -1,5 +1,5 @@
 use Rattle.std.proofs.Common.{[], ◌∷◌, codes, refl, arith}
-use Rattle.milter_world.specs.declared.event.Event.TheVariants.{Dial, Lose}
+use Rattle.milter_world.specs.declared.event_line.Event.TheVariants.{Dial, Lose}
 use Rattle.milter_world.specs.Rounds.{rounds}
 use Rattle.milter_world.specs.EventFile.{LineHasEvents}
 use Rattle.milter_world.specs.WorkedEvents.{plain}

@@ -1,5 +1,5 @@
 use Rattle.std.proofs.Common.{take}
-use Rattle.milter_protocol.specs.declared.command_order.CommandOrder.TheVariants.{Lenient}
+use Rattle.milter_protocol.specs.declared.stage_order.CommandOrder.TheVariants.{Lenient}
 use Rattle.milter_mta.specs.Sessions.{session_lines}
 use Rattle.milter_world.specs.ByteCounts.{to_filter}
 use Rattle.milter_world.proofs.filter_laws.sessions_need_no_aborts.Goals as goal

@@ -2,7 +2,7 @@ use Rattle.std.proofs.Common.{List, sym, ap, subst}
 use Rattle.milter_protocol.specs.Exchanges.{Exchange}
 use Rattle.milter_mta_outcome.specs.Dialogues.{acted}
 use Rattle.milter_world.specs.DialogueReports.{StartsWith, dialogue_about}
-use Rattle.milter_mta_outcome.specs.declared.acted.Acted.{Acted}
+use Rattle.milter_mta_outcome.specs.declared.acted_verdicts.Acted.{Acted}
 use Rattle.milter_world.proofs.Beginnings.{acted-onto}
 use Rattle.milter_world.proofs.laws.beginnings_are_acted_on.Goals as goal
 

@@ -1,7 +1,7 @@
 use Rattle.std.proofs.Common.{◌≡◌, List, [], ◌∷◌, arith, drop, false, refl}
 use Rattle.milter_wire.specs.Negotiation.{has_leading_space}
 use Rattle.milter_mail.specs.Plan.{plan}
-use Rattle.milter_world.specs.declared.event.Event.{Event}
+use Rattle.milter_world.specs.declared.event_line.Event.{Event}
 use Rattle.milter_world.specs.DialogueReports.{negotiated_of, by_reset, by_timeout, count_events, is_lose, is_timeout}
 use Rattle.milter_world.specs.Schedule.{entries_at, first, run_reports}
 use Rattle.milter_world.proofs.Causes.{all-known, is_other}

@@ -3,8 +3,8 @@ use Rattle.milter_mail.specs.Plan.{plan}
 use Rattle.milter_message.specs.MailObject.{MailObject}
 use Rattle.milter_protocol.specs.Exchanges.{Exchange}
 use Rattle.milter_protocol.specs.Dialogue.{dialogue_with}
-use Rattle.milter_mta_outcome.specs.declared.acted.Acted.{Acted}
-use Rattle.milter_mta_outcome.specs.declared.report.Report.{Report}
+use Rattle.milter_mta_outcome.specs.declared.acted_verdicts.Acted.{Acted}
+use Rattle.milter_mta_outcome.specs.declared.outcome.Report.{Report}
 use Rattle.milter_world.specs.Schedule.{Scenario}
 use Rattle.milter_world.specs.DialogueReports.{IsReportOf, WasGiven, negotiated_of, dialogue_about}
 use Rattle.milter_world.proofs.Given.{AreGiven, acted-given, before-given, onto-given, ruled-acted, dialogue-negotiated}

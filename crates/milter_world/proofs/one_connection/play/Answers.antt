@@ -1,7 +1,7 @@
 use Rattle.std.proofs.Common.{◌≡◌, All, List, true, sym, ap, subst, ◌∙◌, arith}
 use Rattle.std.specs.List.{AllZip}
-use Rattle.milter_protocol.specs.declared.command_order.CommandOrder.TheVariants.{Strict}
-use Rattle.milter_mta_outcome.specs.declared.report.Report.{Report}
+use Rattle.milter_protocol.specs.declared.stage_order.CommandOrder.TheVariants.{Strict}
+use Rattle.milter_mta_outcome.specs.declared.outcome.Report.{Report}
 use Rattle.milter_world.specs.declared.state.State.{State}
 use Rattle.milter_world.specs.Schedule.{After, Scenario, run_reports}
 use Rattle.milter_world.specs.DialogueReports.{HasAllVerdicts, IsRuledBy, IsUndisturbed, is_by_verdict}

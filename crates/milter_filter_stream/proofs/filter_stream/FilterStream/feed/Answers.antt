@@ -1,5 +1,5 @@
 use Rattle.std.proofs.Common.{◌≢◌, [], drop, false, length, refl, subst, IsTrue}
-use Rattle.milter_protocol.specs.declared.filter_state.FilterState.TheVariants.{Serving}
+use Rattle.milter_protocol.specs.declared.filter_fault.FilterState.TheVariants.{Serving}
 use Rattle.milter_filter_stream.specs.Conversations.{Conversation, StreamState, TakesIn, conversation_of}
 use Rattle.milter_filter_stream.specs.Asking.{Asking, StopsAt, TakesBytes}
 use Rattle.milter_filter_stream.proofs.Progress.{all-taken}

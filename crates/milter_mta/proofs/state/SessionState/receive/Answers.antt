@@ -1,5 +1,5 @@
 use Rattle.std.proofs.Common.{[], None, Some, Err, sym, ap, subst, ◌∙◌, rules}
-use Rattle.milter_mta_connection.specs.declared.expected_reply.ExpectedReply.{ExpectedReply}
+use Rattle.milter_mta_connection.specs.declared.channel_state.ExpectedReply.{ExpectedReply}
 use Rattle.milter_mta_outcome.specs.declared.loss.Loss.{Loss}
 use Rattle.milter_mta_outcome.specs.declared.loss.Loss.TheVariants.{Memory}
 use Rattle.milter_mta.specs.CoreParts.{IsTaken, mta_of, unconnected}

@@ -1,6 +1,6 @@
 use Rattle.std.proofs.Common.{◌≡◌, ◌≤◌, All, List, length}
 use Rattle.std.specs.Vec.{vec_len}
-use Rattle.milter_mta_outcome.specs.declared.acted.Acted.{Acted}
+use Rattle.milter_mta_outcome.specs.declared.acted_verdicts.Acted.{Acted}
 use Rattle.milter_mta.specs.CoreParts.{with_all_reports}
 use Rattle.milter_mta.proofs.state.SessionState.report_all.Given as goal
 

@@ -2,7 +2,7 @@ use Rattle.std.proofs.Common.{◌-◌, ◌∷◌, ◌++◌, [], Bool, List, Some
 use Rattle.milter_message.specs.MailObject.{MailObject}
 use Rattle.milter_mail.specs.MailSession.{MailSession}
 use Rattle.milter_wire.specs.Negotiation.{has_leading_space}
-use Rattle.milter_mta_outcome.specs.declared.acted.Acted.{Acted}
+use Rattle.milter_mta_outcome.specs.declared.acted_verdicts.Acted.{Acted}
 use Rattle.milter_mta_outcome.specs.declared.loss.By.TheVariants.{Default, Filter}
 use Rattle.milter_mta_outcome.specs.declared.loss.Loss.TheVariants.{Memory}
 use Rattle.milter_mta_outcome.specs.declared.outcome.Outcome.{Outcome}

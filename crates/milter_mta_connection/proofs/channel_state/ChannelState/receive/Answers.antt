@@ -1,5 +1,5 @@
 use Rattle.std.proofs.Common.{[], subst, sym}
-use Rattle.milter_mta_connection.specs.declared.expected_reply.ExpectedReply.{ExpectedReply}
+use Rattle.milter_mta_connection.specs.declared.channel_state.ExpectedReply.{ExpectedReply}
 use Rattle.milter_mta_connection.specs.ChannelParts.{Leaves, channel_of}
 use Rattle.milter_mta_connection.specs.Received.{replied}
 use Rattle.milter_mta_connection.proofs.channel_state.ChannelState.receive.Goals as goal

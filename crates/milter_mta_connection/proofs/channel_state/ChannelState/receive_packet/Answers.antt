@@ -3,7 +3,7 @@ use Rattle.milter_fields.specs.declared.fault.WireFault.{WireFault}
 use Rattle.milter_fields.specs.Splitter.{frame_of}
 use Rattle.milter_wire.specs.declared.reply.Reply.{Reply}
 use Rattle.milter_wire.specs.Verdicts.{reply_of}
-use Rattle.milter_mta_connection.specs.declared.expected_reply.ExpectedReply.{ExpectedReply}
+use Rattle.milter_mta_connection.specs.declared.channel_state.ExpectedReply.{ExpectedReply}
 use Rattle.milter_mta_connection.specs.ChannelParts.{Leaves, channel_of}
 use Rattle.milter_mta_connection.specs.Received.{framed, replied}
 use Rattle.milter_mta_connection.proofs.channel_state.ChannelState.receive_packet.Goals as goal

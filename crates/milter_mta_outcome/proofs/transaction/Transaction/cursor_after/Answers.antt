@@ -1,6 +1,6 @@
 use Rattle.std.proofs.Common.{arith, sym, ap, ◌∙◌, slice_get, subst}
 use Rattle.std.specs.Prelude.{IsSome}
-use Rattle.milter_mta_outcome.specs.declared.cursor.Cursor.{Cursor}
+use Rattle.milter_mta_outcome.specs.declared.plan_cursor.Cursor.{Cursor}
 use Rattle.milter_mta_outcome.specs.PlanCursor.{Outgoing, steps_at}
 use Rattle.milter_mta_outcome.specs.Transactions.{left_of, outgoing_transaction}
 use Rattle.milter_mta_outcome.proofs.TransactionStages.{stage_at}

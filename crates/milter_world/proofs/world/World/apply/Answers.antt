@@ -1,7 +1,7 @@
 use Rattle.std.proofs.Common.{refl, sym, subst, arith}
 use Rattle.std.proofs.lemmas.Grind.{common_steps}
-use Rattle.milter_world.specs.declared.event.Event.{Event}
-use Rattle.milter_world.specs.declared.event.Event.TheVariants.{Lose, Timeout}
+use Rattle.milter_world.specs.declared.event_line.Event.{Event}
+use Rattle.milter_world.specs.declared.event_line.Event.TheVariants.{Lose, Timeout}
 use Rattle.milter_world.specs.Ends.{Steps}
 use Rattle.milter_world.proofs.world.World.apply.Goals as goal
 

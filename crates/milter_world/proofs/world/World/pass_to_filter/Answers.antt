@@ -1,5 +1,5 @@
 use Rattle.std.proofs.Common.{◌≡◌, ◌≢◌, ℕ, ◌+◌, List, [], ◌∷◌, Some, arith, take, drop, length, refl, sym, ap, ◌∙◌, subst}
-use Rattle.milter_world.specs.declared.event.Event.TheVariants as events
+use Rattle.milter_world.specs.declared.event_line.Event.TheVariants as events
 use Rattle.milter_world.specs.declared.state.State.TheVariants.{Linked}
 use Rattle.milter_world.specs.Ends.{AreEndsOf, Steps}
 use Rattle.milter_world.specs.Schedule.{Scenario}

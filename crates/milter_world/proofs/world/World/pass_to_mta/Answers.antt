@@ -1,5 +1,5 @@
 use Rattle.std.proofs.Common.{◌+◌, arith, take, drop, length, sym, ap, ◌∙◌}
-use Rattle.milter_world.specs.declared.event.Event.TheVariants as events
+use Rattle.milter_world.specs.declared.event_line.Event.TheVariants as events
 use Rattle.milter_world.specs.declared.state.State.TheVariants.{Linked}
 use Rattle.milter_world.proofs.EndsByParts.{steps-as}
 use Rattle.milter_world.proofs.world.World.pass_to_mta.Goals as goal

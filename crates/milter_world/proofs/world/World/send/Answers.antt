@@ -1,5 +1,5 @@
 use Rattle.std.proofs.Common.{◌≡◌, ℕ, ◌+◌, ◌++◌, List, arith, take, refl, sym, ap, ◌∙◌}
-use Rattle.milter_world.specs.declared.event.Event.TheVariants as events
+use Rattle.milter_world.specs.declared.event_line.Event.TheVariants as events
 use Rattle.milter_world.specs.declared.state.State.TheVariants.{Linked}
 use Rattle.milter_world.proofs.EndsByParts.{steps-as}
 use Rattle.milter_world.proofs.world.World.send.Goals as goal
