@@ -32,7 +32,7 @@ pub enum Search<'a> {
 }
 
 /// What a filter is shown when it is asked: what has come of the connection, and of the message up to the stage that it
-/// is asked about. A filter's end makes it. Source: the libmilter callback documentation (callbacks).
+/// is asked about. A filter's end alone makes and fills it. Source: the libmilter callback documentation (callbacks).
 #[derive(Debug, Drop)]
 pub struct Seen {
     leading_space: bool,
@@ -202,7 +202,7 @@ impl Seen {
     }
 
     /// Nothing is shown yet. Doesn't allocate.
-    pub fn new(alloc: Global) -> Self
+    pub(crate) fn new(alloc: Global) -> Self
         ensures { result ≡ nothing_seen false }
     {
         Seen {
@@ -219,7 +219,7 @@ impl Seen {
 
     /// Copies what the command shows; commands of no stage but macros show nothing. After `NoMemory` nothing has
     /// changed.
-    pub fn note(&mut self, alloc: Global, command: &CommandRef<'_>) -> Result<(), NoMemory>
+    pub(crate) fn note(&mut self, alloc: Global, command: &CommandRef<'_>) -> Result<(), NoMemory>
         ensures ok { OnOk result (self.new ≡ parts_with self.old (command_of command.now)) }
         ensures err { OnErr result (self.new ≡ self.old) }
     {
@@ -243,7 +243,7 @@ impl Seen {
 
     /// Drops what was shown of a message: what stays is the client, its last greeting and the macros of both. The
     /// memory is kept. Doesn't allocate.
-    pub fn end_message(&mut self)
+    pub(crate) fn end_message(&mut self)
         ensures shown { self.new.shown ≡ self.old.connection }
         ensures connection { self.new.connection ≡ self.old.connection }
     {
@@ -255,7 +255,7 @@ impl Seen {
     }
 
     /// Drops all that was shown, but for whether leading spaces come. The memory is kept. Doesn't allocate.
-    pub fn clear(&mut self)
+    pub(crate) fn clear(&mut self)
         ensures shown { self.new.shown ≡ seen self.old.connection.leading_space [] }
         ensures connection { self.new.connection ≡ seen self.old.connection.leading_space [] }
     {
@@ -269,7 +269,7 @@ impl Seen {
     }
 
     /// Begins again, for another connection. The memory is kept. Doesn't allocate.
-    pub fn restart(&mut self)
+    pub(crate) fn restart(&mut self)
         ensures { self.new ≡ nothing_seen false }
     {
         self.clear();
@@ -278,7 +278,7 @@ impl Seen {
 
     /// States whether values of header fields come with the blank that they begin with, as negotiated. Doesn't
     /// allocate. Source: mfdef.h (SMFIP_HDR_LEADSPC).
-    pub fn set_leading_space(&mut self, leading_space: bool)
+    pub(crate) fn set_leading_space(&mut self, leading_space: bool)
         ensures shown { self.new.shown ≡ record self.old.shown { leading_space = leading_space } }
         ensures connection { self.new.connection ≡ record self.old.connection { leading_space = leading_space } }
     {
