@@ -1,10 +1,9 @@
-//! Addresses and domains in the form in which mail servers compare them.
+//! Mail addresses and domains in the form in which mail servers compare them, and IP addresses and networks.
 //!
 //! [`canonical_address`] gives one text for all spellings of a mailbox: with or without brackets, a source route,
 //! quotes that aren't needed, a dot at the end, and capital letters. [`domain_of`] is its domain, and [`is_under`]
-//! compares domains by their labels. Nothing here looks up a name.
-//!
-//! IP addresses and networks: how they are read from text, and whether an address is within a network.
+//! compares domains by their labels. An [`Address`] and a [`Network`] are read from texts. Nothing here looks up a
+//! name.
 #![tactic(auto)]
 
 mod address;

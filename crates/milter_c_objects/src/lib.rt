@@ -1,18 +1,9 @@
-//! What the functions of the C library do with one object, or with none: the numbers of their answers, the texts that a
-//! filter is shown, and the edits of an answer. What a caller in C passes and reads stands in the crates above.
+//! What the functions of the library for C do with one object, or with none.
 //!
-//! A box as the pointer that it is, for places whose layout a caller in C sees.
-//!
-//! Packets as callers in C have them: what a packet is decoded to, whose parts are looked at one by one.
-//!
-//! A message as callers in C have it: it is put together part by part, edits change it, and its parts are looked at one
-//! by one.
-//!
-//! A mail server's end of a connection to a filter as callers in C have it: the macros and the parameters of a call are
-//! given one by one, and the last event and the edits are looked at one by one.
-//!
-//! The handles of the C library: a place that a caller in C keeps, with one object or none. An object is of one kind of
-//! a few, so what owns its memory is proved once for all of them.
+//! A [`Handle`] is a place that a caller in C keeps, with one object or none: an object is of one kind of a few, so
+//! what owns its memory is proved once for all of them. Beside it stand packets whose parts are looked at one by one, a
+//! message that is put together and edited part by part, a mail server's end of a connection with its last event, the
+//! numbers of answers, the texts that a filter is shown, and the edits of an answer.
 #![tactic(auto)]
 
 mod accessors;

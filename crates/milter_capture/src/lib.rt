@@ -1,16 +1,9 @@
-//! The TCP connections of a capture, as tcpdump writes one: from the bytes of the file to those that each side sent.
+//! Captures of packets, as tcpdump writes them, and the conversations between mail servers and filters in them.
 //!
-//! [`read_capture`] takes the frames of `milter_capture` apart, of Ethernet, of raw IP, of loopback and of Linux's
-//! cooked captures, with IPv4 or IPv6. Each direction of a [`Connection`] is put in order by its sequence numbers; what
-//! the capture doesn't have is counted.
-//!
-//! The records of a capture, as tcpdump writes one: from the bytes of the file to frames, each with its time and with
-//! what it begins with.
-//!
-//! A [`CaptureReader`] reads pcap and pcapng, in either order of bytes. The bytes of a frame are those of the file.
-//!
-//! The conversations of a capture between mail servers and filters, as lines: for each connection one with its
-//! addresses, and then one for each packet, as a trace is printed, with its time.
+//! A [`CaptureReader`] reads the records of pcap and pcapng, in either order of bytes. [`read_capture`] takes their
+//! frames apart, of Ethernet, of raw IP, of loopback and of Linux's cooked captures, with IPv4 or IPv6, and puts each
+//! direction of a [`Connection`] in order by its sequence numbers; what the capture doesn't have is counted.
+//! Conversations are printed as traces are, each packet with its time.
 #![tactic(auto)]
 
 mod byte_order;
@@ -22,8 +15,8 @@ mod connection_table;
 mod connection_text;
 mod fault;
 mod frame;
-mod internet6;
 mod internet;
+mod internet6;
 mod link_type;
 mod offer;
 mod pcap;

@@ -1,8 +1,6 @@
 //! What the subcommands of `milter_tool` read and print: session files, rule files and their lists, the line of a
-//! connection, and the errors with which the program ends.
-//!
-//! Why the program did not do what it was asked, in lines that a person understands: what is wrong, where, and what is
-//! meant.
+//! connection, the errors with which the program ends, and why it did not do what it was asked, in lines that a person
+//! understands: what is wrong, where, and what is meant.
 //!
 //! docs/FAULTS.md has the text of each line.
 #![tactic(auto)]

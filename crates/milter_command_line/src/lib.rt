@@ -1,7 +1,5 @@
-//! The command line of `milter_tool` as `clap` reads and explains it: its subcommands, their words, and their help.
-//!
-//! What `milter_tool` is asked to do: its command line, the addresses of sockets, what is offered to filters, and the
-//! lines of a wrong use.
+//! What `milter_tool` is asked to do: its command line as `clap` reads and explains it, with subcommands, their words
+//! and their help; the addresses of sockets, what is offered to filters, and the lines of a wrong use.
 #![tactic(auto)]
 
 mod address;

@@ -1,18 +1,11 @@
-//! Packets on a stream: how a stream of bytes is divided into the packets of the Sendmail milter protocol, wherever it
-//! is cut into pieces.
+//! Packets of the Sendmail milter protocol, version 6, on a stream, and the fields of their payloads.
 //!
-//! A packet is a length of four bytes, the highest first, a code of one byte and a payload of at most 65,535 bytes. A
-//! [`Splitter`] takes a stream in any pieces and hands out its packets. What the packets mean is none of this crate's
-//! business. Nothing here reads, writes or waits.
+//! A packet is a length of four bytes, the highest first, a code of one byte and a payload of at most 65,535 bytes: a
+//! [`Splitter`] takes a stream in any pieces and hands out its packets. Texts, clients, addresses, header fields,
+//! macros and reply codes are encoded and decoded, owned and borrowed. A [`ByteQueue`] has bytes that wait.
 //!
-//! Queues of bytes: those that wait to be sent or to be taken, the first ones first.
-//!
-//! The fields of the packets of the Sendmail milter protocol, version 6: texts, clients, addresses, header fields,
-//! macros and reply codes, each with its encoding, owned and borrowed.
-//!
-//! What a packet has as a whole stands in the crates above. A function that takes no allocator and no output takes no
-//! memory. One that appends to an output leaves what it had there after `NoMemory`, and perhaps some of the bytes after
-//! it. Nothing here reads, writes or waits.
+//! Nothing here reads, writes or waits. Only what takes an allocator or appends to an output takes memory; after
+//! `NoMemory` an output has what it had, and perhaps some of the bytes after it.
 #![tactic(auto)]
 
 mod arguments;

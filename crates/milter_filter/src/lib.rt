@@ -1,11 +1,9 @@
-//! A filter's end of the Sendmail milter protocol, version 6, over any reader and writer. A [`Connection`] asks its
-//! caller, who answers when it can, and never waits: one process can serve many. [`serve`] asks a [`Policy`], and reads
-//! and writes until the connection ends.
+//! A filter's end of the Sendmail milter protocol, version 6.
 //!
-//! The filter's end of the Sendmail milter protocol, version 6, which neither reads, writes nor waits. A
-//! [`FilterConnection`] asks its caller, who answers when it can; a [`FilterCore`] asks a [`Policy`], which is a
-//! function of what it is shown. Both reply to the commands of any mail server by the answers and by what was
-//! negotiated.
+//! Over any reader and writer, [`serve`] asks a [`Policy`] until the connection ends, and a [`Connection`] asks its
+//! caller, who answers when it can: one process can serve many. Apart from readers and writers, a [`FilterCore`] asks a
+//! policy, and a [`FilterConnection`] asks its caller; neither reads, writes nor waits. All reply to the commands of
+//! any mail server by the answers and by what was negotiated.
 #![tactic(auto)]
 
 mod connection;

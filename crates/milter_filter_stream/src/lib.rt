@@ -1,12 +1,10 @@
-//! The bytes of a filter's end, apart from what the filter wants and who decides: a [`FilterStream`] takes the bytes of
-//! a mail server up to a stage that is to be answered, keeps what is shown, and has the packets of the replies.
-//! `milter_filter` has the two ends that stand on it.
+//! The bytes of a filter's end, apart from who decides: a [`FilterStream`] takes the bytes of a mail server up to a
+//! stage that is to be answered, keeps what is [`Seen`], and has the packets of the replies. `milter_filter` has the
+//! two ends that stand on it.
 //!
-//! What a filter says: what it wants of a connection, and its answers to the stages, each checked against the rules of
-//! the protocol, and the packets of both.
-//!
-//! What a filter's author writes, and what it decides by: a [`Policy`] answers at each stage of a connection by what is
-//! [`Seen`] there, which a filter's end fills command by command. What was searched for once isn't searched for again.
+//! A [`Policy`] is what a filter's author writes: it answers at each stage by what is [`Seen`] there, which a filter's
+//! end alone fills, command by command. What a filter [`Wants`] of a connection, and each answer, is checked against
+//! the rules of the protocol.
 #![tactic(auto)]
 
 mod answer_check;

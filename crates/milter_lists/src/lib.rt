@@ -1,15 +1,9 @@
-//! Lists of addresses, domains, networks or texts: read from the bytes of a file, an entry a line, and searched.
+//! Lists of addresses, domains, networks or texts: read from the bytes of a file, an entry a line, and searched; and
+//! the lines `list NAME KIND FILE` of a rule file, by which its conditions refer to them.
 //!
 //! Addresses, domains and texts have a key, in which equal entries are the same: the canonical form of an address or a
-//! domain, or a text in lower case. A list of them is the set of the keys, and a value is looked up by the keys of the
-//! entries that would have it. A list of networks is the set of the numbers of their addresses. So a lookup takes about
-//! as long in a list of a million entries as in a short one.
-//!
-//! Sets of texts: many texts, in one buffer, and a search among them.
-//!
-//! Sets of numbers of 128 bits: those of many ranges, and a search among them.
-//!
-//! The lines `list NAME KIND FILE` of a rule file, by which its conditions refer to lists.
+//! domain, or a text in lower case. A list is a [`TextSet`] of the keys, or a [`RangeSet`] of the numbers of the
+//! addresses of networks: a lookup takes about as long in a list of a million entries as in a short one.
 #![tactic(auto)]
 
 mod builder;

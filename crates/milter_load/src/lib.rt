@@ -1,18 +1,10 @@
-//! A load of mail that is put on a filter, without sockets: when messages are due, what each connection sends next and
-//! awaits, what became of the messages, and the report of it.
+//! A load of mail that is put on a filter, and how long its replies took.
 //!
 //! A [`Conversation`] plays the client and the messages of a session on one connection, the messages again and again,
-//! as a [`Schedule`] has them due. What came of all connections is in [`Totals`], which [`write_report`] writes.
-//! Nothing here reads a clock, or waits: times are microseconds since the load began.
-//!
-//! How long replies took: latencies, counted in buckets of a bounded relative error, and their percentiles.
-//!
-//! A [`Latencies`] has a fixed number of buckets: one for each number of microseconds below 128, and 64 for each power
-//! of two from there on, up to more than an hour. What is recorded costs no memory.
-//!
-//! A load of mail that is put on a filter over sockets, many connections at once, in one thread.
-//!
-//! [`run_load`] has the conversations of `milter_load` over sockets that never wait, until all messages are settled.
+//! as a [`Schedule`] has them due. [`Latencies`] are counted in buckets of a bounded relative error: what is recorded
+//! costs no memory. What came of all connections is in [`Totals`], which [`write_report`] writes; [`run_load`] has the
+//! conversations over sockets that never wait, in one thread. All but that reads no clock, and has times in
+//! microseconds since the load began.
 #![tactic(auto)]
 
 mod bucket;

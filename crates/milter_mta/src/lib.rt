@@ -1,7 +1,6 @@
-//! A mail server's end of the Sendmail milter protocol.
-//!
-//! An [`MtaCore`] plays a session to a filter, and says what becomes of each message. It neither reads nor writes: a
-//! caller does what [`MtaCore::want`] asks for, until that is [`Want::Done`], and then takes [`MtaCore::into_reports`].
+//! A mail server's end of the Sendmail milter protocol: an [`MtaCore`] plays a session to a filter, and says what
+//! becomes of each message. It neither reads nor writes: its caller does what [`MtaCore::want`] asks for, until that is
+//! [`Want::Done`], and then takes [`MtaCore::into_reports`].
 //!
 //! - [`Want::Dial`]: connect to the filter, and note it with [`MtaCore::dialled`].
 //! - [`Want::Send`]: [`MtaCore::advance`] makes the next packet; write what is [`MtaCore::pending`], and note with
@@ -11,11 +10,9 @@
 //! Where a connection can't be made, breaks, or takes too long, call [`MtaCore::lost`]: a message is settled by
 //! default, and where others are left a new connection is wanted.
 //!
-//! Laws of a mail server's end over whole dialogues. Whatever a filter sends, a message is settled at most once, by a
-//! dialogue through its plan or by default after one; against a lawful filter what is sent and what a message comes to
-//! is the dialogue with that filter.
-//!
-//! Nothing here is run: each law is the contract of a function that does nothing.
+//! Laws: whatever a filter sends, a message is settled at most once, by a dialogue through its plan or by default after
+//! one; against a lawful filter it comes to what the dialogue with that filter is. Each law is the contract of a
+//! function that does nothing.
 #![tactic(auto)]
 
 mod any_filter;

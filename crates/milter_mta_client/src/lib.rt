@@ -1,22 +1,12 @@
-//! A mail server's end of the Sendmail milter protocol over connections that fail.
+//! A mail server's end of the Sendmail milter protocol over connections that fail, and its reports as texts.
 //!
 //! [`converse`] plays a session to filters over links that a [`Dial`] makes, and settles every message: by what a
 //! filter answers, or by default where it is lost; [`converse_observed`] shows each report to an [`Observer`] once its
-//! message is settled. The core that it drives, and what it answers with, are those of
-//! `milter_mta`, which this crate re-exports, as it does `milter_mta_client`.
+//! message is settled. [`write_reports`] writes what became of the messages, and a text of expected reports is compared
+//! with it line by line: a line [`GAP`] stands for any lines, and one that begins with [`LIKE`] for one that is like
+//! its pattern.
 //!
-//! How a mail server's end makes its connections to a filter: by a [`Dial`], which its caller passes.
-//!
-//! What became of the messages of a session that was played to a filter, as a text, which [`write_reports`] writes, and
-//! [`write_report`] message by message.
-//!
-//! A session that is played to filters, with what becomes of each message written once it is settled.
-//!
-//! Reports that are expected, line by line: a line of them may stand for others.
-//!
-//! A line [`GAP`] stands for any lines, none too. A line that begins with [`LIKE`] stands for one line, which the
-//! rest of it is a pattern of, with `*` and `?` as [`milter_text::is_like`] takes them. Each other line stands for
-//! itself. No line of reports is `...`, and none begins with `like `.
+//! The core that it drives, and what it answers with, are those of `milter_mta`, which this crate re-exports.
 #![tactic(auto)]
 
 mod alignment;

@@ -1,21 +1,12 @@
 //! A mail server's end of one connection to one filter, fed stage by stage.
 //!
 //! A mail server calls an [`MtaConnection`] with what its client does, as it does it, and has the filter's verdict on
-//! each stage before it answers its client. Each call says whether a verdict is due; what it queues is written by the
-//! caller, and what the filter sends is handed to [`MtaConnection::feed`]. Nothing here reads, writes or waits.
+//! each stage before it answers its client. It stands on an [`MtaChannel`], which encodes commands and decodes replies,
+//! and knows nothing of the order of commands. Write what is `pending`, note with `sent` how much was written, and hand
+//! what was read to `feed`: nothing here reads, writes or waits.
 //!
-//! A channel from a mail server to one filter: the commands that are sent on it, and the replies that come.
-//!
-//! A [`MtaChannel`] encodes commands and decodes replies, and knows nothing of the order of commands. A mail server
-//! that learns its messages as its client speaks uses it by way of `MtaConnection`, in `milter_mta_connection`.
-//!
-//! Nothing here reads, writes or waits: write what is [`MtaChannel::pending`], note with [`MtaChannel::sent`] how much
-//! was written, and hand what was read to [`MtaChannel::feed`].
-//!
-//! Laws of a mail server's end that is fed stage by stage. Against a lawful filter what is sent, and what a caller is
-//! given of it, is the dialogue with that filter; after a loss nothing comes any more.
-//!
-//! Nothing here is run: each law is the contract of a function that does nothing.
+//! Laws: against a lawful filter what is sent, and what a caller is given of it, is the dialogue with that filter;
+//! after a loss nothing comes any more. Each law is the contract of a function that does nothing.
 #![tactic(auto)]
 
 mod answer_laws;

@@ -1,12 +1,9 @@
 //! What becomes of a message that a mail server shows a filter: the verdicts that it acted on, what they settle, and
 //! what a lost filter leaves.
 //!
-//! Nothing here reads, writes or waits.
-//!
-//! A message under way to a filter: what is sent of it, command by command, and what came of it so far.
-//!
-//! A mail server plans a message by what was negotiated with the filter. A [`Transaction`] knows which command of the
-//! plan is the next one, and the verdicts that were acted on. Nothing here reads, writes or waits.
+//! A mail server plans a message by what was negotiated with the filter. A [`Transaction`] is a message under way: it
+//! knows which command of the plan is the next one, and the verdicts that were acted on. Nothing here reads, writes or
+//! waits.
 #![tactic(auto)]
 
 mod acted_verdicts;

@@ -1,13 +1,8 @@
-//! How robust a filter is: a session is sent to it plainly, then trials are made as `milter_probe` lists them,
-//! and after each the session is sent plainly again.
-//!
-//! [`probe`] does that over the connections that a [`Dial`](milter_mta_client::Dial) makes, and writes what broke.
-//!
-//! The trials by which it is tried how robust a filter is: which ones are made of a conversation, what is sent in each,
-//! and whether other verdicts came than before.
+//! How robust a filter is: [`probe`] sends a session to it plainly over connections that a
+//! [`Dial`](milter_mta_client::Dial) makes, then makes trials, after each of which the session is sent plainly again,
+//! and writes what broke.
 //!
 //! [`trials`] lists the trials of a conversation, which are [`Exchange`]s, and [`play_of`] says what is done in one.
-//! Nothing here reads, writes or waits.
 #![tactic(auto)]
 
 mod breakage;

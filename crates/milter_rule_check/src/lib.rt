@@ -1,5 +1,5 @@
-//! What a person should know of a rule file: why it can't be read, and what of it can't be meant so. [`check_rules`]
-//! writes a line for each of these.
+//! What a person should know of a rule file that is read: what of it can't be meant so. [`say_findings`] says a line
+//! for each of these.
 //!
 //! docs/RULE_CHECK.md has the text of each line, and says when it is written.
 #![tactic(auto)]

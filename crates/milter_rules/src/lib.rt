@@ -1,7 +1,6 @@
-//! Rule files: a filter's policy in lines of words. [`read_rules`] reads the rules of a file, which are a
-//! [`Policy`](milter_filter_stream::Policy), and [`write_rules`] writes rules in canonical form.
-//!
-//! The lists of a rule file, from the bytes of their files.
+//! Rule files: a filter's policy in lines of words. [`read_rules`] reads the rules of a file and of the files of its
+//! lists, which are a [`Policy`](milter_filter_stream::Policy), and [`write_rules`] writes rules in canonical form.
+//! [`Notes`] are lines that are said of such a file.
 #![tactic(auto)]
 
 mod action_words;

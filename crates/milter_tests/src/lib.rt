@@ -1,6 +1,5 @@
-//! Tests of packets, options, lines, mail and faults, by values that were written out by hand.
-//!
-//! Worked examples of the definitions that contracts name: each is what the definition computes.
+//! Tests of packets, options, lines, mail and faults, by values that were written out by hand; and worked examples of
+//! the definitions that contracts name: each is what the definition computes.
 #![tactic(auto)]
 
 mod definitions;

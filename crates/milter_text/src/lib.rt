@@ -1,10 +1,9 @@
-//! Texts as files have them: the lines of a text, the words of a line, and texts in quotes.
+//! Texts as files have them: lines, the words of a line, texts in quotes, and patterns.
 //!
-//! Session files, rule files and traces are lines. A line of the first two is words: a word is plain or in
-//! quotes, and in quotes it may have any byte. [`words`] reads the words of a line, a [`LineCursor`] those of one line
-//! of a file after the other, and [`quote`] writes a text so that it is read back as it was.
-//!
-//! Patterns of bytes in which `*` stands for any bytes and `?` for any one byte, against whole values.
+//! Session files, rule files and traces are lines. A word of a line is plain or in quotes, and in quotes it may have
+//! any byte. [`words`] reads the words of a line, a [`LineCursor`] those of one line of a file after the other, and
+//! [`quote`] writes a text so that it is read back as it was. [`is_like`] compares a value with a pattern in which `*`
+//! stands for any bytes and `?` for any one byte.
 #![tactic(auto)]
 
 mod escapes;

@@ -1,15 +1,9 @@
-//! The commands and replies of the Sendmail milter protocol, version 6: what each one means, and how it is encoded in
-//! a packet.
+//! The commands and replies of the Sendmail milter protocol, version 6, and what its two ends negotiate.
 //!
-//! A mail server (MTA) sends [`Command`]s to a filter, and the filter answers with [`Reply`]s. Both go over a stream as
-//! packets: a [`Splitter`] takes a stream in any pieces and hands out its packets, and `decode` reads a packet. Nothing
-//! here reads, writes or waits.
-//!
-//! What the two ends of the Sendmail milter protocol negotiate before the first stage: the version, the changes that
-//! the filter may ask for, the steps that are left out or left unanswered, and the macros that it asks for.
-//!
-//! [`Options`] is what one end offers or the other wants, [`common_options`] is what both have, [`SymLists`] is what a
-//! filter's reply has beside them, and [`MacroStage`] is a stage of such a list. Nothing here reads, writes or waits.
+//! A mail server (MTA) sends [`Command`]s to a filter, which answers with [`Reply`]s; `decode` reads one of a packet.
+//! Before the first stage [`Options`] of both ends are negotiated: the version, the changes that the filter may ask
+//! for, the steps that are left out or left unanswered, and by [`SymLists`] the macros that are sent. Nothing here
+//! reads, writes or waits.
 #![tactic(auto)]
 
 pub mod codes;

@@ -3,28 +3,13 @@
 //! A [`World`] has a mail server's end with a session, a filter's end with a policy while one lives, and the bytes on
 //! their way each way. [`World::step`] lets one [`Event`] happen; [`run`] plays a session while a list of events
 //! happens, [`run_in_order`] does so to a filter's end that takes commands in a given order, and [`play`] plays over
-//! one connection on which everything arrives. A world drives both ends by their public calls alone: only a filter's
-//! end asks the policy, and only a mail server's end makes reports.
+//! one connection on which everything arrives. [`read_events`] reads events of a file. A world drives both ends by
+//! their public calls alone: only a filter's end asks the policy, and only a mail server's end makes reports.
 //!
-//! What becomes of a session over connections that fail: which messages any schedule of events settles, and how.
-//!
-//! The entries of a session are what passes over a connection that is never lost, packet by packet and byte by byte,
-//! and which reports each answer adds. A schedule is stated over whole lists of these bytes and counts, apart from any
-//! code. Nothing here is run: each law is the contract of a function that does nothing.
-//!
-//! Laws of both ends of a connection and of the bytes between them, at any byte: each event leaves both where the
-//! counts of the schedule say, and adds the schedule's reports.
-//!
-//! What a filter's end answers to the bytes of a session's entries is what the entries have; a mail server's end
-//! follows the same entries, however the bytes are cut. Nothing here is run: each law is the contract of a function
-//! that does nothing.
-//!
-//! Event files: [`read_events`] reads the events of a schedule that a file has, or finds the first line that is at
-//! fault.
-//!
-//! What becomes of messages where a filter of rules wants no more than its rules need: the same as where it wants all.
-//!
-//! Nothing here is run: the law is the contract of a function that does nothing.
+//! Laws: the entries of a session are what passes over a connection that is never lost, and which reports each answer
+//! adds; each event leaves both ends where the counts of a schedule over these entries say, however the bytes are cut.
+//! Where a filter of rules wants no more than its rules need, messages come to the same as where it wants all. Each law
+//! is the contract of a function that does nothing.
 #![tactic(auto)]
 
 mod any_schedule;
