@@ -4,7 +4,8 @@
 # `make install PREFIX=/usr/local` puts the program in place, with its manual pages, units and documents, and the library
 # with its header, `make uninstall PREFIX=/usr/local` takes that away again, and `make dist` and `make deb` pack both for
 # machines without the toolchain: the proved ones, or with UNPROVED=1 those that are built. `make deb` takes Debian's
-# packages debhelper and dh-python. `make bench` measures, and `make definitions` writes docs/proofs/DEFINITIONS.md again.
+# packages debhelper and dh-python. `make bench` measures, and `make definitions` writes dist/DEFINITIONS.md for a release:
+# what contracts speak of, with its comments.
 
 PREFIX ?= /usr/local
 LIBRARY := build/deiruska/lib/libdeiruska.a
@@ -30,7 +31,8 @@ check:
 	@python3 tools/prove.py
 
 definitions:
-	python3 tools/definitions.py
+	@mkdir -p dist
+	python3 tools/definitions.py >dist/DEFINITIONS.md
 
 test:
 	@python3 tools/build.py all

@@ -3,11 +3,10 @@
 docs/MAIL_SERVERS.md is lines of a program that is tested, each paragraph of README.md has at most four lines, each link
 between documents leads to a file and its title, and each path in the recipes of docs/CONTRIBUTING.md to a file,
 docs/ARCHITECTURE.md has each crate, and the functions of its paths are in the files that it names. The lines of
-docs/RULE_CHECK.md are printed by runs of cases/rules_check. Below docs/proofs each clause of PROOFS.md is in the crate
-under which it is listed, and DEFINITIONS.md is made of the definitions as they are, with each one that a public
-contract cites. README.md and PROOFS.md count the crates of the toolchain that are trusted, README.md and HEADLINE.md
-the lines of definitions under the headline, docs/CONTRIBUTING.md what a change has proved again, and no proof speaks
-of the code of another crate but by what it promises.
+docs/RULE_CHECK.md are printed by runs of cases/rules_check. What tools/definitions.py prints has each definition that a
+public contract cites. docs/proofs/HEADLINE.md names the crates of the toolchain that are trusted, and README.md counts
+them, both count the lines of definitions under the headline, docs/CONTRIBUTING.md what a change has proved again, and
+no proof speaks of the code of another crate but by what it promises.
 And no line of the code or of the definitions is too long, but imports, nor one of help or of a document, each mutant
 can be applied, and no comment, text, document, module, test or example has a word that is no longer used.
 """
@@ -43,7 +42,7 @@ NUMBERS = ['ten', 'eleven', 'twelve', 'thirteen', 'fourteen', 'fifteen', 'sixtee
 HEADLINE = 'crates/milter_world/src/any_schedule.rt', 'run'
 ITS_WORDS = {'dialogues', 'resets', 'timeouts', 'causes'}
 ITS_PREMISES = {('milter_protocol', 'Lawful', 'IsLawful'), ('milter_mail', 'MailSession', 'IsSession')}
-PROOFS, DEFINITIONS, HEADLINES = ['docs/proofs/%s.md' % name for name in ('PROOFS', 'DEFINITIONS', 'HEADLINE')]
+HEADLINES = 'docs/proofs/HEADLINE.md'
 # The endings of the tests, examples and tools that are read for words that are no longer used.
 SCRIPTS = {'.py', '.sh', '.lua', '.c', '.h', '.cpp', '.go', '.rs', '.txt', '.session', '.events', '.rules', '.lines'}
 DOCUMENTS = [
@@ -130,22 +129,13 @@ def used_by():
     return {name.split()[0]: names.split() for name, names in (line.split(':') for line in lines_of)}
 
 
-def diagrams():
-    """Whether docs/ARCHITECTURE.md has each crate in its first diagram and in its table, and in the second diagram each
-    one but those of laws; and whether each arrow of that leads to a crate that is used, and each double arrow to a
-    crate."""
+def pictured():
+    """Whether docs/ARCHITECTURE.md has each crate in its picture and in its table, and none that isn't there."""
     uses, text = used_by(), text_of('docs/ARCHITECTURE.md')
-    layers, arrows = ['\n'.join(lines) for lines in code_blocks('docs/ARCHITECTURE.md')]
-    contents = dict(re.findall(r'(?m)^\| `(\w+)` \| (.*?) \|', text))
-    for crate in uses:
-        is_of_laws = re.search(r'\blaws( alone)?$', contents.get(crate, '')) is not None
-        yield 'docs/ARCHITECTURE.md: no row of ' + crate, crate in contents
-        yield 'docs/ARCHITECTURE.md: the layers lack ' + crate, crate in re.findall(r'\w+', layers)
-        yield 'docs/ARCHITECTURE.md: no arrow of ' + crate, is_of_laws or crate in re.findall(r'\w+', arrows)
-    for caller, arrow, callees in re.findall(r'(?m)^(\w+) +([-=]>) ((?:.*,\n +)*.*)$', arrows):
-        for callee in re.findall(r'[a-z]\w+', re.sub(r'\(.*\)', '', callees)):
-            is_there = callee in uses.get(caller, []) if arrow == '->' else callee in uses
-            yield 'docs/ARCHITECTURE.md: %s %s %s' % (caller, arrow, callee), is_there
+    [picture] = ['\n'.join(lines) for lines in code_blocks('docs/ARCHITECTURE.md')]
+    rows = re.findall(r'(?m)^\| `(\w+)` \|', text)
+    for place, names in ('picture', re.findall(r'\b(?:milter|example)_\w+', picture)), ('table', rows):
+        yield 'docs/ARCHITECTURE.md: the %s: %s' % (place, names), sorted(names) == sorted(uses)
 
 
 def calls():
@@ -189,40 +179,23 @@ def links():
                 not title or title in anchors(path))
 
 
-def clauses():
-    """Whether each clause of a table of PROOFS.md stands in the section's crate."""
-    crate, source = None, ''
-    for line in text_of(PROOFS).splitlines():
-        if re.match('## [a-z]', line):
-            crate = line[3:].split(',')[0]
-            files = glob.glob(os.path.join(TOP, 'crates', crate, 'src', '**', '*.rt'), recursive=True)
-            source = '\n'.join(text_of(file) for file in files)
-            yield '%s: %s' % (PROOFS, crate), bool(files)
-        cells = line.split(' | ')
-        if line.startswith('| `') and len(cells) == 3:
-            for name in re.findall(r'`(\w+)`', cells[2]):
-                found = re.search(r'ensures\*? %s \{' % re.escape(name), source) is not None
-                yield '%s: %s: clause %s' % (PROOFS, crate, name), found
-
-
 def definitions():
-    """Whether DEFINITIONS.md is what `make definitions` writes, explains each definition that a contract of a public
-    function, type or trait names, or that such a one uses, and names all others."""
-    text = text_of(DEFINITIONS)
-    yield '%s is not what `make definitions` writes' % DEFINITIONS, text == read.made()
+    """Whether tools/definitions.py explains each definition that a contract of a public function, type or trait names,
+    or that such a one uses, and names all others."""
+    text = read.made()
     left_out = sorted(read.missing(text))
-    yield '%s leaves out %s' % (DEFINITIONS, left_out), not left_out
+    yield 'tools/definitions.py leaves out %s' % left_out, not left_out
     there = read.explained(text)
     for cited in sorted(read.specs.under(read.specs.cited())):
-        yield '%s lacks %s: %s, %s' % (DEFINITIONS, *cited), cited in there
+        yield 'tools/definitions.py lacks %s: %s, %s' % cited, cited in there
 
 
 def trusted():
-    """Whether the crates of the toolchain that PROOFS.md names, and README.md counts, are those of crates.txt."""
+    """Whether the crates of the toolchain that HEADLINE.md names, and README.md counts, are those of crates.txt."""
     listed = used_by()
     used = sorted({name for names in listed.values() for name in names} - set(listed))
-    sentence = re.search(r'(?s)by their contracts\nthe crates (.*?);', text_of(PROOFS))[1]
-    yield '%s: the crates of the toolchain are %s' % (PROOFS, used), re.findall('`(.*?)`', sentence) == used
+    sentence = re.search(r'(?s)by their contracts\nthe crates (.*?);', text_of(HEADLINES))[1]
+    yield '%s: the crates of the toolchain are %s' % (HEADLINES, used), re.findall('`(.*?)`', sentence) == used
     number = NUMBERS[len(used) - 10]
     counted = '[%s crates of the toolchain]' % number
     yield 'README.md: ' + counted, counted in ' '.join(text_of('README.md').split())
@@ -242,22 +215,20 @@ def counts():
 
 
 def proved_again():
-    """Whether docs/CONTRIBUTING.md has how many crates a change has proved again, how many of these have a time in
-    tools/crate_seconds.txt, and their minutes."""
+    """Whether docs/CONTRIBUTING.md has how many crates a change has proved again, and their minutes by
+    tools/crate_seconds.txt, which has a time of each crate."""
     uses, table = used_by(), 'docs/CONTRIBUTING.md'
     seconds = dict(line.split() for line in text_of('tools/crate_seconds.txt').splitlines())
-    rows = re.findall(r'(?m)^\| (`\w+`(?:, `\w+`)*) \| (.*) \|$', text_of(table).split('Crates proved again')[1])
+    yield 'tools/crate_seconds.txt has other crates than crates.txt', sorted(seconds) == sorted(uses)
+    rows = re.findall(r'(?m)^\| `(\w+)` \| (.*) \|$', text_of(table).split('Crates proved again')[1])
     yield '%s: no rows of crates that are proved again' % table, bool(rows)
-    for names, given in rows:
-        for crate in re.findall(r'`(\w+)`', names):
-            again = {crate}
-            for name in uses:  # a crate stands below those that use it
-                if again & set(uses[name]):
-                    again.add(name)
-            timed = [float(seconds[name]) for name in again if name in seconds]
-            known = 'all' if len(timed) == len(again) else '%d' % len(timed)
-            found = '%d | %s | %.0f' % (len(again), known, sum(timed) / 60)
-            yield '%s: `%s` | %s' % (table, crate, found), given == found
+    for crate, given in rows:
+        again = {crate}
+        for name in uses:  # a crate stands below those that use it
+            if again & set(uses[name]):
+                again.add(name)
+        found = '%d | %.0f' % (len(again), sum(float(seconds.get(name, 0)) for name in again) / 60)
+        yield '%s: `%s` | %s' % (table, crate, found), given == found
 
 
 def lemmas():
@@ -276,12 +247,11 @@ def lines():
 
 
 def wrapped():
-    """Whether each line of a document is within the columns, but for titles, tables and code. What is made of the
-    definitions is left out."""
+    """Whether each line of a document is within the columns, but for titles, tables and code."""
     for path in DOCUMENTS:
         prose = re.sub(r'(?ms)^```.*?^```', '', text_of(path)).splitlines()
         long = [line[:40] for line in prose if len(line) > COLUMNS and not re.match(r'#|\||    ', line)]
-        yield '%s: too long: lines that begin %s' % (path, long), path == DEFINITIONS or not long
+        yield '%s: too long: lines that begin %s' % (path, long), not long
 
 
 def texts(code):
@@ -351,5 +321,5 @@ def play_of(check):
 
 if __name__ == '__main__':
     sys.exit(runner.run_all(play_of(check) for check in (
-        blocks, pasted, paragraphs, paths, diagrams, calls, said, links, clauses, definitions, trusted, counts,
+        blocks, pasted, paragraphs, paths, pictured, calls, said, links, definitions, trusted, counts,
         proved_again, lemmas, lines, wrapped, help_lines, mutants, vocabulary)))

@@ -1,23 +1,22 @@
 #!/usr/bin/env python3
-"""Writes docs/proofs/DEFINITIONS.md: what the contracts of public functions speak of, from crates/*/specs/*.antt.
+"""Prints what the contracts of public functions speak of, from crates/*/specs/*.antt. `make definitions` writes it to
+dist/DEFINITIONS.md, for a release.
 
-    tools/definitions.py [--print]
+    tools/definitions.py
 
-With --print it prints the document, and writes nothing. A crate has a section, in the order of crates.txt, with the
+A crate has a section, in the order of crates.txt, with the
 first sentence of its own documentation; each file of its specs/ has a part, in the order of specs/Lib.antt, with the
 comment that the file begins with. There each definition that a public contract cites, or that such a definition uses,
 has its type, or its fields, and the comment that stands above it; one without a comment, or whose fields have some, has
 its statement. The other definitions of the file are named.
 """
 import functools
-import os
 import re
 import sys
 import textwrap
 
 import specs
 
-DOCUMENT = os.path.join(specs.TOP, 'docs', 'proofs', 'DEFINITIONS.md')
 COLUMNS = 120
 INTRODUCTION = """\
 # Definitions
@@ -117,13 +116,9 @@ def document():
 
 
 def main():
-    if sys.argv[1:] == ['--print']:
-        print(document(), end='')
-    elif sys.argv[1:]:
+    if sys.argv[1:]:
         sys.exit(__doc__)
-    else:
-        with open(DOCUMENT, 'w', encoding='utf-8') as file:
-            file.write(document())
+    print(document(), end='')
 
 
 if __name__ == '__main__':

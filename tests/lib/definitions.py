@@ -1,5 +1,5 @@
 """What tests ask of the definitions of specs/, which tools/specs.py reads, and of the lemmas of proofs/: which ones the
-clauses of one function name, which ones docs/proofs/DEFINITIONS.md has, and what the lemmas speak of that one crate
+clauses of one function name, which ones tools/definitions.py explains, and what the lemmas speak of that one crate
 uses of another.
 """
 import glob
@@ -16,9 +16,9 @@ import specs  # noqa: E402, it is there once the folder is
 
 
 def made():
-    """What tools/definitions.py writes."""
-    return subprocess.run([sys.executable, os.path.join(TOOLS, 'definitions.py'), '--print'], stdout=subprocess.PIPE,
-                          check=True, encoding='utf-8').stdout
+    """What tools/definitions.py prints."""
+    return subprocess.run([sys.executable, os.path.join(TOOLS, 'definitions.py')], stdout=subprocess.PIPE, check=True,
+                          encoding='utf-8').stdout
 
 
 def parts(text):
