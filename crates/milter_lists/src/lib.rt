@@ -6,7 +6,6 @@
 //! addresses of networks: a lookup takes about as long in a list of a million entries as in a short one.
 #![tactic(auto)]
 
-mod builder;
 mod domain_keys;
 mod entries;
 mod entry;
@@ -21,30 +20,25 @@ mod list_reader;
 mod network_range;
 mod network_set;
 mod number_range;
-#[cfg(test)]
-mod range_set_tests;
-mod set;
+mod range_set;
+mod range_set_builder;
 mod shared_list;
 mod sort;
 mod source_fault;
 mod source_words;
 mod sources;
 mod span;
-#[cfg(test)]
-mod tests;
 mod text_list;
 mod text_set;
 mod text_set_builder;
-#[cfg(test)]
-mod text_set_tests;
 mod trimmed;
 
-pub use builder::RangeSetBuilder;
 pub use entry_fault::EntryFault;
 pub use list_fault::ListFault;
 pub use list_kind::ListKind;
 pub use number_range::NumberRange;
-pub use set::RangeSet;
+pub use range_set::RangeSet;
+pub use range_set_builder::RangeSetBuilder;
 pub use shared_list::SharedList;
 pub use source_fault::SourceFault;
 pub use source_words::is_list_name;

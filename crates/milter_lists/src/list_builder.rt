@@ -5,7 +5,6 @@ ghost use Rattle.milter_lists.specs.Collected.{IsWithin, has, joined, len_by, no
 ghost use Rattle.milter_lists.specs.ListValues.{collected_in, kind_in};
 ghost use Rattle.milter_lists.specs.ParsedEntries.{IsTooMuchAt, of_parsed};
 
-use crate::builder::RangeSetBuilder;
 use crate::entries::Entries;
 use crate::entry::Entry;
 use crate::entry_fault::EntryFault;
@@ -13,6 +12,7 @@ use crate::list_fault::ListFault;
 use crate::list_kind::ListKind;
 use crate::network_range::range_of;
 use crate::network_set::NetworkSet;
+use crate::range_set_builder::RangeSetBuilder;
 use crate::text_set_builder::{ENTRIES_MAX, TextSetBuilder};
 use milter_address::{Address, Network};
 use std::alloc::Global;

@@ -4,7 +4,7 @@ ghost use Rattle.std.specs.Prelude.{◌≡◌, Some};
 ghost use Rattle.milter_address.specs.ReadTexts.{address_in};
 ghost use Rattle.milter_lists.specs.NetworkRanges.{have_address, is_in_ranges, mapped_is_in_ranges};
 
-use crate::set::RangeSet;
+use crate::range_set::RangeSet;
 use milter_address::Address;
 
 /// The addresses of some networks, as the numbers that their bits are.

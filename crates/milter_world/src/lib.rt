@@ -30,8 +30,6 @@ mod rows;
 mod scenario;
 mod scenarios;
 mod state;
-#[cfg(test)]
-mod tests;
 mod world;
 
 pub use any_schedule::{run, run_in_order};

@@ -2,7 +2,7 @@ use Rattle.std.proofs.Common.{ap, length, subst, sym, ◌∙◌}
 use Rattle.std.proofs.lemmas.List.Sorted.{length_permutation, list_any-IsPermutation}
 use Rattle.milter_lists.specs.Ranges.{AreRising, has_number, is_in}
 use Rattle.milter_lists.proofs.RaisedRanges.{raised_has, raised_len, raised_rise}
-use Rattle.milter_lists.proofs.builder.RangeSetBuilder.build.Goals as goal
+use Rattle.milter_lists.proofs.range_set_builder.RangeSetBuilder.build.Goals as goal
 
 pub new-requires : goal.new-requires
 new-requires c =

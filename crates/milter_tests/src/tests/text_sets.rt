@@ -1,6 +1,6 @@
 //! A set of texts is built, and texts are looked up in it.
 
-use crate::{EntryFault, TextSet, TextSetBuilder};
+use milter_lists::{EntryFault, TextSet, TextSetBuilder};
 use std::alloc::Global;
 use std::test::Fail;
 

@@ -1,7 +1,6 @@
 //! Tests of what no clause says: that a file is read where memory is ample, and which line is at fault.
 
-use crate::event_line::Event;
-use crate::{EventFault, read_events};
+use milter_world::{Event, EventFault, read_events};
 use std::alloc::Global;
 
 /// Whether the file has these events.

@@ -1,7 +1,7 @@
 //! A set of numbers is built of ranges, and numbers are looked up in it.
 
-use crate::{NumberRange, RangeSet, RangeSetBuilder};
 use milter_fields::NoMemory;
+use milter_lists::{NumberRange, RangeSet, RangeSetBuilder};
 use std::alloc::Global;
 use std::test::Fail;
 

@@ -1,6 +1,6 @@
 //! Lists of each kind are read, and values are looked up in them.
 
-use crate::{ListFault, ListKind, TextList};
+use milter_lists::{ListFault, ListKind, TextList};
 use std::test::Fail;
 
 /// A kind, the bytes of a file, a value, and whether the list has it.

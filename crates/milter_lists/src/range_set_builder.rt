@@ -4,7 +4,7 @@ ghost use Rattle.std.specs.Prelude.{◌≡◌, ◌↔◌, ◌∷◌, ◌++◌, [
 ghost use Rattle.milter_lists.specs.Ranges.{has_number};
 
 use crate::number_range::{NumberRange, raise_ends, sort_ranges};
-use crate::set::RangeSet;
+use crate::range_set::RangeSet;
 use milter_fields::NoMemory;
 use std::alloc::Global;
 use std::marker::Model;

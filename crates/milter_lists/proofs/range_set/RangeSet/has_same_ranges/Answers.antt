@@ -1,7 +1,7 @@
 use Rattle.std.proofs.Common.{◌∙◌, sym}
 use Rattle.std.proofs.lemmas.Slice.Eq.{slice_eq-Decides}
 use Rattle.milter_lists.proofs.EqualRanges.{equal_ranges}
-use Rattle.milter_lists.proofs.set.RangeSet.has_same_ranges.Goals as goal
+use Rattle.milter_lists.proofs.range_set.RangeSet.has_same_ranges.Goals as goal
 
 pub returns : goal.returns
 returns c = λ same.
