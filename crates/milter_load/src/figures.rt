@@ -1,8 +1,8 @@
 //! The figures of a report, and how they are put.
 
-use crate::latencies::Latencies;
 use crate::schedule::SECOND;
 use itoa::Buffer;
+use milter_load_stats::Latencies;
 use milter_text::{TextFault, TextWriter};
 use std::io::Write;
 

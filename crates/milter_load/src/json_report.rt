@@ -1,10 +1,10 @@
 //! The report of a load, as a JSON object.
 
 use crate::figures::{Figures, put_a_second, put_number, put_seconds};
-use crate::latencies::Latencies;
 use crate::outcome::{Cause, Settled};
 use crate::timed::Timed;
 use crate::totals::Totals;
+use milter_load_stats::Latencies;
 use milter_text::{TextFault, TextWriter};
 use std::io::Write;
 

@@ -1,17 +1,14 @@
 //! A load of mail that is put on a filter, and how long its replies took.
 //!
 //! A [`Conversation`] plays the client and the messages of a session on one connection, the messages again and again,
-//! as a [`Schedule`] has them due. [`Latencies`] are counted in buckets of a bounded relative error: what is recorded
-//! costs no memory. What came of all connections is in [`Totals`], which [`write_report`] writes; [`run_load`] has the
-//! conversations over sockets that never wait, in one thread. All but that reads no clock, and has times in
-//! microseconds since the load began.
+//! as a [`Schedule`] has them due. What came of all connections is in [`Totals`], which [`write_report`] writes;
+//! [`run_load`] has the conversations over sockets that never wait, in one thread. All but that reads no clock, and has
+//! times in microseconds since the load began.
 #![tactic(auto)]
 
-mod bucket;
 mod conversation;
 mod figures;
 mod json_report;
-mod latencies;
 mod load;
 mod load_error;
 mod looks;
@@ -26,9 +23,7 @@ mod step;
 mod timed;
 mod totals;
 
-pub use bucket::{BUCKETS, OCTAVE, buckets_have_their_values, highest_in};
 pub use conversation::{Advance, Conversation, Moment};
-pub use latencies::Latencies;
 pub use load::run_load;
 pub use load_error::LoadError;
 pub use looks::Settings;

@@ -2,11 +2,11 @@
 
 use crate::figures::{Figures, put_a_second, put_number, put_seconds};
 use crate::json_report::put_object;
-use crate::latencies::Latencies;
 use crate::outcome::{Cause, Settled};
 use crate::schedule::SECOND;
 use crate::timed::Timed;
 use crate::totals::Totals;
+use milter_load_stats::Latencies;
 use milter_text::{TextFault, TextWriter};
 use std::alloc::Global;
 use std::io::Write;

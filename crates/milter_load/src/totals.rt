@@ -1,8 +1,8 @@
 //! What came of a load.
 
-use crate::latencies::Latencies;
 use crate::outcome::{Cause, Settled};
 use crate::timed::{KINDS, Timed};
+use milter_load_stats::Latencies;
 use std::alloc::{AllocError, Global};
 
 /// What came of a load: of its messages, of its connections, and how long replies took.

@@ -1,6 +1,6 @@
 use Rattle.std.proofs.Common.{◌≡◌, ◌<◌, ℕ, List}
-use Rattle.milter_load.specs.Tallies.{Tallied, below}
-use Rattle.milter_load.proofs.latencies.Latencies.percentile.Given as goal
+use Rattle.milter_load_stats.specs.Tallies.{Tallied, below}
+use Rattle.milter_load_stats.proofs.latencies.Latencies.percentile.Given as goal
 
 abbrev pub invariant-loop-bucket : goal.invariant-loop-bucket
 invariant-loop-bucket l = record {

@@ -1,8 +1,8 @@
 use Rattle.std.proofs.Common.{arith, ap, sym, subst, ◌∙◌, ◌≡◌, length, get_or}
 use Rattle.std.proofs.lemmas.List.{get_or_read}
-use Rattle.milter_load.specs.Tallies.{Tally, Tallied, below, within, rank_of}
-use Rattle.milter_load.proofs.Tallying.{below-next, below-zero, below-last, rank-some, rank-few}
-use Rattle.milter_load.proofs.latencies.Latencies.percentile.Goals as goal
+use Rattle.milter_load_stats.specs.Tallies.{Tally, Tallied, below, within, rank_of}
+use Rattle.milter_load_stats.proofs.Tallying.{below-next, below-zero, below-last, rank-some, rank-few}
+use Rattle.milter_load_stats.proofs.latencies.Latencies.percentile.Goals as goal
 
 pub loop-bucket-init : goal.loop-bucket-init
 loop-bucket-init c = record {

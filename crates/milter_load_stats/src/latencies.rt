@@ -1,7 +1,7 @@
 //! Latencies and their percentiles.
 
 ghost use Rattle.std.specs.Prelude.{◌≡◌, ◌+◌, ◌^◌, ◌<◌, ◌≤◌, ℕ, List, [], ◌∷◌, IfOk, IfSome, None, length};
-ghost use Rattle.milter_load.specs.Tallies.{IsPercentile, Tallied, greatest_of, rank_of};
+ghost use Rattle.milter_load_stats.specs.Tallies.{IsPercentile, Tallied, greatest_of, rank_of};
 
 use crate::bucket::{BUCKETS, bucket_of, highest_in};
 use std::alloc::{AllocError, Global};
@@ -20,8 +20,8 @@ pub struct Latencies {
 
 impl Model for Latencies {
     ghost use Rattle.std.specs.Prelude.{◌≡◌, length};
-    ghost use Rattle.milter_load.specs.Tallies.{Tally};
-    ghost use Rattle.milter_load.specs.declared.bucket.TheConstants.{BUCKETS};
+    ghost use Rattle.milter_load_stats.specs.Tallies.{Tally};
+    ghost use Rattle.milter_load_stats.specs.declared.bucket.TheConstants.{BUCKETS};
 
     ghost Value = { Tally };
 

@@ -1,7 +1,7 @@
 use Rattle.std.proofs.Common.{◌≡◌, ℕ, ◌+◌, ◌*◌, ◌/◌, ◌%◌, arith, ap, sym, ◌∙◌}
 use Rattle.std.proofs.Math.Nat.{mul-add-div, div-add-mod}
-use Rattle.milter_load.specs.Tallies.{rank_of}
-use Rattle.milter_load.proofs.latencies.rank_of.Goals as goal
+use Rattle.milter_load_stats.specs.Tallies.{rank_of}
+use Rattle.milter_load_stats.proofs.latencies.rank_of.Goals as goal
 
 split : (total per_mille : ℕ) →
     total / 1000 * per_mille + (total % 1000 * per_mille + 999) / 1000 ≡ rank_of per_mille total

@@ -1,9 +1,9 @@
 //! The buckets of latencies.
 
 ghost use Rattle.std.specs.Prelude.{◌≡◌, ◌<◌, ◌+◌, ◌*◌, ◌^◌, ◌≤◌, ℕ};
-ghost use Rattle.milter_load.specs.Buckets as buckets;
-ghost use Rattle.milter_load.specs.Buckets.{bucket_of, highest_in, lowest_in};
-ghost use Rattle.milter_load.specs.declared.bucket.TheConstants.{BUCKETS};
+ghost use Rattle.milter_load_stats.specs.Buckets as buckets;
+ghost use Rattle.milter_load_stats.specs.Buckets.{bucket_of, highest_in, lowest_in};
+ghost use Rattle.milter_load_stats.specs.declared.bucket.TheConstants.{BUCKETS};
 
 /// How many buckets a power of two has, from 128 on.
 pub const OCTAVE: usize = 64;

@@ -6,9 +6,9 @@ use Rattle.std.proofs.lemmas.List.{get_or-set_same, get_or-set_other, get_or-rep
 use Rattle.std.proofs.lemmas.List.Elements.{All-cons, All-nil, All-get_or, All-tail}
 use Rattle.std.proofs.lemmas.List.Sums.{sum_by-cons, count_by-le-length}
 use Rattle.std.proofs.Math.Nat.{mul-le-mul_left}
-use Rattle.milter_load.specs.Buckets.{bucket_of}
-use Rattle.milter_load.specs.Tallies.{Tallied, below, within, rank_of}
-use Rattle.milter_load.proofs.BucketValues.{bucket_low}
+use Rattle.milter_load_stats.specs.Buckets.{bucket_of}
+use Rattle.milter_load_stats.specs.Tallies.{Tallied, below, within, rank_of}
+use Rattle.milter_load_stats.proofs.BucketValues.{bucket_low}
 
 abbrev number : Bool → ℕ
 number test = cond test 1 0

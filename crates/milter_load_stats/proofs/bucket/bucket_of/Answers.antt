@@ -1,6 +1,6 @@
 use Rattle.std.proofs.Common.{arith, ap, ◌/◌, ◌^◌}
-use Rattle.milter_load.proofs.BucketValues.{place_low}
-use Rattle.milter_load.proofs.bucket.bucket_of.Goals as goal
+use Rattle.milter_load_stats.proofs.BucketValues.{place_low}
+use Rattle.milter_load_stats.proofs.bucket.bucket_of.Goals as goal
 
 pub returns-clause-within : goal.returns-clause-within
 returns-clause-within c =

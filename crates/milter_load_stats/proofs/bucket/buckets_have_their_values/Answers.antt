@@ -1,5 +1,5 @@
-use Rattle.milter_load.proofs.BucketValues.{close, highest, lowest, next}
-use Rattle.milter_load.proofs.bucket.buckets_have_their_values.Goals as goal
+use Rattle.milter_load_stats.proofs.BucketValues.{close, highest, lowest, next}
+use Rattle.milter_load_stats.proofs.bucket.buckets_have_their_values.Goals as goal
 
 pub returns-clause-lowest : goal.returns-clause-lowest
 returns-clause-lowest c = lowest

@@ -1,8 +1,8 @@
 use Rattle.std.proofs.Common.{arith, subst, sym, ◌∷◌, length, ◌≡◌, ◌+◌, ◌<◌, get_or}
 use Rattle.std.proofs.lemmas.List.{get_or_read}
-use Rattle.milter_load.specs.Tallies.{Tally, Tallied, within}
-use Rattle.milter_load.proofs.Tallying.{tallied-more, within-few}
-use Rattle.milter_load.proofs.latencies.Latencies.record.Goals as goal
+use Rattle.milter_load_stats.specs.Tallies.{Tally, Tallied, within}
+use Rattle.milter_load_stats.proofs.Tallying.{tallied-more, within-few}
+use Rattle.milter_load_stats.proofs.latencies.Latencies.record.Goals as goal
 
 pub returns : goal.returns
 returns c values tallied few =

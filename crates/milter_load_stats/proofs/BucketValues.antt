@@ -3,7 +3,7 @@ use Rattle.std.proofs.Common.{◌≡◌, ℕ, ◌+◌, ◌-◌, ◌*◌, ◌/◌
 use Rattle.std.proofs.Math.Nat.{div-lt_iff_lt-mul, div-mul-le_self, lt-div-mul-add, one-le-pow, pow-le-pow_right, mul-le-mul_left, div-one}
 use Rattle.std.proofs.lemmas.Nat.{leading_length, pow-add}
 use Rattle.std.proofs.lemmas.Bool.{cases_eq, cases_lt}
-use Rattle.milter_load.specs.Buckets.{bucket_of, highest_in, lowest_in, octave_in, octave_of}
+use Rattle.milter_load_stats.specs.Buckets.{bucket_of, highest_in, lowest_in, octave_in, octave_of}
 
 -- 128 times the power of its octave is above a value
 pub below_octave : (value : ℕ) → value < 2 ^ 32 → value < 2 ^ octave_of value * 128

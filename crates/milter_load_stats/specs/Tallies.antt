@@ -1,7 +1,7 @@
 -- Latencies that were recorded, and their percentiles.
 use Rattle.std.specs.Prelude.{◌≡◌, ℕ, ◌+◌, ◌*◌, ◌/◌, ◌^◌, ◌==◌, ◌<◌, ◌≤◌, List, [], ◌∷◌, All, length, max, nat_lt, slice_index_or}
 use Rattle.std.specs.List.{count_by}
-use Rattle.milter_load.specs.Buckets.{bucket_of, highest_in}
+use Rattle.milter_load_stats.specs.Buckets.{bucket_of, highest_in}
 
 -- how many values each bucket has, how many there are, and the greatest of them
 pub record Tally : Type 0 where
