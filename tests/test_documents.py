@@ -1,7 +1,7 @@
 #!/usr/bin/env python3
-"""Checks the documents against the repository: each block of code in README.md, docs/LIBRARY.md, docs/FILTERS.md and
-docs/MAIL_SERVERS.md is lines of a program that is tested, each paragraph of README.md has at most four lines, each link
-between documents leads to a file and its title, and each path in the recipes of docs/CONTRIBUTING.md to a file,
+"""Checks the documents against the repository: each block of code in README.md and docs/RATTLE.md is lines of a program
+that is tested, each paragraph of README.md has at most four lines, each link between documents leads to a file and its
+title, and each path in the recipes of docs/CONTRIBUTING.md to a file,
 docs/ARCHITECTURE.md has each crate, and the functions of its paths are in the files that it names. The lines of
 docs/RULE_CHECK.md are printed by runs of cases/rules_check. What tools/definitions.py prints has each definition that a
 public contract cites. docs/proofs/HEADLINE.md names the crates of the toolchain that are trusted, and README.md counts
@@ -24,11 +24,9 @@ from lib.programs import TOP
 # The documents with code, and the crates whose it is.
 EXAMPLES = {
     'README.md': ['example_loop_guard'],
-    'docs/LIBRARY.md': ['example_mail'],
-    'docs/FILTERS.md': ['example_loop_guard', 'milter_tests_driver', 'milter_service'],
-    'docs/MAIL_SERVERS.md': ['milter_tests_driver']}
+    'docs/RATTLE.md': ['example_mail', 'example_loop_guard', 'milter_tests_driver']}
 # The documents with code in Python, and the file whose it is.
-IN_PYTHON = {'docs/MAIL_SERVERS.md': 'examples/python/asked_filters.py'}
+IN_PYTHON = {'docs/RATTLE.md': 'examples/python/asked_filters.py'}
 # The files that tests/test_c_library.py plays, of which the blocks of README.md in other languages are parts.
 PLAYED = {'c': 'docs/C.md', 'python': 'bindings/python/deiruska/__init__.py'}
 # Words of rules in rows of docs/RULE_CHECK.md, in whose place others may stand.

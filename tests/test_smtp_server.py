@@ -341,9 +341,9 @@ def usage(program, _tool, folder):
 
 
 def documented(program, tool, folder):
-    """The dialogue of docs/MAIL_SERVERS.md, but for the name of the message."""
-    with open(os.path.join(programs.TOP, 'docs', 'MAIL_SERVERS.md'), encoding='utf-8') as file:
-        section = file.read().split('### A dialogue\n')[1].split('\n## ')[0]
+    """The dialogue of examples/python/mail_server.txt, but for the name of the message."""
+    with open(os.path.join(programs.TOP, 'examples', 'python', 'mail_server.txt'), encoding='utf-8') as file:
+        section = file.read()
     blocks = [block for block in re.findall(r'(?:(?:^    .*)?\n)+', section, re.M) if '    ' in block]
     first, second, dialogue, mail = [re.sub('(?m)^    ', '', block).strip('\n') + '\n' for block in blocks]
 

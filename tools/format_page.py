@@ -1,9 +1,10 @@
 #!/usr/bin/env python3
-"""Prints the manual page of a form of file, made of sections of docs/PROTOCOL.md and of an example.
+"""Prints the manual page of a form of file, made of sections of documents and of an example.
 
     tools/format_page.py NAME SUMMARY EXAMPLE SECTION ..
 
-NAME is the page's, SUMMARY its one line; EXAMPLE is a file of examples/, and each SECTION a title without `(*own*)`.
+NAME is the page's, SUMMARY its one line; EXAMPLE is a file of examples/, and each SECTION a title of one of DOCUMENTS,
+without `(*own*)`.
 """
 
 import os
@@ -13,6 +14,8 @@ import sys
 from man_page import DATE, as_it_is, escaped
 
 TOP = os.path.dirname(os.path.dirname(os.path.realpath(__file__)))
+# The documents that have forms of files.
+DOCUMENTS = ["PROTOCOL.md", "TESTING.md", "RULES.md"]
 
 
 def read(*path):
@@ -76,11 +79,12 @@ def page_of(lines):
 
 def main():
     name, summary, example, *titles = sys.argv[1:]
-    protocol = read("docs", "PROTOCOL.md")
+    there = [it for it in DOCUMENTS if os.path.exists(os.path.join(TOP, "docs", it))]
+    text = "\n".join(read("docs", it) for it in there)
     print(f'.TH {name.upper()} 5 {DATE} "milter_tool"\n.SH NAME\n{name} \\- {escaped(summary)}')
     for n, title in enumerate(titles):
         head = "DESCRIPTION" if n == 0 else title.upper()
-        print(f".SH {head}\n{page_of(section(protocol, title))}", end="")
+        print(f".SH {head}\n{page_of(section(text, title))}", end="")
     print(f".SH EXAMPLES\n{as_it_is(read('examples', example))}.SH SEE ALSO\n.BR milter_tool (1)")
 
 

@@ -31,7 +31,7 @@ format_page() {
         ;;
     milter_session)
         python3 tools/format_page.py "$1" 'the messages that a test mail server plays' policy.session \
-            'Session files' 'Words and quotes'
+            'The session file' 'Words and quotes'
         ;;
     esac
 }

@@ -2,7 +2,7 @@
 all of them, and a client is refused by what they have, and by nothing else. A list that changes holds for the
 connections that come then, and those that are open keep the one that they began with.
 
-What a list of a kind has is written here, by docs/PROTOCOL.md.
+What a list of a kind has is written here, by docs/RULES.md.
 """
 import os
 import re

@@ -1,5 +1,5 @@
 """The answer at the end of a message by rules that change header fields: a model of the two actions `del-header` and
-`prefix-header` among other edits and verdicts, written from docs/PROTOCOL.md. Names, values and texts are bytes.
+`prefix-header` among other edits and verdicts, written from docs/RULES.md. Names, values and texts are bytes.
 """
 import collections
 

@@ -1,4 +1,4 @@
-//! The example of docs/LIBRARY.md: a stream is split into packets, a command is decoded, and an edit is applied.
+//! The example of docs/RATTLE.md: a stream is split into packets, a command is decoded, and an edit is applied.
 #![tactic(auto)]
 
 use anyhow::{Context, bail};
