@@ -7,7 +7,10 @@ has; an interrupted one 100 times in a row, and then is made, or 101 times, by w
 What is reported is worked out from the packets. A read or a write has bytes of one packet, so the number of the call
 that fails gives the command at which the filter is lost. The message has the verdicts on the commands before it, and
 the messages after it are played over a new link. With the last packet, by which the mail server quits, nothing is lost.
+
+And the filter of a session in memory is asked about a command once the last byte of its packet has come, no sooner.
 """
+import functools
 import sys
 
 from lib import programs, reports, runner
@@ -95,11 +98,31 @@ def play_of(build, given, words, printed):
     return play
 
 
+def questions():
+    """Events by which a session of a message passes packet by packet, the last byte of each packet apart; and how often
+    the filter was asked up to each."""
+    counted = [('dial', 0), ('send %d' % OFFER, 0), ('to-filter %d' % OFFER, 0)]
+    counted += [('answer %d' % OFFER, 0), ('to-mta %d' % OFFER, 0)]
+    for number, (_, length) in enumerate(OPENING + OF_MESSAGE):
+        counted += [('send %d' % length, number), ('to-filter %d' % (length - 1), number)]
+        counted += [(event % size, number + 1) for event, size in (
+            ('to-filter %d', 1), ('answer %d', VERDICT), ('to-mta %d', VERDICT))]
+    return counted
+
+
+def asked(build):
+    """A play of these events on a build of the program."""
+    events, counts = zip(*questions())
+    end = programs.ended([*programs.command_of('world', build), 'asked', *events], (CLIENT + MESSAGE).encode())
+    yield programs.compared('asked%s' % build, end, (0, ''.join('%d\n' % it for it in counts).encode(), b''))
+
+
 def plays():
     """All that is run."""
     scripts = [(messages, script) for messages in (1, 2) for script in failed_calls(messages)]
     scripts += [(messages, script) for messages in range(1, DIALS_MAX + 1) for script in failed_dials(messages)]
     for build in programs.BUILDS:
+        yield functools.partial(asked, build)
         for messages, (words, printed) in scripts:
             yield play_of(build, CLIENT + MESSAGE * messages + '%%\n' + words, words, printed)
 

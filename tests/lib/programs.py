@@ -22,6 +22,7 @@ PROGRAMS = {
     'payloads': ('milter_tests_driver', ['packets']),
     'mail server': ('milter_tests_driver', ['mta']),
     'links': ('milter_tests_driver', ['links']),
+    'world': ('milter_tests_driver', ['world']),
     'connection': ('milter_tests_driver', ['connection']),
 }
 
