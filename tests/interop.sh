@@ -5,9 +5,9 @@
 # has a chrooted smtpd, and a Postfix and a Sendmail have many clients at once, one of which is idle after its
 # greeting, and random sequences of SMTP commands with greetings within a transaction, of which each reply has to be
 # what the rules say. A Postfix has the greylist of examples/. What a Postfix sent to a filter, of a message with
-# two recipients, is sent again by `replay`. A Postfix is played the sessions of the recipes of docs/COOKBOOK.md, and
+# two recipients, is sent again by `replay`. A Postfix is played the sessions of the recipes of docs/RULES.md, and
 # what that says of Postfix, with its lines for main.cf, master.cf and tables; those of the kind `lmdb:` where the
-# package postfix-lmdb is there. The rule files of README.md and docs/DEPLOY.md have to refuse an address however it
+# package postfix-lmdb is there. The rule files of README.md and docs/SERVICE.md have to refuse an address however it
 # is written. What both mail servers make of edits is compared with the table of docs/PROTOCOL.md, and both refuse by
 # lists of each kind, also by new ones. The filters in C and Python of examples/ are behind a Postfix, and the mail
 # server's side in C shows a message to OpenDKIM, on the library that tests/test_c_library.py built, or of the archive

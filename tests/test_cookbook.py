@@ -1,5 +1,5 @@
 #!/usr/bin/env python3
-"""Plays the recipes of docs/COOKBOOK.md by `milter_tool play`, as both compilers built it. The lines of each recipe are
+"""Plays the recipes of docs/RULES.md by `milter_tool play`, as both compilers built it. The lines of each recipe are
 taken out of the document: they are the rule file with which sessions are played, some to which it applies and some to
 which it doesn't, and the files of its lists. What becomes of their messages is written in lib/recipes.py, by what the
 document says of the recipe. So are the rules beside rows of other programs' tables, with the files of their lists.
@@ -138,7 +138,7 @@ def of_document(program, folder):
 def of_first_rules(program, folder):
     """The checks of the rule files that a reader copies first."""
     files = first_rules.rule_files()
-    yield checked('the example', lambda: expect('its lines', files['docs/DEPLOY.md'], files['examples/mail.rules']))
+    yield checked('the example', lambda: expect('its lines', files['docs/SERVICE.md'], files['examples/mail.rules']))
     for name, lines in files.items():
         path = programs.written(os.path.join(folder, 'rules'), ''.join(line + '\n' for line in lines))
         yield programs.compared(name, programs.ended([program, 'rules', '--check', path]), (0, b'', b''))

@@ -5,7 +5,7 @@ subcommand, mandoc finds no mistake in the pages where it is installed, bash com
 zsh and fish where they are installed, the units start the program where it is, and the documents are there. With the
 library a program in C is compiled and run, and so is one in Python; its manual page has each function. No two packages
 have the same file. Two tar files are the same, and `make uninstall` removes what `make install` put, and nothing else.
-And the units of systemd/ say what they are, and are those that docs/DEPLOY.md shows; those that make a Unix socket give
+And the units of systemd/ say what they are, and are those that docs/SERVICE.md shows; those that make a Unix socket give
 it a group and a mode, and the one of `serve` is exposed as little as systemd-analyze says, where that is installed.
 
 `tests/test_packages.py ARCHIVE` takes another archive of the library than that in build/. The packages for Debian are made where debhelper
@@ -230,13 +230,13 @@ def packages(archive):
 
 def units():
     """Whether each unit is called for the project and says what it is, and the document shows it as it is."""
-    shown = read(TOP, 'docs', 'DEPLOY.md')
+    shown = read(TOP, 'docs', 'SERVICE.md')
     for unit in UNITS:
         described = re.findall(r'(?m)^Description=(\S.*)$', read(TOP, 'systemd', unit))
         is_well = len(described) == 1 and unit.startswith('deiruska-')
         yield None if is_well else '%s has the descriptions %s' % (unit, described)
         lines = ''.join('    ' + line if line.strip() else line for line in read(TOP, 'systemd', unit).splitlines(True))
-        yield None if lines in shown else 'docs/DEPLOY.md does not show %s as it is' % unit
+        yield None if lines in shown else 'docs/SERVICE.md does not show %s as it is' % unit
 
 
 def hardened():

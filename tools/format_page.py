@@ -15,7 +15,7 @@ from man_page import DATE, as_it_is, escaped
 
 TOP = os.path.dirname(os.path.dirname(os.path.realpath(__file__)))
 # The documents that have forms of files.
-DOCUMENTS = ["PROTOCOL.md", "TESTING.md", "RULES.md"]
+DOCUMENTS = ["RULES.md", "PROTOCOL.md", "TESTING.md"]
 
 
 def read(*path):
@@ -32,6 +32,7 @@ def section(text, title):
 def words(text):
     """A line of text: what is code in bold, links as their texts, and without the marks of this project's own rules."""
     text = re.sub(r" ?\(\*own\*\)", "", re.sub(r"\[([^]]*)\]\([^)]*\)", r"\1", text))
+    text = re.sub(r"\*\*([^*]+)\*\*", r"\1", text)
     parts = re.split(r"`([^`]*)`", text.replace("\\|", "|"))
     return "".join(f"\\fB{escaped(it)}\\fR" if n % 2 else escaped(it) for n, it in enumerate(parts))
 
@@ -79,8 +80,7 @@ def page_of(lines):
 
 def main():
     name, summary, example, *titles = sys.argv[1:]
-    there = [it for it in DOCUMENTS if os.path.exists(os.path.join(TOP, "docs", it))]
-    text = "\n".join(read("docs", it) for it in there)
+    text = "\n".join(read("docs", it) for it in DOCUMENTS)
     print(f'.TH {name.upper()} 5 {DATE} "milter_tool"\n.SH NAME\n{name} \\- {escaped(summary)}')
     for n, title in enumerate(titles):
         head = "DESCRIPTION" if n == 0 else title.upper()

@@ -27,7 +27,7 @@ format_page() {
     case $1 in
     milter_rules)
         python3 tools/format_page.py "$1" 'what a filter asks of a mail server, and what it answers' mail.rules \
-            'Rule files' 'Words and quotes'
+            'Rule files' 'Conditions' 'Lists' 'Actions' 'Faults' 'Words and quotes'
         ;;
     milter_session)
         python3 tools/format_page.py "$1" 'the messages that a test mail server plays' policy.session \

@@ -1,4 +1,4 @@
-"""The recipes of docs/COOKBOOK.md over SMTP, for tests/interop.sh: a Postfix of its own that asks `milter_tool serve`
+"""The recipes of docs/RULES.md over SMTP, for tests/interop.sh: a Postfix of its own that asks `milter_tool serve`
 with the rules of each recipe, and the sessions of tests/lib/recipes.py. Clients say who they are by XCLIENT.
 
 Of each session it is known what Postfix replies to the sender, to each recipient and to the message, and what is

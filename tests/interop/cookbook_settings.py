@@ -1,4 +1,4 @@
-"""What docs/COOKBOOK.md says belongs to Postfix, for tests/interop.sh: its lines for main.cf, master.cf and tables are
+"""What docs/RULES.md says belongs to Postfix, for tests/interop.sh: its lines for main.cf, master.cf and tables are
 taken out of the document, and a Postfix of its own has them. What it then replies to whom is written here, by the
 document and by Postfix's manual pages (access(5), header_checks(5), postconf(5)).
 """

@@ -1,4 +1,4 @@
-"""What docs/COOKBOOK.md says that Postfix does with the rules of a filter, for tests/interop.sh: how it sends
+"""What docs/RULES.md says that Postfix does with the rules of a filter, for tests/interop.sh: how it sends
 addresses, macros and header fields, which replies it passes on, and what its own `sendmail` submits. What is expected
 is what the document says; texts that it has in backticks are taken out of it.
 """

@@ -1,6 +1,6 @@
-"""Three `milter_tool serve` behind HAProxy, by the recipe of docs/DEPLOY.md, for tests/interop.sh: a Postfix under load
-while one of them is killed, another one is drained and started with other rules, and the first one comes back. And by
-the recipe's other check, one that doesn't answer.
+"""Three `milter_tool serve` behind HAProxy, by the recipe of docs/SERVICE.md, for tests/interop.sh: a Postfix under
+load while one of them is killed, another one is drained and started with other rules, and the first one comes back.
+And by the recipe's other check, one that doesn't answer.
 
 The rules of each have a name. They refuse a recipient by a text with that name, and add a header field with it to what
 passes: so each reply and each message that is delivered says by which rules it was judged.
@@ -67,7 +67,7 @@ def missing():
 
 def block_of(words):
     """The text of the recipe's block after these words."""
-    return '\n'.join(first_rules.block_after(first_rules.text_of('docs', 'DEPLOY.md'), words)) + '\n'
+    return '\n'.join(first_rules.block_after(first_rules.text_of('docs', 'SERVICE.md'), words)) + '\n'
 
 
 class Proxy:

@@ -1,5 +1,5 @@
 """The rule files that a reader copies first: that of README.md, with the session that tries it and what that prints, and
-that of docs/DEPLOY.md, which is examples/mail.rules.
+that of docs/SERVICE.md, which is examples/mail.rules.
 """
 import os
 import re
@@ -29,5 +29,5 @@ def rule_files():
     """The lines of each rule file, by where it stands."""
     return {
         'README.md': of_readme()[0],
-        'docs/DEPLOY.md': block_after(text_of('docs', 'DEPLOY.md'), 'In `/etc/deiruska/mail.rules`'),
+        'docs/SERVICE.md': block_after(text_of('docs', 'SERVICE.md'), 'In `/etc/deiruska/mail.rules`'),
         'examples/mail.rules': text_of('examples', 'mail.rules').splitlines()}

@@ -1,4 +1,4 @@
-"""The recipes of docs/COOKBOOK.md: the lines that the document has, and the sessions of each recipe, with what becomes
+"""The recipes of docs/RULES.md: the lines that the document has, and the sessions of each recipe, with what becomes
 of their messages by what the document says of the recipe.
 """
 import collections
@@ -7,7 +7,7 @@ import re
 
 from lib import programs
 
-DOCUMENT = os.path.join(programs.TOP, 'docs', 'COOKBOOK.md')
+DOCUMENT = os.path.join(programs.TOP, 'docs', 'RULES.md')
 # The first line of a file whose conditions are of more kinds.
 WIDE = 'rules 2'
 # What a session has that isn't said otherwise.
