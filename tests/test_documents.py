@@ -91,12 +91,12 @@ def pasted():
 
 
 def paragraphs():
-    """Whether each paragraph and each item of a list in README.md is short. Code is none."""
+    """Whether each paragraph and each item of a list in README.md is short. Code and tables are none."""
     text = re.sub(r'(?s)```.*?```', '', text_of('README.md'))
     for part in re.split(r'\n\n+|\n(?=- )', text):
         lines = part.strip('\n').splitlines()
-        is_code = all(line.startswith('    ') for line in lines)
-        yield 'README.md: %s: %d lines' % (part[:40], len(lines)), is_code or len(lines) <= PARAGRAPH_LINES
+        is_none = all(line.startswith(('    ', '|')) for line in lines)
+        yield 'README.md: %s: %d lines' % (part[:40], len(lines)), is_none or len(lines) <= PARAGRAPH_LINES
 
 
 def paths():
