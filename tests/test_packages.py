@@ -67,7 +67,7 @@ def looked_at(root, folder_of_program, units_at=None):
         yield None if is_well else '%s starts %s' % (unit, started)
     for name in ['docs/TESTING.md', 'examples/conversation.trace']:
         yield None if read(TOP, name) == read(root, 'share', 'doc', 'deiruska', name) else '%s differs' % name
-    yield from documented(os.path.join(root, 'share', 'doc', 'deiruska'), 20)
+    yield from documented(os.path.join(root, 'share', 'doc', 'deiruska'), 16)
 
 
 def documented(folder, least):
