@@ -5,7 +5,7 @@ mod RunReports
 mod DefaultCounts
 mod Causes
 mod Beginnings
-mod Moves
+mod ConnectionMoves
 mod RoundMoves
 mod Progress
 mod Given

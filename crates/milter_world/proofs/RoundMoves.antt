@@ -12,7 +12,7 @@ use Rattle.milter_world.specs.Rounds.{MovesOn, after_round, round}
 use Rattle.milter_world.specs.Rounds.{AreCounts}
 use Rattle.milter_world.specs.Schedule.{After, Scenario, after_all, if_lives, lines_at, sends, sent_to}
 use Rattle.milter_world.proofs.CountedBytes.{by_lt, due-le, lt-ltb, owed-mono, packet_end-due}
-use Rattle.milter_world.proofs.Moves.{sends-moves, waits-moves}
+use Rattle.milter_world.proofs.ConnectionMoves.{sends-moves, waits-moves}
 
 not_all : (a b : ℕ) → (a == b) ≡ false → a ≤ b → a < b
 not_all a b differ le = by_lt a b (λ less. less) (λ ge. let same : a ≡ b = omega arith in absurd (true≢false (sym (eq-eqb a b same) ∙ differ)))

@@ -4,7 +4,7 @@ use Rattle.milter_mail.specs.Plan.{plan}
 use Rattle.milter_world.specs.DialogueReports.{negotiated_of}
 use Rattle.milter_world.specs.Schedule.{entries_at}
 use Rattle.milter_world.proofs.EntryAccounts.{all-ruled, session, dialogue_with-laws}
-use Rattle.milter_world.proofs.Moves.{sends-moves, waits-moves}
+use Rattle.milter_world.proofs.ConnectionMoves.{sends-moves, waits-moves}
 use Rattle.milter_world.proofs.RoundMoves.{round-moves}
 use Rattle.milter_world.proofs.laws.rounds_move_on.Goals as goal
 
