@@ -213,20 +213,19 @@ def counts():
 
 
 def proved_again():
-    """Whether docs/CONTRIBUTING.md has how many crates a change has proved again, and their minutes by
-    tools/crate_seconds.txt, which has a time of each crate."""
+    """Whether docs/CONTRIBUTING.md has how many crates a change has proved again, and tools/crate_seconds.txt no crate
+    that is gone."""
     uses, table = used_by(), 'docs/CONTRIBUTING.md'
-    seconds = dict(line.split() for line in text_of('tools/crate_seconds.txt').splitlines())
-    yield 'tools/crate_seconds.txt has other crates than crates.txt', sorted(seconds) == sorted(uses)
-    rows = re.findall(r'(?m)^\| `(\w+)` \| (.*) \|$', text_of(table).split('Crates proved again')[1])
+    timed = [line.split()[0] for line in text_of('tools/crate_seconds.txt').splitlines()]
+    yield 'tools/crate_seconds.txt: %s' % timed, sorted(set(timed) & set(uses)) == timed
+    rows = re.findall(r'(?m)^\| `(\w+)` \| (\d+) \|$', text_of(table).split('Crates proved again')[1])
     yield '%s: no rows of crates that are proved again' % table, bool(rows)
     for crate, given in rows:
         again = {crate}
         for name in uses:  # a crate stands below those that use it
             if again & set(uses[name]):
                 again.add(name)
-        found = '%d | %.0f' % (len(again), sum(float(seconds.get(name, 0)) for name in again) / 60)
-        yield '%s: `%s` | %s' % (table, crate, found), given == found
+        yield '%s: `%s` | %d' % (table, crate, len(again)), given == str(len(again))
 
 
 def lemmas():
