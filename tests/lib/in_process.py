@@ -28,7 +28,7 @@ class Refusing:
 
 
 async def dialogue(mail_server, settings, given):
-    """What a client is told that writes this at once."""
+    """What the server answers a client that writes this at once."""
     answers = functools.partial(mail_server.answer_client, settings)
     server = await asyncio.start_server(answers, '127.0.0.1', 0)
     reader, writer = await asyncio.open_connection(*server.sockets[0].getsockname())
@@ -42,8 +42,8 @@ async def dialogue(mail_server, settings, given):
 
 
 def session(words, given, number):
-    """What a client is told that writes this at once, with the call of this number refused, and whether the session
-    came to that call."""
+    """What the server answers a client that writes this at once, with the call of this number refused, and whether the
+    session came to that call."""
     sys.path[:0] = [it for it in (c_library.BINDING, c_plays.PYTHON) if it not in sys.path]
     import deiruska._library as library  # pylint: disable=import-outside-toplevel
     import mail_server  # pylint: disable=import-outside-toplevel
