@@ -166,8 +166,8 @@ def of_header(prefix=''):
 
 def numbers():
     """The numbers of the header, beside those of the crates."""
-    found, bits = of_header(), list(c_library.constants('milter_wire', 'bits.rt'))
-    of_crates = dict(c_library.constants('milter_c', 'version.rt'))
+    found, bits = of_header(), list(c_library.constants('milter_wire', 'options.rt'))
+    of_crates = dict(c_library.constants('milter_c', 'library.rt'))
     of_crates.update(c_library.constants('milter_c_objects', 'status.rt'))
     of_crates.update(('ACTION_' + name, bit) for name, bit in bits[:ACTION_BITS])
     of_crates.update(('PROTOCOL_' + name, bit) for name, bit in bits[ACTION_BITS:])
